@@ -1,5 +1,5 @@
 -- What the code does with an item that it took, as a step of the definition.
-use Rattle.std.proofs.Common.{◌≡◌, ℕ, ◌-◌, Bool, true, false, List, [], ◌∷◌, ◌++◌, length, Option, Some, None, Result, Ok, Err, OnOk, inl, inr, refl, subst, sym, ap, append-nil, ◌∙◌}
+use Rattle.std.proofs.Common.{◌≡◌, ◌⊎◌, ℕ, ◌+◌, ◌*◌, ◌-◌, Bool, true, false, List, [], ◌∷◌, ◌++◌, length, Option, Some, None, Result, Ok, Err, OnOk, inl, inr, refl, subst, sym, ap, append-nil, ◌∙◌}
 use Rattle.std.proofs.Math.Dec.{eqb-suc-zero}
 use Rattle.std.specs.Prelude.{not, ◌==◌}
 use Rattle.roff_num.specs.declared.limit.Limit.{Limit}
@@ -9,17 +9,19 @@ use Rattle.roff_escape.specs.OpenEscapes.{reading_ended}
 use Rattle.roff_ahead.specs.Input.{DoAhead, depth, result_count}
 use Rattle.roff_ahead.specs.Input.Names.{names_added, stored}
 use Rattle.roff_source.specs.Tape.{Tape, behind_front}
-use Rattle.roff_scan.specs.Unread.{looked_then}
+use Rattle.roff_scan.specs.Looking.{is_closed, looked_then}
+use Rattle.roff_scan.specs.declared.looked.Looked.{Looked}
+use Rattle.roff_scan.specs.declared.looked.Looked.TheVariants.{Nothing, Byte, Closed}
 use Rattle.roff_escape.specs.OpenEscape.{OpenEscape}
 use Rattle.roff_escape.specs.declared.open_escape.Surroundings.TheVariants.{Arguments as AboveArguments, Copy as AboveCopy}
 use Rattle.roff_engine.specs.declared.formatter.Formatter.{Formatter}
 use Rattle.roff_engine.specs.declared.halt.Halt.{Halt}
 use Rattle.roff_engine.specs.declared.halt.Halt.TheVariants.{Limit as Limited, Refused, Output, Messages}
 use Rattle.roff_engine.specs.declared.running.Running.{Running as Coded}
-use Rattle.roff_engine.specs.Engine.Outcome.{Seen, IsLeftOf, IsRest, Reaches, Outcome, seen}
+use Rattle.roff_engine.specs.Engine.Outcome.{Beginning, Seen, IsLeftOf, IsRest, Reaches, OutcomeOf, seen}
 use Rattle.roff_engine.specs.Formatter.Performing.{AllPerformed, TakingDone, DoesTaking, Opens, Performs, PerformsOnly, acting, going, sinks}
-use Rattle.roff_engine.specs.Running.Turning.{DoesItem, Halts, IsAt, MayEnd, TookFrom, input_ends, line_told, state_at}
-use Rattle.roff_pages.specs.Sinks.{Sunk}
+use Rattle.roff_engine.specs.Running.Turning.{DoesItem, Halts, IsAt, MayEnd, TookFrom, input_ends, line_told, line_turns, lines_left_in, state_at, turns_at, turns_of_run}
+use Rattle.roff_sinks.specs.Sinks.{Sunk}
 use Rattle.roff_requests.specs.Environments.Standing.{StandFor}
 use Rattle.roff_requests.specs.declared.environments.Environments.{Environments as EnvironmentsOf}
 use Rattle.roff_run.specs.Output.{PageHistory}
@@ -28,27 +30,34 @@ use Rattle.roff_reader.specs.Reader.Taken.{CameTo, IsReady}
 use Rattle.roff_run.specs.Reading.Items.{PageUnread}
 use Rattle.roff_run.specs.Reading.{escape_ended, interrupted}
 use Rattle.roff_run.specs.Reading.Beginnings.{at_start}
-use Rattle.roff_run.specs.Reading.Ends.{line_ends_first}
+use Rattle.roff_run.specs.Reading.Ends.{is_unfinished}
 use Rattle.roff_run.specs.Reading.Items.{PageInput, Taking, going_on}
 use Rattle.roff_run.specs.Reading.TextLines.{on_line}
 use Rattle.roff_run.specs.Reading.Found.{read_in}
 use Rattle.roff_run.specs.Reading.Units.{settling}
 use Rattle.roff_run.specs.Registers.{AllRegisters, Known}
-use Rattle.roff_run.specs.Run.{State, initial, ahead_taken, ending_as, escape_ends, input_ended, known_at, made, step, taken_as, unless_refused, grown}
+use Rattle.roff_run.specs.Run.{State, initial, ahead_taken, ending_as, escape_ends, input_ended, known, known_at, made, phase_ended, step, taken_as, unless_refused, grown}
 use Rattle.roff_run.specs.Run.Counts.{counts_in, first_passed}
 use Rattle.roff_run.specs.declared.event.PageEvent.{PageEvent}
 use Rattle.roff_run.specs.declared.line_state.LineState.{LineState}
 use Rattle.roff_run.specs.declared.line_state.LineState.TheVariants.{LineStart, Branch, Braced, Text as InText, Control, Name, Arguments as InArguments, Deciding, StringName, StringText, Skipping, Dropped, Telling, Told, Exiting, Calling, Defining}
+use Rattle.roff_run.specs.declared.phase.Phase.{Phase}
+use Rattle.roff_run.specs.declared.phase.Phase.TheVariants.{Closing}
 use Rattle.roff_run.specs.declared.status.Status.{Status}
 use Rattle.roff_run.specs.declared.status.Status.TheVariants.{Done}
 use Rattle.roff_run.proofs.InputCounts.{pushed-settling}
 use Rattle.roff_run.proofs.Keeping.{Keeps-escape_ended, Keeps-interrupted}
 use Rattle.roff_run.proofs.Leads.{Leads-to}
+use Rattle.roff_run.specs.Environments.{interrupted_line}
+use Rattle.roff_run.specs.TurnsToCome.{begun, behind_all, lines_left, phases_left, turns_to_come, turns_within}
+use Rattle.roff_engine.proofs.TurnsLeft.{lines_left-stands}
 
 -- a tape is what is left of itself behind a byte that was looked at
-pub IsLeftOf-looked_then : (looked : Option ℕ) (tape : Tape) → IsLeftOf tape (looked_then looked tape)
-IsLeftOf-looked_then None tape = inl refl
-IsLeftOf-looked_then (Some b) tape = inr refl
+pub IsLeftOf-looked_then : (looked : Looked) (tape : Tape) → IsLeftOf tape (looked_then looked tape)
+IsLeftOf-looked_then Nothing tape = inl refl
+IsLeftOf-looked_then (Byte b) tape = inr refl
+IsLeftOf-looked_then (Closed None) tape = inl refl
+IsLeftOf-looked_then (Closed (Some b)) tape = inr refl
 
 -- a halt that refused no item is told on the line of the last byte taken
 pub line_told-taken : (halt : Halt) (line_before line : ℕ) → ((limit : Limit) → halt ≡ Refused limit → ⊥) → line_told halt line_before line ≡ line
@@ -64,13 +73,13 @@ left-unless_refused l None left from done before behind = behind
 left-unless_refused l (Some limit) left from done before behind = before
 
 -- one step from a state leads to a taking's, unless a limit refuses it
-module _ (l : Limits) (t left : Tape) (line_before line : ℕ) (start now : Seen) (from done : State) (opens : step l from ≡ made l from done)
+module _ (l : Limits) (t : Beginning) (left : Tape) (line_before line : ℕ) (start now : Seen) (from done : State) (opens : step l from ≡ made l from done)
     (left_before : IsLeftOf left from.tape) (quiet_before : from.last_message ≡ []) (line_before_is : from.input.line ≡ line_before)
     (left_behind : IsLeftOf left done.tape) (quiet : done.last_message ≡ []) (line_is : done.input.line ≡ line) where
   -- what the code could not do of it halts the run
-  did_halt : (rest : List PageEvent) (halt : Halt) (es : EnvironmentsOf) → TakingDone l t start now from done rest (Err halt) es
+  did_halt : (behind : PageHistory) (rest : List PageEvent) (halt : Halt) (es : EnvironmentsOf) → TakingDone l t start now from done behind rest (Err halt) es
       → Halts l t left (line_told halt line_before line) halt start now
-  did_halt rest (Refused limit) es did = record {
+  did_halt behind rest (Refused limit) es did = inl (record {
     state = from;
     reaches = did.reaches;
     goes_on = did.goes_on;
@@ -78,8 +87,8 @@ module _ (l : Limits) (t left : Tape) (line_before line : ℕ) (start now : Seen
     rest = left_before;
     quiet = quiet_before;
     line_is = line_before_is;
-  }
-  did_halt rest (Limited limit) es did = record {
+  })
+  did_halt behind rest (Limited limit) es did = record {
     state = acting done (did.next ∷ did.to_do) did.history;
     reaches = did.reaches;
     goes_on = refl;
@@ -88,7 +97,7 @@ module _ (l : Limits) (t left : Tape) (line_before line : ℕ) (start now : Seen
     quiet = quiet;
     line_is = line_is;
   }
-  did_halt rest Output es did = record {
+  did_halt behind rest Output es did = record {
     state = acting done (did.next ∷ did.to_do) did.history;
     stops = did.stops;
     messages = did.messages;
@@ -96,7 +105,7 @@ module _ (l : Limits) (t left : Tape) (line_before line : ℕ) (start now : Seen
     rest = left_behind;
     line_is = line_is;
   }
-  did_halt rest Messages es did = record {
+  did_halt behind rest Messages es did = record {
     is_device = refl;
     state = from;
     comes = did.comes;
@@ -108,32 +117,33 @@ module _ (l : Limits) (t left : Tape) (line_before line : ℕ) (start now : Seen
     rest = subst (λ (s : State). IsLeftOf left s.tape) (sym opens) (left-unless_refused l (first_passed l (grown done)) left from done left_before left_behind);
   }
 
--- the state of the definition in which an item was taken, at the input's end with the last line to finish
-abbrev pub ready_to_take : Tape → Coded → PageHistory → List ℕ → Bool → List PageEvent → State
-ready_to_take tape run h messages is_closing more =
-    going (looked_then run.unread.looked tape) run.unread.input run.formatter.reader.reading run.formatter.reader.registers.all h messages is_closing (more ++ [])
+-- the state of the definition in which an item was taken, in this phase, with more to perform
+abbrev pub ready_to_take : Tape → Coded → PageHistory → List ℕ → Phase → List PageEvent → State
+ready_to_take tape run h messages phase more =
+    going (looked_then run.unread.looked tape) run.unread.input run.formatter.reader.reading run.formatter.reader.registers.all h messages phase
+    (is_closed run.unread.looked) (more ++ [])
 
 -- what is taken, as the definition has it of a run that has performed this
 abbrev pub taken_of : (Known → Taking) → Coded → PageHistory → Taking
 taken_of f run h = f (known_at h run.formatter.reader.registers.all run.unread.input)
 
--- what is done with the item is this taking, at the input's end where it closes, with more to perform
-abbrev pub IsTaking : (Known → Taking) → (State → State) → Bool → List PageEvent → Coded → Type 0
-IsTaking f does is_closing more run =
+-- what is done with the item is this taking, in this phase, with more to perform
+abbrev pub IsTaking : (Known → Taking) → (State → State) → Phase → List PageEvent → Coded → Type 0
+IsTaking f does phase more run =
     (tape : Tape) (h : PageHistory) (messages : List ℕ)
-    → does (state_at tape run h messages) ≡ taken_as (taken_of f run h) (ready_to_take tape run h messages is_closing more)
+    → does (state_at tape run h messages) ≡ taken_as (taken_of f run h) (ready_to_take tape run h messages phase more)
 
 -- the run goes on at the state behind a taking
-IsAt-behind : (t tape : Tape) (start now : Seen) (old new : Coded) (taken : Taking) (h : PageHistory) (messages : List ℕ) (more : List PageEvent)
+IsAt-behind : (t : Beginning) (tape : Tape) (start now : Seen) (old new : Coded) (taken : Taking) (h behind : PageHistory) (messages : List ℕ) (phase : Phase) (more : List PageEvent)
     → CameTo taken old.formatter.reader.registers new.formatter.reader old.unread new.unread
-    → new.limits ≡ old.limits → old.unread.limits ≡ old.limits → IsReady old.formatter.reader.registers old.unread
-    → AllPerformed old.limits t start now (taken_as taken (ready_to_take tape old h messages false more)) [] new.formatter.environments
+    → new.limits ≡ old.limits → new.phase ≡ phase → old.unread.limits ≡ old.limits → IsReady old.formatter.reader.registers old.unread
+    → AllPerformed old.limits t start now (taken_as taken (ready_to_take tape old h messages phase more)) behind [] new.formatter.environments
     → IsAt t tape start now new
-IsAt-behind t tape start now old new taken h messages more became limits kept ready performed = record {
-  history = performed.history;
+IsAt-behind t tape start now old new taken h behind messages phase more became limits same kept ready performed = record {
+  history = behind;
   messages = (taken_as taken (state_at tape old h messages)).messages;
-  reaches = rw (limits, became.input, became.reading, became.registers) performed.reaches;
-  stands = subst (λ (l : Limits). StandFor l performed.history new.formatter.environments) (sym limits) performed.stands;
+  reaches = rw (limits, became.input, became.reading, became.registers, same) performed.reaches;
+  stands = subst (λ (l : Limits). StandFor l behind new.formatter.environments) (sym limits) performed.stands;
   ready = record {
     cap = rw (became.registers, became.input) ready.cap;
     within = rw (became.registers, became.input) became.within;
@@ -141,14 +151,39 @@ IsAt-behind t tape start now old new taken h messages more became limits kept re
   limits = rw (became.input, limits) kept;
 }
 
+-- as many turns are to come of it as of that state
+turns-behind : (l : Limits) (tape : Tape) (old new : Coded) (taken : Taking) (h : PageHistory) (messages : List ℕ) (phase : Phase) (more : List PageEvent)
+    → CameTo taken old.formatter.reader.registers new.formatter.reader old.unread new.unread
+    → new.phase ≡ phase → old.unread.limits ≡ old.limits → StandFor l (behind_all (taken.effect.events ++ more) h) new.formatter.environments
+    → turns_of_run new ≡ turns_at old.limits.bytes (taken_as taken (ready_to_take tape old h messages phase more))
+turns-behind l tape old new taken h messages phase more became same kept stands =
+    let of : PageUnread → LineState → ℕ → Phase → ℕ = λ u r left p. 4 * (turns_to_come u + begun r) + line_turns r left + phases_left p in
+    let behind : PageUnread = record old.unread { input = taken.input } in
+    let events : List PageEvent = taken.effect.events in
+    let left : ℕ = lines_left (interrupted_line (behind_all (events ++ more) h)) in
+    let within : Limits → List PageEvent → ℕ = λ k es.
+    4 * (turns_within k.bytes taken.input + begun taken.reading) + line_turns taken.reading (lines_left (interrupted_line (behind_all (events ++ es) h))) + phases_left phase in
+    let first : turns_of_run new ≡ of behind taken.reading left phase =
+    ap (λ (u : PageUnread). of u new.formatter.reader.reading (lines_left_in new.formatter.environments) new.phase) became.input
+    ∙ ap (λ (r : LineState). of behind r (lines_left_in new.formatter.environments) new.phase) became.reading
+    ∙ ap (λ (n : ℕ). of behind taken.reading n new.phase) (lines_left-stands l (behind_all (events ++ more) h) new.formatter.environments stands)
+    ∙ ap (λ (p : Phase). of behind taken.reading left p) same in
+    let last : within old.unread.limits more ≡ within old.limits (more ++ []) =
+    ap (λ (k : Limits). within k more) kept ∙ ap (λ (es : List PageEvent). within old.limits es) (sym (append-nil more)) in
+    first ∙ last
+
 -- The code takes what the definition does.
-module _ (f : Known → Taking) (does : State → State) (is_closing : Bool) (more : List PageEvent) (line : ℕ) (old : Coded) (meant : IsTaking f does is_closing more old) where
+module _ (f : Known → Taking) (does : State → State) (phase : Phase) (more : List PageEvent) (line : ℕ) (old : Coded) (meant : IsTaking f does phase more old) where
   -- the state behind the taking
   abbrev done : Tape → PageHistory → List ℕ → State
-  done tape h messages = taken_as (taken_of f old h) (ready_to_take tape old h messages is_closing more)
+  done tape h messages = taken_as (taken_of f old h) (ready_to_take tape old h messages phase more)
+
+  -- the history behind what it means
+  abbrev behind_of : PageHistory → PageHistory
+  behind_of h = behind_all ((taken_of f old h).effect.events ++ more) h
 
   -- a step leads there
-  opened : {t tape : Tape} {start now : Seen} {from : State} → (took : TookFrom t tape start now line does from old)
+  opened : {t : Beginning} {tape : Tape} {start now : Seen} {from : State} → (took : TookFrom t tape start now line does from old)
       → Opens old.limits from (done tape took.history took.messages) took.history took.messages
   opened {t} {tape} {start} {now} {from} took =
       subst (λ (s : State). Opens old.limits from s took.history took.messages) (meant tape took.history took.messages) took.opens
@@ -156,25 +191,25 @@ module _ (f : Known → Taking) (does : State → State) (is_closing : Bool) (mo
   -- how far it came
   did : {out_old err_old out_new err_new : Sunk} (formatter : Formatter) (unread : PageUnread) (r : Result (Unit {0}) Halt)
       → DoesTaking f more old.formatter formatter old.unread unread (sinks out_old err_old) (sinks out_new err_new) r
-      → (t tape : Tape) (start : Seen) (failures : ℕ) (from : State)
+      → (t : Beginning) (tape : Tape) (start : Seen) (failures : ℕ) (from : State)
       → (took : TookFrom t tape start (seen failures out_old err_old) line does from old)
-      → TakingDone old.limits t start (seen failures out_new err_new) from (done tape took.history took.messages) [] r formatter.environments
+      → TakingDone old.limits t start (seen failures out_new err_new) from (done tape took.history took.messages) (behind_of took.history) [] r formatter.environments
   did {out_old} {err_old} {out_new} {err_new} formatter unread r takes t tape start failures from took =
       let h : PageHistory = took.history in
       let P : Limits → Type 0 = λ l. StandFor l h old.formatter.environments
       → Reaches l t start (seen failures out_old err_old) from
       → Opens l from (done tape h took.messages) h took.messages
-      → TakingDone l t start (seen failures out_new err_new) from (done tape h took.messages) [] r formatter.environments in
+      → TakingDone l t start (seen failures out_new err_new) from (done tape h took.messages) (behind_of h) [] r formatter.environments in
       subst P took.limits
-      (λ stands reaches opens. takes.does t start failures from (looked_then old.unread.looked tape) h took.messages is_closing [] stands took.ready reaches opens)
+      (λ stands reaches opens. takes.does t start failures from (looked_then old.unread.looked tape) h took.messages phase (is_closed old.unread.looked) [] stands took.ready reaches opens)
       took.stands took.reaches (opened took)
 
   -- what the code could not do of it halts the run
   pub halted_acts : {out_old err_old out_new err_new : Sunk} (new : Coded) (failures : ℕ) (halt : Halt) (status : Status) (behind : Seen) (line_behind : ℕ)
       → new.limits ≡ old.limits → ((k : Known) → (f k).input.line ≡ line_behind)
       → DoesTaking f more old.formatter new.formatter old.unread new.unread (sinks out_old err_old) (sinks out_new err_new) (Err halt)
-      → ((t left : Tape) (start : Seen) → Halts old.limits t left (line_told halt line line_behind) halt start (seen failures out_new err_new)
-      → Outcome old.limits t left status start behind)
+      → ((t : Beginning) (left : Tape) (start : Seen) → Halts old.limits t left (line_told halt line line_behind) halt start (seen failures out_new err_new)
+      → OutcomeOf old.limits t left status start behind)
       → DoesItem line does old new (seen failures out_old err_old) behind (Err status)
   halted_acts {out_old} {err_old} {out_new} {err_new} new failures halt status behind line_behind limits line_is takes ends = record {
     limits = limits;
@@ -184,79 +219,78 @@ module _ (f : Known → Taking) (does : State → State) (is_closing : Bool) (mo
         did_halt old.limits t tape line line_behind start _ from state
         (opened took).opens took.rest took.quiet took.line_is
         (IsLeftOf-looked_then old.unread.looked tape) refl (line_is (known_at took.history old.formatter.reader.registers.all old.unread.input))
-        [] halt new.formatter.environments (did new.formatter new.unread (Err halt) takes t tape start failures from took) in
+        (behind_of took.history) [] halt new.formatter.environments (did new.formatter new.unread (Err halt) takes t tape start failures from took) in
         rw limits (ends t tape start halts);
-    input = λ t tape start from took. tt;
-    reading = λ t tape start from took. tt;
+    turns = λ t tape start from took. tt;
   }
 
 -- what the code takes and does goes on behind it
-pub taking_acts : {out_old err_old out_new err_new : Sunk} (f : Known → Taking) (does : State → State) (more : List PageEvent) (line : ℕ) (old new : Coded) (failures : ℕ)
-    → IsTaking f does false more old
-    → new.limits ≡ old.limits
+pub taking_acts : {out_old err_old out_new err_new : Sunk} (f : Known → Taking) (does : State → State) (phase : Phase) (more : List PageEvent) (line : ℕ) (old new : Coded) (failures : ℕ)
+    → IsTaking f does phase more old
+    → new.limits ≡ old.limits → new.phase ≡ phase
     → DoesTaking f more old.formatter new.formatter old.unread new.unread (sinks out_old err_old) (sinks out_new err_new) (Ok tt)
     → DoesItem line does old new (seen failures out_old err_old) (seen failures out_new err_new) (Ok tt)
-taking_acts {out_old} {err_old} {out_new} {err_new} f does more line old new failures meant limits takes = record {
+taking_acts {out_old} {err_old} {out_new} {err_new} f does phase more line old new failures meant limits same takes = record {
   limits = limits;
   acts = λ t tape start from took.
-      IsAt-behind t tape start _ old new (taken_of f old took.history) took.history took.messages more
-      (takes.became old.limits took.history took.stands took.ready) limits took.limits took.ready
-      (did f does false more line old meant new.formatter new.unread (Ok tt) takes t tape start failures from took);
-  input = λ t tape start from took.
-      ap (λ (u : PageUnread). u.input) (takes.became old.limits took.history took.stands took.ready).input
-      ∙ sym (ap (λ (s : State). s.input) (meant tape took.history took.messages));
-  reading = λ t tape start from took.
-      (takes.became old.limits took.history took.stands took.ready).reading
-      ∙ sym (ap (λ (s : State). s.reading) (meant tape took.history took.messages));
+      IsAt-behind t tape start _ old new (taken_of f old took.history) took.history (behind_all ((taken_of f old took.history).effect.events ++ more) took.history) took.messages phase more
+      (takes.became old.limits took.history took.stands took.ready) limits same took.limits took.ready
+      (did f does phase more line old meant new.formatter new.unread (Ok tt) takes t tape start failures from took);
+  turns = λ t tape start from took.
+      let performed = did f does phase more line old meant new.formatter new.unread (Ok tt) takes t tape start failures from took in
+      subst (λ (s : State). turns_of_run new ≡ turns_at old.limits.bytes s) (sym (meant tape took.history took.messages))
+      (turns-behind old.limits tape old new (taken_of f old took.history) took.history took.messages phase more
+      (takes.became old.limits took.history took.stands took.ready) same took.limits performed.stands);
 }
 
 -- what is left where a run may end: all, or its input was left
-rest_at_end : (old : Coded) (tape : Tape) (s : State) → MayEnd old → s.tape ≡ looked_then old.unread.looked tape
-    → (old.formatter.reader.reading ≡ Exiting → s.reading ≡ Exiting) → IsRest Done tape s
-rest_at_end old tape s (inl none) is leaves = inl (sym (is ∙ ap (λ (looked : Option ℕ). looked_then looked tape) none))
-rest_at_end old tape s (inr leaving) is leaves = elim (IsLeftOf-looked_then old.unread.looked tape) [
+rest_at_end : (looked : Looked) (tape : Tape) (s : State) → (looked ≡ Nothing) ⊎ (is_closed looked ≡ true) → s.tape ≡ looked_then looked tape
+    → s.is_closed ≡ is_closed looked → IsRest Done tape s
+rest_at_end looked tape s (inl none) is closed = inl (sym (is ∙ ap (λ (looked : Looked). looked_then looked tape) none))
+rest_at_end looked tape s (inr left) is closed = elim (IsLeftOf-looked_then looked tape) [
   | inl all ↦ inl (all ∙ sym is)
-  | inr looked ↦ inr (leaves leaving, looked ∙ sym (ap behind_front is))
+  | inr behind ↦ inr (closed ∙ left, behind ∙ sym (ap behind_front is))
 ]
 
--- all is done at the input's end: one step more ends the run
-pub finished_acts : {out_old err_old out_new err_new : Sunk} (f : Known → Taking) (does : State → State) (more : List PageEvent) (line : ℕ) (old new : Coded) (failures : ℕ)
-    → IsTaking f does true more old
-    → new.limits ≡ old.limits → MayEnd old → ((k : Known) → old.formatter.reader.reading ≡ Exiting → (f k).reading ≡ Exiting)
-    → DoesTaking f more old.formatter new.formatter old.unread new.unread (sinks out_old err_old) (sinks out_new err_new) (Ok tt)
-    → DoesItem line does old new (seen failures out_old err_old) (seen failures out_new err_new) (Err Done)
-finished_acts {out_old} {err_old} {out_new} {err_new} f does more line old new failures meant limits may_end leaves takes = record {
-  limits = limits;
+-- the last phase ends, and the run with it
+pub closed_acts : (line : ℕ) (old : Coded) (now : Seen) → MayEnd old → DoesItem line (phase_ended Closing) old old now now (Err Done)
+closed_acts line old now may_end = record {
+  limits = refl;
   acts = λ t tape start from took.
-      let taken : Taking = taken_of f old took.history in
-      let state : State = taken_as taken (ready_to_take tape old took.history took.messages true more) in
-      let performed : AllPerformed old.limits t start (seen failures out_new err_new) state [] new.formatter.environments =
-      did f does true more line old meant new.formatter new.unread (Ok tt) takes t tape start failures from took in
+      let s : State = state_at tape old took.history took.messages in
+      let done : State = ending_as Done s in
+      let allowed : first_passed old.limits (grown done) ≡ None =
+      subst (λ (l : Limits). first_passed l (counts_in old.formatter.reader.registers.all old.unread.input) ≡ None) took.limits took.ready.within in
+      let there : step old.limits from ≡ done = took.opens.opens ∙ ap (λ (r : Option Limit). unless_refused old.limits r from done) allowed in
       inl (record {
-        state = ending_as Done (acting state [] performed.history);
-        reaches = rw limits (record {
-          comes = Leads-to old.limits (initial t) (acting state [] performed.history) _ performed.reaches.comes refl;
-          text = performed.reaches.text;
-          messages = performed.reaches.messages;
-          faults = performed.reaches.faults;
-        });
+        state = done;
+        reaches = record {
+          comes = Leads-to old.limits (initial old.limits t.start t.tape) from done took.reaches.comes there;
+          text = rw (← took.opens.wrote) took.reaches.text;
+          messages = rw (append-nil, ← took.opens.said) took.reaches.messages;
+          faults = took.reaches.faults;
+        };
         ended = refl;
-        rest = rest_at_end old tape (ending_as Done (acting state [] performed.history)) may_end refl (leaves (known_at took.history old.formatter.reader.registers.all old.unread.input));
+        rest = rest_at_end old.unread.looked tape done may_end refl refl;
         fault = λ wrong. cc;
       });
-  input = λ t tape start from took. tt;
-  reading = λ t tape start from took. tt;
+  turns = λ t tape start from took. tt;
 }
 
+-- two things are the same of the states that the run may be at
+abbrev pub DoTheSame : (does other : State → State) → Coded → Type 0
+DoTheSame does other old =
+    (tape : Tape) (h : PageHistory) (messages : List ℕ) → StandFor old.limits h old.formatter.environments
+    → does (state_at tape old h messages) ≡ other (state_at tape old h messages)
+
 -- a step that leads to one thing leads to another that is the same
-abbrev TookFrom-as : (does other : State → State) (line : ℕ) (old : Coded) (t tape : Tape) (start now : Seen) (from : State)
-    → ((tape : Tape) (h : PageHistory) (messages : List ℕ) → does (state_at tape old h messages) ≡ other (state_at tape old h messages))
-    → TookFrom t tape start now line does from old → TookFrom t tape start now line other from old
+abbrev TookFrom-as : (does other : State → State) (line : ℕ) (old : Coded) (t : Beginning) (tape : Tape) (start now : Seen) (from : State)
+    → DoTheSame does other old → TookFrom t tape start now line does from old → TookFrom t tape start now line other from old
 TookFrom-as does other line old t tape start now from same took = record {
   history = took.history;
   messages = took.messages;
   reaches = took.reaches;
-  opens = subst (λ (s : State). Opens old.limits from s took.history took.messages) (same tape took.history took.messages) took.opens;
+  opens = subst (λ (s : State). Opens old.limits from s took.history took.messages) (same tape took.history took.messages took.stands) took.opens;
   stands = took.stands;
   ready = took.ready;
   limits = took.limits;
@@ -267,17 +301,13 @@ TookFrom-as does other line old t tape start now from same took = record {
 
 -- acting as one thing is acting as another that does the same to the state the run is at
 pub DoesItem-as : (does other : State → State) (line : ℕ) (old new : Coded) (now behind : Seen) (r : Result (Unit {0}) Status)
-    → ((tape : Tape) (h : PageHistory) (messages : List ℕ) → does (state_at tape old h messages) ≡ other (state_at tape old h messages))
-    → DoesItem line other old new now behind r → DoesItem line does old new now behind r
+    → DoTheSame does other old → DoesItem line other old new now behind r → DoesItem line does old new now behind r
 DoesItem-as does other line old new now behind r same acts = record {
   limits = acts.limits;
   acts = λ t tape start from took. acts.acts t tape start from (TookFrom-as does other line old t tape start now from same took);
-  input = λ t tape start from took.
-      subst (λ (s : State). OnOk r (new.unread.input ≡ s.input)) (sym (same tape took.history took.messages))
-      (acts.input t tape start from (TookFrom-as does other line old t tape start now from same took));
-  reading = λ t tape start from took.
-      subst (λ (s : State). OnOk r (new.formatter.reader.reading ≡ s.reading)) (sym (same tape took.history took.messages))
-      (acts.reading t tape start from (TookFrom-as does other line old t tape start now from same took));
+  turns = λ t tape start from took.
+      subst (λ (s : State). OnOk r (turns_of_run new ≡ turns_at old.limits.bytes s)) (sym (same tape took.history took.messages took.stands))
+      (acts.turns t tape start from (TookFrom-as does other line old t tape start now from same took));
 }
 
 -- the line stays where a half read item ends with nothing half read
@@ -354,16 +384,16 @@ abbrev pub event_taking : LineState → PageInput → Known → Taking
 event_taking reading i k = going_on (interrupted reading i) reading
 
 -- what is performed of it, by the answer
-TakingDone-performed : (l : Limits) (t : Tape) (start now : Seen) (from done : State) (rest : List PageEvent) (r : Result (Unit {0}) Halt) (es : EnvironmentsOf)
-    → Performs l t start now done rest r es → TakingDone l t start now from done rest r es
-TakingDone-performed l t start now from done rest (Ok u) es p = p
-TakingDone-performed l t start now from done rest (Err (Limited limit)) es p = p
-TakingDone-performed l t start now from done rest (Err Output) es p = p
-TakingDone-performed l t start now from done rest (Err Messages) es p = absurd p
-TakingDone-performed l t start now from done rest (Err (Refused limit)) es p = absurd p
+pub TakingDone-performed : (l : Limits) (t : Beginning) (start now : Seen) (from done : State) (behind : PageHistory) (rest : List PageEvent) (r : Result (Unit {0}) Halt) (es : EnvironmentsOf)
+    → Performs l t start now done behind rest r es → TakingDone l t start now from done behind rest r es
+TakingDone-performed l t start now from done behind rest (Ok u) es p = p
+TakingDone-performed l t start now from done behind rest (Err (Limited limit)) es p = p
+TakingDone-performed l t start now from done behind rest (Err Output) es p = p
+TakingDone-performed l t start now from done behind rest (Err Messages) es p = absurd p
+TakingDone-performed l t start now from done behind rest (Err (Refused limit)) es p = absurd p
 
 -- a fact is one of an answer that goes on
-OnOk-fact : {A F : Type 0} (r : Result A F) (P : Type 0) → P → OnOk r P
+pub OnOk-fact : {A F : Type 0} (r : Result A F) (P : Type 0) → P → OnOk r P
 OnOk-fact (Ok x) P fact = fact
 OnOk-fact (Err e) P fact = tt
 
@@ -379,16 +409,16 @@ event_does event old new before behind out_old out_new err r input performs = re
     registers = ap (λ (s : ReaderState). s.registers) performs.reader;
     within = within-interrupted before.limits old.reader.registers.all old.reader.reading before.input ready.within;
   });
-  does = λ t0 start failures from tape h messages is_closing rest stands ready reaches opens.
+  does = λ t0 start failures from tape h messages phase closed rest stands ready reaches opens.
       let done : State =
       taken_as (event_taking old.reader.reading before.input (known_at h old.reader.registers.all before.input))
-      (going tape before.input old.reader.reading old.reader.registers.all h messages is_closing (event ∷ rest)) in
+      (going tape before.input old.reader.reading old.reader.registers.all h messages phase closed (event ∷ rest)) in
       let allowed : first_passed before.limits (grown done) ≡ None =
       within-interrupted before.limits old.reader.registers.all old.reader.reading before.input ready.within in
       let step_is : step before.limits from ≡ done = opens.opens ∙ ap (λ (o : Option Limit). unless_refused before.limits o from done) allowed in
-      TakingDone-performed before.limits t0 start _ from done rest r new.environments
+      TakingDone-performed before.limits t0 start _ from done (event ∷ h) rest r new.environments
       (performs.events_performed.performs before.limits t0 start failures err done h rest stands (record {
-        comes = Leads-to before.limits (initial t0) from done reaches.comes step_is;
+        comes = Leads-to before.limits (initial before.limits t0.start t0.tape) from done reaches.comes step_is;
         text = rw (← opens.wrote) reaches.text;
         messages = rw (append-nil (messages ++ []), append-nil messages, ← opens.said) reaches.messages;
         faults = reaches.faults;
@@ -397,7 +427,7 @@ event_does event old new before behind out_old out_new err r input performs = re
 
 -- that an event was put back is that taking
 pub event_meant : (event : PageEvent) (old : Coded)
-    → IsTaking (event_taking old.formatter.reader.reading old.unread.input) (ahead_taken (DoAhead event)) false (event ∷ []) old
+    → IsTaking (event_taking old.formatter.reader.reading old.unread.input) (ahead_taken (DoAhead event)) old.phase (event ∷ []) old
 event_meant event old tape h messages =
     ap (λ (told : List ℕ). record (ahead_taken (DoAhead event) (state_at tape old h messages)) { messages = told }) (sym (append-nil messages))
 
@@ -419,11 +449,16 @@ by_no_half (first ∷ others) none some is = cc (eqb-suc-zero (length others))
 
 -- at the input's end what is half read ends, if something is
 pub input_ends-escapes : (s : State) → not (length s.input.escapes == 0) ≡ true → input_ends s ≡ escape_ends s
-input_ends-escapes s is = by_half s.input.escapes (input_ended (line_ends_first s.reading) s) (escape_ends s) is
+input_ends-escapes s is = by_half s.input.escapes (input_ended (is_unfinished s.phase (known s) s.reading) s) (escape_ends s) is
 
--- and else a control line, or the input's end is met
-pub input_ends-no_half : (s : State) (first : Bool) → not (length s.input.escapes == 0) ≡ false
-    → line_ends_first s.reading ≡ first
-    → input_ends s ≡ input_ended first s
-input_ends-no_half s first is ends =
-    by_no_half s.input.escapes (input_ended (line_ends_first s.reading) s) (escape_ends s) is ∙ ap (λ (b : Bool). input_ended b s) ends
+-- and else an unfinished line, or the phase
+pub input_ends-no_half : (s : State) (unfinished : Bool) → not (length s.input.escapes == 0) ≡ false
+    → is_unfinished s.phase (known s) s.reading ≡ unfinished
+    → input_ends s ≡ input_ended unfinished s
+input_ends-no_half s unfinished is ends =
+    by_no_half s.input.escapes (input_ended (is_unfinished s.phase (known s) s.reading) s) (escape_ends s) is ∙ ap (λ (b : Bool). input_ended b s) ends
+
+-- something is half read, or nothing is
+pub some_half : (half : List OpenEscape) → not (length half == 0) ≡ true → half ≡ [] → ⊥
+some_half [] is none = cc
+some_half (first ∷ others) is none = cc

@@ -1,11 +1,14 @@
 -- What the calls of the unread input leave of a run: of its source, its limits and its turns to come.
-use Rattle.std.proofs.Common.{◌≡◌, ◌⊎◌, inl, inr, ℕ, ◌+◌, ◌≤◌, Bool, true, false, List, [], ◌∷◌, Option, Some, None, refl, sym, subst, arith}
+use Rattle.std.proofs.Common.{◌≡◌, ◌⊎◌, inl, inr, ℕ, ◌+◌, ◌≤◌, Bool, true, false, List, [], ◌∷◌, Option, Some, None, refl, sym, ap, subst, arith}
 use Rattle.std.specs.Prelude.{nat_lt, is_none, ◌&&◌}
 use Rattle.roff_escape.specs.Waiting.{is_ended_by}
 use Rattle.roff_ahead.specs.Input.{Ahead, ByteAhead, FreeAhead, EndAhead, ReturnAhead, DoAhead, cost, item_taken}
-use Rattle.roff_source.specs.Tape.{Tape, Item, Answer, OneByte, OneNote, Gives, Ends, items_then}
-use Rattle.roff_scan.specs.Unread.{Asked, asks_to_take, asks_to_look, answer_behind, looked_then, looking, looking_past, taking, taking_answer}
-use Rattle.roff_ahead.specs.Shown.{Shown, Sighted, SeesByte, SeesNothing, SeesNote, SeesEnding, shown_ahead, seen_ahead}
+use Rattle.roff_source.specs.Tape.{Tape, Item, Answer, Ending, Ended, Failed, Stopped, OneByte, OneNote, Gives, Ends, items_then}
+use Rattle.roff_scan.specs.Looking.{answer_behind, is_closed, is_nothing, looked_then}
+use Rattle.roff_scan.specs.declared.looked.Looked.{Looked}
+use Rattle.roff_scan.specs.declared.looked.Looked.TheVariants.{Nothing, Byte, Closed}
+use Rattle.roff_scan.specs.Unread.{Asked, asks_to_take, asks_to_look, looking, looking_past, taking, taking_answer}
+use Rattle.roff_ahead.specs.Shown.{Shown, ShowsEnding, Sighted, SeesByte, SeesNothing, SeesEnding, shown_ahead, seen_ahead}
 use Rattle.roff_engine.specs.Engine.Outcome.{IsLeftOf}
 use Rattle.roff_engine.specs.Running.Turning.{AsksFirst}
 use Rattle.roff_run.specs.Reading.Items.{PageInput}
@@ -14,7 +17,7 @@ use Rattle.roff_run.specs.Registers.{AllRegisters}
 use Rattle.roff_run.specs.declared.event.PageEvent.{PageEvent}
 use Rattle.roff_run.specs.Run.Counts.{counts_in, first_passed}
 use Rattle.roff_run.specs.TurnsToCome.{turns_to_come, turns_within}
-use Rattle.roff_run.proofs.InFront.{Given, WasAsked, WasNot, Given-asked, IsEnding, Looks-looking, items_asked, limits-taking}
+use Rattle.roff_run.proofs.InFront.{Given, WasAsked, WasNot, Given-asked, Looks-looking, items_asked, limits-taking}
 use Rattle.roff_run.proofs.InputCounts.{first_passed-taking, one_of}
 
 -- A call took these items of its source, and left this unread input: what is left of the source is what it took from,
@@ -42,27 +45,32 @@ some-asked gave gives asks false a asks_then stays (inl is) = let wrong : false 
 some-asked gave gives asks false a asks_then stays (inr may) = (may.0, stays.after may.0 may.1)
 
 -- what is left behind a call, by whether a byte was looked at
-left_behind : (looked : Option ℕ) (asked : Bool) (a : Answer) (before behind : Tape) → (asked ≡ true → looked ≡ None) → Given a asked before behind
+left_behind : (looked : Looked) (asked : Bool) (a : Answer) (before behind : Tape) → (asked ≡ true → looked ≡ Nothing) → Given a asked before behind
     → IsLeftOf behind (looked_then looked before)
-left_behind None asked a before behind none (WasAsked t gives) = inr refl
-left_behind (Some b) asked a before behind none (WasAsked t gives) = let wrong : Some b ≡ None = none refl in cc
-left_behind None asked a before behind none (WasNot t) = inl refl
-left_behind (Some b) asked a before behind none (WasNot t) = inr refl
+left_behind Nothing asked a before behind none (WasAsked t gives) = inr refl
+left_behind (Byte b) asked a before behind none (WasAsked t gives) = let wrong : Byte b ≡ Nothing = none refl in cc
+left_behind (Closed kept) asked a before behind none (WasAsked t gives) = let wrong : Closed kept ≡ Nothing = none refl in cc
+left_behind Nothing asked a before behind none (WasNot t) = inl refl
+left_behind (Byte b) asked a before behind none (WasNot t) = inr refl
+left_behind (Closed None) asked a before behind none (WasNot t) = inl refl
+left_behind (Closed (Some b)) asked a before behind none (WasNot t) = inr refl
 
--- a source is asked only if no byte was looked at
-asked-to_take : (ahead : List (Ahead PageEvent)) (i : PageInput) (looked : Option ℕ) (v : PageUnread)
-    → let u : PageUnread = record v { input = record i { ahead = ahead }; looked = looked } in asks_to_take u ≡ true → looked ≡ None
-asked-to_take [] i None v asks = refl
-asked-to_take [] i (Some b) v asks = cc
+-- a source is asked only if no byte was looked at, and it is open
+asked-to_take : (ahead : List (Ahead PageEvent)) (i : PageInput) (looked : Looked) (v : PageUnread)
+    → let u : PageUnread = record v { input = record i { ahead = ahead }; looked = looked } in asks_to_take u ≡ true → looked ≡ Nothing
+asked-to_take [] i Nothing v asks = refl
+asked-to_take [] i (Byte b) v asks = cc
+asked-to_take [] i (Closed kept) v asks = cc
 asked-to_take (item ∷ items) i looked v asks = cc
 
-asked-to_look : (sight : Option Sighted) (looked : Option ℕ) → is_none sight && is_none looked ≡ true → looked ≡ None
-asked-to_look None None asks = refl
-asked-to_look None (Some b) asks = cc
+asked-to_look : (sight : Option Sighted) (looked : Looked) → is_none sight && is_nothing looked ≡ true → looked ≡ Nothing
+asked-to_look None Nothing asks = refl
+asked-to_look None (Byte b) asks = cc
+asked-to_look None (Closed kept) asks = cc
 asked-to_look (Some sight) looked asks = cc
 
 -- one that is asked for the item in front is asked for what is seen
-asks-both : (ahead : List (Ahead PageEvent)) (i : PageInput) (looked : Option ℕ) (v : PageUnread)
+asks-both : (ahead : List (Ahead PageEvent)) (i : PageInput) (looked : Looked) (v : PageUnread)
     → let u : PageUnread = record v { input = record i { ahead = ahead }; looked = looked } in asks_to_take u ≡ true → asks_to_look u ≡ true
 asks-both [] i looked v asks = asks
 asks-both (item ∷ items) i looked v asks = cc
@@ -84,7 +92,7 @@ turns-answer (Gives (OneByte b)) u = one_of (NoMoreTurns u) (nat_lt u.limits.byt
 turns-answer (Gives (OneNote message)) u = omega arith
 turns-answer (Ends ending) u = omega arith
 
-turns-taking : (ahead : List (Ahead PageEvent)) (a : Answer) (i : PageInput) (looked : Option ℕ) (v : PageUnread)
+turns-taking : (ahead : List (Ahead PageEvent)) (a : Answer) (i : PageInput) (looked : Looked) (v : PageUnread)
     → let u : PageUnread = record v { input = record i { ahead = ahead }; looked = looked } in NoMoreTurns u (taking a u)
 turns-taking [] a i looked v = turns-answer (answer_behind looked a) (record v { input = record i { ahead = [] }; looked = looked })
 turns-taking (item ∷ items) a i looked v =
@@ -119,9 +127,11 @@ Leaves-looks gave gives u a asked =
     }
 
 -- a tape of a source that isn't asked is left as it is
-left-unasked : (looked : Option ℕ) (t : Tape) → IsLeftOf t (looked_then looked t)
-left-unasked None t = inl refl
-left-unasked (Some b) t = inr refl
+left-unasked : (looked : Looked) (t : Tape) → IsLeftOf t (looked_then looked t)
+left-unasked Nothing t = inl refl
+left-unasked (Byte b) t = inr refl
+left-unasked (Closed None) t = inl refl
+left-unasked (Closed (Some b)) t = inr refl
 
 -- where something half read ends, whatever is seen, there is a tape
 some-decides : (gives : Tape → Type 0) (u : PageUnread) → is_ended_by u.input.escapes None ≡ true → AsksFirst u ⊎ ((t : Tape) × gives t) → (t : Tape) × gives t
@@ -139,67 +149,80 @@ Leaves-deciding gives u decides = record {
   turns = omega arith;
 }
 
--- the source was asked, with nothing ahead of it, and its items end: nothing was taken
-pub record EndsThere (u left : PageUnread) (taken : List Item) : Type 0 where
-  pub looked : u.looked ≡ None
+-- a source may end so: by itself, or as it is closed
+abbrev pub EndsAt : Ending → Looked → Type 0
+EndsAt Ended looked = (looked ≡ Nothing) ⊎ (is_closed looked ≡ true)
+EndsAt Failed looked = looked ≡ Nothing
+EndsAt (Stopped limit) looked = looked ≡ Nothing
+
+ends_open : (ending : Ending) → EndsAt ending Nothing
+ends_open Ended = inl refl
+ends_open Failed = refl
+ends_open (Stopped limit) = refl
+
+-- with nothing ahead of it the source ended so: nothing was taken
+pub record EndsThere (ending : Ending) (u left : PageUnread) (taken : List Item) : Type 0 where
+  pub looked : EndsAt ending u.looked
   pub taken_is : taken ≡ []
   pub same : left ≡ u
 
 -- a call that shows an ending
 abbrev TakesEnding : PageUnread → List Item → Shown PageEvent × PageUnread → Type 0
-TakesEnding u taken call = IsEnding call.0 → EndsThere u call.1 taken
+TakesEnding u taken call = (ending : Ending) → call.0 ≡ ShowsEnding ending → EndsThere ending u call.1 taken
 
-no_ending_ahead : (item : Ahead PageEvent) → IsEnding (shown_ahead item) → ⊥
-no_ending_ahead (ByteAhead b) is = is
-no_ending_ahead (FreeAhead b) is = is
-no_ending_ahead EndAhead is = is
-no_ending_ahead ReturnAhead is = is
-no_ending_ahead (DoAhead event) is = is
+no_ending_ahead : (item : Ahead PageEvent) (ending : Ending) → shown_ahead item ≡ ShowsEnding ending → ⊥
+no_ending_ahead (ByteAhead b) ending is = cc
+no_ending_ahead (FreeAhead b) ending is = cc
+no_ending_ahead EndAhead ending is = cc
+no_ending_ahead ReturnAhead ending is = cc
+no_ending_ahead (DoAhead event) ending is = cc
 
 ends-byte : (b : ℕ) (u : PageUnread) (taken : List Item) → TakesEnding u taken (taking_answer (Gives (OneByte b)) u)
-ends-byte b u taken = one_of (TakesEnding u taken) (nat_lt u.limits.bytes (u.input.charge + 1)) _ _ (λ is. absurd is) (λ is. absurd is)
+ends-byte b u taken = one_of (TakesEnding u taken) (nat_lt u.limits.bytes (u.input.charge + 1)) _ _ (λ ending is. absurd (cc)) (λ ending is. absurd (cc))
 
-ends-taking : (ahead : List (Ahead PageEvent)) (a : Answer) (i : PageInput) (looked : Option ℕ) (v : PageUnread)
+-- a closed source has ended
+ends-closed : (kept : Option ℕ) (ending : Ending) (shown : Shown PageEvent) → ShowsEnding Ended ≡ shown → shown ≡ ShowsEnding ending → EndsAt ending (Closed kept)
+ends-closed kept ending shown ended is = let same : Ended ≡ ending = cc in subst (λ (e : Ending). EndsAt e (Closed kept)) same (inr refl)
+
+ends-taking : (ahead : List (Ahead PageEvent)) (a : Answer) (i : PageInput) (looked : Looked) (v : PageUnread)
     → let u : PageUnread = record v { input = record i { ahead = ahead }; looked = looked } in
     TakesEnding u (items_asked (asks_to_take u) a) (taking a u)
-ends-taking [] (Gives (OneByte b)) i None v = ends-byte b (record v { input = record i { ahead = [] }; looked = None }) _
-ends-taking [] (Gives (OneNote message)) i None v = λ is. absurd is
-ends-taking [] (Ends ending) i None v = λ is. record { looked = refl; taken_is = refl; same = refl }
-ends-taking [] a i (Some b) v = ends-byte b (record v { input = record i { ahead = [] }; looked = Some b }) _
+ends-taking [] (Gives (OneByte b)) i Nothing v = ends-byte b (record v { input = record i { ahead = [] }; looked = Nothing }) _
+ends-taking [] (Gives (OneNote message)) i Nothing v = λ ending is. absurd (cc)
+ends-taking [] (Ends ending) i Nothing v = λ shown is. record { looked = ends_open shown; taken_is = refl; same = refl }
+ends-taking [] a i (Byte b) v = ends-byte b (record v { input = record i { ahead = [] }; looked = Byte b }) _
+ends-taking [] a i (Closed kept) v = λ ending is. record { looked = ends-closed kept ending (ShowsEnding Ended) refl is; taken_is = refl; same = refl }
 ends-taking (item ∷ items) a i looked v =
     let u : PageUnread = record v { input = record i { ahead = item ∷ items }; looked = looked } in
-    one_of (TakesEnding u _) (nat_lt v.limits.bytes (i.charge + cost item)) _ _ (λ is. absurd is) (λ is. absurd (no_ending_ahead item is))
+    one_of (TakesEnding u _) (nat_lt v.limits.bytes (i.charge + cost item)) _ _ (λ ending is. absurd (cc)) (λ ending is. absurd (no_ending_ahead item ending is))
 
 -- the source's items end behind the call that takes the item in front
-pub EndsThere-takes : (u : PageUnread) (a : Answer) → IsEnding (taking a u).0 → EndsThere u (taking a u).1 (items_asked (asks_to_take u) a)
-EndsThere-takes u a is = ends-taking u.input.ahead a u.input u.looked u is
-
--- an ending is seen
-abbrev pub IsEndingSeen : Sighted → Type 0
-IsEndingSeen (SeesByte b) = ⊥
-IsEndingSeen SeesNothing = ⊥
-IsEndingSeen (SeesNote message) = ⊥
-IsEndingSeen (SeesEnding ending) = Unit {0}
+pub EndsThere-takes : (u : PageUnread) (a : Answer) (ending : Ending) → (taking a u).0 ≡ ShowsEnding ending → EndsThere ending u (taking a u).1 (items_asked (asks_to_take u) a)
+EndsThere-takes u a ending is = ends-taking u.input.ahead a u.input u.looked u ending is
 
 -- no ending is seen ahead of the source
-no_ending_seen : (items : List (Ahead PageEvent)) (sight : Sighted) → seen_ahead items ≡ Some sight → IsEndingSeen sight → ⊥
-no_ending_seen [] sight is ending = cc
-no_ending_seen (ByteAhead b ∷ items) sight is ending = let same : SeesByte b ≡ sight = cc in subst IsEndingSeen (sym same) ending
-no_ending_seen (FreeAhead b ∷ items) sight is ending = let same : SeesByte b ≡ sight = cc in subst IsEndingSeen (sym same) ending
-no_ending_seen (EndAhead ∷ items) sight is ending = no_ending_seen items sight is ending
-no_ending_seen (ReturnAhead ∷ items) sight is ending = no_ending_seen items sight is ending
-no_ending_seen (DoAhead event ∷ items) sight is ending = let same : SeesNothing ≡ sight = cc in subst IsEndingSeen (sym same) ending
+no_ending_seen : (items : List (Ahead PageEvent)) (ending : Ending) → seen_ahead items ≡ Some (SeesEnding ending) → ⊥
+no_ending_seen [] ending is = cc
+no_ending_seen (ByteAhead b ∷ items) ending is = let same : SeesByte b ≡ SeesEnding ending = cc in cc
+no_ending_seen (FreeAhead b ∷ items) ending is = let same : SeesByte b ≡ SeesEnding ending = cc in cc
+no_ending_seen (EndAhead ∷ items) ending is = no_ending_seen items ending is
+no_ending_seen (ReturnAhead ∷ items) ending is = no_ending_seen items ending is
+no_ending_seen (DoAhead event ∷ items) ending is = let same : SeesNothing ≡ SeesEnding ending = cc in cc
 
-ends-looking : (sight : Option Sighted) (a : Answer) (i : PageInput) (looked : Option ℕ) (v : PageUnread)
+ends-closed_look : (kept : Option ℕ) (ending : Ending) (sight : Sighted) → SeesEnding Ended ≡ sight → sight ≡ SeesEnding ending → EndsAt ending (Closed kept)
+ends-closed_look kept ending sight ended is = let same : Ended ≡ ending = cc in subst (λ (e : Ending). EndsAt e (Closed kept)) same (inr refl)
+
+ends-looking : (sight : Option Sighted) (a : Answer) (i : PageInput) (looked : Looked) (v : PageUnread)
     → let u : PageUnread = record v { input = i; looked = looked } in
-    ((seen : Sighted) → sight ≡ Some seen → IsEndingSeen seen → ⊥)
-    → IsEndingSeen (looking_past sight a u).0 → EndsThere u (looking_past sight a u).1 (items_asked (is_none sight && is_none looked) a)
-ends-looking None (Gives (OneByte b)) i None v none is = absurd is
-ends-looking None (Gives (OneNote message)) i None v none is = absurd is
-ends-looking None (Ends ending) i None v none is = record { looked = refl; taken_is = refl; same = refl }
-ends-looking None a i (Some b) v none is = absurd is
-ends-looking (Some seen) a i looked v none is = absurd (none seen refl is)
+    ((ending : Ending) → sight ≡ Some (SeesEnding ending) → ⊥)
+    → (ending : Ending) → (looking_past sight a u).0 ≡ SeesEnding ending → EndsThere ending u (looking_past sight a u).1 (items_asked (is_none sight && is_nothing looked) a)
+ends-looking None (Gives (OneByte b)) i Nothing v none ending is = absurd (cc)
+ends-looking None (Gives (OneNote message)) i Nothing v none ending is = absurd (cc)
+ends-looking None (Ends e) i Nothing v none ending is = record { looked = ends_open ending; taken_is = refl; same = refl }
+ends-looking None a i (Byte b) v none ending is = absurd (cc)
+ends-looking None a i (Closed kept) v none ending is = record { looked = ends-closed_look kept ending (SeesEnding Ended) refl is; taken_is = refl; same = refl }
+ends-looking (Some seen) a i looked v none ending is = absurd (none ending (ap (λ (s : Sighted). Some s) is))
 
 -- the source's items end behind the call that looks ahead
-pub EndsThere-looks : (u : PageUnread) (a : Answer) → IsEndingSeen (looking a u).0 → EndsThere u (looking a u).1 (items_asked (asks_to_look u) a)
-EndsThere-looks u a is = ends-looking (seen_ahead u.input.ahead) a u.input u.looked u (no_ending_seen u.input.ahead) is
+pub EndsThere-looks : (u : PageUnread) (a : Answer) (ending : Ending) → (looking a u).0 ≡ SeesEnding ending → EndsThere ending u (looking a u).1 (items_asked (asks_to_look u) a)
+EndsThere-looks u a ending is = ends-looking (seen_ahead u.input.ahead) a u.input u.looked u (no_ending_seen u.input.ahead) ending is

@@ -6,10 +6,8 @@ use Rattle.roff_source.specs.Tape.{Tape}
 use Rattle.roff_engine.specs.declared.formatter.Formatter.{Formatter}
 use Rattle.roff_engine.specs.declared.halt.Halt.{Halt}
 use Rattle.roff_engine.specs.declared.halt.Halt.TheVariants.{Limit as Limited, Refused, Output, Messages}
-use Rattle.roff_engine.specs.Engine.Outcome.{Reaches, Seen, seen}
-use Rattle.roff_engine.specs.Formatter.Performing.{TakingDone, MeaningDone, DoesMeaning, DoesTaking, Means, Opens, PerformsOnly, RefusedAt, Sinks, acting, going}
-use Rattle.roff_pages.specs.Sinks.{Sunk}
-use Rattle.roff_engine.proofs.Performed.{does_events, does_halted}
+use Rattle.roff_engine.specs.Engine.Outcome.{Beginning, Reaches, Seen, seen}
+use Rattle.roff_engine.specs.Formatter.Performing.{TakingDone, MeaningDone, DoesMeaning, DoesTaking, Means, Opens, RefusedAt, Sinks, acting, going}
 use Rattle.roff_requests.specs.Environments.Standing.{StandFor}
 use Rattle.roff_requests.specs.declared.environments.Environments.{Environments as EnvironmentsOf}
 use Rattle.roff_run.specs.Output.{PageHistory}
@@ -23,16 +21,18 @@ use Rattle.roff_run.specs.Events.Steps.{events_of, messages_of}
 use Rattle.roff_run.specs.declared.event.PageEvent.{PageEvent}
 use Rattle.roff_run.specs.declared.step.Step.{Step}
 use Rattle.roff_run.specs.declared.message.Message.{Message}
+use Rattle.roff_run.specs.TurnsToCome.{behind_all}
+use Rattle.roff_run.specs.declared.phase.Phase.{Phase}
 use Rattle.roff_run.specs.declared.line_state.LineState.{LineState}
 
 -- what was done of a meaning was done of the taking
-did_does : (l : Limits) (t : Tape) (before now : Seen) (from s : State) (rest : List PageEvent) (r : Result (Unit {0}) Halt) (es : EnvironmentsOf)
-    → MeaningDone l t before now from s rest r es → TakingDone l t before now from s rest r es
-did_does l t before now from s rest (Ok u) es d = d
-did_does l t before now from s rest (Err (Limited limit)) es d = d
-did_does l t before now from s rest (Err (Refused limit)) es d = absurd d
-did_does l t before now from s rest (Err Output) es d = d
-did_does l t before now from s rest (Err Messages) es d = d
+did_does : (l : Limits) (t : Beginning) (before now : Seen) (from s : State) (behind : PageHistory) (rest : List PageEvent) (r : Result (Unit {0}) Halt) (es : EnvironmentsOf)
+    → MeaningDone l t before now from s behind rest r es → TakingDone l t before now from s behind rest r es
+did_does l t before now from s behind rest (Ok u) es d = d
+did_does l t before now from s behind rest (Err (Limited limit)) es d = d
+did_does l t before now from s behind rest (Err (Refused limit)) es d = absurd d
+did_does l t before now from s behind rest (Err Output) es d = d
+did_does l t before now from s behind rest (Err Messages) es d = d
 
 -- what holds of a success anyway
 on_ok : {T E P : Type 0} (r : Result T E) → P → OnOk r P
@@ -40,14 +40,14 @@ on_ok (Ok x) p = p
 on_ok (Err e) p = tt
 
 -- one step from a state leads to what a taking means, unless a count would be above its limit there
-module _ (l : Limits) (from : State) (tape : Tape) (i : PageInput) (reading : LineState) (rs : AllRegisters) (h : PageHistory) (messages : List ℕ) (is_closing : Bool) (to_do : List PageEvent) (t : Taking)
-    (opens : Opens l from (taken_as t (going tape i reading rs h messages is_closing to_do)) h messages) where
+module _ (l : Limits) (from : State) (tape : Tape) (i : PageInput) (reading : LineState) (rs : AllRegisters) (h : PageHistory) (messages : List ℕ) (phase : Phase) (is_closed : Bool) (to_do : List PageEvent) (t : Taking)
+    (opens : Opens l from (taken_as t (going tape i reading rs h messages phase is_closed to_do)) h messages) where
   -- no count is, and the step means what the taking means
   pub means_taken : (line : ℕ) (told : List Message) (events : List PageEvent) → first_passed l (counts_in (changed_by_all t.effect.changes rs) t.input) ≡ None
       → line ≡ t.input.line → told ≡ t.effect.messages → events ≡ t.effect.events
-      → Means l from (taken_as t (going tape i reading rs h messages is_closing to_do)) h line told events to_do
+      → Means l from (taken_as t (going tape i reading rs h messages phase is_closed to_do)) h line told events to_do
   means_taken line told events within is_line are_messages are_events =
-      let done = taken_as t (going tape i reading rs h messages is_closing to_do) in record {
+      let done = taken_as t (going tape i reading rs h messages phase is_closed to_do) in record {
         opens = opens.opens ∙ (ap (λ r. unless_refused l r from done) within ∙ ap (λ (es : List PageEvent). acting done (es ++ to_do) h) (sym are_events));
         goes_on = opens.goes_on;
         wrote = opens.wrote;
@@ -55,10 +55,10 @@ module _ (l : Limits) (from : State) (tape : Tape) (i : PageInput) (reading : Li
       }
 
   -- or one is, and a limit refuses the step
-  pub taking_refused : (t0 : Tape) (start now : Seen) (limit : Limit) → Reaches l t0 start now from
+  pub taking_refused : (t0 : Beginning) (start now : Seen) (limit : Limit) → Reaches l t0 start now from
       → first_passed l (counts_in (changed_by_all t.effect.changes rs) t.input) ≡ Some limit → RefusedAt l t0 start now from limit
   taking_refused t0 start now limit reached past =
-      let done = taken_as t (going tape i reading rs h messages is_closing to_do) in record {
+      let done = taken_as t (going tape i reading rs h messages phase is_closed to_do) in record {
         reaches = reached;
         goes_on = opens.goes_on;
         stops = opens.opens ∙ ap (λ r. unless_refused l r from done) past;
@@ -69,9 +69,9 @@ pub refused_taking : (t : Known → Taking) (more : List PageEvent) (old new : F
     → TakesAs t old.environments old.reader new.reader before behind (Err limit) → DoesTaking t more old new before behind told told (Err (Refused limit))
 refused_taking t more old new before behind told limit takes = record {
   became = λ l h stood ready. tt;
-  does = λ t0 start failures from tape h messages is_closing rest stood ready reached opens.
+  does = λ t0 start failures from tape h messages phase is_closed rest stood ready reached opens.
       let k = known_at h old.reader.registers.all before.input in
-      taking_refused before.limits from tape before.input old.reader.reading old.reader.registers.all h messages is_closing (more ++ rest) (t k) opens
+      taking_refused before.limits from tape before.input old.reader.reading old.reader.registers.all h messages phase is_closed (more ++ rest) (t k) opens
       t0 start (seen failures told.out told.err) limit reached (takes.takes before.limits h stood ready);
 }
 
@@ -86,48 +86,30 @@ module _ (t : Known → Taking) (old mid : Formatter) (before behind : PageUnrea
 
   -- what it means was done, as far as it was done
   done_taken : (new : Formatter) (told_old told_new : Sinks) (r : Result (Unit {0}) Halt) → DoesMeaning line (messages_of mid.reader.meaning.message m) (events_of mid.reader.meaning.events m) mid new told_old told_new r
-      → (t0 : Tape) (start : Seen) (failures : ℕ) (from : State) (tape : Tape) (h : PageHistory) (messages : List ℕ) (is_closing : Bool) (to_do : List PageEvent)
+      → (t0 : Beginning) (start : Seen) (failures : ℕ) (from : State) (tape : Tape) (h : PageHistory) (messages : List ℕ) (phase : Phase) (is_closed : Bool) (to_do : List PageEvent)
       → StandFor before.limits h old.environments → IsReady old.reader.registers before
       → Reaches before.limits t0 start (seen failures told_old.out told_old.err) from
-      → let state : State = taken_as (t (known_at h old.reader.registers.all before.input)) (going tape before.input old.reader.reading old.reader.registers.all h messages is_closing to_do) in
-      Opens before.limits from state h messages → MeaningDone before.limits t0 start (seen failures told_new.out told_new.err) from state to_do r new.environments
-  done_taken new told_old told_new r done t0 start failures from tape h messages is_closing to_do stood ready reached opens =
+      → let state : State = taken_as (t (known_at h old.reader.registers.all before.input)) (going tape before.input old.reader.reading old.reader.registers.all h messages phase is_closed to_do) in
+      Opens before.limits from state h messages → MeaningDone before.limits t0 start (seen failures told_new.out told_new.err) from state (behind_all (t (known_at h old.reader.registers.all before.input)).effect.events h) to_do r new.environments
+  done_taken new told_old told_new r done t0 start failures from tape h messages phase is_closed to_do stood ready reached opens =
       let k = known_at h old.reader.registers.all before.input in
       let took = takes.takes before.limits h stood ready in
-      done.does before.limits t0 start failures from _ h to_do (subst (λ (es : EnvironmentsOf). StandFor before.limits h es) (sym same) stood) reached
-      (means_taken before.limits from tape before.input old.reader.reading old.reader.registers.all h messages is_closing to_do (t k) opens
-      line _ _ took.became.within (is_line ∙ ap (λ (u : PageUnread). u.input.line) took.became.input) took.messages took.events)
+      let state : State = taken_as (t k) (going tape before.input old.reader.reading old.reader.registers.all h messages phase is_closed to_do) in
+      subst (λ (es : List PageEvent). MeaningDone before.limits t0 start (seen failures told_new.out told_new.err) from state (behind_all es h) to_do r new.environments) took.events
+      (done.does before.limits t0 start failures from _ h to_do (subst (λ (es : EnvironmentsOf). StandFor before.limits h es) (sym same) stood) reached
+      (means_taken before.limits from tape before.input old.reader.reading old.reader.registers.all h messages phase is_closed to_do (t k) opens
+      line _ _ took.became.within (is_line ∙ ap (λ (u : PageUnread). u.input.line) took.became.input) took.messages took.events))
 
   -- it was done, and nothing more was to be done
   pub taking_done : (new : Formatter) (told_old told_new : Sinks) (r : Result (Unit {0}) Halt) → DoesMeaning line (messages_of mid.reader.meaning.message m) (events_of mid.reader.meaning.events m) mid new told_old told_new r
       → DoesTaking t [] old new before behind told_old told_new r
   taking_done new told_old told_new r done = record {
     became = became_taken new r done.reader;
-    does = λ t0 start failures from tape h messages is_closing rest stood ready reached opens.
-        did_does before.limits t0 start _ from _ rest r new.environments
-        (done_taken new told_old told_new r done t0 start failures from tape h messages is_closing rest stood ready reached opens);
-  }
-
-  -- doing it halted, and so nothing more was done
-  pub taking_halted : (more : List PageEvent) (new : Formatter) (told_old told_new : Sinks) (halt : Halt) → DoesMeaning line (messages_of mid.reader.meaning.message m) (events_of mid.reader.meaning.events m) mid new told_old told_new (Err halt)
-      → DoesTaking t more old new before behind told_old told_new (Err halt)
-  taking_halted more new told_old told_new halt done = record {
-    became = became_taken new (Err halt) done.reader;
-    does = λ t0 start failures from tape h messages is_closing rest stood ready reached opens.
-        did_does before.limits t0 start _ from _ rest (Err halt) new.environments
-        (does_halted before.limits t0 start _ from _ (more ++ rest) rest halt new.environments new.environments
-        (done_taken new told_old told_new (Err halt) done t0 start failures from tape h messages is_closing (more ++ rest) stood ready reached opens));
-  }
-
-  -- it was done, and then events more were performed
-  pub taking_done_and_more : (more : List PageEvent) (next new : Formatter) (told_old : Sinks) (out_next out_new err_new : Sunk) (r : Result (Unit {0}) Halt)
-      → DoesMeaning line (messages_of mid.reader.meaning.message m) (events_of mid.reader.meaning.events m) mid next told_old (record { out = out_next; err = err_new }) (Ok tt)
-      → PerformsOnly more next new out_next out_new r → DoesTaking t more old new before behind told_old (record { out = out_new; err = err_new }) r
-  taking_done_and_more more next new told_old out_next out_new err_new r done performed = record {
-    became = became_taken new r (performed.reader ∙ done.reader);
-    does = λ t0 start failures from tape h messages is_closing rest stood ready reached opens.
-        let first = done_taken next told_old (record { out = out_next; err = err_new }) (Ok tt) done t0 start failures from tape h messages is_closing (more ++ rest) stood ready reached opens in
-        did_does before.limits t0 start _ from _ rest r new.environments
-        (does_events before.limits t0 start _ from _ rest r new.environments
-        (performed.events_performed.performs before.limits t0 start failures err_new _ first.history rest first.stands first.reaches));
+    does = λ t0 start failures from tape h messages phase is_closed rest stood ready reached opens.
+        let k = known_at h old.reader.registers.all before.input in
+        let state : State = taken_as (t k) (going tape before.input old.reader.reading old.reader.registers.all h messages phase is_closed rest) in
+        subst (λ (es : List PageEvent). TakingDone before.limits t0 start (seen failures told_new.out told_new.err) from state (behind_all es h) rest r new.environments)
+        (sym (append-nil (t k).effect.events))
+        (did_does before.limits t0 start _ from _ _ rest r new.environments
+        (done_taken new told_old told_new r done t0 start failures from tape h messages phase is_closed rest stood ready reached opens));
   }

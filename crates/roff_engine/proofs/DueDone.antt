@@ -1,5 +1,5 @@
 -- What is due before anything more is taken: a message is told, or ends the run, or the input is left.
-use Rattle.std.proofs.Common.{◌≡◌, ℕ, Bool, true, false, List, [], ◌++◌, Option, Some, None, Ok, Err, inl, inr, refl, sym, ap, ◌∙◌, arith, append-nil}
+use Rattle.std.proofs.Common.{◌≡◌, ◌≤◌, ℕ, Bool, true, false, List, [], ◌++◌, Option, Some, None, Ok, Err, inl, inr, refl, sym, ap, ◌∙◌, arith, append-nil}
 use Rattle.roff_num.specs.declared.limit.Limit.{Limit}
 use Rattle.roff_arguments.specs.Arguments.{no_arguments}
 use Rattle.roff_ahead.specs.Input.{leaving}
@@ -9,21 +9,27 @@ use Rattle.roff_run.specs.Output.{PageHistory}
 use Rattle.roff_run.specs.Reading.Items.{PageUnread}
 use Rattle.roff_run.specs.Reading.Ends.{due}
 use Rattle.roff_run.specs.Reading.Messages.{message_text_read}
-use Rattle.roff_run.specs.Run.{State, aborted, end_met, message_told, reading_by, reported, step, unless_refused}
+use Rattle.roff_run.specs.Run.{State, aborted, initial, input_left, message_told, reading_by, reported, step, unless_refused}
 use Rattle.roff_run.specs.Run.Counts.{counts_in, first_passed}
 use Rattle.roff_run.specs.declared.line_state.Due.{Due}
 use Rattle.roff_run.specs.declared.line_state.Due.TheVariants.{Leaves as LeavesInput, Tells}
-use Rattle.roff_run.specs.declared.line_state.LineState.TheVariants.{LineStart}
-use Rattle.roff_run.specs.declared.status.Status.{Status}
+use Rattle.roff_run.specs.declared.line_state.LineState.{LineState}
+use Rattle.roff_run.specs.declared.line_state.LineState.TheVariants.{LineStart, Branch, Braced, Text as InText, Control, Name, Arguments as InArguments, Deciding, StringName, StringText, Skipping, Dropped, Telling, Told, Exiting, Calling, Defining}
 use Rattle.roff_run.specs.declared.status.Status.TheVariants.{Aborted, Device}
 use Rattle.roff_run.proofs.InputCounts.{NoMore-leaving, NoMore-released, first_passed-no_more}
 use Rattle.roff_engine.specs.declared.running.Running.{Running as Coded}
-use Rattle.roff_engine.specs.Engine.Outcome.{Seen, IsLeftOf, IsRest, MessagesFail, seen}
-use Rattle.roff_engine.specs.Running.Turning.{DoesItem, IsAt, DoesDue, TookFrom, state_at}
-use Rattle.roff_pages.specs.Sinks.{Sunk, Writes, Fails}
+use Rattle.roff_engine.specs.Engine.Outcome.{Beginning, Seen, IsLeftOf, IsRest, MessagesFail, seen}
+use Rattle.roff_engine.specs.Running.Turning.{IsAt, DoesDue, line_turns, lines_left_in, state_at}
+use Rattle.roff_sinks.specs.Sinks.{Sunk, Writes, Fails}
 use Rattle.roff_engine.proofs.Acting.{IsLeftOf-looked_then}
 use Rattle.roff_engine.proofs.Calls.{Leaves}
-use Rattle.roff_engine.proofs.Items.{lost, moved, one_more}
+use Rattle.roff_engine.proofs.Items.{lost, one_more}
+use Rattle.roff_engine.proofs.TurnsLeft.{lines_left_in-few}
+use Rattle.roff_scan.specs.Looking.{closing, is_closed, looked_then}
+use Rattle.roff_scan.specs.declared.looked.Looked.{Looked}
+use Rattle.roff_scan.specs.declared.looked.Looked.TheVariants.{Nothing, Byte, Closed}
+use Rattle.roff_engine.specs.Formatter.Performing.{going}
+use Rattle.roff_run.proofs.Leads.{Leads-to}
 
 -- where nothing is due the run stays as it is
 pub nothing_due : (old : Coded) (now : Seen) → due old.formatter.reader.reading ≡ None → DoesDue old old now now (Ok tt)
@@ -34,6 +40,26 @@ nothing_due old now none = record {
   none_due = none;
   turns = omega arith;
 }
+
+-- where something is due a line has been read
+due-line : (reading : LineState) (what : Due) (left : ℕ) → due reading ≡ Some what → 2 ≤ line_turns reading left
+due-line LineStart what left is = cc
+due-line Branch what left is = omega arith
+due-line Braced what left is = cc
+due-line (InText line) what left is = omega arith
+due-line (Control breaks) what left is = omega arith
+due-line (Name breaks first) what left is = omega arith
+due-line (InArguments breaks request) what left is = omega arith
+due-line (Deciding keeping) what left is = omega arith
+due-line (StringName appends) what left is = omega arith
+due-line (StringText name appends is_front) what left is = omega arith
+due-line (Calling name) what left is = omega arith
+due-line (Defining name appends end matched) what left is = omega arith
+due-line (Skipping opened closed behind) what left is = omega arith
+due-line Dropped what left is = omega arith
+due-line (Telling aborts is_front) what left is = omega arith
+due-line (Told aborts) what left is = omega arith
+due-line Exiting what left is = omega arith
 
 -- nothing is taken, over this tape
 abbrev IsTape : Tape → Tape → Type 0
@@ -80,7 +106,7 @@ module _ (old : Coded) (aborts : Bool) (is : due old.formatter.reader.reading �
   abbrev line : List ℕ
   line = told_line aborts (message_text_read old.unread.input)
 
-  module _ (t tape : Tape) (start : Seen) (at : IsAt t tape start (seen failures out err) old) where
+  module _ (t : Beginning) (tape : Tape) (start : Seen) (at : IsAt t tape start (seen failures out err) old) where
     abbrev from : State
     from = state_at tape old at.history at.messages
 
@@ -106,7 +132,7 @@ module _ (old : Coded) (aborts : Bool) (is : due old.formatter.reader.reading �
   failed_due part = record {
     limits = refl;
     idle = λ none. something_due none;
-    does_due = λ t tape start at. inr (inr (not_told t tape start at part));
+    does_due = λ t tape start at. inr (inr (inl (not_told t tape start at part)));
     none_due = tt;
     turns = tt;
   }
@@ -164,44 +190,62 @@ told_due old failures out err told is writes = record {
         limits = at.limits;
       };
   none_due = refl;
-  turns = omega arith;
+  turns = (let line = due-line old.formatter.reader.reading (Tells false) (lines_left_in old.formatter.environments) is in
+      let few = lines_left_in-few old.formatter.environments in
+      omega (arith, line, few));
 }
 
--- the input is left: the run stands where its end is met
-module _ (old new : Coded) (now behind : Seen) (status : Status) (is : due old.formatter.reader.reading ≡ Some LeavesInput) where
-  -- what is left of it
-  abbrev left : PageUnread
-  left = record old.unread { input = leaving old.unread.input }
+-- what was looked at stays as the source is closed
+looked-closing : (looked : Looked) (tape : Tape) → looked_then (closing looked) tape ≡ looked_then looked tape
+looked-closing Nothing tape = refl
+looked-closing (Byte b) tape = refl
+looked-closing (Closed kept) tape = refl
 
-  took_left : (t tape : Tape) (start : Seen) → (at : IsAt t tape start now old)
-      → TookFrom t tape start now old.unread.input.line end_met (state_at tape old at.history at.messages) (moved old left)
-  took_left t tape start at = record {
-    history = at.history;
-    messages = at.messages;
-    reaches = at.reaches;
-    opens = record {
-      opens = ap (λ (what : Option Due). reading_by old.limits what (state_at tape old at.history at.messages)) is;
-      goes_on = refl;
-      wrote = refl;
-      said = append-nil at.messages;
-    };
-    stands = at.stands;
-    ready = record {
-      cap = at.ready.cap;
-      within = first_passed-no_more old.unread.limits old.formatter.reader.registers.all left.input old.unread.input (NoMore-leaving old.unread.input) at.ready.within;
-    };
-    limits = at.limits;
-    quiet = refl;
-    line_is = refl;
-    rest = IsLeftOf-looked_then old.unread.looked tape;
-  }
+closed-closing : (looked : Looked) → is_closed (closing looked) ≡ true
+closed-closing Nothing = refl
+closed-closing (Byte b) = refl
+closed-closing (Closed kept) = refl
 
-  -- the run ends there
-  pub left_due : DoesItem old.unread.input.line end_met (moved old left) new now behind (Err status) → DoesDue old new now behind (Err status)
-  left_due acts = record {
-    limits = acts.limits;
-    idle = λ none. (let wrong : None ≡ Some LeavesInput = sym none ∙ is in absurd (cc));
-    does_due = λ t tape start at. acts.acts t tape start _ (took_left t tape start at);
-    none_due = tt;
-    turns = tt;
-  }
+-- the code behind the end of all input
+abbrev pub behind_left : Coded → Coded
+behind_left old = record old {
+  formatter = record old.formatter { reader = record old.formatter.reader { reading = LineStart } };
+  unread = record old.unread { input = leaving old.unread.input; looked = closing old.unread.looked };
+}
+
+-- the input is left: the run goes on at a line's beginning, with a closed source
+pub left_due : (old : Coded) (now : Seen) → due old.formatter.reader.reading ≡ Some LeavesInput → DoesDue old (behind_left old) now now (Ok tt)
+left_due old now is = record {
+  limits = refl;
+  idle = λ none. (let wrong : None ≡ Some LeavesInput = sym none ∙ is in absurd (cc));
+  does_due = λ t tape start at.
+      let from : State = state_at tape old at.history at.messages in
+      let there : State = state_at tape (behind_left old) at.history at.messages in
+      let within : first_passed old.unread.limits (counts_in old.formatter.reader.registers.all (leaving old.unread.input)) ≡ None =
+      first_passed-no_more old.unread.limits old.formatter.reader.registers.all (leaving old.unread.input) old.unread.input (NoMore-leaving old.unread.input) at.ready.within in
+      let allowed : first_passed old.limits (counts_in old.formatter.reader.registers.all (leaving old.unread.input)) ≡ None = rw (← at.limits) within in
+      let at_tape : Tape → Bool → State = λ t closed. going t (leaving old.unread.input) LineStart old.formatter.reader.registers.all at.history at.messages old.phase closed [] in
+      let same : input_left from ≡ there =
+      ap (λ (t : Tape). at_tape t true) (sym (looked-closing old.unread.looked tape))
+      ∙ ap (λ (closed : Bool). at_tape (looked_then (closing old.unread.looked) tape) closed) (sym (closed-closing old.unread.looked)) in
+      let goes : step old.limits from ≡ there =
+      ap (λ (what : Option Due). reading_by old.limits what from) is
+      ∙ ap (λ (r : Option Limit). unless_refused old.limits r from (input_left from)) allowed ∙ same in
+      record {
+        history = at.history;
+        messages = at.messages;
+        reaches = record {
+          comes = Leads-to old.limits (initial old.limits t.start t.tape) from there at.reaches.comes goes;
+          text = at.reaches.text;
+          messages = at.reaches.messages;
+          faults = at.reaches.faults;
+        };
+        stands = at.stands;
+        ready = record { cap = at.ready.cap; within = within };
+        limits = at.limits;
+      };
+  none_due = refl;
+  turns = (let line = due-line old.formatter.reader.reading LeavesInput (lines_left_in old.formatter.environments) is in
+      let few = lines_left_in-few old.formatter.environments in
+      omega (arith, line, few));
+}

@@ -1,5 +1,5 @@
 -- How a run ends that is halted, and how that is told.
-use Rattle.std.proofs.Common.{◌≡◌, ◌∙◌, ◌⊎◌, ℕ, Result, Ok, Err, inl, inr, refl, subst, sym, arith, append-nil}
+use Rattle.std.proofs.Common.{◌≡◌, ◌∙◌, ◌⊎◌, ℕ, List, [], Result, Ok, Err, inl, inr, refl, subst, sym, ap, append-nil}
 use Rattle.roff_num.specs.declared.limit.Limit.{Limit}
 use Rattle.roff_num.specs.declared.limits.Limits.{Limits}
 use Rattle.roff_num.specs.LimitValues.{value_of}
@@ -9,12 +9,14 @@ use Rattle.roff_run.specs.declared.message.Message.TheVariants.{LimitReached, Wr
 use Rattle.roff_run.specs.Messages.{message_line}
 use Rattle.roff_engine.specs.declared.halt.Halt.{Halt}
 use Rattle.roff_engine.specs.declared.halt.Halt.TheVariants.{Limit as ByLimit, Refused}
-use Rattle.roff_engine.specs.Engine.Outcome.{Seen, IsLeftOf, IsRest, Completes, OutputFails, MessagesFail, seen}
-use Rattle.roff_run.specs.Run.{State, initial, stopped_by}
-use Rattle.roff_engine.specs.Running.Turning.{LimitStops, OutputStopsAt, Halts}
-use Rattle.roff_pages.specs.Sinks.{Sunk, Writes, Fails, Puts}
-use Rattle.roff_pages.proofs.Appending.{Appends-append}
-use Rattle.roff_run.proofs.Leads.{Leads-to}
+use Rattle.roff_engine.specs.Engine.Outcome.{AppendsBetween, Beginning, Seen, IsLeftOf, IsRest, Completes, OutputFails, MessagesFail, StartFails, seen}
+use Rattle.roff_run.specs.Run.{Leads, State, initial, reported, stopped_by}
+use Rattle.roff_engine.specs.Running.Turning.{LimitStops, OutputStopsAt, StartStops, Halts}
+use Rattle.roff_sinks.specs.Sinks.{CountsFault, Sunk, Writes, Fails, Puts}
+use Rattle.std.specs.Io.KnownBytes.{Appends}
+use Rattle.std.specs.Prelude.{IsSome}
+use Rattle.roff_sinks.proofs.Appending.{Appends-append, Appends-nothing}
+use Rattle.roff_run.proofs.Leads.{Leads-refl, Leads-to}
 use Rattle.roff_engine.proofs.Performed.{between, faults_of_err}
 
 -- what is left at a limit, by the status that names it
@@ -22,22 +24,25 @@ rest_told : (limit : Limit) (left : Tape) (s : State) → IsLeftOf left s.tape �
 rest_told limit left s (inl all) = inl all
 rest_told limit left s (inr looked) = inr (tt, looked)
 
--- a limit stops the run, whether it took the item or not
-pub limit_stops : (l : Limits) (t left : Tape) (line : ℕ) (halt : Halt) (limit : Limit) (before now : Seen)
-    → (halt ≡ ByLimit limit) ⊎ (halt ≡ Refused limit) → Halts l t left line halt before now → LimitStops l t left line limit before now
-limit_stops l t left line halt limit before now (inl is) halts = subst (λ (h : Halt). Halts l t left line h before now) is halts
+-- a limit stops the run, whether it took the item or not, or before its first step
+abbrev pub AtLimit : Limits → Beginning → Tape → ℕ → Limit → Seen → Seen → Type 0
+AtLimit l t left line limit before now = LimitStops l t left line limit before now ⊎ StartStops l t left line limit before now
+
+pub limit_stops : (l : Limits) (t : Beginning) (left : Tape) (line : ℕ) (halt : Halt) (limit : Limit) (before now : Seen)
+    → (halt ≡ ByLimit limit) ⊎ (halt ≡ Refused limit) → Halts l t left line halt before now → AtLimit l t left line limit before now
+limit_stops l t left line halt limit before now (inl is) halts = inl (subst (λ (h : Halt). Halts l t left line h before now) is halts)
 limit_stops l t left line halt limit before now (inr is) halts = subst (λ (h : Halt). Halts l t left line h before now) is halts
 
 -- the message sink was given more
-module _ (l : Limits) (t left : Tape) (line : ℕ) (before : Seen) (failures : ℕ) (out old new : Sunk) where
+module _ (l : Limits) (t : Beginning) (left : Tape) (line : ℕ) (before : Seen) (failures : ℕ) (out old new : Sunk) where
   -- a limit stopped the run, and that was reported
-  pub limit_told : (limit : Limit) → LimitStops l t left line limit before (seen failures out old)
+  step_told : (limit : Limit) → LimitStops l t left line limit before (seen failures out old)
       → Writes old new (message_line line (LimitReached limit (value_of l limit)))
       → Completes l t left (Limited limit) before (seen failures out new)
-  limit_told limit stops told = record {
+  step_told limit stops told = record {
     state = stopped_by l limit stops.state;
     reaches = record {
-      comes = Leads-to l (initial t) _ _ stops.reaches.comes stops.stops;
+      comes = Leads-to l (initial l t.start t.tape) _ _ stops.reaches.comes stops.stops;
       text = stops.reaches.text;
       messages = rw stops.line_is (Appends-append _ _ _ _ _ (rw (stops.quiet, append-nil) at stops.reaches.messages) told.written);
       faults = faults_of_err before failures out old new told.failures stops.reaches.faults;
@@ -48,10 +53,10 @@ module _ (l : Limits) (t left : Tape) (line : ℕ) (before : Seen) (failures : �
   }
 
   -- or that could not be reported
-  pub limit_not_told : (limit : Limit) → LimitStops l t left line limit before (seen failures out old)
+  step_not_told : (limit : Limit) → LimitStops l t left line limit before (seen failures out old)
       → Fails old new (message_line line (LimitReached limit (value_of l limit)))
       → MessagesFail l t left Device before (seen failures out new)
-  limit_not_told limit stops told = record {
+  step_not_told limit stops told = record {
     is_device = refl;
     state = stops.state;
     comes = stops.reaches.comes;
@@ -62,6 +67,60 @@ module _ (l : Limits) (t left : Tape) (line : ℕ) (before : Seen) (failures : �
     output_stays = stops.reaches.faults.out;
     rest = subst (λ (s : State). IsLeftOf left s.tape) (sym stops.stops) stops.rest;
   }
+
+  -- a limit refused what was given, and that was reported
+  start_told : (limit : Limit) → StartStops l t left line limit before (seen failures out old)
+      → Writes old new (message_line line (LimitReached limit (value_of l limit)))
+      → Completes l t left (Limited limit) before (seen failures out new)
+  start_told limit stops told =
+      let last : State = stopped_by l limit stops.state in
+      record {
+        state = last;
+        reaches = record {
+          comes = subst (λ (s : State). Leads l (initial l t.start t.tape) s) stops.stops (Leads-refl l (initial l t.start t.tape));
+          text = rw stops.history (subst (λ (s : Sunk). Appends s.contents out.contents []) stops.out (Appends-nothing out.contents));
+          messages = rw (stops.messages, stops.line_is) (subst (λ (s : Sunk). Appends s.contents new.contents (message_line line (LimitReached limit (value_of l limit)))) stops.err told.written);
+          faults = faults_of_err before failures out old new told.failures
+              (record { source = stops.source; out = ap (λ (s : Sunk). s.failures) stops.out; err = ap (λ (s : Sunk). s.failures) stops.err });
+        };
+        ended = refl;
+        rest = rest_told limit left last stops.rest;
+        fault = λ wrong. cc;
+      }
+
+  -- or that could not be reported
+  start_not_told : (limit : Limit) → StartStops l t left line limit before (seen failures out old)
+      → Fails old new (message_line line (LimitReached limit (value_of l limit)))
+      → StartFails l t left Device before (seen failures out new)
+  start_not_told limit stops told =
+      let last : State = stopped_by l limit stops.state in
+      let piece : List ℕ = message_line line (LimitReached limit (value_of l limit)) in
+      let failed : State → Type 0 = λ s. AppendsBetween before.err.contents new.contents [] (reported s) in
+      record {
+        is_device = refl;
+        refused = subst (λ (s : State). IsSome s.ended) (sym stops.stops) refl;
+        text = subst (λ (s : Sunk). Appends s.contents out.contents []) stops.out (Appends-nothing out.contents);
+        messages = subst failed (sym stops.stops)
+            (rw (stops.messages, stops.line_is) (subst (λ (s : Sunk). AppendsBetween s.contents new.contents [] piece) stops.err
+            (between _ _ _ [] piece (Appends-nothing old.contents) told.written)));
+        fault = subst (λ (s : Sunk). CountsFault s.failures new.failures) stops.err told.fault;
+        output_stays = ap (λ (s : Sunk). s.failures) stops.out;
+        rest = subst (λ (s : State). IsLeftOf left s.tape) (sym stops.stops) stops.rest;
+      }
+
+  -- so a run ends that a limit stopped, where that was reported
+  pub limit_told : (limit : Limit) → AtLimit l t left line limit before (seen failures out old)
+      → Writes old new (message_line line (LimitReached limit (value_of l limit)))
+      → Completes l t left (Limited limit) before (seen failures out new)
+  limit_told limit (inl stops) told = step_told limit stops told
+  limit_told limit (inr stops) told = start_told limit stops told
+
+  -- and where it couldn't be
+  pub limit_not_told : (limit : Limit) → AtLimit l t left line limit before (seen failures out old)
+      → Fails old new (message_line line (LimitReached limit (value_of l limit)))
+      → MessagesFail l t left Device before (seen failures out new) ⊎ StartFails l t left Device before (seen failures out new)
+  limit_not_told limit (inl stops) told = inl (step_not_told limit stops told)
+  limit_not_told limit (inr stops) told = inr (start_not_told limit stops told)
 
   -- the output failed, and the report was answered so
   pub output_reported : {F : Type 0} (r : Result (Unit {0}) F) → OutputStopsAt l t left line before (seen failures out old)

@@ -1,11 +1,13 @@
 -- What a run of the code has come to behind each item of its input, where the definition takes one step.
-use Rattle.std.proofs.Common.{◌≡◌, ℕ, ◌≤◌, List, [], ◌∷◌, ◌++◌, Result, Ok, Err, Option, Some, None, inl, inr, refl, sym, ap, ◌∙◌, arith, append-nil}
+use Rattle.std.proofs.Common.{◌≡◌, ℕ, ◌≤◌, List, [], ◌∷◌, ◌++◌, Result, Ok, Err, None, inl, inr, refl, sym, ap, ◌∙◌, arith, append-nil}
 use Rattle.std.specs.Prelude.{IsOkUnless}
 use Rattle.roff_num.specs.declared.limit.Limit.{Limit}
 use Rattle.roff_num.specs.declared.limits.Limits.{Limits}
-use Rattle.roff_source.specs.Tape.{Tape, Item, items_then}
+use Rattle.roff_source.specs.Tape.{Tape, Item, Failed, Stopped, items_then}
 use Rattle.roff_num.specs.Faults.{Rises}
-use Rattle.roff_scan.specs.Unread.{looked_then}
+use Rattle.roff_scan.specs.Looking.{looked_then}
+use Rattle.roff_scan.specs.declared.looked.Looked.{Looked}
+use Rattle.roff_scan.specs.declared.looked.Looked.TheVariants.{Nothing, Byte, Closed}
 use Rattle.roff_run.specs.declared.message.Message.TheVariants.{ReadFailed}
 use Rattle.roff_run.specs.declared.status.Status.{Status}
 use Rattle.roff_run.specs.declared.status.Status.TheVariants.{Device, Limit as Limited}
@@ -17,17 +19,17 @@ use Rattle.roff_run.specs.Registers.Capped.{Capped}
 use Rattle.roff_run.specs.Run.{State, ending_as, ending_with, initial, made, output, reported, step, stopped_by, unless_refused}
 use Rattle.roff_run.specs.Run.Counts.{counts_in, first_passed}
 use Rattle.roff_engine.specs.declared.running.Running.{Running as Coded}
-use Rattle.roff_engine.specs.Engine.Outcome.{Seen, IsLeftOf, Reaches, MessagesFail, Outcome, seen}
+use Rattle.roff_engine.specs.Engine.Outcome.{Beginning, Seen, IsLeftOf, Reaches, MessagesFail, OutcomeOf, seen}
 use Rattle.roff_engine.specs.Running.Turning.{Continues, IsAt, LimitStops, TookFrom, state_at}
-use Rattle.roff_pages.specs.Sinks.{Sunk, Writes, Fails, Puts}
+use Rattle.roff_sinks.specs.Sinks.{Sunk, Writes, Fails, Puts}
 use Rattle.roff_engine.proofs.Acting.{IsLeftOf-looked_then}
-use Rattle.roff_pages.proofs.Appending.{Appends-append}
+use Rattle.roff_sinks.proofs.Appending.{Appends-append}
 use Rattle.roff_engine.proofs.Calls.{EndsThere, Leaves}
 use Rattle.roff_engine.proofs.Performed.{between, faults_of_err}
 use Rattle.roff_run.proofs.Leads.{Leads-to}
 
 -- the source may have had faults more
-pub Reaches-failures : (l : Limits) (t : Tape) (start : Seen) (old failures : ℕ) (out err : Sunk) (s : State) → old ≤ failures
+pub Reaches-failures : (l : Limits) (t : Beginning) (start : Seen) (old failures : ℕ) (out err : Sunk) (s : State) → old ≤ failures
     → Reaches l t start (seen old out err) s → Reaches l t start (seen failures out err) s
 Reaches-failures l t start old failures out err s more reached = record {
   comes = reached.comes;
@@ -55,16 +57,17 @@ ready_behind r u left leaves ready = record {
 }
 
 -- where nothing was looked at or taken, all of a tape is left
-all_left : (looked : Option ℕ) (taken : List Item) (tape : Tape) → looked ≡ None → taken ≡ [] → tape ≡ looked_then looked (items_then taken tape)
-all_left None [] tape none nothing = refl
-all_left None (item ∷ items) tape none nothing = cc
-all_left (Some b) taken tape none nothing = cc
+all_left : (looked : Looked) (taken : List Item) (tape : Tape) → looked ≡ Nothing → taken ≡ [] → tape ≡ looked_then looked (items_then taken tape)
+all_left Nothing [] tape none nothing = refl
+all_left Nothing (item ∷ items) tape none nothing = cc
+all_left (Byte b) taken tape none nothing = cc
+all_left (Closed kept) taken tape none nothing = cc
 
 -- A call took these items of the source, and left this; the run of the definition stands before it, at one state, and
 -- one step leads on.
 module _ {gave gives : Tape → Type 0} {old : Coded} {left : PageUnread} {taken : List Item} (leaves : Leaves gave gives old.unread left taken)
     (failed failures : ℕ) (out err : Sunk) (more : failed ≤ failures)
-    (t tape : Tape) (start : Seen) (may : gives tape) (at : IsAt t (items_then taken tape) start (seen failed out err) old) where
+    (t : Beginning) (tape : Tape) (start : Seen) (may : gives tape) (at : IsAt t (items_then taken tape) start (seen failed out err) old) where
   -- the state of the definition before the call, and the same behind it
   abbrev from : State
   from = state_at (items_then taken tape) old at.history at.messages
@@ -102,7 +105,7 @@ module _ {gave gives : Tape → Type 0} {old : Coded} {left : PageUnread} {taken
         history = at.history;
         messages = at.messages;
         reaches = record {
-          comes = Leads-to old.limits (initial t) from behind reached.comes there;
+          comes = Leads-to old.limits (initial old.limits t.start t.tape) from behind reached.comes there;
           text = reached.text;
           messages = reached.messages;
           faults = reached.faults;
@@ -121,7 +124,7 @@ module _ {gave gives : Tape → Type 0} {old : Coded} {left : PageUnread} {taken
         history = at.history;
         messages = at.messages;
         reaches = record {
-          comes = Leads-to old.limits (initial t) from done reached.comes there;
+          comes = Leads-to old.limits (initial old.limits t.start t.tape) from done reached.comes there;
           text = reached.text;
           messages = reached.messages;
           faults = reached.faults;
@@ -161,7 +164,7 @@ module _ {gave gives : Tape → Type 0} {old : Coded} {left : PageUnread} {taken
     pub one_more : (s : State) (piece : List ℕ) → step old.limits from ≡ s → output s ≡ output from → reported s ≡ at.messages ++ piece
         → Writes err new piece → Reaches old.limits t start (seen failures out new) s
     one_more s piece goes wrote said told = record {
-      comes = Leads-to old.limits (initial t) from s reached.comes goes;
+      comes = Leads-to old.limits (initial old.limits t.start t.tape) from s reached.comes goes;
       text = rw wrote reached.text;
       messages = rw said (Appends-append _ _ _ _ _ (rw append-nil at reached.messages) told.written);
       faults = faults_of_err start failures out err new told.failures reached.faults;
@@ -195,12 +198,12 @@ module _ {gave gives : Tape → Type 0} {old : Coded} {left : PageUnread} {taken
     }
     note_told note (Err status) goes puts is =
         let fails = lost (record behind { messages = at.messages ++ note }) note goes (append-nil (at.messages ++ note)) (IsLeftOf-looked_then left.looked tape) puts.err in
-        inr (inr (rw is fails))
+        inr (inr (inl (rw is fails)))
 
     -- the source failed, and the report was answered so
-    pub source_failed : {F : Type 0} (line : ℕ) (report : Result (Unit {0}) F) → EndsThere old.unread left taken → line ≡ left.input.line
+    pub source_failed : {F : Type 0} (line : ℕ) (report : Result (Unit {0}) F) → EndsThere Failed old.unread left taken → line ≡ left.input.line
         → step old.limits from ≡ ending_with Device ReadFailed from → Rises failed failures
-        → Puts err new (message_line line ReadFailed) report → Outcome old.limits t tape Device start (seen failures out new)
+        → Puts err new (message_line line ReadFailed) report → OutcomeOf old.limits t tape Device start (seen failures out new)
     source_failed line (Ok done) ends line_is goes rises puts =
         let own : line ≡ old.unread.input.line = line_is ∙ ap (λ (u : PageUnread). u.input.line) ends.same in
         inl (record {
@@ -213,15 +216,15 @@ module _ {gave gives : Tape → Type 0} {old : Coded} {left : PageUnread} {taken
     source_failed line (Err fault) ends line_is goes rises puts =
         let own : line ≡ old.unread.input.line = line_is ∙ ap (λ (u : PageUnread). u.input.line) ends.same in
         let rest = inl (all_left old.unread.looked taken tape ends.looked ends.taken_is) in
-        inr (inr (lost (ending_with Device ReadFailed from) (message_line old.unread.input.line ReadFailed) goes refl rest (rw own at puts.err)))
+        inr (inr (inl (lost (ending_with Device ReadFailed from) (message_line old.unread.input.line ReadFailed) goes refl rest (rw own at puts.err))))
 
   -- a limit of the source's own
-  pub source_stopped : (limit : Limit) → EndsThere old.unread left taken → step old.limits from ≡ ending_as (Limited limit) from
-      → Outcome old.limits t tape (Limited limit) start (seen failures out err)
+  pub source_stopped : (limit : Limit) → EndsThere (Stopped limit) old.unread left taken → step old.limits from ≡ ending_as (Limited limit) from
+      → OutcomeOf old.limits t tape (Limited limit) start (seen failures out err)
   source_stopped limit ends goes = inl (record {
     state = ending_as (Limited limit) from;
     reaches = record {
-      comes = Leads-to old.limits (initial t) from (ending_as (Limited limit) from) reached.comes goes;
+      comes = Leads-to old.limits (initial old.limits t.start t.tape) from (ending_as (Limited limit) from) reached.comes goes;
       text = reached.text;
       messages = reached.messages;
       faults = reached.faults;

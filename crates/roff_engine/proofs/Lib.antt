@@ -1,12 +1,15 @@
 pub mod Performed
 pub mod DoesTakings
 pub mod Halting
+pub mod TurnsLeft
 pub mod Acting
+pub mod Closing
 pub mod Calls
 pub mod Items
 pub mod Turns
 pub mod Waiting
 pub mod WholeRuns
+pub mod Starting
 pub mod Outcomes
 pub mod TwoRuns
 pub mod Passing

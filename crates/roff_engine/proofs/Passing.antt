@@ -10,10 +10,11 @@ use Rattle.roff_run.specs.Output.{PageHistory, written}
 use Rattle.roff_reader.specs.Reader.Taken.{IsReady}
 use Rattle.roff_run.specs.Reading.Items.{PageUnread}
 use Rattle.roff_run.specs.Run.{Leads, initial}
+use Rattle.roff_run.specs.declared.start.Start.{Start}
 use Rattle.roff_run.specs.declared.event.PageEvent.{PageEvent}
 use Rattle.roff_engine.specs.declared.formatter.Formatter.{Formatter}
 use Rattle.roff_engine.specs.declared.running.Running.{Running as Coded}
-use Rattle.roff_engine.specs.Engine.Outcome.{Seen}
+use Rattle.roff_engine.specs.Engine.Outcome.{Beginning, Seen}
 use Rattle.roff_engine.specs.Running.Turning.{GoesPast, HasCome, IsAt, state_at}
 use Rattle.roff_engine.proofs.Waiting.{items_then-append}
 use Rattle.roff_run.proofs.Leads.{Leads-trans}
@@ -24,7 +25,7 @@ all_by P Q makes [] are = tt
 all_by P Q makes (b ∷ bytes) are = (makes b are.0, all_by P Q makes bytes are.1)
 
 -- the code is at its place where the run of the definition leads on, and nothing is written or reported
-pub IsAt-leads : (whole before behind : Tape) (start now : Seen) (old : Coded) (f : Formatter) (u : PageUnread) (h : PageHistory) (at : IsAt whole before start now old)
+pub IsAt-leads : (whole : Beginning) (before behind : Tape) (start now : Seen) (old : Coded) (f : Formatter) (u : PageUnread) (h : PageHistory) (at : IsAt whole before start now old)
     → Leads old.limits (state_at before old at.history at.messages) (state_at behind (record old { formatter = f; unread = u }) h at.messages)
     → written h ≡ written at.history → StandFor old.limits h f.environments → IsReady f.reader.registers u → u.limits ≡ old.limits
     → IsAt whole behind start now (record old { formatter = f; unread = u })
@@ -32,7 +33,7 @@ IsAt-leads whole before behind start now old f u h at leads nothing stands ready
   history = h;
   messages = at.messages;
   reaches = record {
-    comes = Leads-trans old.limits (initial whole) (state_at before old at.history at.messages)
+    comes = Leads-trans old.limits (initial old.limits whole.start whole.tape) (state_at before old at.history at.messages)
         (state_at behind (record old { formatter = f; unread = u }) h at.messages) at.reaches.comes leads;
     text = subst (λ (bytes : List ℕ). Appends start.out.contents now.out.contents bytes) (sym nothing) at.reaches.text;
     messages = at.reaches.messages;
@@ -63,14 +64,14 @@ goes_past_fewer gave gives noted kept notes old new now behind less past = recor
 }
 
 -- a run that has come so far has come behind what it went past
-pub come-past : {first gave gives : Tape → Type 0} (noted notes : ℕ) (start now behind : Seen) (old new : Coded) → HasCome first gave start now old
-    → GoesPast gave gives noted notes old new now behind → HasCome first gives start behind new
-come-past {first} noted notes start now behind old new come goes = record {
+pub come-past : {given : Start} {first gave gives : Tape → Type 0} (noted notes : ℕ) (start now behind : Seen) (old new : Coded) → HasCome given first gave start now old
+    → GoesPast gave gives noted notes old new now behind → HasCome given first gives start behind new
+come-past {given} {first} noted notes start now behind old new come goes = record {
   taken = come.taken ++ goes.taken;
   before = λ t may. subst first (sym (items_then-append come.taken goes.taken t)) (come.before (items_then goes.taken t) (goes.before t may));
   some = goes.some come.some;
   at = λ t may.
       let tape : Tape = items_then goes.taken t in
-      subst (λ (whole : Tape). IsAt whole t start behind new) (sym (items_then-append come.taken goes.taken t))
-      (goes.past (items_then come.taken tape) t start may (come.at tape (goes.before t may)));
+      subst (λ (whole : Tape). IsAt (record { start = given; tape = whole }) t start behind new) (sym (items_then-append come.taken goes.taken t))
+      (goes.past (record { start = given; tape = items_then come.taken tape }) t start may (come.at tape (goes.before t may)));
 }

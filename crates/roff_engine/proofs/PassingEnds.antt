@@ -1,6 +1,6 @@
 -- A run that goes past the end of a text ahead, or of a call.
 use Rattle.std.proofs.Common.{◌≡◌, ℕ, suc, zero, ◌+◌, ◌<◌, ◌≤◌, ◌&&◌, Bool, true, false, List, [], ◌∷◌, Option, None, inl, inr, refl, sym, ap, subst, ◌∙◌, arith}
-use Rattle.std.specs.Prelude.{if◌then◌else◌, is_none, nat_lt}
+use Rattle.std.specs.Prelude.{if◌then◌else◌, nat_lt}
 use Rattle.std.proofs.lemmas.Bool.{le-ltb}
 use Rattle.roff_num.specs.declared.limit.Limit.{Limit}
 use Rattle.roff_num.specs.declared.limit.Limit.TheVariants.{Bytes}
@@ -13,6 +13,7 @@ use Rattle.roff_run.specs.Reading.Waiting.{line_waits, waiting_above, waiting_in
 use Rattle.roff_ahead.specs.Input.{Ahead, EndAhead, ReturnAhead, is_none_ahead, item_taken}
 use Rattle.roff_source.specs.Tape.{Tape}
 use Rattle.roff_scan.proofs.Asking.{takes_ahead}
+use Rattle.roff_scan.specs.Looking.{is_nothing}
 use Rattle.roff_scan.specs.Unread.{IsWithin, taking_first}
 use Rattle.roff_ahead.specs.Shown.{ShowsEnd, ShowsRefusal}
 use Rattle.roff_scan.specs.Unread.Calls.{PassesEnd, PassesReturn, Takes}
@@ -23,20 +24,20 @@ use Rattle.roff_run.specs.Reading.Items.{PageInput}
 use Rattle.roff_run.specs.Registers.{AllRegisters}
 use Rattle.roff_run.specs.Run.{Leads, State, in_front_taken, made, read_waiting, step, stopped_by, unless_refused}
 use Rattle.roff_run.specs.Run.Counts.{counts_in, first_passed}
-use Rattle.roff_run.specs.ItemsTaken.{TakesItems}
 use Rattle.roff_run.specs.TurnsToCome.{begun, free_ahead, turns_to_come, turns_within}
 use Rattle.roff_run.specs.declared.event.PageEvent.{PageEvent}
 use Rattle.roff_run.specs.declared.line_state.LineState.{LineState}
 use Rattle.roff_run.specs.declared.line_state.LineState.TheVariants.{Arguments as InArguments, Branch, Braced, Calling, Control, Deciding, Defining, Dropped, Exiting}
 use Rattle.roff_run.specs.declared.line_state.LineState.TheVariants.{LineStart, Name as NameOf, Skipping, StringName, StringText, Telling, Text as InText, Told}
 use Rattle.roff_run.proofs.InputCounts.{IsWithin-allowed, first_passed-few_names}
-use Rattle.roff_run.proofs.ItemsTaken.{step-TakesItems}
+use Rattle.roff_run.proofs.ItemsTaken.{step-reads}
 use Rattle.roff_reader.proofs.TakesAs.{few_names}
 use Rattle.roff_engine.specs.declared.formatter.Formatter.{Formatter}
 use Rattle.roff_engine.specs.declared.running.Running.{Running as Coded}
-use Rattle.roff_engine.specs.Engine.Outcome.{Seen}
+use Rattle.roff_engine.specs.Engine.Outcome.{Beginning, Seen}
 use Rattle.roff_engine.specs.Running.Turning.{GoesFurther, HasTape, IsAt, state_at, turns_left}
 use Rattle.roff_engine.proofs.Passing.{IsAt-leads}
+use Rattle.roff_engine.proofs.TurnsLeft.{turns_of_run-fewer}
 use Rattle.roff_engine.proofs.PassingOn.{goes_further_none, goes_past_none}
 
 -- behind the end of a call no more turns are to come for what is read
@@ -93,12 +94,12 @@ module _ (item : Ahead PageEvent) (reads_on : LineState → LineState) (ends : I
   over = record old.formatter { reader = record old.formatter.reader { reading = reads_on old.formatter.reader.reading } }
 
   -- it is taken in a step
-  step-end : (l : Limits) (s : State) → TakesItems s → s.input.ahead ≡ item ∷ behind → waiting_in s.reading s.input ≡ TakesAny → s.input.charge < l.bytes
+  step-end : (l : Limits) (s : State) → s.ended ≡ None → s.to_do ≡ [] → due s.reading ≡ None → s.input.ahead ≡ item ∷ behind → waiting_in s.reading s.input ≡ TakesAny → s.input.charge < l.bytes
       → first_passed l (counts_in s.registers (item_taken item behind s.input)) ≡ None
       → step l s ≡ record s { input = item_taken item behind s.input; reading = reads_on s.reading }
-  step-end l s takes in_front any few fits =
+  step-end l s going idle none_due in_front any few fits =
       let there : State = record s { input = item_taken item behind s.input; reading = reads_on s.reading } in
-      step-TakesItems l s takes
+      step-reads l s going idle none_due
       ∙ ap (λ (w : Waiting). read_waiting l w s) any
       ∙ ap (λ (items : List (Ahead PageEvent)). in_front_taken l items s) in_front
       ∙ ends.taken l s behind
@@ -106,7 +107,7 @@ module _ (item : Ahead PageEvent) (reads_on : LineState → LineState) (ends : I
       ∙ ap (λ (r : Option Limit). unless_refused l r s there) fits
 
   -- so the run is at its place behind it
-  IsAt-end : (whole tape : Tape) (start now : Seen) → IsAt whole tape start now old → IsAt whole tape start now (record old { formatter = over; unread = after })
+  IsAt-end : (whole : Beginning) (tape : Tape) (start now : Seen) → IsAt whole tape start now old → IsAt whole tape start now (record old { formatter = over; unread = after })
   IsAt-end whole tape start now at =
       let l : Limits = old.unread.limits in
       let rs : AllRegisters = old.formatter.reader.registers.all in
@@ -119,7 +120,7 @@ module _ (item : Ahead PageEvent) (reads_on : LineState → LineState) (ends : I
       first_passed-few_names l rs i (few_names old.formatter.reader.registers old.unread at.ready) ∙ IsWithin-allowed there inside in
       let leads : Leads l s t = record {
         steps = suc zero;
-        there = step-end l s (record { going = refl; not_closing = refl; idle = refl; none_due = none_due }) front takes allowed fits;
+        there = step-end l s refl refl none_due front takes allowed fits;
       } in
       subst (λ (u : PageUnread). IsAt whole tape start now (record old { formatter = over; unread = u })) (sym is)
       (IsAt-leads whole tape tape start now old over there at.history at
@@ -129,7 +130,7 @@ module _ (item : Ahead PageEvent) (reads_on : LineState → LineState) (ends : I
   HasTape-end : (gave : Tape → Type 0) → HasTape old gave → HasTape (record old { formatter = over; unread = after }) gave
   HasTape-end gave known = elim known [
     | inl asks ↦
-        let not_asked : false ≡ true = sym (ap (λ (items : List (Ahead PageEvent)). is_none_ahead items && is_none old.unread.looked) front) ∙ asks.0.1 in
+        let not_asked : false ≡ true = sym (ap (λ (items : List (Ahead PageEvent)). is_none_ahead items && is_nothing old.unread.looked) front) ∙ asks.0.1 in
         absurd (cc)
     | inr given ↦ inr given
   ]
@@ -149,9 +150,9 @@ module _ (item : Ahead PageEvent) (reads_on : LineState → LineState) (ends : I
       before = λ t given. given;
       some = HasTape-end gave;
       past = λ t tape start given at. IsAt-end t tape start now at;
-      turns = omega (arith, fewer-end);
+      turns = (let behind = turns_of_run-fewer old (record old { formatter = over; unread = after }) fewer-end refl in omega (arith, behind));
     };
-    fewer = λ begins. omega (arith, fewer-end);
+    fewer = λ begins. (let behind = turns_of_run-fewer old (record old { formatter = over; unread = after }) fewer-end refl in omega (arith, behind));
   }
 
 -- so it is taken as the front item is

@@ -15,8 +15,9 @@ use Rattle.roff_reader.proofs.LineEnds.{reads-ended}
 use Rattle.roff_engine.specs.declared.running.Running.{Running as Coded}
 use Rattle.roff_engine.specs.Engine.Outcome.{Seen, seen}
 use Rattle.roff_engine.specs.Running.Turning.{GoesFurther, GoesPast, IsAt}
-use Rattle.roff_pages.specs.Sinks.{Sunk}
+use Rattle.roff_sinks.specs.Sinks.{Sunk}
 use Rattle.roff_engine.proofs.Turned.{goes_past_turned}
+use Rattle.roff_engine.proofs.TurnsLeft.{turns_of_run-fewer}
 use Rattle.roff_engine.proofs.Waiting.{items_then-append}
 
 -- past some bytes, and then past others
@@ -90,5 +91,6 @@ goes_further_ended gave gives noted notes failed failures out err old after r is
     let none : begun r.reading ≡ 0 = ap (λ (there : ReaderState). begun there.reading) is in
     record {
       past = goes_past_turned gave gives noted notes failed failures out err old after r past fewer same_failures;
-      fewer = λ begins. omega (arith, less, none, fewer);
+      fewer = λ begins. (let behind = turns_of_run-fewer old (record old { unread = after; formatter = record old.formatter { reader = r } }) (omega (arith, less, none)) refl in
+          omega (arith, behind, fewer));
     }

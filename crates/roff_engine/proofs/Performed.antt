@@ -1,12 +1,11 @@
 -- Events that are performed, one by one, over the states of the definition.
-use Rattle.std.proofs.Common.{◌∙◌, ◌≡◌, ◌<◌, ◌≤◌, ◌+◌, ℕ, List, [], ◌∷◌, ◌++◌, length, Option, Some, None, Result, Ok, Err, IsOkUnless, ap, arith, refl, subst, sym}
+use Rattle.std.proofs.Common.{◌∙◌, ◌≡◌, ◌<◌, ◌+◌, ℕ, List, [], ◌∷◌, ◌++◌, length, Option, Some, None, Result, Ok, Err, IsOkUnless, ap, arith, refl, subst, sym}
 use Rattle.std.specs.Io.KnownBytes.{Appends}
 use Rattle.std.proofs.lemmas.Bool.{le-ltb, lt-ltb}
 use Rattle.std.proofs.Math.Nat.{lt_of_not-le}
 use Rattle.roff_num.specs.declared.limit.Limit.{Limit}
 use Rattle.roff_num.specs.declared.limit.Limit.TheVariants.{Line, Environments as EnvironmentsLimit}
 use Rattle.roff_num.specs.declared.limits.Limits.{Limits}
-use Rattle.roff_source.specs.Tape.{Tape}
 use Rattle.roff_lines.specs.declared.env.Env.{Env}
 use Rattle.roff_lines.specs.declared.event.Event.{Event}
 use Rattle.roff_lines.specs.Env.Stands.{StandsBehind}
@@ -18,7 +17,7 @@ use Rattle.roff_run.specs.declared.environment_number.EnvironmentNumber.{Environ
 use Rattle.roff_engine.specs.declared.formatter.Formatter.{Formatter}
 use Rattle.roff_engine.specs.declared.halt.Halt.{Halt}
 use Rattle.roff_engine.specs.declared.halt.Halt.TheVariants.{Limit as Limited, Refused, Output, Messages}
-use Rattle.roff_engine.specs.Engine.Outcome.{Seen, AppendsBetween, NoSinkFault, Reaches, seen}
+use Rattle.roff_engine.specs.Engine.Outcome.{Beginning, Seen, AppendsBetween, NoSinkFault, Reaches, seen}
 use Rattle.roff_engine.specs.Formatter.Performing.{StoppedAt, FailedAt, LostAt, Performs, PerformsOnly, Means, MeaningDone, DoesMeaning, acting, sinks}
 use Rattle.roff_run.specs.Messages.{message_lines}
 use Rattle.roff_run.specs.declared.message.Message.{Message}
@@ -26,9 +25,10 @@ use Rattle.roff_run.specs.Output.{PageHistory, text_of, finished_bytes, written_
 use Rattle.roff_run.specs.declared.event.PageEvent.{PageEvent}
 use Rattle.roff_run.specs.declared.event.PageEvent.TheVariants.{Text, Space, Environment}
 use Rattle.roff_run.specs.Run.{State, initial, step, unless_refused}
+use Rattle.roff_run.specs.TurnsToCome.{behind_all}
 use Rattle.roff_run.specs.Run.Counts.{refusal}
-use Rattle.roff_pages.specs.Sinks.{Sunk, Writes, AppendsFront, Fails, Puts}
-use Rattle.roff_pages.proofs.Appending.{Appends-append, Writes-nothing}
+use Rattle.roff_sinks.specs.Sinks.{Sunk, Writes, AppendsFront, Fails, Puts}
+use Rattle.roff_sinks.proofs.Appending.{Appends-append, Writes-nothing}
 use Rattle.roff_run.proofs.Leads.{Leads-to}
 
 -- a beginning of a piece was written behind a text
@@ -52,7 +52,7 @@ pub faults_of_err : (before : Seen) (failures : ℕ) (out old new : Sunk) → ne
 faults_of_err before failures out old new same faults = record { source = faults.source; out = faults.out; err = same ∙ faults.err }
 
 -- one event in front of others, at a state of a run
-module _ (l : Limits) (t : Tape) (before : Seen) (failures : ℕ) (err : Sunk) (s : State) (h : PageHistory) (e : PageEvent) (rest : List PageEvent) (old : Sunk)
+module _ (l : Limits) (t : Beginning) (before : Seen) (failures : ℕ) (err : Sunk) (s : State) (h : PageHistory) (e : PageEvent) (rest : List PageEvent) (old : Sunk)
     (reached : Reaches l t before (seen failures old err) (acting s (e ∷ rest) h)) where
   -- an event that no limit refuses is performed by one step
   step-event : refusal l h e ≡ None → step l (acting s (e ∷ rest) h) ≡ acting s rest (e ∷ h)
@@ -62,7 +62,7 @@ module _ (l : Limits) (t : Tape) (before : Seen) (failures : ℕ) (err : Sunk) (
   pub event_performed : (new : Sunk) → refusal l h e ≡ None → Writes old new (written_by h e)
       → Reaches l t before (seen failures new err) (acting s rest (e ∷ h))
   event_performed new allowed writes = record {
-    comes = Leads-to l (initial t) _ _ reached.comes (step-event allowed);
+    comes = Leads-to l (initial l t.start t.tape) _ _ reached.comes (step-event allowed);
     text = Appends-append _ _ _ _ _ reached.text writes.written;
     messages = reached.messages;
     faults = faults_of_out before failures err old new writes.failures reached.faults;
@@ -129,12 +129,11 @@ pub switch_refused : (l : Limits) (h : PageHistory) (number : EnvironmentNumber)
 switch_refused l h number more = rw (lt-ltb l.environments (length (environments h).left + 1) more) refl
 
 -- one event that no limit refuses, as what it writes was put
-event_performs : (l : Limits) (t : Tape) (before : Seen) (failures : ℕ) (err : Sunk) (s : State) (h : PageHistory) (e : PageEvent) (rest : List PageEvent) (es : EnvironmentsOf) (old new : Sunk) (r : Result (Unit {0}) Halt)
+event_performs : (l : Limits) (t : Beginning) (before : Seen) (failures : ℕ) (err : Sunk) (s : State) (h : PageHistory) (e : PageEvent) (rest : List PageEvent) (es : EnvironmentsOf) (old new : Sunk) (r : Result (Unit {0}) Halt)
     → refusal l h e ≡ None → StandFor l (e ∷ h) es → Puts old new (written_by h e) r → IsOkUnless r Output
     → Reaches l t before (seen failures old err) (acting s (e ∷ rest) h)
-    → Performs l t before (seen failures new err) s rest r es
+    → Performs l t before (seen failures new err) s (e ∷ h) rest r es
 event_performs l t before failures err s h e rest es old new (Ok u) allowed stands puts halt reached = record {
-  history = e ∷ h;
   reaches = event_performed l t before failures err s h e rest old reached new allowed puts.ok;
   stands = stands;
 }
@@ -203,12 +202,12 @@ space_performs_only lines old new told_old told_new r stands reader puts halt =
     event_performs_only (Space lines) old new told_old told_new r (λ l h stood. refl) stands reader (λ l h stood. puts h) halt
 
 -- one step from a state means messages and events
-module _ (l : Limits) (t : Tape) (before : Seen) (failures : ℕ) (out old new : Sunk) (from s : State) (h : PageHistory) (line : ℕ) (messages : List Message) (events rest : List PageEvent)
+module _ (l : Limits) (t : Beginning) (before : Seen) (failures : ℕ) (out old new : Sunk) (from s : State) (h : PageHistory) (line : ℕ) (messages : List Message) (events rest : List PageEvent)
     (reached : Reaches l t before (seen failures out old) from) (means : Means l from s h line messages events rest) where
   -- the messages are told, and the events are to be done
   pub messages_told : Writes old new (message_lines line messages) → Reaches l t before (seen failures out new) (acting s (events ++ rest) h)
   messages_told writes = record {
-    comes = Leads-to l (initial t) _ _ reached.comes means.opens;
+    comes = Leads-to l (initial l t.start t.tape) _ _ reached.comes means.opens;
     text = rw (← means.wrote) reached.text;
     messages = rw means.said (Appends-append _ _ _ _ _ reached.messages writes.written);
     faults = faults_of_err before failures out old new writes.failures reached.faults;
@@ -226,29 +225,29 @@ module _ (l : Limits) (t : Tape) (before : Seen) (failures : ℕ) (out old new :
   }
 
 -- what was performed of what an item means was done of it
-pub does_events : (l : Limits) (t : Tape) (before now : Seen) (from s : State) (rest : List PageEvent) (r : Result (Unit {0}) Halt) (es : EnvironmentsOf)
-    → Performs l t before now s rest r es → MeaningDone l t before now from s rest r es
-does_events l t before now from s rest (Ok u) es p = p
-does_events l t before now from s rest (Err (Limited limit)) es p = p
-does_events l t before now from s rest (Err (Refused limit)) es p = p
-does_events l t before now from s rest (Err Output) es p = p
-does_events l t before now from s rest (Err Messages) es p = absurd p
+pub does_events : (l : Limits) (t : Beginning) (before now : Seen) (from s : State) (behind : PageHistory) (rest : List PageEvent) (r : Result (Unit {0}) Halt) (es : EnvironmentsOf)
+    → Performs l t before now s behind rest r es → MeaningDone l t before now from s behind rest r es
+does_events l t before now from s behind rest (Ok u) es p = p
+does_events l t before now from s behind rest (Err (Limited limit)) es p = p
+does_events l t before now from s behind rest (Err (Refused limit)) es p = p
+does_events l t before now from s behind rest (Err Output) es p = p
+does_events l t before now from s behind rest (Err Messages) es p = absurd p
 
 -- where the code halted, what would have been left to do makes no difference
-pub performs_halted : (l : Limits) (t : Tape) (before now : Seen) (s : State) (rest left : List PageEvent) (halt : Halt) (es others : EnvironmentsOf)
-    → Performs l t before now s rest (Err halt) es → Performs l t before now s left (Err halt) others
-performs_halted l t before now s rest left (Limited limit) es others p = p
-performs_halted l t before now s rest left (Refused limit) es others p = p
-performs_halted l t before now s rest left Output es others p = p
-performs_halted l t before now s rest left Messages es others p = p
+pub performs_halted : (l : Limits) (t : Beginning) (before now : Seen) (s : State) (behind other : PageHistory) (rest left : List PageEvent) (halt : Halt) (es others : EnvironmentsOf)
+    → Performs l t before now s behind rest (Err halt) es → Performs l t before now s other left (Err halt) others
+performs_halted l t before now s behind other rest left (Limited limit) es others p = p
+performs_halted l t before now s behind other rest left (Refused limit) es others p = p
+performs_halted l t before now s behind other rest left Output es others p = p
+performs_halted l t before now s behind other rest left Messages es others p = p
 
 -- nor does it for what an item means
-pub does_halted : (l : Limits) (t : Tape) (before now : Seen) (from s : State) (rest left : List PageEvent) (halt : Halt) (es others : EnvironmentsOf)
-    → MeaningDone l t before now from s rest (Err halt) es → MeaningDone l t before now from s left (Err halt) others
-does_halted l t before now from s rest left (Limited limit) es others p = p
-does_halted l t before now from s rest left (Refused limit) es others p = p
-does_halted l t before now from s rest left Output es others p = p
-does_halted l t before now from s rest left Messages es others p = p
+pub does_halted : (l : Limits) (t : Beginning) (before now : Seen) (from s : State) (behind other : PageHistory) (rest left : List PageEvent) (halt : Halt) (es others : EnvironmentsOf)
+    → MeaningDone l t before now from s behind rest (Err halt) es → MeaningDone l t before now from s other left (Err halt) others
+does_halted l t before now from s behind other rest left (Limited limit) es others p = p
+does_halted l t before now from s behind other rest left (Refused limit) es others p = p
+does_halted l t before now from s behind other rest left Output es others p = p
+does_halted l t before now from s behind other rest left Messages es others p = p
 
 -- an event and others behind it, of which the first was performed
 pub performs_both : (first : PageEvent) (others : List PageEvent) (old mid new : Formatter) (told told_mid told_new : Sunk) (r : Result (Unit {0}) Halt)
@@ -258,7 +257,7 @@ performs_both first others old mid new told told_mid told_new r one more = recor
   events_performed = record {
     performs = λ l t before failures err s h rest stood reached.
         let now = one.events_performed.performs l t before failures err s h (others ++ rest) stood reached in
-        more.events_performed.performs l t before failures err s now.history rest now.stands now.reaches;
+        more.events_performed.performs l t before failures err s (first ∷ h) rest now.stands now.reaches;
   };
   reader = more.reader ∙ one.reader;
 }
@@ -269,7 +268,7 @@ pub performs_first_halted : (first : PageEvent) (others : List PageEvent) (old n
 performs_first_halted first others old new told told_new halt one = record {
   events_performed = record {
     performs = λ l t before failures err s h rest stood reached.
-        performs_halted l t before _ s (others ++ rest) rest halt _ _
+        performs_halted l t before _ s (first ∷ h) (behind_all others (first ∷ h)) (others ++ rest) rest halt _ _
         (one.events_performed.performs l t before failures err s h (others ++ rest) stood reached);
   };
   reader = one.reader;
@@ -281,7 +280,7 @@ pub told_then_performed : (line : ℕ) (messages : List Message) (events : List 
     → DoesMeaning line messages events old new (sinks out err) (sinks out_new err_new) r
 told_then_performed line messages events old new out out_new err err_new r puts performed = record {
   does = λ l t before failures from s h rest stood reached means.
-      does_events l t before _ from s rest r _
+      does_events l t before _ from s (behind_all events h) rest r _
       (performed.events_performed.performs l t before failures err_new s h rest stood
       (messages_told l t before failures out err err_new from s h line messages events rest reached means puts.ok));
   reader = performed.reader;
@@ -301,7 +300,7 @@ not_told line messages events f out err err_new halt puts is_messages = record {
 pub performs_nothing : (f : Formatter) (out : Sunk) → PerformsOnly [] f f out out (Ok tt)
 performs_nothing f out = record {
   events_performed = record {
-    performs = λ l t before failures err s h rest stood reached. record { history = h; reaches = reached; stands = stood };
+    performs = λ l t before failures err s h rest stood reached. record { reaches = reached; stands = stood };
   };
   reader = refl;
 }

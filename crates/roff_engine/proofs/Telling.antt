@@ -1,6 +1,6 @@
 -- Bytes of a text line that stand in front are told: the run has come behind them.
-use Rattle.std.proofs.Common.{◌≡◌, ℕ, zero, suc, ◌+◌, ◌<◌, ◌≤◌, true, false, List, [], ◌∷◌, ◌++◌, length, length-take, take, take-take, Option, None, inl, inr, refl, sym, ap, subst, ◌∙◌, arith}
-use Rattle.std.specs.Prelude.{is_none, map, min, take_while}
+use Rattle.std.proofs.Common.{◌≡◌, ℕ, zero, suc, ◌+◌, ◌<◌, ◌≤◌, true, List, [], ◌∷◌, ◌++◌, length, length-take, take, take-take, None, inl, inr, refl, sym, ap, subst, ◌∙◌, arith}
+use Rattle.std.specs.Prelude.{map, min, take_while}
 use Rattle.std.proofs.lemmas.Bool.Decides.{nat_tests}
 use Rattle.std.proofs.lemmas.List.Folds.{length-prefix_len}
 use Rattle.std.specs.List.{AllByRecursion}
@@ -13,13 +13,15 @@ use Rattle.roff_source.proofs.PlainBytes.{take_while-plain}
 use Rattle.roff_source.specs.Bytes.{is_text_byte}
 use Rattle.roff_ahead.specs.Input.{Ahead, ByteAhead, bytes_taken, lines_taken}
 use Rattle.roff_source.specs.Tape.{Tape, OneByte, items_then}
-use Rattle.roff_scan.specs.Unread.{looked_then}
+use Rattle.roff_scan.specs.Looking.{is_closed, is_nothing, looked_then}
+use Rattle.roff_scan.specs.declared.looked.Looked.{Looked}
 use Rattle.roff_scan.specs.Unread.Calls.{OfSource, OfTexts, PassesFront, front_bytes}
 use Rattle.roff_run.specs.Environments.{Environments, environments, text_of}
 use Rattle.roff_requests.specs.Environments.Standing.{StandBy, StandFor}
 use Rattle.roff_run.specs.Output.{PageHistory}
 use Rattle.roff_reader.specs.Reader.State.{ReaderState}
 use Rattle.roff_run.specs.Reading.Items.{PageUnread}
+use Rattle.roff_run.specs.Reading.{taking}
 use Rattle.roff_run.specs.Reading.Ends.{due}
 use Rattle.roff_run.specs.Reading.Items.{PageInput}
 use Rattle.roff_run.specs.Registers.{AllRegisters}
@@ -30,20 +32,26 @@ use Rattle.roff_run.specs.TurnsToCome.{turns_within}
 use Rattle.roff_requests.specs.declared.environments.Environments.{Environments as EnvironmentsOf}
 use Rattle.roff_run.specs.declared.event.PageEvent.{PageEvent}
 use Rattle.roff_run.specs.declared.line_state.LineState.{LineState}
-use Rattle.roff_run.proofs.ItemsTaken.{FromAhead, FromSource, Origin, ahead_at, tape_at}
+use Rattle.roff_run.proofs.ItemsTaken.{FromAhead, FromSource, IsOpenFor, Origin, ahead_at, tape_at}
 use Rattle.roff_run.proofs.PlainRuns.{behind_bytes, counted, counted-source}
 use Rattle.roff_reader.proofs.TurnedRuns.{counted-bytes_taken}
 use Rattle.roff_reader.proofs.Runs.{first_of_front}
 use Rattle.roff_reader.proofs.PrintedRuns.{counted-behind, environments-told, leads-told, turns-counted, with_text, written-told}
 use Rattle.roff_engine.specs.declared.formatter.Formatter.{Formatter}
 use Rattle.roff_engine.specs.declared.running.Running.{Running as Coded}
-use Rattle.roff_engine.specs.Engine.Outcome.{Seen, seen}
+use Rattle.roff_engine.specs.Engine.Outcome.{Beginning, Seen, seen}
 use Rattle.roff_engine.specs.Formatter.Performing.{going}
 use Rattle.roff_engine.specs.Formatter.Telling.{TellsFront}
-use Rattle.roff_engine.specs.Running.Turning.{GoesPast, HasTape, IsAt, state_at, turns_left}
-use Rattle.roff_pages.specs.Sinks.{Sunk}
+use Rattle.roff_engine.specs.Running.Turning.{GoesPast, HasTape, IsAt, line_turns, lines_left_in, state_at, turns_of_run}
+use Rattle.roff_sinks.specs.Sinks.{Sunk}
 use Rattle.roff_engine.proofs.Passing.{IsAt-leads, all_by, goes_past_fewer, not_asked}
 use Rattle.roff_engine.proofs.Performed.{with_lines}
+use Rattle.roff_engine.proofs.TurnsLeft.{turns_of_run-no_more}
+use Rattle.roff_run.specs.Reading.Items.{Taking}
+use Rattle.roff_run.specs.Registers.{no_registers}
+use Rattle.roff_run.specs.Run.{first_input, known_at}
+use Rattle.roff_run.specs.TurnsToCome.{unended}
+use Rattle.roff_run.specs.declared.line_state.LineState.TheVariants.{LineStart, Branch, Braced, Text as InText, Control, Name, Arguments as InArguments, Deciding, StringName, StringText, Skipping, Dropped, Telling, Told, Exiting, Calling, Defining}
 
 -- where the lines of the environment in force stand for more of its history, the environments do
 stand-with_text : (l : Limits) (text : History) (es : Environments) (coded : EnvironmentsOf) (lines : Env) → StandBy l es coded → Stands l.line text lines
@@ -120,9 +128,34 @@ has_tape : (gives : Tape → Type 0) (old : Coded) (bytes : List ℕ) (items : L
     → HasTape old gives → HasTape (record old { unread = record old.unread { input = bytes_taken bytes items old.unread.input } }) gives
 has_tape gives old [] items front known = known
 has_tape gives old (b ∷ bytes) items front known = elim known [
-  | inl asks ↦ absurd (not_asked bytes b items old.unread.input.ahead (is_none old.unread.looked) front asks.0.1)
+  | inl asks ↦ absurd (not_asked bytes b items old.unread.input.ahead (is_nothing old.unread.looked) front asks.0.1)
   | inr given ↦ inr given
 ]
+
+-- where a line begins a byte doesn't leave it so
+unended-printed : (reading : LineState) → ((b : ℕ) → is_text_byte b ≡ true → Prints reading b)
+    → unended (taking (known_at [] no_registers first_input) reading first_input 97).reading ≡ unended reading
+unended-printed reading prints = ap (λ (t : Taking). unended t.reading) (prints 97 refl (known_at [] no_registers first_input) first_input refl)
+
+-- so bytes are told within a line, whose end takes as many turns whatever is interrupted
+lines-told : (reading : LineState) → ((b : ℕ) → is_text_byte b ≡ true → Prints reading b) → (one other : ℕ) → line_turns reading one ≡ line_turns reading other
+lines-told LineStart prints one other = let wrong : 1 ≡ 0 = unended-printed LineStart prints in absurd (omega (arith, wrong))
+lines-told Braced prints one other = let wrong : 1 ≡ 0 = unended-printed Braced prints in absurd (omega (arith, wrong))
+lines-told Branch prints one other = refl
+lines-told (InText line) prints one other = refl
+lines-told (Control breaks) prints one other = refl
+lines-told (Name breaks first) prints one other = refl
+lines-told (InArguments breaks request) prints one other = refl
+lines-told (Deciding keeping) prints one other = refl
+lines-told (StringName appends) prints one other = refl
+lines-told (StringText name appends is_front) prints one other = refl
+lines-told (Calling name) prints one other = refl
+lines-told (Defining name appends end matched) prints one other = refl
+lines-told (Skipping opened closed behind) prints one other = refl
+lines-told Dropped prints one other = refl
+lines-told (Telling aborts is_front) prints one other = refl
+lines-told (Told aborts) prints one other = refl
+lines-told Exiting prints one other = refl
 
 -- bytes that the formatter told where nothing is half read
 module _ (old : Coded) (f : Formatter) (front : List ℕ) (count : ℕ) (told : TellsFront front count old.formatter f)
@@ -150,12 +183,12 @@ module _ (old : Coded) (f : Formatter) (front : List ℕ) (count : ℕ) (told : 
   behind input = record old { formatter = formatter_behind; unread = record old.unread { input = input } }
 
   -- what the steps need to know of the history
-  quiet : (whole tape : Tape) (start now : Seen) → (at : IsAt whole tape start now old) → QuietlyTold old.unread.limits.line bytes (text_of at.history)
+  quiet : (whole : Beginning) (tape : Tape) (start now : Seen) → (at : IsAt whole tape start now old) → QuietlyTold old.unread.limits.line bytes (text_of at.history)
   quiet whole tape start now at =
       told.quiet old.unread.limits at.history (subst (λ (l : Limits). StandFor l at.history old.formatter.environments) (sym at.limits) at.stands)
 
   -- the run is at its place where the definition's leads on over them
-  IsAt-told : (whole tape t : Tape) (start now : Seen) (input : PageInput) (at : IsAt whole tape start now old)
+  IsAt-told : (whole : Beginning) (tape t : Tape) (start now : Seen) (input : PageInput) (at : IsAt whole tape start now old)
       → Leads old.unread.limits (state_at tape old at.history at.messages) (state_at t (behind input) (page_told bytes at.history) at.messages)
       → first_passed old.unread.limits (counts_in rs input) ≡ None → IsAt whole t start now (behind input)
   IsAt-told whole tape t start now input at leads within =
@@ -167,18 +200,18 @@ module _ (old : Coded) (f : Formatter) (front : List ℕ) (count : ℕ) (told : 
       (told.stands old.limits at.history at.stands) (record { cap = at.ready.cap; within = within }) at.limits
 
   -- from there
-  IsAt-from : (from : Origin) (whole t taken : Tape) (start now : Seen) (input : PageInput) → old.unread.input.ahead ≡ ahead_at from bytes
+  IsAt-from : (from : Origin) (whole : Beginning) (t taken : Tape) (start now : Seen) (input : PageInput) → IsOpenFor from (is_closed old.unread.looked) → old.unread.input.ahead ≡ ahead_at from bytes
       → input ≡ counted from bytes old.unread.input → old.unread.input.charge + length bytes ≤ old.unread.limits.bytes
       → looked_then old.unread.looked taken ≡ tape_at from bytes (looked_then old.unread.looked taken)
       → tape_at from [] (looked_then old.unread.looked taken) ≡ looked_then old.unread.looked t
       → IsAt whole taken start now old → IsAt whole t start now (behind input)
-  IsAt-from from whole t taken start now input front is few asked left at =
+  IsAt-from from whole t taken start now input is_open front is few asked left at =
       let l : Limits = old.unread.limits in
       let i : PageInput = old.unread.input in
       let tape : Tape = looked_then old.unread.looked taken in
       let h : PageHistory = page_told bytes at.history in
-      let here : Tape → PageInput → PageHistory → State = λ tape j h. going tape j reading rs h at.messages false [] in
-      let led = leads-told l reading rs at.messages from tape bytes i at.history none_due none_half
+      let here : Tape → PageInput → PageHistory → State = λ tape j h. going tape j reading rs h at.messages old.phase (is_closed old.unread.looked) [] in
+      let led = leads-told l reading rs at.messages old.phase (is_closed old.unread.looked) from tape bytes i at.history is_open none_due none_half
       (subst (λ (items : List (Ahead PageEvent)). first_passed l (counts_in rs (record i { ahead = items })) ≡ None) front at.ready.within) few all_print
       (quiet whole taken start now at) in
       let stands : here (tape_at from bytes tape) (record i { ahead = ahead_at from bytes }) at.history ≡ here tape i at.history =
@@ -194,12 +227,13 @@ module _ (old : Coded) (f : Formatter) (front : List ℕ) (count : ℕ) (told : 
 
   -- no more turns are to come
   turns-told : (from : Origin) (input : PageInput) → old.unread.input.ahead ≡ ahead_at from bytes → input ≡ counted from bytes old.unread.input
-      → turns_left (behind input) ≤ turns_left old
+      → turns_of_run (behind input) ≤ turns_of_run old
   turns-told from input front is =
       let most : ℕ = old.unread.limits.bytes in
       let few : turns_within most input ≤ turns_within most old.unread.input =
       subst (λ (j : PageInput). turns_within most j ≤ turns_within most old.unread.input) (sym is) (turns-counted most from bytes old.unread.input front) in
-      omega (arith, few)
+      turns_of_run-no_more old (behind input) (omega (arith, few)) refl
+      (lines-told reading prints (lines_left_in formatter_behind.environments) (lines_left_in old.formatter.environments))
 
   -- the run goes past the bytes that were told, wherever they stood
   past-told : (gave gives : Tape → Type 0) (notes : ℕ) (now : Seen) (u : PageUnread) → PassesFront gave gives bytes old.unread u
@@ -207,30 +241,30 @@ module _ (old : Coded) (f : Formatter) (front : List ℕ) (count : ℕ) (told : 
   past-told gave gives notes now u (OfSource passes) =
       let input : PageInput = lines_taken bytes old.unread.input in
       let is : (tape : Tape) → input ≡ counted (FromSource tape) bytes old.unread.input = λ tape. sym (counted-source tape bytes old.unread.input passes.ahead) in
-      let few : turns_left (behind input) ≤ turns_left old = turns-told (FromSource passes.some.0) input passes.ahead (is passes.some.0) in
+      let few : turns_of_run (behind input) ≤ turns_of_run old = turns-told (FromSource passes.some.0) input passes.ahead (is passes.some.0) in
       subst (λ (v : PageUnread). GoesPast gave gives notes notes old (record old { formatter = formatter_behind; unread = v }) now now) (sym passes.input) (record {
         limits = refl;
         taken = map OneByte bytes;
         before = passes.in_front;
         some = λ known. inr passes.some;
         past = λ t tape start may at.
-            IsAt-from (FromSource tape) t tape (items_then (map OneByte bytes) tape) start now input passes.ahead (is tape) passes.within
-            (ap (λ (looked : Option ℕ). looked_then looked (items_then (map OneByte bytes) tape)) passes.looked)
-            (sym (ap (λ (looked : Option ℕ). looked_then looked tape) passes.looked)) at;
+            IsAt-from (FromSource tape) t tape (items_then (map OneByte bytes) tape) start now input (ap is_closed passes.looked) passes.ahead (is tape) passes.within
+            (ap (λ (looked : Looked). looked_then looked (items_then (map OneByte bytes) tape)) passes.looked)
+            (sym (ap (λ (looked : Looked). looked_then looked tape) passes.looked)) at;
         turns = omega (arith, few);
       })
   past-told gave gives notes now u (OfTexts passes) =
       let items : List (Ahead PageEvent) = passes.behind in
       let input : PageInput = bytes_taken bytes items old.unread.input in
       let is : input ≡ counted (FromAhead items) bytes old.unread.input = sym (counted-bytes_taken items bytes old.unread.input passes.in_front) in
-      let few : turns_left (behind input) ≤ turns_left old = turns-told (FromAhead items) input passes.in_front is in
+      let few : turns_of_run (behind input) ≤ turns_of_run old = turns-told (FromAhead items) input passes.in_front is in
       let given : HasTape old gave → HasTape old gives = λ known. elim known [ inl asks ↦ inl asks | inr tape ↦ inr (tape.0, passes.stays.after tape.0 tape.1) ] in
       subst (λ (v : PageUnread). GoesPast gave gives notes notes old (record old { formatter = formatter_behind; unread = v }) now now) (sym passes.input) (record {
         limits = refl;
         taken = [];
         before = passes.stays.before;
         some = λ known. has_tape gives old bytes items passes.in_front (given known);
-        past = λ t tape start may at. IsAt-from (FromAhead items) t tape tape start now input passes.in_front is passes.within refl refl at;
+        past = λ t tape start may at. IsAt-from (FromAhead items) t tape tape start now input tt passes.in_front is passes.within refl refl at;
         turns = omega (arith, few);
       })
 

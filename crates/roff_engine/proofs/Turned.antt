@@ -1,10 +1,13 @@
 -- Bytes that were read at once and changed only what is read: the run has come behind them.
-use Rattle.std.proofs.Common.{◌≡◌, ℕ, ◌+◌, ◌≤◌, List, [], ◌∷◌, ◌++◌, ◌&&◌, length, Option, None, inl, inr, refl, sym, ap, subst, ◌∙◌, arith}
-use Rattle.std.specs.Prelude.{is_none, map}
+use Rattle.std.proofs.Common.{◌≡◌, ℕ, ◌+◌, ◌≤◌, List, [], ◌∷◌, ◌++◌, ◌&&◌, length, None, inl, inr, refl, sym, ap, subst, ◌∙◌, arith}
+use Rattle.std.specs.Prelude.{map}
 use Rattle.roff_num.specs.declared.limits.Limits.{Limits}
 use Rattle.roff_ahead.specs.Input.{Ahead, ByteAhead, is_none_ahead}
 use Rattle.roff_source.specs.Tape.{Tape, OneByte, items_then}
-use Rattle.roff_scan.specs.Unread.{Stays, input_refusal, looked_then}
+use Rattle.roff_scan.specs.Looking.{is_closed, is_nothing, looked_then}
+use Rattle.roff_scan.specs.declared.looked.Looked.{Looked}
+use Rattle.roff_scan.specs.declared.looked.Looked.TheVariants.{Nothing}
+use Rattle.roff_scan.specs.Unread.{Stays, input_refusal}
 use Rattle.roff_scan.specs.Unread.Calls.{OfSource, OfTexts, PassesFront, PassesSource, PassesTexts}
 use Rattle.roff_reader.specs.Reader.State.{MeaningKept, ReaderState}
 use Rattle.roff_reader.specs.Reader.Taken.{IsReady}
@@ -22,15 +25,16 @@ use Rattle.roff_reader.specs.Reader.Stages.{ReadsPast}
 use Rattle.roff_run.specs.TurnsToCome.{begun, turns_within}
 use Rattle.roff_run.specs.declared.line_state.LineState.{LineState}
 use Rattle.roff_run.proofs.InputCounts.{IsWithin-allowed, first_passed-few_names}
-use Rattle.roff_run.proofs.ItemsTaken.{FromAhead, FromSource, Origin, ahead_at, tape_at}
+use Rattle.roff_run.proofs.ItemsTaken.{FromAhead, FromSource, IsOpenFor, Origin, ahead_at, tape_at}
 use Rattle.roff_run.proofs.PlainRuns.{behind_bytes, counted, counted-source, is-run_at, run_at}
 use Rattle.roff_reader.proofs.TakesAs.{few_names}
 use Rattle.roff_reader.proofs.TurnedRuns.{FitsAt, Turned-none, after-Turned, counted-bytes_taken, input-passed, stage_input, stage_input-counted, turns_left-turned}
 use Rattle.roff_engine.specs.declared.running.Running.{Running as Coded}
-use Rattle.roff_engine.specs.Engine.Outcome.{Seen, seen}
-use Rattle.roff_engine.specs.Running.Turning.{GoesPast, HasTape, IsAt, state_at, turns_left}
-use Rattle.roff_pages.specs.Sinks.{Sunk}
+use Rattle.roff_engine.specs.Engine.Outcome.{Beginning, Seen, seen}
+use Rattle.roff_engine.specs.Running.Turning.{GoesPast, HasTape, IsAt, line_turns, lines_left_in, state_at, turns_left, turns_of_run}
+use Rattle.roff_sinks.specs.Sinks.{Sunk}
 use Rattle.roff_engine.proofs.Passing.{IsAt-leads, goes_past_fewer, not_asked}
+use Rattle.roff_engine.proofs.TurnsLeft.{turns_of_run-fewer, turns_of_run-no_more}
 
 -- the code where this is read
 abbrev reads : Coded → LineState → PageInput → Coded
@@ -48,11 +52,11 @@ pub record ReadFrom (from : Origin) (bytes : List ℕ) (old : Coded) (reading : 
   pub within : input_refusal old.unread.limits input ≡ None
 
 -- so the run is at its place behind them, over what is left of the tape
-IsAt-turned : (whole t taken : Tape) (start now : Seen) (old : Coded) (reading : LineState) (input : PageInput) (from : Origin) (bytes : List ℕ)
-    → ReadFrom from bytes old reading input → looked_then old.unread.looked taken ≡ tape_at from bytes (looked_then old.unread.looked taken)
+IsAt-turned : (whole : Beginning) (t taken : Tape) (start now : Seen) (old : Coded) (reading : LineState) (input : PageInput) (from : Origin) (bytes : List ℕ)
+    → IsOpenFor from (is_closed old.unread.looked) → ReadFrom from bytes old reading input → looked_then old.unread.looked taken ≡ tape_at from bytes (looked_then old.unread.looked taken)
     → tape_at from [] (looked_then old.unread.looked taken) ≡ looked_then old.unread.looked t
     → IsAt whole taken start now old → IsAt whole t start now (reads old reading input)
-IsAt-turned whole t taken start now old reading input from bytes read asked left at =
+IsAt-turned whole t taken start now old reading input from bytes is_open read asked left at =
     let i : PageInput = old.unread.input in
     let l : Limits = old.unread.limits in
     let rs : AllRegisters = old.formatter.reader.registers.all in
@@ -69,7 +73,7 @@ IsAt-turned whole t taken start now old reading input from bytes read asked left
     subst (λ (j : PageInput). first_passed l (counts_in rs j) ≡ None) (sym read.leads) fits in
     let stands : run_at s i.names p from bytes i ≡ s = is-run_at s from bytes p refl refl refl refl read.ahead asked in
     let comes : after l (length bytes) (run_at s i.names p from bytes i) ≡ run_at s i.names q from [] (behind_bytes from bytes i) =
-    after-Turned l s i.names from p q bytes i (record { going = refl; not_closing = refl; idle = refl }) read.turned read.charged before behind in
+    after-Turned l s i.names from p q bytes i (record { going = refl; is_open = is_open; idle = refl }) read.turned read.charged before behind in
     let is : run_at s i.names q from [] (behind_bytes from bytes i) ≡ there =
     ap (λ (j : PageInput). record s { tape = tape_at from [] s.tape; input = j; reading = reading }) read.leads
     ∙ ap (λ (tape : Tape). record s { tape = tape; input = input; reading = reading }) left in
@@ -77,39 +81,52 @@ IsAt-turned whole t taken start now old reading input from bytes read asked left
     IsAt-leads whole taken t start now old (record old.formatter { reader = record old.formatter.reader { reading = reading } }) (record old.unread { input = input }) at.history at
     (subst (λ (k : Limits). Leads k s there) at.limits leads) refl at.stands (record { cap = ready.cap; within = fits }) at.limits
 
--- no more turns are to come
+-- fewer turns are to come, by one for each byte
 turns-read : (old : Coded) (reading : LineState) (input : PageInput) (from : Origin) (bytes : List ℕ) → ReadFrom from bytes old reading input
-    → turns_left (reads old reading input) ≤ turns_left old
+    → turns_left (reads old reading input) + length bytes ≤ turns_left old
 turns-read old reading input from bytes read =
     let i : PageInput = old.unread.input in
     let most : ℕ = old.unread.limits.bytes in
     let p : Stage = stage_of old.formatter.reader.reading i in
     let q : Stage = stage_of reading input in
     let k : Known = known_at [] old.formatter.reader.registers.all i in
-    let few : turns_within most (stage_input i.names q from [] (behind_bytes from bytes i)) + begun reading
+    let few : turns_within most (stage_input i.names q from [] (behind_bytes from bytes i)) + begun reading + length bytes
     ≤ turns_within most (stage_input i.names p from bytes i) + begun p.reading = turns_left-turned most k i.names from p q bytes i read.turned read.charged in
-    let fewer : turns_within most (stage_input i.names q from [] (behind_bytes from bytes i)) + begun reading ≤ turns_left old =
+    let fewer : turns_within most (stage_input i.names q from [] (behind_bytes from bytes i)) + begun reading + length bytes ≤ turns_left old =
     subst
-    (λ (items : List (Ahead PageEvent)). turns_within most (stage_input i.names q from [] (behind_bytes from bytes i)) + begun reading ≤ turns_within most (record i { ahead = items }) + begun p.reading)
+    (λ (items : List (Ahead PageEvent)). turns_within most (stage_input i.names q from [] (behind_bytes from bytes i)) + begun reading + length bytes ≤ turns_within most (record i { ahead = items }) + begun p.reading)
     (sym read.ahead) few in
-    subst (λ (j : PageInput). turns_within most j + begun reading ≤ turns_left old) read.leads fewer
+    subst (λ (j : PageInput). turns_within most j + begun reading + length bytes ≤ turns_left old) read.leads fewer
+
+-- so no more are to come of the run
+turns-reads : (old : Coded) (reading : LineState) (input : PageInput) (from : Origin) (bytes : List ℕ) → ReadFrom from bytes old reading input
+    → turns_of_run (reads old reading input) ≤ turns_of_run old
+turns-reads old reading input from [] read =
+    let none : stage_of old.formatter.reader.reading old.unread.input ≡ stage_of reading input = Turned-none _ _ _ [] refl read.turned in
+    let few = turns-read old reading input from [] read in
+    turns_of_run-no_more old (reads old reading input) (omega (arith, few)) refl
+    (ap (λ (p : Stage). line_turns p.reading (lines_left_in old.formatter.environments)) (sym none))
+turns-reads old reading input from (b ∷ bytes) read =
+    let few = turns-read old reading input from (b ∷ bytes) read in
+    let fewer = turns_of_run-fewer old (reads old reading input) (omega (arith, few)) refl in
+    omega (arith, fewer)
 
 -- the run goes past bytes of the source
 past-source : (gave gives : Tape → Type 0) (notes : ℕ) (now : Seen) (old : Coded) (reading : LineState) (input : PageInput) (bytes : List ℕ)
-    → ((tape : Tape) → ReadFrom (FromSource tape) bytes old reading input) → old.unread.looked ≡ None
+    → ((tape : Tape) → ReadFrom (FromSource tape) bytes old reading input) → old.unread.looked ≡ Nothing
     → ((t : Tape) → gives t → gave (items_then (map OneByte bytes) t)) → (t : Tape) × gives t
     → GoesPast gave gives notes notes old (reads old reading input) now now
 past-source gave gives notes now old reading input bytes read none in_front some =
-    let few : turns_left (reads old reading input) ≤ turns_left old = turns-read old reading input (FromSource some.0) bytes (read some.0) in
+    let few : turns_of_run (reads old reading input) ≤ turns_of_run old = turns-reads old reading input (FromSource some.0) bytes (read some.0) in
     record {
       limits = refl;
       taken = map OneByte bytes;
       before = in_front;
       some = λ known. inr some;
       past = λ t tape start may at.
-          IsAt-turned t tape (items_then (map OneByte bytes) tape) start now old reading input (FromSource tape) bytes (read tape)
-          (ap (λ (looked : Option ℕ). looked_then looked (items_then (map OneByte bytes) tape)) none)
-          (sym (ap (λ (looked : Option ℕ). looked_then looked tape) none)) at;
+          IsAt-turned t tape (items_then (map OneByte bytes) tape) start now old reading input (FromSource tape) bytes (ap is_closed none) (read tape)
+          (ap (λ (looked : Looked). looked_then looked (items_then (map OneByte bytes) tape)) none)
+          (sym (ap (λ (looked : Looked). looked_then looked tape) none)) at;
       turns = omega (arith, few);
     }
 
@@ -126,14 +143,14 @@ has_tape gave gives old reading input rest [] stays front left turned known =
       | inl asks ↦ inl (
         (
           sym half ∙ asks.0.0,
-          ap (λ (items : List (Ahead PageEvent)). is_none_ahead items && is_none old.unread.looked) (left ∙ sym front) ∙ asks.0.1,
+          ap (λ (items : List (Ahead PageEvent)). is_none_ahead items && is_nothing old.unread.looked) (left ∙ sym front) ∙ asks.0.1,
         ),
         subst (λ (r : LineState). due r ≡ None) read asks.1,
       )
       | inr given ↦ inr (given.0, stays.after given.0 given.1)
     ]
 has_tape gave gives old reading input rest (b ∷ bytes) stays front left turned known = elim known [
-  | inl asks ↦ absurd (not_asked bytes b rest old.unread.input.ahead (is_none old.unread.looked) front asks.0.1)
+  | inl asks ↦ absurd (not_asked bytes b rest old.unread.input.ahead (is_nothing old.unread.looked) front asks.0.1)
   | inr given ↦ inr (given.0, stays.after given.0 given.1)
 ]
 
@@ -142,14 +159,14 @@ past-texts : (gave gives : Tape → Type 0) (notes : ℕ) (now : Seen) (old : Co
     → ReadFrom (FromAhead rest) bytes old reading input → Stays gave gives
     → GoesPast gave gives notes notes old (reads old reading input) now now
 past-texts gave gives notes now old reading input rest bytes read stays =
-    let few : turns_left (reads old reading input) ≤ turns_left old = turns-read old reading input (FromAhead rest) bytes read in
+    let few : turns_of_run (reads old reading input) ≤ turns_of_run old = turns-reads old reading input (FromAhead rest) bytes read in
     let left : input.ahead ≡ rest = sym (ap (λ (j : PageInput). j.ahead) read.leads) in
     record {
       limits = refl;
       taken = [];
       before = stays.before;
       some = has_tape gave gives old reading input rest bytes stays read.ahead left read.turned;
-      past = λ t tape start may at. IsAt-turned t tape tape start now old reading input (FromAhead rest) bytes read refl refl at;
+      past = λ t tape start may at. IsAt-turned t tape tape start now old reading input (FromAhead rest) bytes tt read refl refl at;
       turns = omega (arith, few);
     }
 

@@ -1,10 +1,10 @@
 -- Turns of a run of the code: a call of the unread input, and what is done with what it shows.
-use Rattle.std.proofs.Common.{◌≡◌, ◌⊎◌, inl, inr, ℕ, ◌+◌, ◌<◌, ◌≤◌, List, [], ◌∷◌, length, Result, Ok, Err, OnOk, None, refl, sym, ap, subst, ◌∙◌, arith}
-use Rattle.std.specs.Prelude.{IsOkUnless, not, true, ◌==◌}
+use Rattle.std.proofs.Common.{◌≡◌, ◌⊎◌, inl, inr, ℕ, ◌+◌, ◌<◌, ◌≤◌, List, [], ◌∷◌, Result, Ok, Err, OnOk, refl, sym, ap, subst, ◌∙◌, arith}
+use Rattle.std.specs.Prelude.{IsOkUnless}
 use Rattle.roff_num.specs.declared.limit.Limit.{Limit}
 use Rattle.roff_num.specs.declared.limits.Limits.{Limits}
 use Rattle.roff_ahead.specs.Input.{DoAhead}
-use Rattle.roff_source.specs.Tape.{Tape, Item, Ended, Failed, Stopped, items_then}
+use Rattle.roff_source.specs.Tape.{Tape, Item, Ending, Ended, Failed, Stopped, items_then}
 use Rattle.roff_num.specs.Faults.{Rises}
 use Rattle.roff_scan.specs.Unread.{asks_to_take, taking}
 use Rattle.roff_ahead.specs.Shown.{Shown, ShowsByte, ShowsEnd, ShowsReturn, ShowsDo, ShowsNote, ShowsEnding, ShowsRefusal}
@@ -18,7 +18,7 @@ use Rattle.roff_run.specs.Messages.{message_line}
 use Rattle.roff_run.specs.Output.{PageHistory}
 use Rattle.roff_run.specs.Reading.Items.{PageUnread}
 use Rattle.roff_run.specs.Reading.{interrupted}
-use Rattle.roff_run.specs.Reading.Ends.{line_ends_first}
+use Rattle.roff_run.specs.Reading.Ends.{is_unfinished}
 use Rattle.roff_run.specs.Reading.Items.{PageInput}
 use Rattle.roff_run.specs.declared.line_state.LineState.{LineState}
 use Rattle.roff_run.specs.declared.line_state.LineState.TheVariants.{Arguments as InArguments}
@@ -26,29 +26,45 @@ use Rattle.roff_run.specs.Run.{State, ahead_taken, byte_taken, ending_input, esc
 use Rattle.roff_run.specs.TurnsToCome.{begun, turns_to_come, turns_within}
 use Rattle.roff_engine.specs.declared.halt.Halt.TheVariants.{Refused}
 use Rattle.roff_engine.specs.declared.running.Running.{Running as Coded}
-use Rattle.roff_engine.specs.Engine.Outcome.{Seen, Outcome, seen}
-use Rattle.roff_engine.specs.Running.Turning.{DoesItem, AsksFirst, Continues, Halts, HasTape, IsAt, IsEnded, StepDoes, TookFrom, TurnsBy, input_ends, state_at, turns_left}
-use Rattle.roff_pages.specs.Sinks.{Sunk, Puts}
+use Rattle.roff_engine.specs.Engine.Outcome.{Beginning, Seen, OutcomeOf, seen}
+use Rattle.roff_engine.specs.Running.Turning.{DoesItem, AsksFirst, Continues, Halts, HasTape, IsAt, MayEnd, MayGoOn, StepDoes, TookFrom, TurnsBy, input_ends, state_at, turns_at, turns_of_run, turns_with}
+use Rattle.roff_sinks.specs.Sinks.{Sunk, Puts}
 use Rattle.roff_engine.proofs.Calls.{EndsThere, EndsThere-takes, Leaves, Leaves-takes}
 use Rattle.roff_engine.proofs.Items.{end_passed, moved, return_passed, returned, note_told, refused, source_failed, source_stopped, took}
 use Rattle.roff_run.proofs.InFront.{Given-asked, IsEnding, in_front, items_asked, over_unread, over_unread-ending, shown_step}
 use Rattle.roff_run.proofs.Readings.{begun-behind_return}
-use Rattle.roff_run.proofs.TurnsToCome.{IsTaken, turns_to_come-taking, turns_within-byte, turns_within-escape_ended, turns_within-line_ends}
+use Rattle.roff_run.proofs.TurnsToCome.{IsTaken, turns_to_come-taking, turns_within-byte}
+use Rattle.roff_requests.specs.Environments.Standing.{StandFor}
+use Rattle.roff_engine.proofs.TurnsLeft.{input_ends-fewer, turns_at-fewer, turns_at-run, turns_of_run-fewer}
 
 -- fewer turns are to come of the run that goes on
 abbrev pub Falls : ℕ → ℕ → Coded → Coded → Result (Unit {0}) Status → Type 0
-Falls noted notes old new r = OnOk r (turns_left new + notes < turns_left old + noted)
+Falls noted notes old new r = OnOk r (turns_with new notes < turns_with old noted)
 
 -- the turns to come of an unread input that has these limits and this input
 pub turns_of : (u : PageUnread) (l : Limits) (i : PageInput) → u.limits ≡ l → u.input ≡ i → turns_to_come u ≡ turns_within l.bytes i
 turns_of u l i limits input =
     ap (λ (l : Limits). turns_within l.bytes u.input) limits ∙ ap (λ (i : PageInput). turns_within l.bytes i) input
 
--- what is done with an item leaves fewer turns than there were before the item
-abbrev pub LeavesFewer : (State → State) → Coded → PageUnread → Type 0
-LeavesFewer doing old left =
-    (s : State) → s.input ≡ left.input → s.reading ≡ old.formatter.reader.reading
-    → turns_within old.unread.limits.bytes (doing s).input + begun (doing s).reading < turns_to_come old.unread + begun s.reading
+-- what is done with an item leaves fewer turns than there were before the item, if the run goes on
+abbrev pub LeavesFewer : (State → State) → Coded → PageUnread → Result (Unit {0}) Status → Type 0
+LeavesFewer doing old left r =
+    (tape : Tape) (h : PageHistory) (ms : List ℕ) → StandFor old.limits h old.formatter.environments
+    → OnOk r (turns_at old.unread.limits.bytes (doing (state_at tape (moved old left) h ms)) < turns_of_run old)
+
+-- where a run goes on, this holds
+pub on_ok : {A : Type 0} (r : Result (Unit {0}) Status) → A → OnOk r A
+on_ok (Ok done) holds = holds
+on_ok (Err status) holds = tt
+
+-- so it does if less is to be read behind it, in the same phase
+pub leaves_fewer : (doing : State → State) (old : Coded) (left : PageUnread) (r : Result (Unit {0}) Status)
+    → ((s : State) → s.input ≡ left.input → s.reading ≡ old.formatter.reader.reading
+    → (turns_within old.unread.limits.bytes (doing s).input + begun (doing s).reading < turns_to_come old.unread + begun s.reading) × ((doing s).phase ≡ s.phase))
+    → LeavesFewer doing old left r
+leaves_fewer doing old left r fewer = λ tape h ms stood.
+    let less = fewer (state_at tape (moved old left) h ms) refl refl in
+    on_ok r (turns_at-fewer old.unread.limits.bytes old (doing (state_at tape (moved old left) h ms)) less.0 less.1)
 
 -- the source is asked, or there is a tape
 pub asks_or_given : (run : Coded) (gave : Tape → Type 0) → HasTape run gave → AsksFirst run.unread ⊎ ((tape : Tape) × gave tape)
@@ -60,7 +76,7 @@ module _ {gave gives : Tape → Type 0} {old : Coded} {left : PageUnread} {taken
     (does : State → State) (noted notes : ℕ) where
   -- it is a turn if it continues where the definition takes its step
   pub turned : (new : Coded) (now after : Seen) (r : Result (Unit {0}) Status) → new.limits ≡ old.limits
-      → ((t tape : Tape) (start : Seen) → gives tape → (at : IsAt t (items_then taken tape) start now old)
+      → ((t : Beginning) (tape : Tape) (start : Seen) → gives tape → (at : IsAt t (items_then taken tape) start now old)
       → StepDoes does (items_then taken tape) old at.history at.messages
       → Continues t tape start after r new × Falls noted notes old new r)
       → TurnsBy does gave gives noted notes old new now after r
@@ -75,17 +91,17 @@ module _ {gave gives : Tape → Type 0} {old : Coded} {left : PageUnread} {taken
 
   -- what is done with the item leaves fewer turns
   fewer_behind : (doing : State → State) (line : ℕ) (new : Coded) (now after : Seen) (r : Result (Unit {0}) Status) → notes ≤ noted
-      → OnOk r (LeavesFewer doing old left) → old.unread.limits ≡ old.limits
+      → LeavesFewer doing old left r → old.unread.limits ≡ old.limits
       → (acts : DoesItem line doing (moved old left) new now after r)
-      → (t tape : Tape) (start : Seen) (from : State) → TookFrom t tape start now line doing from (moved old left)
+      → (t : Beginning) (tape : Tape) (start : Seen) (from : State) → TookFrom t tape start now line doing from (moved old left)
       → Falls noted notes old new r
   fewer_behind doing line new now after (Ok done) less fewer limits acts t tape start from took =
-      let goes_on : IsAt t tape start after new = acts.acts t tape start from took in
-      let s : State = state_at tape (moved old left) took.history took.messages in
-      let few : turns_within old.unread.limits.bytes (doing s).input + begun (doing s).reading < turns_to_come old.unread + begun s.reading = fewer s refl refl in
-      let reads : begun new.formatter.reader.reading ≡ begun (doing s).reading = ap begun (acts.reading t tape start from took) in
-      let same : new.unread.limits ≡ old.unread.limits = goes_on.limits ∙ acts.limits ∙ sym limits in
-      omega (arith, less, few, reads, turns_of new.unread old.unread.limits (doing s).input same (acts.input t tape start from took))
+      let s : State = doing (state_at tape (moved old left) took.history took.messages) in
+      let few : turns_at old.unread.limits.bytes s < turns_of_run old = fewer tape took.history took.messages took.stands in
+      let is : turns_of_run new ≡ turns_at old.unread.limits.bytes s =
+      acts.turns t tape start from took ∙ ap (λ (l : Limits). turns_at l.bytes s) (sym limits) in
+      let behind : turns_of_run new < turns_of_run old = subst (λ (n : ℕ). n < turns_of_run old) (sym is) few in
+      omega (arith, less, behind)
   fewer_behind doing line new now after (Err status) less fewer limits acts t tape start from took = tt
 
   -- what was taken is done
@@ -93,7 +109,7 @@ module _ {gave gives : Tape → Type 0} {old : Coded} {left : PageUnread} {taken
       → failed ≤ failures → notes ≤ noted → line ≡ old.unread.input.line
       → (old.unread.limits ≡ old.limits → (tape : Tape) → gives tape → (h : PageHistory) (ms : List ℕ)
       → let from : State = state_at (items_then taken tape) old h ms in does from ≡ made old.limits from (doing (state_at tape (moved old left) h ms)))
-      → OnOk r (LeavesFewer doing old left)
+      → LeavesFewer doing old left r
       → DoesItem line doing (moved old left) new (seen failures out err) after r
       → TurnsBy does gave gives noted notes old new (seen failed out err) after r
   acted doing line new failed failures out err after r more less line_is shows fewer acts =
@@ -114,19 +130,9 @@ turns-interrupted bytes (_) i = refl
 
 -- what ends at the input's end, by what is half read
 ending_input-made : (l : Limits) (half : List OpenEscape) (s : State)
-    → ending_input l half s ≡ made l s (elim half [ [] ↦ input_ended (line_ends_first s.reading) s | first ∷ others ↦ escape_ends s ])
+    → ending_input l half s ≡ made l s (elim half [ [] ↦ input_ended (is_unfinished s.phase (known s) s.reading) s | first ∷ others ↦ escape_ends s ])
 ending_input-made l [] s = refl
 ending_input-made l (first ∷ others) s = refl
-
--- where something is half read, or a control line ends first, a turn fewer is to come
-escapes-input_ends : (bytes : ℕ) (half : List OpenEscape) (s : State) → IsEnded half s.reading → s.input.escapes ≡ half
-    → let ended : State = elim half [ [] ↦ input_ended (line_ends_first s.reading) s | first ∷ others ↦ escape_ends s ] in
-    turns_within bytes ended.input + begun ended.reading < turns_within bytes s.input + begun s.reading
-escapes-input_ends bytes [] s (inl some) is = absurd (omega (arith, some))
-escapes-input_ends bytes [] s (inr first) is =
-    rw first (omega (arith, turns_within-line_ends bytes (known s) s.reading s.input first is))
-escapes-input_ends bytes (first ∷ others) s some is =
-    let one : 1 ≤ length s.input.escapes = rw is (omega arith) in omega (arith, turns_within-escape_ended bytes (known s) s.reading s.input one)
 
 -- the call that takes the item in front
 module _ {gave gives : Tape → Type 0} {left : PageUnread} {item : Shown PageEvent} (old : Coded) (call : Takes gave gives old.unread left item) where
@@ -141,8 +147,8 @@ module _ {gave gives : Tape → Type 0} {left : PageUnread} {item : Shown PageEv
   pub leaves_front : Leaves gave gives old.unread left taken
   leaves_front = subst (λ (c : Shown PageEvent × PageUnread). Leaves gave gives old.unread c.1 taken) left_is (Leaves-takes gave gives old.unread call.answer call.asked)
 
-  ends_front : IsEnding item → EndsThere old.unread left taken
-  ends_front = subst (λ (c : Shown PageEvent × PageUnread). IsEnding c.0 → EndsThere old.unread c.1 taken) left_is (EndsThere-takes old.unread call.answer)
+  ends_front : (ending : Ending) → item ≡ ShowsEnding ending → EndsThere ending old.unread left taken
+  ends_front ending = subst (λ (c : Shown PageEvent × PageUnread). c.0 ≡ ShowsEnding ending → EndsThere ending old.unread c.1 taken) left_is (EndsThere-takes old.unread call.answer ending)
 
   pub falls_front : IsTaken item → turns_to_come left + 5 ≤ turns_to_come old.unread
   falls_front = subst (λ (c : Shown PageEvent × PageUnread). IsTaken c.0 → turns_to_come c.1 + 5 ≤ turns_to_come old.unread) left_is (turns_to_come-taking call.answer old.unread)
@@ -165,16 +171,6 @@ module _ {gave gives : Tape → Type 0} {left : PageUnread} {item : Shown PageEv
       subst (λ (c : Shown PageEvent × PageUnread). IsEnding c.0 → over_unread c.1 tape from ≡ from) left_is
       (over_unread-ending old.unread call.answer (items_then taken tape) tape from given) is
 
--- where a run goes on, this holds
-pub on_ok : {A : Type 0} (r : Result (Unit {0}) Status) → A → OnOk r A
-on_ok (Ok done) holds = holds
-on_ok (Err status) holds = tt
-
--- where something is half read, a run may go on
-pub some_half : (half : List OpenEscape) (reading : LineState) (r : Result (Unit {0}) Status) → not (length half == 0) ≡ true → OnOk r (IsEnded half reading)
-some_half [] reading r is = cc
-some_half (first ∷ others) reading r is = on_ok r (inl (omega arith))
-
 -- where a run goes on, one follows from the other
 pub on_ok-then : {A B : Type 0} (r : Result (Unit {0}) Status) → (A → B) → OnOk r A → OnOk r B
 on_ok-then (Ok done) f holds = f holds
@@ -190,25 +186,29 @@ module _ {gave gives : Tape → Type 0} {left : PageUnread} (old : Coded) (faile
       → line ≡ old.unread.input.line → DoesItem line (byte_taken b) (moved old left) new (seen failures out err) after r → FrontTurn gave gives noted notes old new (seen failed out err) after r
   front_byte b line new after r call line_is acts =
       let leaves = leaves_front old call in
-      let fewer : LeavesFewer (byte_taken b) old left = λ s is same.
-      omega (arith, turns_within-byte old.unread.limits.bytes (known s) s.reading s.input b, turns_of left old.unread.limits s.input leaves.limits (sym is), falls_front old call tt) in
-      acted leaves _ noted notes (byte_taken b) line new failed failures out err after r more less line_is (shown_front old call) (on_ok r fewer) acts
+      let fewer : LeavesFewer (byte_taken b) old left r = leaves_fewer (byte_taken b) old left r (λ s is same. (
+        omega (arith, turns_within-byte old.unread.limits.bytes (known s) s.reading s.input b, turns_of left old.unread.limits s.input leaves.limits (sym is), falls_front old call tt),
+        refl,
+      )) in
+      acted leaves _ noted notes (byte_taken b) line new failed failures out err after r more less line_is (shown_front old call) fewer acts
 
   -- an event that was put back
   pub front_event : (event : PageEvent) (line : ℕ) (new : Coded) (after : Seen) (r : Result (Unit {0}) Status) → Takes gave gives old.unread left (ShowsDo event)
       → line ≡ old.unread.input.line → DoesItem line (ahead_taken (DoAhead event)) (moved old left) new (seen failures out err) after r → FrontTurn gave gives noted notes old new (seen failed out err) after r
   front_event event line new after r call line_is acts =
       let leaves = leaves_front old call in
-      let fewer : LeavesFewer (ahead_taken (DoAhead event)) old left = λ s is same.
-      omega (arith, turns-interrupted old.unread.limits.bytes s.reading s.input, turns_of left old.unread.limits s.input leaves.limits (sym is), falls_front old call tt) in
-      acted leaves _ noted notes (ahead_taken (DoAhead event)) line new failed failures out err after r more less line_is (shown_front old call) (on_ok r fewer) acts
+      let fewer : LeavesFewer (ahead_taken (DoAhead event)) old left r = leaves_fewer (ahead_taken (DoAhead event)) old left r (λ s is same. (
+        omega (arith, turns-interrupted old.unread.limits.bytes s.reading s.input, turns_of left old.unread.limits s.input leaves.limits (sym is), falls_front old call tt),
+        refl,
+      )) in
+      acted leaves _ noted notes (ahead_taken (DoAhead event)) line new failed failures out err after r more less line_is (shown_front old call) fewer acts
 
   -- the end of a text
   pub front_end : Takes gave gives old.unread left ShowsEnd → FrontTurn gave gives noted notes old (moved old left) (seen failed out err) (seen failures out err) (Ok tt)
   front_end call =
       turned (leaves_front old call) _ noted notes (moved old left) (seen failed out err) (seen failures out err) (Ok tt) refl (λ t tape start may at goes. (
         end_passed (leaves_front old call) failed failures out err more t tape start may at (goes ∙ shown_front old call at.limits tape may at.history at.messages),
-        omega (arith, less, falls_front old call tt),
+        (let behind = turns_of_run-fewer old (moved old left) (omega (arith, falls_front old call tt)) refl in omega (arith, less, behind)),
       ))
 
   -- the end of a body that a line called
@@ -217,7 +217,8 @@ module _ {gave gives : Tape → Type 0} {left : PageUnread} (old : Coded) (faile
   front_return call =
       turned (leaves_front old call) _ noted notes (returned old left) (seen failed out err) (seen failures out err) (Ok tt) refl (λ t tape start may at goes. (
         return_passed (leaves_front old call) failed failures out err more t tape start may at (goes ∙ shown_front old call at.limits tape may at.history at.messages),
-        omega (arith, less, falls_front old call tt, begun-behind_return old.formatter.reader.reading),
+        (let behind = turns_of_run-fewer old (returned old left) (omega (arith, falls_front old call tt, begun-behind_return old.formatter.reader.reading)) refl in
+            omega (arith, less, behind)),
       ))
 
   -- a message of the source's
@@ -232,23 +233,24 @@ module _ {gave gives : Tape → Type 0} {left : PageUnread} (old : Coded) (faile
 
   -- the end of the input
   pub front_ended : (new : Coded) (after : Seen) (r : Result (Unit {0}) Status) → Takes gave gives old.unread left (ShowsEnding Ended)
-      → (left.looked ≡ None → DoesItem left.input.line input_ends (moved old left) new (seen failures out err) after r)
-      → OnOk r (IsEnded left.input.escapes old.formatter.reader.reading) → FrontTurn gave gives noted notes old new (seen failed out err) after r
-  front_ended new after r call acts half =
+      → (MayEnd (moved old left) → DoesItem left.input.line input_ends (moved old left) new (seen failures out err) after r)
+      → ((l : Limits) (h : PageHistory) → StandFor l h old.formatter.environments → OnOk r (MayGoOn (moved old left) h)) → FrontTurn gave gives noted notes old new (seen failed out err) after r
+  front_ended new after r call acts goes_on =
       let leaves = leaves_front old call in
-      let ends = ends_front old call tt in
-      let fewer : IsEnded left.input.escapes old.formatter.reader.reading → LeavesFewer input_ends old left = λ some s is same.
-      let fewer : turns_within old.unread.limits.bytes (input_ends s).input + begun (input_ends s).reading < turns_within old.unread.limits.bytes s.input + begun s.reading =
-      escapes-input_ends old.unread.limits.bytes s.input.escapes s
-      (subst (λ (reading : LineState). IsEnded s.input.escapes reading) (sym same) (subst (λ (i : PageInput). IsEnded i.escapes old.formatter.reader.reading) (sym is) some)) refl in
-      omega (arith, fewer, turns_of left old.unread.limits s.input leaves.limits (sym is), leaves.turns) in
+      let ends = ends_front old call Ended refl in
+      let bytes : ℕ = old.unread.limits.bytes in
+      let fewer : LeavesFewer input_ends old left r = λ tape h ms stood.
+      let s : State = state_at tape (moved old left) h ms in
+      let same : turns_at bytes s ≡ turns_of_run old =
+      ap (λ (u : PageUnread). turns_at bytes (state_at tape (moved old u) h ms)) ends.same ∙ turns_at-run tape old h ms old.limits stood in
+      on_ok-then r (λ (may : MayGoOn (moved old left) h). subst (λ (n : ℕ). turns_at bytes (input_ends s) < n) same (input_ends-fewer bytes s refl may)) (goes_on old.limits h stood) in
       acted leaves _ noted notes input_ends left.input.line new failed failures out err after r more less (ap (λ (u : PageUnread). u.input.line) ends.same)
       (λ limits tape may h ms.
       let from : State = state_at (items_then (taken old call) tape) old h ms in
       shown_front old call limits tape may h ms
       ∙ ending_input-made old.limits from.input.escapes from
       ∙ ap (λ (s : State). made old.limits from (input_ends s)) (sym (unmoved_front old call tt tape may h ms)))
-      (on_ok-then r fewer half) (acts (ap (λ (u : PageUnread). u.looked) ends.same ∙ ends.looked))
+      fewer (acts (subst (λ (u : PageUnread). MayEnd (moved old u)) (sym ends.same) ends.looked))
 
   -- a fault of the source
   pub front_failed : {F : Type 0} (report : Result (Unit {0}) F) (told : Sunk) (status : Status) → Takes gave gives old.unread left (ShowsEnding Failed)
@@ -257,7 +259,7 @@ module _ {gave gives : Tape → Type 0} {left : PageUnread} (old : Coded) (faile
   front_failed report told status call is rises puts =
       let leaves = leaves_front old call in
       turned leaves _ noted notes (moved old left) (seen failed out err) (seen failures out told) (Err status) refl (λ t tape start may at goes. (
-        rw is (source_failed leaves failed failures out err more t tape start may at told left.input.line report (ends_front old call tt) refl
+        rw is (source_failed leaves failed failures out err more t tape start may at told left.input.line report (ends_front old call Failed refl) refl
             (goes ∙ shown_front old call at.limits tape may at.history at.messages) rises puts),
         tt,
       ))
@@ -268,19 +270,19 @@ module _ {gave gives : Tape → Type 0} {left : PageUnread} (old : Coded) (faile
   front_stopped limit call =
       let leaves = leaves_front old call in
       turned leaves _ noted notes (moved old left) (seen failed out err) (seen failures out err) (Err (Limited limit)) refl (λ t tape start may at goes.
-      (source_stopped leaves failed failures out err more t tape start may at limit (ends_front old call tt) (goes ∙ shown_front old call at.limits tape may at.history at.messages), tt))
+      (source_stopped leaves failed failures out err more t tape start may at limit (ends_front old call (Stopped limit) refl) (goes ∙ shown_front old call at.limits tape may at.history at.messages), tt))
 
   -- a limit refuses the item
   pub front_refused : (limit : Limit) (line : ℕ) (told : Sunk) (status : Status) → Takes gave gives old.unread left (ShowsRefusal limit)
       → line ≡ old.unread.input.line
-      → ((t tape : Tape) (start : Seen) (failures : ℕ) (out : Sunk) → Halts old.limits t tape line (Refused limit) start (seen failures out err)
-      → Outcome old.limits t tape status start (seen failures out told))
+      → ((t : Beginning) (tape : Tape) (start : Seen) (failures : ℕ) (out : Sunk) → Halts old.limits t tape line (Refused limit) start (seen failures out err)
+      → OutcomeOf old.limits t tape status start (seen failures out told))
       → FrontTurn gave gives noted notes old (moved old left) (seen failed out err) (seen failures out told) (Err status)
   front_refused limit line told status call line_is halts =
       let leaves = leaves_front old call in
       turned leaves _ noted notes (moved old left) (seen failed out err) (seen failures out told) (Err status) refl (λ t tape start may at goes.
       let stops = refused leaves failed failures out err more t tape start may at limit line line_is (goes ∙ shown_front old call at.limits tape may at.history at.messages) in
-      (halts t tape start failures out stops, tt))
+      (halts t tape start failures out (inl stops), tt))
 
 -- the same of a run whose unread input is this one
 pub TurnsBy-same : (does : State → State) (gave gives : Tape → Type 0) (noted notes : ℕ) (old new : Coded) (u : PageUnread) (now behind : Seen) (r : Result (Unit {0}) Status)

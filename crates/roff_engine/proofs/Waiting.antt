@@ -1,6 +1,6 @@
 -- A turn in which what is half read waits for a byte: what is seen, and what is done with it.
 use Rattle.roff_escape.specs.OpenEscape.{OpenEscape}
-use Rattle.std.proofs.Common.{◌≡◌, ℕ, ◌+◌, ◌<◌, ◌≤◌, Bool, true, false, List, ◌++◌, length, Option, Some, None, Result, Err, inr, refl, sym, ap, subst, ◌∙◌, arith, append_assoc, ◌∷◌, []}
+use Rattle.std.proofs.Common.{◌≡◌, ℕ, ◌<◌, ◌≤◌, Bool, true, false, List, ◌++◌, length, Option, Some, None, Result, Err, inr, refl, sym, ap, subst, ◌∙◌, arith, append_assoc, ◌∷◌, []}
 use Rattle.std.specs.Prelude.{IsOkUnless, if◌then◌else◌}
 use Rattle.roff_num.specs.declared.limit.Limit.{Limit}
 use Rattle.roff_num.specs.declared.limits.Limits.{Limits}
@@ -9,9 +9,11 @@ use Rattle.roff_escape.specs.Waiting.{decides as decides_by, is_ended_by}
 use Rattle.roff_escape.specs.declared.open_escape.Waiting.{Waiting}
 use Rattle.roff_escape.specs.declared.open_escape.Waiting.TheVariants.{Takes as TakesAny, Decides, Waits}
 use Rattle.roff_ahead.specs.Input.{Ahead, ByteAhead, FreeAhead, EndAhead, ReturnAhead, DoAhead}
-use Rattle.roff_source.specs.Tape.{Tape, Item, Answer, Gives, Ends, OneByte, OneNote, Ended, Failed, Stopped, items_then}
+use Rattle.roff_source.specs.Tape.{Tape, Item, Answer, Gives, Ends, OneByte, OneNote, Ending, Ended, Failed, Stopped, items_then}
 use Rattle.roff_num.specs.Faults.{Rises}
 use Rattle.roff_scan.specs.Unread.{asks_to_look, asks_to_take, looking, taking}
+use Rattle.roff_scan.specs.declared.looked.Looked.{Looked}
+use Rattle.roff_scan.specs.declared.looked.Looked.TheVariants.{Nothing, Byte, Closed}
 use Rattle.roff_ahead.specs.Shown.{Shown, ShowsByte, ShowsDo, ShowsEnd, ShowsRefusal, ShowsReturn, Sighted, SeesByte, SeesNothing, SeesNote, SeesEnding, seen_ahead}
 use Rattle.roff_scan.specs.Unread.Calls.{Looks, Takes}
 use Rattle.roff_run.specs.declared.event.PageEvent.{PageEvent}
@@ -26,12 +28,12 @@ use Rattle.roff_run.specs.Run.{State, awaited, awaited_of_source, byte_taken, fr
 use Rattle.roff_run.specs.Reading.Waiting.{waiting_in}
 use Rattle.roff_run.specs.declared.line_state.LineState.{LineState}
 use Rattle.roff_engine.specs.declared.running.Running.{Running as Coded}
-use Rattle.roff_engine.specs.Engine.Outcome.{Seen, seen}
-use Rattle.roff_engine.specs.Running.Turning.{DoesItem, IsAt, StepDoes, TurnsBy, state_at, turns_left}
-use Rattle.roff_pages.specs.Sinks.{Sunk, Puts}
-use Rattle.roff_engine.proofs.Calls.{EndsThere, EndsThere-looks, IsEndingSeen, Leaves, Leaves-looks, Leaves-deciding}
+use Rattle.roff_engine.specs.Engine.Outcome.{Beginning, Seen, seen}
+use Rattle.roff_engine.specs.Running.Turning.{DoesItem, IsAt, StepDoes, TurnsBy, state_at, turns_with}
+use Rattle.roff_sinks.specs.Sinks.{Sunk, Puts}
+use Rattle.roff_engine.proofs.Calls.{EndsThere, EndsThere-looks, Leaves, Leaves-looks, Leaves-deciding}
 use Rattle.roff_engine.proofs.Items.{looked_at, moved, note_told, source_failed, source_stopped}
-use Rattle.roff_engine.proofs.Turns.{LeavesFewer, acted, asks_or_given, falls_front, leaves_front, on_ok, on_ok-then, shown_front, turned, turns_of}
+use Rattle.roff_engine.proofs.Turns.{LeavesFewer, acted, asks_or_given, falls_front, leaves_fewer, leaves_front, on_ok, on_ok-then, shown_front, turned, turns_of}
 use Rattle.roff_run.proofs.InFront.{Given, WasAsked, WasNot, Given-asked, IsNoNote, Looks-looking, items_asked, over_unread, over_unread-looking, front_step, seen as seen_step, sighted_step}
 use Rattle.roff_run.proofs.TurnsToCome.{turns_within-byte, turns_within-escape_ended}
 use Rattle.roff_run.proofs.Waiting.{ended-deciding, length-is_ended_by, undecided}
@@ -71,21 +73,21 @@ front_step-by l seen from behind stays is =
 -- the call that looks ahead
 module _ {gave gives : Tape → Type 0} {left : PageUnread} {sight : Sighted} (old : Coded) (call : Looks gave gives old.unread left sight) where
   -- what it took
-  abbrev taken : List Item
+  abbrev pub taken : List Item
   taken = items_asked (asks_to_look old.unread) call.answer
 
   -- what it leaves is what the definition's call does
   left_is : looking call.answer old.unread ≡ (sight, left)
   left_is = sym call.seen
 
-  leaves_look : Leaves gave gives old.unread left taken
+  pub leaves_look : Leaves gave gives old.unread left taken
   leaves_look = subst (λ (c : Sighted × PageUnread). Leaves gave gives old.unread c.1 taken) left_is (Leaves-looks gave gives old.unread call.answer call.asked)
 
-  ends_look : IsEndingSeen sight → EndsThere old.unread left taken
-  ends_look = subst (λ (c : Sighted × PageUnread). IsEndingSeen c.0 → EndsThere old.unread c.1 taken) left_is (EndsThere-looks old.unread call.answer)
+  ends_look : (ending : Ending) → sight ≡ SeesEnding ending → EndsThere ending old.unread left taken
+  ends_look ending = subst (λ (c : Sighted × PageUnread). c.0 ≡ SeesEnding ending → EndsThere ending old.unread c.1 taken) left_is (EndsThere-looks old.unread call.answer ending)
 
   -- it leaves the input
-  input_look : left.input ≡ old.unread.input
+  pub input_look : left.input ≡ old.unread.input
   input_look = subst (λ (c : Sighted × PageUnread). c.1.input ≡ old.unread.input) left_is (Looks-looking call.answer old.unread).input
 
   -- the step is what the look shows
@@ -118,15 +120,17 @@ module _ {gave gives : Tape → Type 0} {left : PageUnread} (old : Coded) (faile
   waiting_ends seen_byte sight new after r is call stays acts =
       let leaves = leaves_look old call in
       let same : left.input ≡ old.unread.input = input_look old call in
-      let fewer : LeavesFewer escape_ends old left = λ s is same_reading.
-      let some : 1 ≤ length s.input.escapes = rw is (length-is_ended_by left.input.escapes seen_byte stays) in
-      omega (arith, turns_within-escape_ended old.unread.limits.bytes (known s) s.reading s.input some, turns_of left old.unread.limits s.input leaves.limits (sym is), leaves.turns) in
+      let fewer : LeavesFewer escape_ends old left r = leaves_fewer escape_ends old left r (λ s is same_reading.
+      let some : 1 ≤ length s.input.escapes = rw is (length-is_ended_by left.input.escapes seen_byte stays) in (
+        omega (arith, turns_within-escape_ended old.unread.limits.bytes (known s) s.reading s.input some, turns_of left old.unread.limits s.input leaves.limits (sym is), leaves.turns),
+        refl,
+      )) in
       acted leaves _ noted notes escape_ends left.input.line new failed failures out err after r more less (ap (λ (i : PageInput). i.line) same)
       (λ limits tape may h ms.
       let from : State = state_at (items_then (taken old call) tape) old h ms in
       let behind : State = state_at tape (moved old left) h ms in
       sighted_look old call tape may h ms ∙ sighted_step-front old.limits seen_byte sight from behind is ∙ front_step-by old.limits seen_byte from behind true stays)
-      (on_ok r fewer) acts
+      fewer acts
 
   -- a message of the source's
   pub waiting_note : (note : List ℕ) (told : Sunk) (r : Result (Unit {0}) Status) → Looks gave gives old.unread left (SeesNote note) → notes < noted
@@ -146,7 +150,7 @@ module _ {gave gives : Tape → Type 0} {left : PageUnread} (old : Coded) (faile
   waiting_failed report told status call is rises puts =
       let leaves = leaves_look old call in
       turned leaves _ noted notes (moved old left) (seen failed out err) (seen failures out told) (Err status) refl (λ t tape start may at goes. (
-        rw is (source_failed leaves failed failures out err more t tape start may at told left.input.line report (ends_look old call tt) refl
+        rw is (source_failed leaves failed failures out err more t tape start may at told left.input.line report (ends_look old call Failed refl) refl
             (goes ∙ sighted_look old call tape may at.history at.messages) rises puts),
         tt,
       ))
@@ -157,7 +161,7 @@ module _ {gave gives : Tape → Type 0} {left : PageUnread} (old : Coded) (faile
   waiting_stopped limit call =
       let leaves = leaves_look old call in
       turned leaves _ noted notes (moved old left) (seen failed out err) (seen failures out err) (Err (Limited limit)) refl (λ t tape start may at goes.
-      (source_stopped leaves failed failures out err more t tape start may at limit (ends_look old call tt) (goes ∙ sighted_look old call tape may at.history at.messages), tt))
+      (source_stopped leaves failed failures out err more t tape start may at limit (ends_look old call (Stopped limit) refl) (goes ∙ sighted_look old call tape may at.history at.messages), tt))
 
 -- a turn as the definition's
 pub turn_as : {gave gives : Tape → Type 0} (does other : State → State) (noted notes : ℕ) (old new : Coded) (now behind : Seen) (r : Result (Unit {0}) Status)
@@ -182,14 +186,16 @@ waiting_decides gives old new failures out err notes after r decides acts =
     let reading : LineState = old.formatter.reader.reading in
     let place : Place = old.unread.input.arguments.place in
     let stays : is_ended_by old.unread.input.escapes None ≡ true = ended-deciding reading place old.unread.input.escapes None (ap decides_by decides) in
-    let fewer : LeavesFewer escape_ends old old.unread = λ s is same_reading.
-    let some : 1 ≤ length s.input.escapes = rw is (length-is_ended_by old.unread.input.escapes None stays) in
-    omega (arith, turns_within-escape_ended old.unread.limits.bytes (known s) s.reading s.input some, turns_of old.unread old.unread.limits s.input refl (sym is)) in
+    let fewer : LeavesFewer escape_ends old old.unread r = leaves_fewer escape_ends old old.unread r (λ s is same_reading.
+    let some : 1 ≤ length s.input.escapes = rw is (length-is_ended_by old.unread.input.escapes None stays) in (
+      omega (arith, turns_within-escape_ended old.unread.limits.bytes (known s) s.reading s.input some, turns_of old.unread old.unread.limits s.input refl (sym is)),
+      refl,
+    )) in
     acted (Leaves-deciding gives old.unread stays) _ notes notes escape_ends old.unread.input.line new failures failures out err after r (omega arith) (omega arith) refl
     (λ limits tape may h ms.
     let s : State = state_at tape old h ms in
     ap (λ (w : Waiting). read_waiting old.limits w s) decides)
-    (on_ok r fewer) acts
+    fewer acts
 
 -- items, and then others, are both in this order
 pub items_then-append : (first others : List Item) (tape : Tape) → items_then (first ++ others) tape ≡ items_then first (items_then others tape)
@@ -205,16 +211,16 @@ module _ {gave mid gives : Tape → Type 0} {left : PageUnread} {sight : Sighted
   both = taken old call ++ turn.taken
 
   -- the run stands before the look, over a tape, and the definition takes its step; and the same behind the look
-  abbrev Stands : Tape → Tape → Seen → Type 0
+  abbrev Stands : Beginning → Tape → Seen → Type 0
   Stands t whole start =
       (at : IsAt t whole start (seen failed out err) old) × StepDoes (λ s. awaited old.limits (seen_ahead s.input.ahead) s) whole old at.history at.messages
 
-  abbrev StandsBehind : Tape → Tape → Seen → Type 0
+  abbrev StandsBehind : Beginning → Tape → Seen → Type 0
   StandsBehind t whole start =
       (at : IsAt t whole start (seen failures out err) (moved old left)) × StepDoes (λ s. in_front_taken old.limits s.input.ahead s) whole (moved old left) at.history at.messages
 
   -- one follows from the other
-  behind_look : (t whole : Tape) (start : Seen) → mid whole → Stands t (items_then (taken old call) whole) start → StandsBehind t whole start
+  behind_look : (t : Beginning) (whole : Tape) (start : Seen) → mid whole → Stands t (items_then (taken old call) whole) start → StandsBehind t whole start
   behind_look t whole start may stands =
       let at = stands.0 in
       let from : State = state_at (items_then (taken old call) whole) old at.history at.messages in
@@ -226,7 +232,7 @@ module _ {gave mid gives : Tape → Type 0} {left : PageUnread} {sight : Sighted
       )
 
   -- over a tape that begins with what both took
-  stands_behind : (t tape : Tape) (start : Seen) → gives tape → Stands t (items_then both tape) start → StandsBehind t (items_then turn.taken tape) start
+  stands_behind : (t : Beginning) (tape : Tape) (start : Seen) → gives tape → Stands t (items_then both tape) start → StandsBehind t (items_then turn.taken tape) start
   stands_behind t tape start may stands =
       let whole : Tape = items_then turn.taken tape in
       let same : items_then both tape ≡ items_then (taken old call) whole = items_then-append (taken old call) turn.taken tape in
@@ -242,7 +248,7 @@ module _ {gave mid gives : Tape → Type 0} {left : PageUnread} {sight : Sighted
         let behind = stands_behind t tape start may (at, goes) in turn.turns t tape start may behind.0 behind.1;
     falls = λ t tape start may at goes.
         let behind = stands_behind t tape start may (at, goes) in
-        on_ok-then r (λ (falls : turns_left new + notes < turns_left (moved old left) + kept). omega (arith, falls, less, (leaves_look old call).turns))
+        on_ok-then r (λ (falls : turns_with new notes < turns_with (moved old left) kept). omega (arith, falls, less, (leaves_look old call).turns))
         (turn.falls t tape start may behind.0 behind.1);
   }
 
@@ -263,17 +269,18 @@ front_seen-taken l b seen_byte s goes_on item shows is =
 
 -- the call that takes the item in front shows the byte that is waited for: the step in which it is seen takes the item
 awaited_byte : (l limits : Limits) (i : PageInput) (s : State) (b : ℕ) → is_ended_by i.escapes (Some b) ≡ false
-    → (ahead : List (Ahead PageEvent)) (looked : Option ℕ) (a : Answer) (tape behind : Tape)
+    → (ahead : List (Ahead PageEvent)) (looked : Looked) (a : Answer) (tape behind : Tape)
     → let u : PageUnread = record { input = record i { ahead = ahead }; looked = looked; limits = limits } in
     Given a (asks_to_take u) tape behind → (taking a u).0 ≡ ShowsByte b
     → awaited l (seen_ahead ahead) (over_unread u tape s) ≡ in_front_taken l ahead (over_unread u tape s)
-awaited_byte l limits i s b goes_on [] None (Gives (OneByte c)) tape behind (WasAsked t gives) shows =
-    let from : State = over_unread (record { input = record i { ahead = [] }; looked = None; limits = limits }) t s in
+awaited_byte l limits i s b goes_on [] Nothing (Gives (OneByte c)) tape behind (WasAsked t gives) shows =
+    let from : State = over_unread (record { input = record i { ahead = [] }; looked = Nothing; limits = limits }) t s in
     ap (λ (a : Answer). awaited_of_source l a from) gives ∙ front_seen-taken l b c from goes_on (ShowsByte c) refl (shows_byte _ _ _ _ _ b shows)
-awaited_byte l limits i s b goes_on [] None (Gives (OneNote message)) tape behind given shows = cc
-awaited_byte l limits i s b goes_on [] None (Ends ending) tape behind given shows = cc
-awaited_byte l limits i s b goes_on [] (Some c) a tape behind (WasNot t) shows =
-    let from : State = over_unread (record { input = record i { ahead = [] }; looked = Some c; limits = limits }) t s in
+awaited_byte l limits i s b goes_on [] Nothing (Gives (OneNote message)) tape behind given shows = cc
+awaited_byte l limits i s b goes_on [] Nothing (Ends ending) tape behind given shows = cc
+awaited_byte l limits i s b goes_on [] (Closed kept) a tape behind (WasNot t) shows = cc
+awaited_byte l limits i s b goes_on [] (Byte c) a tape behind (WasNot t) shows =
+    let from : State = over_unread (record { input = record i { ahead = [] }; looked = Byte c; limits = limits }) t s in
     front_seen-taken l b c from goes_on (ShowsByte c) refl (shows_byte _ _ _ _ _ b shows)
 awaited_byte l limits i s b goes_on (ByteAhead c ∷ items) looked a tape behind given shows =
     let from : State = over_unread (record { input = record i { ahead = ByteAhead c ∷ items }; looked = looked; limits = limits }) tape s in
@@ -290,7 +297,7 @@ awaited_byte l limits i s b goes_on (DoAhead event ∷ items) looked a tape behi
 
 -- the byte that is shown is taken, whether it is waited for or not
 read_byte : (l limits : Limits) (w : Waiting) (i : PageInput) (s : State) (b : ℕ) → is_ended_by i.escapes (Some b) ≡ false → decides_by w ≡ false
-    → (looked : Option ℕ) (a : Answer) (tape behind : Tape)
+    → (looked : Looked) (a : Answer) (tape behind : Tape)
     → let u : PageUnread = record { input = i; looked = looked; limits = limits } in
     Given a (asks_to_take u) tape behind → (taking a u).0 ≡ ShowsByte b
     → read_waiting l w (over_unread u tape s) ≡ in_front_taken l i.ahead (over_unread u tape s)
@@ -309,15 +316,17 @@ module _ {gave gives : Tape → Type 0} {left : PageUnread} (old : Coded) (faile
       let u : PageUnread = old.unread in
       let leaves = leaves_front old call in
       let asked : List Item = items_asked (asks_to_take u) call.answer in
-      let fewer : LeavesFewer (byte_taken b) old left = λ s is same.
-      omega (arith, turns_within-byte u.limits.bytes (known s) s.reading s.input b, turns_of left u.limits s.input leaves.limits (sym is), falls_front old call tt) in
+      let fewer : LeavesFewer (byte_taken b) old left r = leaves_fewer (byte_taken b) old left r (λ s is same. (
+        omega (arith, turns_within-byte u.limits.bytes (known s) s.reading s.input b, turns_of left u.limits s.input leaves.limits (sym is), falls_front old call tt),
+        refl,
+      )) in
       acted leaves _ noted notes (byte_taken b) line new failed failures out err after r more less line_is
       (λ limits tape may h ms.
       let from : State = state_at (items_then asked tape) old h ms in
       read_byte old.limits u.limits w u.input from b goes_on undecided u.looked call.answer (items_then asked tape) tape
       (Given-asked gave gives (asks_to_take u) call.answer call.asked tape may) (ap (λ (c : Shown PageEvent × PageUnread). c.0) (sym call.taken))
       ∙ shown_front old call limits tape may h ms)
-      (on_ok r fewer) acts
+      fewer acts
 
   -- where nothing is half read, whatever the line waits for
   pub byte_alone : (b line : ℕ) (new : Coded) (after : Seen) (r : Result (Unit {0}) Status) → Takes gave gives old.unread left (ShowsByte b)

@@ -1,10 +1,11 @@
 -- A whole run of the code, turn by turn: each turn is a step of the definition.
-use Rattle.std.proofs.Common.{◌≡◌, ℕ, ◌+◌, ◌<◌, Bool, true, false, List, [], ◌++◌, Option, Some, None, Result, Ok, Err, inl, inr, refl, sym, ap, subst, ◌∙◌, arith}
-use Rattle.std.specs.Prelude.{nat_lt, if◌then◌else◌}
+use Rattle.std.proofs.Common.{◌≡◌, ℕ, ◌<◌, false, List, [], ◌++◌, Option, Some, None, Result, Ok, Err, inl, inr, refl, sym, ap, subst, ◌∙◌, arith}
+use Rattle.std.specs.Prelude.{nat_lt}
 use Rattle.std.proofs.lemmas.Bool.{le-ltb}
 use Rattle.roff_num.specs.declared.limits.Limits.{Limits}
 use Rattle.roff_source.specs.Tape.{Tape, items_then}
-use Rattle.roff_scan.specs.Unread.{asks_to_take, looked_then}
+use Rattle.roff_scan.specs.Looking.{is_closed, looked_then}
+use Rattle.roff_scan.specs.Unread.{asks_to_take}
 use Rattle.roff_run.specs.declared.status.Status.{Status}
 use Rattle.roff_requests.specs.Environments.Standing.{StandFor}
 use Rattle.roff_run.specs.Output.{PageHistory}
@@ -12,15 +13,21 @@ use Rattle.roff_reader.specs.Reader.State.{ReaderState, fresh_reader}
 use Rattle.roff_reader.specs.Reader.Taken.{IsReady}
 use Rattle.roff_run.specs.Reading.Items.{PageUnread}
 use Rattle.roff_run.specs.Registers.{no_registers}
-use Rattle.roff_run.specs.Run.{State, Leads, first_input, first_unread, initial, item_read, reading_by, step}
+use Rattle.roff_run.specs.Run.{State, Leads, blank_state, first_input, first_unread, initial, item_read, reading_by, step, with_registers}
+use Rattle.roff_run.specs.declared.phase.Phase.{Phase}
+use Rattle.roff_run.specs.declared.phase.Phase.TheVariants.{Reading}
+use Rattle.roff_run.specs.declared.start.Start.{Start}
+use Rattle.roff_sinks.specs.Sinks.{Sunk}
+use Rattle.roff_requests.specs.declared.environments.Environments.{Environments as EnvironmentsOf}
 use Rattle.roff_run.specs.Run.Counts.{counts_in, first_passed}
 use Rattle.roff_run.specs.Reading.Ends.{due}
 use Rattle.roff_run.specs.declared.line_state.Due.{Due}
 use Rattle.roff_engine.specs.declared.running.Running.{Running as Coded}
-use Rattle.roff_engine.specs.Engine.Outcome.{Seen, Outcome, Runs}
+use Rattle.roff_engine.specs.Engine.Outcome.{Seen, Outcome, Runs, seen}
 use Rattle.roff_engine.specs.Formatter.Performing.{going}
-use Rattle.roff_engine.specs.Running.Turning.{HasCome, HasTape, IsAt, IsFresh, DoesDue, TurnsBy, state_at, turns_left}
-use Rattle.roff_pages.proofs.Appending.{Appends-nothing}
+use Rattle.roff_engine.specs.Running.Turning.{AsksFirst, HasCome, HasTape, IsAt, IsFresh, DoesDue, TurnsBy, state_at, turns_with}
+use Rattle.roff_engine.specs.Running.Starting.{Begins, HasRoom}
+use Rattle.roff_sinks.proofs.Appending.{Appends-nothing}
 use Rattle.roff_engine.proofs.Waiting.{items_then-append}
 use Rattle.roff_run.proofs.Leads.{Leads-refl}
 
@@ -54,61 +61,94 @@ none_passed-fresh l =
     let none : (limit : ℕ) → nat_lt limit 0 ≡ false = λ limit. le-ltb limit 0 (omega arith) in
     rw (none l.names, none l.stack, none l.depth, none l.store, none l.diversions, none l.conditions) refl
 
--- a run before its first item
-pub starts : (t : Tape) (now : Seen) (run : Coded) → StandFor run.limits [] run.formatter.environments → IsFresh run.limits run.formatter run.unread
-    → IsAt t t now now run
-starts t now run stands fresh =
+-- a run before anything is given to it has room
+pub HasRoom-fresh : (run : Coded) → IsFresh run.limits run.formatter run.unread → HasRoom run
+HasRoom-fresh run fresh =
     let l : Limits = run.limits in
-    let at : PageUnread → ReaderState → State = λ u r. going (looked_then u.looked t) u.input r.reading r.registers.all [] [] false [] in
-    let is : state_at t run [] [] ≡ initial t =
-    ap (λ (u : PageUnread). at u run.formatter.reader) fresh.unread ∙ ap (λ (r : ReaderState). at (first_unread l) r) fresh.reader in
     let P : PageUnread → ReaderState → Type 0 = λ u r. IsReady r.registers u in
     let first : P (first_unread l) (fresh_reader l.names) = record { cap = refl; within = none_passed-fresh l } in record {
-      history = [];
-      messages = [];
-      reaches = record {
-        comes = subst (λ (s : State). Leads l (initial t) s) (sym is) (Leads-refl l (initial t));
-        text = Appends-nothing now.out.contents;
-        messages = Appends-nothing now.err.contents;
-        faults = record { source = omega arith; out = refl; err = refl };
-      };
-      stands = stands;
       ready = subst (λ (u : PageUnread). P u run.formatter.reader) (sym fresh.unread) (subst (λ (r : ReaderState). P (first_unread l) r) (sym fresh.reader) first);
       limits = ap (λ (u : PageUnread). u.limits) fresh.unread;
     }
 
+-- and stands at the definition's blank state
+pub blank-fresh : (tape : Tape) (run : Coded) → run.phase ≡ Reading → IsFresh run.limits run.formatter run.unread → state_at tape run [] [] ≡ blank_state tape
+blank-fresh tape run first fresh =
+    let l : Limits = run.limits in
+    let at : PageUnread → ReaderState → Phase → State = λ u r p. going (looked_then u.looked tape) u.input r.reading r.registers.all [] [] p (is_closed u.looked) [] in
+    ap (λ (u : PageUnread). at u run.formatter.reader run.phase) fresh.unread
+    ∙ ap (λ (r : ReaderState). at (first_unread l) r run.phase) fresh.reader
+    ∙ ap (λ (p : Phase). at (first_unread l) (fresh_reader l.names) p) first
+
 -- it asks its source first
+pub AsksFirst-fresh : (run : Coded) → IsFresh run.limits run.formatter run.unread → AsksFirst run.unread
+AsksFirst-fresh run fresh = (ap (λ (u : PageUnread). u.input.escapes) fresh.unread, ap (λ (u : PageUnread). asks_to_take u) fresh.unread)
+
 pub HasTape-fresh : (run : Coded) (gives : Tape → Type 0) → IsFresh run.limits run.formatter run.unread → HasTape run gives
-HasTape-fresh run gives fresh = inl (
-  (ap (λ (u : PageUnread). u.input.escapes) fresh.unread, ap (λ (u : PageUnread). asks_to_take u) fresh.unread),
-  ap (λ (r : ReaderState). due r.reading) fresh.reader,
-)
+HasTape-fresh run gives fresh = inl (AsksFirst-fresh run fresh, ap (λ (r : ReaderState). due r.reading) fresh.reader)
+
+-- the definition begins as a run of the code that stands at its blank state
+pub initial-fresh : (run : Coded) (given : Start) → run.phase ≡ Reading → IsFresh run.limits run.formatter run.unread
+    → (tape : Tape) → initial run.limits given tape ≡ with_registers run.limits given.registers.items (state_at tape run [] [])
+initial-fresh run given first fresh tape = ap (with_registers run.limits given.registers.items) (sym (blank-fresh tape run first fresh))
+
+-- registers were given to a run, and it has come to its first turn
+pub started : (old new : Coded) (given : Start) (failures : ℕ) (out err : Sunk) (gives : Tape → Type 0) → old.phase ≡ Reading
+    → StandFor old.limits [] old.formatter.environments → IsFresh old.limits old.formatter old.unread
+    → Begins old new given.registers.items → HasCome given gives gives (seen failures out err) (seen failures out err) new
+started old new given failures out err gives first stands fresh begins =
+    let had : HasRoom old = HasRoom-fresh old fresh in
+    let room : HasRoom new = begins.some.room had in
+    let same : new.limits ≡ old.limits = ap (λ (run : Coded). run.limits) begins.some.sets in
+    let environments : new.formatter.environments ≡ old.formatter.environments = ap (λ (run : Coded). run.formatter.environments) begins.some.sets in
+    record {
+      taken = [];
+      before = λ tape may. may;
+      some = subst (λ (run : Coded). HasTape run gives) (sym begins.some.sets) (HasTape-fresh old gives fresh);
+      at = λ tape may.
+          let is : initial old.limits given tape ≡ state_at tape new [] [] = initial-fresh old given first fresh tape ∙ begins.goes_on had tape in
+          record {
+            history = [];
+            messages = [];
+            reaches = record {
+              comes = subst (λ (l : Limits). Leads l (initial l given tape) (state_at tape new [] [])) (sym same)
+                  (subst (λ (s : State). Leads old.limits (initial old.limits given tape) s) is (Leads-refl old.limits (initial old.limits given tape)));
+              text = Appends-nothing out.contents;
+              messages = Appends-nothing err.contents;
+              faults = record { source = omega arith; out = refl; err = refl };
+            };
+            stands = subst (λ (l : Limits). StandFor l [] new.formatter.environments) (sym same)
+                (subst (λ (es : EnvironmentsOf). StandFor old.limits [] es) (sym environments) stands);
+            ready = room.ready;
+            limits = room.limits;
+          };
+    }
 
 -- behind another turn
-module _ {first old new : Tape → Type 0} (noted notes : ℕ) (start now behind : Seen) (run run_behind : Coded) (come : HasCome first old start now run) where
+module _ {given : Start} {first old new : Tape → Type 0} (noted notes : ℕ) (start now behind : Seen) (run run_behind : Coded) (come : HasCome given first old start now run) where
   -- it goes on
-  pub goes_on : TurnsBy (step run.limits) old new noted notes run run_behind now behind (Ok tt) → HasCome first new start behind run_behind
+  pub goes_on : TurnsBy (step run.limits) old new noted notes run run_behind now behind (Ok tt) → HasCome given first new start behind run_behind
   goes_on turn = record {
     taken = come.taken ++ turn.taken;
     before = λ t may. subst first (sym (items_then-append come.taken turn.taken t)) (come.before (items_then turn.taken t) (turn.before t may));
     some = inr (turn.some come.some);
     at = λ t may.
         let tape : Tape = items_then turn.taken t in
-        subst (λ (whole : Tape). IsAt whole t start behind run_behind) (sym (items_then-append come.taken turn.taken t))
-        (turn.turns (items_then come.taken tape) t start may (come.at tape (turn.before t may)) refl);
+        subst (λ (whole : Tape). IsAt (record { start = given; tape = whole }) t start behind run_behind) (sym (items_then-append come.taken turn.taken t))
+        (turn.turns (record { start = given; tape = items_then come.taken tape }) t start may (come.at tape (turn.before t may)) refl);
   }
 
   -- and fewer turns are to come
   pub fewer_to_come : TurnsBy (step run.limits) old new noted notes run run_behind now behind (Ok tt)
-      → turns_left run_behind + notes < turns_left run + noted
+      → turns_with run_behind notes < turns_with run noted
   fewer_to_come turn =
       let some = turn.some come.some in
       let tape : Tape = items_then turn.taken some.0 in
-      turn.falls (items_then come.taken tape) some.0 start some.1 (come.at tape (turn.before some.0 some.1)) refl
+      turn.falls (record { start = given; tape = items_then come.taken tape }) some.0 start some.1 (come.at tape (turn.before some.0 some.1)) refl
 
   -- or it has ended
   pub has_ended : (l : Limits) (status : Status) → run.limits ≡ l → TurnsBy (step run.limits) old new noted notes run run_behind now behind (Err status)
-      → Runs l status first new start behind
+      → Runs l given status first new start behind
   has_ended l status limits turn =
       let some = turn.some come.some in record {
         taken = come.taken ++ turn.taken;
@@ -120,9 +160,10 @@ module _ {first old new : Tape → Type 0} (noted notes : ℕ) (start now behind
         outcome = λ t may.
             let tape : Tape = items_then turn.taken t in
             let whole : Tape = items_then come.taken tape in
-            let own : Outcome run_behind.limits whole t status start behind = turn.turns whole t start may (come.at tape (turn.before t may)) refl in
-            subst (λ (whole : Tape). Outcome l whole t status start behind) (sym (items_then-append come.taken turn.taken t))
-            (subst (λ (k : Limits). Outcome k whole t status start behind) (turn.limits ∙ limits) own);
+            let own : Outcome run_behind.limits given whole t status start behind =
+            turn.turns (record { start = given; tape = whole }) t start may (come.at tape (turn.before t may)) refl in
+            subst (λ (whole : Tape). Outcome l given whole t status start behind) (sym (items_then-append come.taken turn.taken t))
+            (subst (λ (k : Limits). Outcome k given whole t status start behind) (turn.limits ∙ limits) own);
       }
 
 -- where something is due there is a tape, if the run asks its source next or there is one
@@ -147,23 +188,24 @@ ended_tape run gives status r None ends is idle has = absurd (ends_or_goes_on r 
 ended_tape run gives status r (Some what) ends is idle has = tape_where_due run gives what is has
 
 -- behind what is due
-module _ {first gives : Tape → Type 0} (start now behind : Seen) (run run_behind : Coded) (come : HasCome first gives start now run) where
+module _ {given : Start} {first gives : Tape → Type 0} (start now behind : Seen) (run run_behind : Coded) (come : HasCome given first gives start now run) where
   -- it goes on
-  pub due_done : DoesDue run run_behind now behind (Ok tt) → HasCome first gives start behind run_behind
+  pub due_done : DoesDue run run_behind now behind (Ok tt) → HasCome given first gives start behind run_behind
   due_done does_due = record {
     taken = come.taken;
     before = come.before;
     some = due_done_tape run run_behind gives (due run.formatter.reader.reading) refl (λ none. (does_due.idle none).1) come.some;
-    at = λ t may. does_due.does_due (items_then come.taken t) t start (come.at t may);
+    at = λ t may. does_due.does_due (record { start = given; tape = items_then come.taken t }) t start (come.at t may);
   }
 
   -- or it has ended
-  pub due_done_end : (l : Limits) (status : Status) → run.limits ≡ l → DoesDue run run_behind now behind (Err status) → Runs l status first gives start behind
+  pub due_done_end : (l : Limits) (status : Status) → run.limits ≡ l → DoesDue run run_behind now behind (Err status) → Runs l given status first gives start behind
   due_done_end l status limits does_due =
       let some = ended_tape run gives status (Err status) (due run.formatter.reader.reading) refl refl (λ none. (does_due.idle none).0) come.some in record {
         taken = come.taken;
         took = record { before = come.before; some = some.0; some_given = some.1 };
         outcome = λ t may.
             let whole : Tape = items_then come.taken t in
-            subst (λ (k : Limits). Outcome k whole t status start behind) (does_due.limits ∙ limits) (does_due.does_due whole t start (come.at t may));
+            subst (λ (k : Limits). Outcome k given whole t status start behind) (does_due.limits ∙ limits)
+            (does_due.does_due (record { start = given; tape = whole }) t start (come.at t may));
       }

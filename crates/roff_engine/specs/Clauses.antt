@@ -1,18 +1,19 @@
 -- The words of the clauses in `src/`, each with the file that it stands in.
-pub use Rattle.roff_engine.specs.Engine.Outcome.{Outcome, Seen, seen, Runs}
-pub use Rattle.roff_engine.specs.Formatter.Performing.{DoesMeaning, DoesTaking, PerformsEvents, PerformsOnly, closing_events, sinks}
+pub use Rattle.roff_engine.specs.Engine.Outcome.{Beginning, Outcome, OutcomeOf, Seen, seen, Runs}
+pub use Rattle.roff_engine.specs.Formatter.Performing.{DoesMeaning, DoesTaking, PerformsEvents, PerformsOnly, sinks}
 pub use Rattle.roff_run.specs.Messages.{message_line, message_lines, text_told, told_line}
 pub use Rattle.roff_run.specs.Output.{finished_bytes}
+pub use Rattle.roff_run.specs.Run.{closing_events}
 pub use Rattle.roff_reader.specs.Reader.State.{fresh_reader}
 pub use Rattle.roff_run.specs.Reading.{escape_ended, interrupted, taking}
 pub use Rattle.roff_run.specs.Reading.Calls.{behind_return}
-pub use Rattle.roff_run.specs.Reading.Ends.{due, end_taking, line_ends_first}
+pub use Rattle.roff_run.specs.Reading.Ends.{due, end_taking}
 pub use Rattle.roff_run.specs.Reading.Waiting.{waiting_in}
 pub use Rattle.roff_run.specs.declared.line_state.Due.TheVariants.{Tells}
 pub use Rattle.roff_run.specs.declared.line_state.LineState.TheVariants.{LineStart}
 pub use Rattle.roff_run.specs.declared.event.PageEvent.TheVariants.{Text, Space, Environment}
 pub use Rattle.roff_engine.specs.Running.Turning.{Halts, IsFresh}
-pub use Rattle.roff_pages.specs.Sinks.{Puts, Sunk}
+pub use Rattle.roff_sinks.specs.Sinks.{Puts, Sunk}
 pub use Rattle.roff_run.specs.declared.message.Message.TheVariants.{ReadFailed}
 pub use Rattle.roff_run.specs.declared.status.Status.TheVariants.{Device}
 pub use Rattle.roff_lines.specs.Columns.{finished_of}

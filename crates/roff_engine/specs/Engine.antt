@@ -1,2 +1,3 @@
 -- A whole run of the code.
+pub mod Setup
 pub mod Outcome

@@ -10,32 +10,33 @@ use Rattle.roff_laws.specs.Limits.{AreWithin}
 use Rattle.roff_engine.specs.Outcomes.{HadNoFault}
 use Rattle.roff_run.specs.declared.status.Status.{Status}
 use Rattle.roff_run.specs.declared.status.Status.TheVariants.{Device, Limit as Limited}
+use Rattle.roff_run.specs.declared.start.Start.{Start}
 use Rattle.roff_source.specs.Tape.{Tape, Item, Ending}
 
 -- a run of the code with limits over a tape: what it left, its status, and what its devices had seen before
 -- it and have seen behind it
-pub record CodeRun (l : Limits) (t : Tape) : Type 0 where
+pub record CodeRun (l : Limits) (start : Start) (t : Tape) : Type 0 where
   pub left : Tape
   pub status : Status
   pub before : Seen
   pub now : Seen
-  pub outcome : Outcome l t left status before now
+  pub outcome : Outcome l start t left status before now
 
 -- no sink had a fault in it
-pub record SinksHadNoFault {l : Limits} {t : Tape} (run : CodeRun l t) : Type 0 where
+pub record SinksHadNoFault {l : Limits} {start : Start} {t : Tape} (run : CodeRun l start t) : Type 0 where
   pub out : HadNoFault run.before.out run.now.out
   pub err : HadNoFault run.before.err run.now.err
 
 -- it wrote this
-abbrev pub Wrote : {l : Limits} {t : Tape} → CodeRun l t → List ℕ → Type 0
+abbrev pub Wrote : {l : Limits} {start : Start} {t : Tape} → CodeRun l start t → List ℕ → Type 0
 Wrote run text = Appends run.before.out.contents run.now.out.contents text
 
 -- it reported this
-abbrev pub Reported : {l : Limits} {t : Tape} → CodeRun l t → List ℕ → Type 0
+abbrev pub Reported : {l : Limits} {start : Start} {t : Tape} → CodeRun l start t → List ℕ → Type 0
 Reported run messages = Appends run.before.err.contents run.now.err.contents messages
 
 -- what one run wrote is a beginning of what another did
-pub record WroteABeginning {l k : Limits} {t u : Tape} (one : CodeRun l t) (other : CodeRun k u) : Type 0 where
+pub record WroteABeginning {l k : Limits} {start : Start} {t u : Tape} (one : CodeRun l start t) (other : CodeRun k start u) : Type 0 where
   pub text : List ℕ
   pub longer : List ℕ
   pub wrote : Wrote one text
@@ -43,7 +44,7 @@ pub record WroteABeginning {l k : Limits} {t u : Tape} (one : CodeRun l t) (othe
   pub beginning : IsBeginning text longer
 
 -- two runs wrote and reported the same, and ended with the same status
-pub record DidTheSame {l k : Limits} {t u : Tape} (one : CodeRun l t) (other : CodeRun k u) : Type 0 where
+pub record DidTheSame {l k : Limits} {start : Start} {t u : Tape} (one : CodeRun l start t) (other : CodeRun k start u) : Type 0 where
   pub text : List ℕ
   pub messages : List ℕ
   pub wrote : Wrote one text
@@ -55,30 +56,30 @@ pub record DidTheSame {l k : Limits} {t u : Tape} (one : CodeRun l t) (other : C
 -- a run writes a beginning of what a run with larger limits does, whatever fails in it
 abbrev pub SmallerLimitsWriteABeginning : Type 0
 SmallerLimitsWriteABeginning =
-    (small large : Limits) → AreWithin small large → (t : Tape) (one : CodeRun small t) (other : CodeRun large t) →
+    (small large : Limits) → AreWithin small large → (start : Start) (t : Tape) (one : CodeRun small start t) (other : CodeRun large start t) →
     SinksHadNoFault other → WroteABeginning one other
 
 -- and does the same if no limit stops it
 abbrev pub SameUnlessALimitStops : Type 0
 SameUnlessALimitStops =
-    (small large : Limits) → AreWithin small large → (t : Tape) (one : CodeRun small t) (other : CodeRun large t) →
+    (small large : Limits) → AreWithin small large → (start : Start) (t : Tape) (one : CodeRun small start t) (other : CodeRun large start t) →
     SinksHadNoFault one → SinksHadNoFault other → ((limit : Limit) → one.status ≢ Limited limit) → DidTheSame one other
 
 -- over a source that fails behind some items a run writes a beginning of what it does over one that goes on there
 abbrev pub FailingSourcesWriteABeginning : Type 0
 FailingSourcesWriteABeginning =
-    (l : Limits) (items more : List Item) (ending : Ending)
-    (one : CodeRun l (failing_behind items)) (other : CodeRun l (going_on_behind items more ending)) →
+    (l : Limits) (start : Start) (items more : List Item) (ending : Ending)
+    (one : CodeRun l start (failing_behind items)) (other : CodeRun l start (going_on_behind items more ending)) →
     SinksHadNoFault other → WroteABeginning one other
 
 -- and does the same if it ends before the fault
 abbrev pub SameUnlessTheSourceFails : Type 0
 SameUnlessTheSourceFails =
-    (l : Limits) (items more : List Item) (ending : Ending)
-    (one : CodeRun l (failing_behind items)) (other : CodeRun l (going_on_behind items more ending)) →
+    (l : Limits) (start : Start) (items more : List Item) (ending : Ending)
+    (one : CodeRun l start (failing_behind items)) (other : CodeRun l start (going_on_behind items more ending)) →
     SinksHadNoFault one → SinksHadNoFault other → one.status ≢ Device → DidTheSame one other
 
 -- two runs with the same limits over the same tape do the same
 abbrev pub RunsCanBeRepeated : Type 0
 RunsCanBeRepeated =
-    (l : Limits) (t : Tape) (one other : CodeRun l t) → SinksHadNoFault one → SinksHadNoFault other → DidTheSame one other
+    (l : Limits) (start : Start) (t : Tape) (one other : CodeRun l start t) → SinksHadNoFault one → SinksHadNoFault other → DidTheSame one other

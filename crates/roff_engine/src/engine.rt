@@ -6,45 +6,47 @@ ghost use Rattle.roff_engine.specs.Clauses.{StandFor, Limits, Runs, seen, IsFres
 use crate::formatter::Formatter;
 use crate::running::Running;
 use roff_num::Limits;
-use roff_pages::ByteSink;
 use roff_reader::first_unread;
-use roff_run::{PageEvent, Status};
+use roff_run::{PageEvent, Phase, Start, Status};
 use roff_scan::{ByteSource, Unread};
+use roff_sinks::ByteSink;
 use std::alloc::{AllocError, Global};
 use std::marker::Model;
-
-/// What is given to a run besides its limits.
-#[derive(Clone, Copy, Debug, Default, PartialEq, Eq)]
-pub struct Start {}
 
 /// The formatter before a run. All memory of the run is reserved as it is made.
 #[derive(Drop)]
 pub struct Engine {
     limits: Limits,
+    start: Start,
     formatter: Formatter,
     unread: Unread<PageEvent>,
 }
 
 impl Model for Engine {
-    ghost Value = { Limits };
+    ghost use Rattle.std.specs.Prelude.{[]};
+    ghost use Rattle.roff_engine.specs.Clauses.{IsFresh, StandFor};
+    ghost use Rattle.roff_engine.specs.Engine.Setup.{Setup};
 
-    ghost view = { λ e. e.limits };
+    ghost Value = { Setup };
+
+    ghost view = { λ e. record { limits = e.limits; start = e.start } };
 
     ghost invariant = { λ e.
         StandFor e.limits [] e.formatter.environments × IsFresh e.limits e.formatter e.unread };
 }
 
 impl Engine {
-    /// A formatter with these limits.
+    /// A formatter with these limits, for a run that is given this.
     ///
     /// # Errors
     ///
     /// [`AllocError`] if the memory for the limits can't be had.
-    pub fn new(alloc: Global, limits: Limits, _start: Start) -> Result<Engine, AllocError>
-        ensures { IfOk result (λ e. e ≡ limits) }
+    pub fn new(alloc: Global, limits: Limits, start: Start) -> Result<Engine, AllocError>
+        ensures { IfOk result (λ e. e ≡ record { limits = limits; start = start }) }
     {
         Ok(Engine {
             limits,
+            start,
             formatter: Formatter::new(alloc, limits)?,
             unread: first_unread(alloc, limits)?,
         })
@@ -59,25 +61,30 @@ impl Engine {
     ) -> Status
         // The source gave items. Whatever it may still give, the run over these items and then that
         // is the definition's: it ended so, or a sink failed in one of its steps.
-        ensures { Runs self result (S.gives source.old) (S.gives source.new)
+        ensures { Runs self.limits self.start result (S.gives source.old) (S.gives source.new)
             (seen (S.failures source.old) (O.sunk out.old) (E.sunk err.old))
             (seen (S.failures source.new) (O.sunk out.new) (E.sunk err.new)) }
     {
         let Engine {
             limits,
+            start,
             formatter,
             unread,
         } = self;
         let mut running = Running {
             limits,
+            phase: Phase::Reading,
             formatter,
             unread,
         };
+        if let Err(status) = running.begin(&start, source, err) {
+            return status;
+        }
         loop {
             if running.pass_over(source) {
                 continue;
             }
-            if let Err(status) = running.do_due(out, err) {
+            if let Err(status) = running.do_due(err) {
                 return status;
             }
             if let Err(status) = running.turn(source, out, err) {

@@ -10,9 +10,9 @@ mod taking;
 mod text_events;
 
 use roff_num::Limits;
-use roff_pages::Block;
 use roff_reader::Reader;
 use roff_requests::Environments;
+use roff_sinks::Block;
 use std::alloc::{AllocError, Global};
 
 /// What is read, the environments, and the block through which lines are written.

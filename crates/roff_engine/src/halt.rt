@@ -1,12 +1,12 @@
 //! What ends a run early, and how that is told.
 
 ghost use Rattle.std.specs.Prelude.{ℕ};
-ghost use Rattle.roff_engine.specs.Clauses.{Tape, Outcome, Seen, seen, Halts, Sunk};
+ghost use Rattle.roff_engine.specs.Clauses.{Beginning, Tape, OutcomeOf, Seen, seen, Halts, Sunk};
 
 use crate::report::report;
 use roff_num::{Limit, Limits};
-use roff_pages::ByteSink;
 use roff_run::{Message, Status};
+use roff_sinks::ByteSink;
 
 /// What ends a run early.
 #[derive(Clone, Copy, Debug, PartialEq, Eq)]
@@ -24,9 +24,9 @@ pub(crate) enum Halt {
 impl Halt {
     /// How a run ends that was halted on this line. A limit and a fault of the output are reported.
     pub(crate) fn status<E: ByteSink>(self, limits: Limits, line: u32, err: &mut E) -> Status
-        ensures { (t left : Tape) (before : Seen) (failures : ℕ) (out : Sunk)
+        ensures { (t : Beginning) (left : Tape) (before : Seen) (failures : ℕ) (out : Sunk)
             → Halts limits t left line self before (seen failures out (E.sunk err.old))
-            → Outcome limits t left result before (seen failures out (E.sunk err.new)) }
+            → OutcomeOf limits t left result before (seen failures out (E.sunk err.new)) }
     {
         match self {
             Halt::Limit(limit) | Halt::Refused(limit) => {

@@ -9,5 +9,5 @@ pub mod laws;
 mod report;
 mod running;
 
-pub use engine::{Engine, Start};
-pub use roff_run::Status;
+pub use engine::Engine;
+pub use roff_run::{Start, Status, TooManyRegisters};

@@ -3,8 +3,8 @@
 ghost use Rattle.std.specs.Prelude.{◌≡◌};
 ghost use Rattle.roff_engine.specs.Clauses.{Puts, message_line, text_told, told_line};
 
-use roff_pages::{ByteSink, SinkFault};
 use roff_run::Message;
+use roff_sinks::{ByteSink, SinkFault};
 
 /// Writes a message of this line of the input, in one piece.
 pub(crate) fn report<E: ByteSink>(message: Message, line: u32, err: &mut E) -> Result<(), SinkFault>

@@ -11,18 +11,20 @@ mod ending;
 mod fronts;
 mod passing;
 mod settling;
+mod starting;
 
 use crate::formatter::Formatter;
 use crate::halt::Halt;
 use roff_num::Limits;
-use roff_pages::ByteSink;
-use roff_run::{PageEvent, Status};
+use roff_run::{PageEvent, Phase, Status};
 use roff_scan::{ByteSource, Item, Note, Sight, Unread, Waiting};
+use roff_sinks::ByteSink;
 
 /// A run under way.
 #[derive(Drop)]
 pub(crate) struct Running {
     pub(crate) limits: Limits,
+    pub(crate) phase: Phase,
     pub(crate) formatter: Formatter,
     pub(crate) unread: Unread<PageEvent>,
 }

@@ -4,7 +4,7 @@ ghost use Rattle.std.specs.Prelude.{◌≡◌, FitsSigned};
 ghost use Rattle.roff_num.specs.Clauses.{w32, rounded};
 
 /// A number, in basic units where it is a length.
-#[derive(Clone, Copy, Debug, PartialEq, Eq)]
+#[derive(Clone, Copy, Debug, Default, PartialEq, Eq)]
 pub struct Num(pub i32);
 
 /// What a number counts that has no scale letter.

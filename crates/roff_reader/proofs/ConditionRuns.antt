@@ -7,7 +7,6 @@ use Rattle.roff_escape.specs.Waiting.{is_ended_by}
 use Rattle.roff_store.specs.Named.{Named}
 use Rattle.roff_store.specs.Texts.{Entry}
 use Rattle.roff_run.specs.Reading.Ends.{due}
-use Rattle.roff_run.specs.Reading.Items.{PageInput}
 use Rattle.roff_run.specs.Stages.{Here, Onward, Stage, TakesHalf, Turned, input_at}
 use Rattle.roff_run.specs.declared.line_state.LineState.{LineState}
 

@@ -29,7 +29,7 @@ use Rattle.roff_run.specs.declared.request.LineReading.{LineReading}
 use Rattle.roff_run.specs.declared.request.LineReading.TheVariants.{ByArguments, ByCondition, ByElse, ByLastLine, ByMessage, ByString, ByLines}
 use Rattle.roff_run.specs.declared.request.LinesFor.TheVariants.{Macro, Nobody}
 use Rattle.roff_run.specs.declared.request.Request.{Request}
-use Rattle.roff_run.specs.declared.request.Request.TheVariants.{Abort, Adjust, AppendString, AssignFormat, Break, DefineString, Else, Exit, Fill, If, IfElse, Indent, LineLength, NoAdjust, NoFill, NumberRegister, RemoveNames, RemoveRegisters, Rename, Space as SpaceDown, TellMessage, WithoutEffect, LeftOut, AppendMacro, DefineMacro, Ignore, Centre, Environment as SwitchEnvironment, LineSpacing, TabStops, TemporaryIndent}
+use Rattle.roff_run.specs.declared.request.Request.TheVariants.{Abort, Adjust, AppendString, AssignFormat, Break, DefineString, Else, EndMacro, Exit, Fill, If, IfElse, Indent, LineLength, NoAdjust, NoFill, NumberRegister, RemoveNames, RemoveRegisters, Rename, Space as SpaceDown, TellMessage, WithoutEffect, LeftOut, AppendMacro, DefineMacro, Ignore, Centre, Environment as SwitchEnvironment, LineSpacing, TabStops, TemporaryIndent}
 
 -- what names stand for, how many did at first, and the texts in the making
 pub record NamesAndTexts : Type 0 where
@@ -74,6 +74,7 @@ CallsNothing-request k breaks Centre = record { calls = refl; registers = λ rs.
 CallsNothing-request k breaks DefineMacro = record { calls = refl; registers = λ rs. refl }
 CallsNothing-request k breaks DefineString = record { calls = refl; registers = λ rs. refl }
 CallsNothing-request k breaks Else = record { calls = refl; registers = λ rs. refl }
+CallsNothing-request k breaks EndMacro = record { calls = refl; registers = λ rs. refl }
 CallsNothing-request k breaks SwitchEnvironment = CallsNothing-switch (breaks && false) k.has_left
 CallsNothing-request k breaks Exit = record { calls = refl; registers = λ rs. refl }
 CallsNothing-request k breaks Fill = record { calls = refl; registers = λ rs. refl }

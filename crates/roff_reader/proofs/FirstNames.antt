@@ -6,6 +6,7 @@ use Rattle.roff_num.specs.declared.limit.Limit.{Limit}
 use Rattle.roff_num.specs.declared.limits.Limits.{Limits}
 use Rattle.roff_ahead.specs.Input.{initial_input}
 use Rattle.roff_ahead.specs.Input.Names.{calling, names_added, stored}
+use Rattle.roff_scan.specs.declared.looked.Looked.TheVariants.{Nothing}
 use Rattle.roff_scan.specs.Unread.{changing, input_refusal, unless_passed}
 use Rattle.roff_store.specs.Named.{Named, with_entry}
 use Rattle.roff_store.specs.TextCalls.{Set}
@@ -20,7 +21,7 @@ abbrev pub input_at : ℕ → PageInput
 input_at count = record (initial_input (length requests)) { names = take count first_entries }
 
 abbrev pub unread_at : Limits → ℕ → PageUnread
-unread_at l count = record { input = input_at count; looked = None; limits = l }
+unread_at l count = record { input = input_at count; looked = Nothing; limits = l }
 
 -- one more gets its name: it is behind all others, none has bytes, and the limit counts none
 abbrev IsNamedNext : ℕ → Request → Type 0

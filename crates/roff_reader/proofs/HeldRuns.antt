@@ -14,7 +14,7 @@ use Rattle.roff_store.specs.Texts.{Entry}
 use Rattle.roff_reader.proofs.CalledArguments.{call-byte}
 use Rattle.roff_run.specs.Reading.{undropped_taking}
 use Rattle.roff_run.specs.Reading.Ends.{due}
-use Rattle.roff_run.specs.Reading.Items.{PageInput, going_on}
+use Rattle.roff_run.specs.Reading.Items.{going_on}
 use Rattle.roff_run.specs.Reading.Units.{settling}
 use Rattle.roff_run.specs.Stages.{Here, HoldsIfFewer, Onward, Stage, Turned, input_at}
 use Rattle.roff_run.specs.declared.line_state.LineState.{LineState}

@@ -17,7 +17,7 @@ use Rattle.roff_escape.specs.Waiting.{is_ended_by}
 use Rattle.roff_ahead.specs.Input.{Ahead, ByteAhead}
 use Rattle.roff_source.specs.Tape.{Tape}
 use Rattle.roff_run.proofs.InputCounts.{NoMore-item_taken, first_passed-no_more}
-use Rattle.roff_run.proofs.ItemsTaken.{FromAhead, FromSource, Origin, ahead_at, bytes_ahead_are_taken, bytes_of_the_source_are_taken, tape_at}
+use Rattle.roff_run.proofs.ItemsTaken.{FromAhead, FromSource, IsOpenFor, Origin, ahead_at, byte_ahead_is_taken, bytes_of_the_source_are_taken, tape_at}
 use Rattle.roff_run.proofs.Leads.{Leads-refl, Leads-trans}
 use Rattle.roff_run.proofs.PlainRuns.{behind_byte, behind_bytes, behind_bytes-counts, counted}
 use Rattle.roff_reader.proofs.TurnedRuns.{free_ahead-behind}
@@ -33,6 +33,7 @@ use Rattle.roff_run.specs.Run.Counts.{counts_in, first_passed, refusal}
 use Rattle.roff_run.specs.TurnsToCome.{turns_within}
 use Rattle.roff_run.specs.Telling.{Prints, byte_events, byte_told, page_told}
 use Rattle.roff_run.specs.declared.line_state.LineState.{LineState}
+use Rattle.roff_run.specs.declared.phase.Phase.{Phase}
 
 -- what happened in the environment in force became this
 abbrev pub with_text : History → Environments → Environments
@@ -79,7 +80,7 @@ allowed : (l : Limits) (h : PageHistory) (e : Event) → pending_length (e ∷ t
 allowed l h e within = rw (le-ltb l.line (pending_length (e ∷ text_of h)) within) refl
 
 -- a run that reads this on, with these registers and messages
-module _ (l : Limits) (reading : LineState) (rs : AllRegisters) (messages : List ℕ) where
+module _ (l : Limits) (reading : LineState) (rs : AllRegisters) (messages : List ℕ) (phase : Phase) (closed : Bool) where
   -- where it has come to: the tape, the input, the history and the events to do
   abbrev pub told_at : Tape → PageInput → PageHistory → List PageEvent → State
   told_at tape input h to_do = record {
@@ -90,7 +91,8 @@ module _ (l : Limits) (reading : LineState) (rs : AllRegisters) (messages : List
     to_do = to_do;
     history = h;
     messages = messages;
-    is_closing = false;
+    phase = phase;
+    is_closed = closed;
     ended = None;
     last_message = [];
   }
@@ -155,27 +157,26 @@ module _ (l : Limits) (reading : LineState) (rs : AllRegisters) (messages : List
   fits-byte (FromSource behind) b bytes i fits = fits
 
   -- a byte is taken
-  taken-from : (from : Origin) (tape : Tape) (b : ℕ) (bytes : List ℕ) (i : PageInput) (h : PageHistory) → due reading ≡ None → i.escapes ≡ [] → i.charge + 1 ≤ l.bytes
+  taken-from : (from : Origin) (tape : Tape) (b : ℕ) (bytes : List ℕ) (i : PageInput) (h : PageHistory) → IsOpenFor from closed → due reading ≡ None → i.escapes ≡ [] → i.charge + 1 ≤ l.bytes
       → step l (told_from from (b ∷ bytes) tape i h) ≡ made l (told_from from (b ∷ bytes) tape i h) (byte_taken b (told_from from bytes tape (behind_byte from b i) h))
-  taken-from (FromAhead rest) tape b bytes i h none_due none_half few =
-      bytes_ahead_are_taken l (told_from (FromAhead rest) (b ∷ bytes) tape i h) b (map ByteAhead bytes ++ rest)
-      (record { going = refl; not_closing = refl; idle = refl; none_due = none_due }) refl (ap (λ (half : List OpenEscape). is_ended_by half (Some b)) none_half) (omega (arith, few))
-  taken-from (FromSource behind) tape b bytes i h none_due none_half few =
+  taken-from (FromAhead rest) tape b bytes i h is_open none_due none_half few =
+      byte_ahead_is_taken l (told_from (FromAhead rest) (b ∷ bytes) tape i h) b (map ByteAhead bytes ++ rest) refl refl none_due refl (ap (λ (half : List OpenEscape). is_ended_by half (Some b)) none_half) (omega (arith, few))
+  taken-from (FromSource behind) tape b bytes i h is_open none_due none_half few =
       bytes_of_the_source_are_taken l (told_from (FromSource behind) (b ∷ bytes) tape i h) b
-      (record { going = refl; not_closing = refl; idle = refl; none_due = none_due }) refl refl (ap (λ (half : List OpenEscape). is_ended_by half (Some b)) none_half) (omega (arith, few))
+      (record { going = refl; is_open = is_open; idle = refl; none_due = none_due }) refl refl (ap (λ (half : List OpenEscape). is_ended_by half (Some b)) none_half) (omega (arith, few))
 
   -- the steps at such bytes, wherever they come from
-  pub leads-told : (from : Origin) (tape : Tape) (bytes : List ℕ) (i : PageInput) (h : PageHistory) → due reading ≡ None → i.escapes ≡ [] → Fits from bytes i
+  pub leads-told : (from : Origin) (tape : Tape) (bytes : List ℕ) (i : PageInput) (h : PageHistory) → IsOpenFor from closed → due reading ≡ None → i.escapes ≡ [] → Fits from bytes i
       → i.charge + length bytes ≤ l.bytes → AllByRecursion (λ b. Prints reading b) bytes → QuietlyTold l.line bytes (text_of h)
       → Leads l (told_from from bytes tape i h) (told_from from [] tape (behind_bytes from bytes i) (page_told bytes h)) × Fits from [] (behind_bytes from bytes i)
-  leads-told from tape [] i h none_due none_half fits few prints quiet = (Leads-refl l (told_from from [] tape i h), fits)
-  leads-told from tape (b ∷ bytes) i h none_due none_half fits few prints quiet =
+  leads-told from tape [] i h is_open none_due none_half fits few prints quiet = (Leads-refl l (told_from from [] tape i h), fits)
+  leads-told from tape (b ∷ bytes) i h is_open none_due none_half fits few prints quiet =
       let before : State = told_from from (b ∷ bytes) tape i h in
       let next : PageInput = behind_byte from b i in
       let behind : Fits from bytes next = fits-byte from b bytes i fits in
-      let there = leads-told from tape bytes next (byte_told b h) none_due none_half behind (omega (arith, few)) prints.1 (quiet-byte l.line b bytes h quiet.2) in (
+      let there = leads-told from tape bytes next (byte_told b h) is_open none_due none_half behind (omega (arith, few)) prints.1 (quiet-byte l.line b bytes h quiet.2) in (
         Leads-trans l before (told_from from bytes tape next (byte_told b h)) _
-            (leads-byte b before (tape_at from bytes tape) (record next { ahead = ahead_at from bytes }) h (taken-from from tape b bytes i h none_due none_half (omega (arith, few)))
+            (leads-byte b before (tape_at from bytes tape) (record next { ahead = ahead_at from bytes }) h (taken-from from tape b bytes i h is_open none_due none_half (omega (arith, few)))
             none_half behind prints.0 quiet.1) there.0,
         there.1,
       )

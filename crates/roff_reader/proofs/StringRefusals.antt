@@ -26,7 +26,7 @@ use Rattle.roff_reader.specs.Reader.State.{ReaderState}
 use Rattle.roff_reader.specs.Reader.Taken.{InputCameTo, TakesAs}
 use Rattle.roff_run.specs.Reading.Items.{PageUnread}
 use Rattle.roff_num.specs.ShortNames.{name_at}
-use Rattle.roff_run.specs.Reading.Items.{PageInput, Taking, going_on}
+use Rattle.roff_run.specs.Reading.Items.{PageInput, going_on}
 use Rattle.roff_run.specs.Reading.Strings.{name_read, string_begun, string_grown, string_name_behind, string_unit}
 use Rattle.roff_run.specs.Reading.Units.{holding}
 use Rattle.roff_run.specs.declared.line_state.LineState.TheVariants.{StringName, StringText}

@@ -551,29 +551,30 @@ pub end_taking-newline : (k : Known) (r : LineState) (i : PageInput) → (r ≡ 
     → ((name : Option ShortName) (appends is_front : Bool) → r ≡ StringText name appends is_front → ⊥)
     → ((opened closed : ℕ) (behind : Bool) → r ≡ Skipping opened closed behind → ⊥)
     → ((name : Option ShortName) (appends : Bool) (end : Option ShortName) (matched : Option ℕ) → r ≡ Defining name appends end matched → ⊥)
+    → ((keeps : Bool) → r ≡ Deciding keeps → ⊥) → ((aborts : Bool) → r ≡ Told aborts → ⊥)
     → undropped_taking k r i newline ≡ end_taking k r i
-end_taking-newline k LineStart i begun dropped left braced control named strings skips defines = absurd (begun refl)
-end_taking-newline k Branch i begun dropped left braced control named strings skips defines = refl
-end_taking-newline k Braced i begun dropped left braced control named strings skips defines = absurd (braced refl)
-end_taking-newline k (InText line) i begun dropped left braced control named strings skips defines = refl
-end_taking-newline k (Control breaks) i begun dropped left braced control named strings skips defines =
+end_taking-newline k LineStart i begun dropped left braced control named strings skips defines decides told = absurd (begun refl)
+end_taking-newline k Branch i begun dropped left braced control named strings skips defines decides told = refl
+end_taking-newline k Braced i begun dropped left braced control named strings skips defines decides told = absurd (braced refl)
+end_taking-newline k (InText line) i begun dropped left braced control named strings skips defines decides told = refl
+end_taking-newline k (Control breaks) i begun dropped left braced control named strings skips defines decides told =
     absurd (control breaks refl)
-end_taking-newline k (Name breaks first) i begun dropped left braced control named strings skips defines = refl
-end_taking-newline k (InArguments breaks request) i begun dropped left braced control named strings skips defines = refl
-end_taking-newline k (Deciding keeps) i begun dropped left braced control named strings skips defines = refl
-end_taking-newline k (Skipping opened closed behind) i begun dropped left braced control named strings skips defines =
+end_taking-newline k (Name breaks first) i begun dropped left braced control named strings skips defines decides told = refl
+end_taking-newline k (InArguments breaks request) i begun dropped left braced control named strings skips defines decides told = refl
+end_taking-newline k (Deciding keeps) i begun dropped left braced control named strings skips defines decides told = absurd (decides keeps refl)
+end_taking-newline k (Skipping opened closed behind) i begun dropped left braced control named strings skips defines decides told =
     absurd (skips opened closed behind refl)
-end_taking-newline k (StringName appends) i begun dropped left braced control named strings skips defines =
+end_taking-newline k (StringName appends) i begun dropped left braced control named strings skips defines decides told =
     absurd (named appends refl)
-end_taking-newline k (StringText name appends is_front) i begun dropped left braced control named strings skips defines =
+end_taking-newline k (StringText name appends is_front) i begun dropped left braced control named strings skips defines decides told =
     absurd (strings name appends is_front refl)
-end_taking-newline k (Calling name) i begun dropped left braced control named strings skips defines = refl
-end_taking-newline k (Defining name appends end matched) i begun dropped left braced control named strings skips defines =
+end_taking-newline k (Calling name) i begun dropped left braced control named strings skips defines decides told = refl
+end_taking-newline k (Defining name appends end matched) i begun dropped left braced control named strings skips defines decides told =
     absurd (defines name appends end matched refl)
-end_taking-newline k (Telling aborts is_front) i begun dropped left braced control named strings skips defines = refl
-end_taking-newline k (Told aborts) i begun dropped left braced control named strings skips defines = refl
-end_taking-newline k Exiting i begun dropped left braced control named strings skips defines = absurd (left refl)
-end_taking-newline k Dropped i begun dropped left braced control named strings skips defines = absurd (dropped refl)
+end_taking-newline k (Telling aborts is_front) i begun dropped left braced control named strings skips defines decides told = refl
+end_taking-newline k (Told aborts) i begun dropped left braced control named strings skips defines decides told = absurd (told aborts refl)
+end_taking-newline k Exiting i begun dropped left braced control named strings skips defines decides told = absurd (left refl)
+end_taking-newline k Dropped i begun dropped left braced control named strings skips defines decides told = absurd (dropped refl)
 
 -- a string's line leaves the line's beginning
 pub string_line_ended-going : (i : PageInput) (appends : Bool) (name : Option (Option ShortName))

@@ -11,7 +11,7 @@ use Rattle.roff_source.specs.Tape.{Tape}
 use Rattle.roff_store.specs.Named.{Named}
 use Rattle.roff_store.specs.Texts.{Entry}
 use Rattle.roff_run.proofs.InputCounts.{NoMore, first_passed-no_more, first_passed-texts}
-use Rattle.roff_run.proofs.ItemsTaken.{FromAhead, FromSource, Origin, ahead_at, bytes_ahead_are_taken, bytes_of_the_source_are_taken, taken_as-going_on}
+use Rattle.roff_run.proofs.ItemsTaken.{IsOpenFor, FromAhead, FromSource, Origin, ahead_at, byte_ahead_is_taken, bytes_of_the_source_are_taken, taken_as-going_on}
 use Rattle.roff_run.proofs.PlainRuns.{behind_byte, behind_bytes, behind_bytes-counts, counted, counted-ahead, run_at}
 use Rattle.roff_run.proofs.TurnsToCome.{turns_within-byte}
 use Rattle.roff_run.specs.Reading.{taking}
@@ -34,10 +34,10 @@ stage_input names p from bytes i = record (input_at names p i) { ahead = ahead_a
 abbrev pub FitsAt : Limits → AllRegisters → Named Entry → Stage → Origin → List ℕ → PageInput → Type 0
 FitsAt l rs names p from bytes i = first_passed l (counts_in rs (stage_input names p from bytes i)) ≡ None
 
--- a run that goes on: it hasn't ended and isn't about to, and there is nothing to do first
-pub record IsGoing (s : State) : Type 0 where
+-- a run that goes on where bytes come from there: it hasn't ended, and there is nothing to do first
+pub record IsGoing (from : Origin) (s : State) : Type 0 where
   pub going : s.ended ≡ None
-  pub not_closing : s.is_closing ≡ false
+  pub is_open : IsOpenFor from s.is_closed
   pub idle : s.to_do ≡ []
 
 -- behind a byte that stood ahead no more is counted than in front of it, but for the bytes of texts in the making
@@ -113,7 +113,7 @@ fits-next l rs names (FromSource tape) p next q b bytes i grow grows others befo
 
 -- a step at a byte, where no count is above its limit behind it
 step-turned : (l : Limits) (s : State) (names : Named Entry) (from : Origin) (p q : Stage) (b : ℕ) (bytes : List ℕ) (i : PageInput)
-    → IsGoing s → due p.reading ≡ None → is_ended_by p.escapes (Some b) ≡ false → i.charge + 1 ≤ l.bytes → Turns names p b q
+    → IsGoing from s → due p.reading ≡ None → is_ended_by p.escapes (Some b) ≡ false → i.charge + 1 ≤ l.bytes → Turns names p b q
     → FitsAt l s.registers names q from bytes (behind_byte from b i)
     → step l (run_at s names p from (b ∷ bytes) i) ≡ run_at s names q from bytes (behind_byte from b i)
 step-turned l s names (FromAhead rest) p q b bytes i on none_due stays few turns fits =
@@ -122,7 +122,7 @@ step-turned l s names (FromAhead rest) p q b bytes i on none_due stays few turns
     let taken : State = run_at s names p from bytes (behind_byte from b i) in
     let there : PageInput = record (behind_byte from b i) { ahead = ahead_at from bytes } in
     let done : State = run_at s names q from bytes (behind_byte from b i) in
-    bytes_ahead_are_taken l before b (map ByteAhead bytes ++ rest) (record { going = on.going; not_closing = on.not_closing; idle = on.idle; none_due = none_due })
+    byte_ahead_is_taken l before b (map ByteAhead bytes ++ rest) on.going on.idle none_due
     refl stays (omega (arith, few))
     ∙ ap (λ (t : Taking). made l before (taken_as t taken)) (turns (known taken) there)
     ∙ ap (made l before) (taken_as-going_on (input_at names q there) q.reading taken)
@@ -133,7 +133,7 @@ step-turned l s names (FromSource tape) p q b bytes i on none_due stays few turn
     let taken : State = run_at s names p from bytes (behind_byte from b i) in
     let there : PageInput = record (behind_byte from b i) { ahead = ahead_at from bytes } in
     let done : State = run_at s names q from bytes (behind_byte from b i) in
-    bytes_of_the_source_are_taken l before b (record { going = on.going; not_closing = on.not_closing; idle = on.idle; none_due = none_due })
+    bytes_of_the_source_are_taken l before b (record { going = on.going; is_open = on.is_open; idle = on.idle; none_due = none_due })
     refl refl stays (omega (arith, few))
     ∙ ap (λ (t : Taking). made l before (taken_as t taken)) (turns (known taken) there)
     ∙ ap (made l before) (taken_as-going_on (input_at names q there) q.reading taken)
@@ -141,7 +141,7 @@ step-turned l s names (FromSource tape) p q b bytes i on none_due stays few turn
 
 -- a run takes one step for each of such bytes, where no count is above its limit in front of them and behind them
 pub after-Turned : (l : Limits) (s : State) (names : Named Entry) (from : Origin) (p q : Stage) (bytes : List ℕ) (i : PageInput)
-    → IsGoing s → Turned names p bytes q → i.charge + length bytes ≤ l.bytes
+    → IsGoing from s → Turned names p bytes q → i.charge + length bytes ≤ l.bytes
     → FitsAt l s.registers names p from bytes i → FitsAt l s.registers names q from [] (behind_bytes from bytes i)
     → after l (length bytes) (run_at s names p from bytes i) ≡ run_at s names q from [] (behind_bytes from bytes i)
 after-Turned l s names from _ q _ i on (Here p) within before behind = refl
@@ -161,10 +161,10 @@ pub free_ahead-behind : (from : Origin) (b : ℕ) (bytes : List ℕ) → free_ah
 free_ahead-behind (FromAhead rest) b bytes = refl
 free_ahead-behind (FromSource tape) b bytes = refl
 
--- no more turns are to come behind a byte
+-- a turn fewer is to come behind a byte
 turns-turned : (most : ℕ) (k : Known) (names : Named Entry) (from : Origin) (p q : Stage) (b : ℕ) (bytes : List ℕ) (i : PageInput)
     → Turns names p b q → i.charge + 1 ≤ most
-    → turns_within most (stage_input names q from bytes (behind_byte from b i)) + begun q.reading
+    → turns_within most (stage_input names q from bytes (behind_byte from b i)) + begun q.reading + 1
     ≤ turns_within most (stage_input names p from (b ∷ bytes) i) + begun p.reading
 turns-turned most k names from p q b bytes i turns few =
     let there : PageInput = record (behind_byte from b i) { ahead = ahead_at from bytes } in
@@ -174,10 +174,10 @@ turns-turned most k names from p q b bytes i turns few =
     subst (λ (t : Taking). turns_within most t.input + begun t.reading ≤ turns_within most (input_at names p there) + begun p.reading + 4) (turns k there) bound in
     omega (arith, few, read, free_ahead-behind from b bytes)
 
--- nor behind several
+-- and behind several one fewer for each
 pub turns_left-turned : (most : ℕ) (k : Known) (names : Named Entry) (from : Origin) (p q : Stage) (bytes : List ℕ) (i : PageInput)
     → Turned names p bytes q → i.charge + length bytes ≤ most
-    → turns_within most (stage_input names q from [] (behind_bytes from bytes i)) + begun q.reading
+    → turns_within most (stage_input names q from [] (behind_bytes from bytes i)) + begun q.reading + length bytes
     ≤ turns_within most (stage_input names p from bytes i) + begun p.reading
 turns_left-turned most k names from _ q _ i (Here p) within = omega arith
 turns_left-turned most k names from p _ _ i (Onward _ next q b bytes none_due stays turns same least most_held others) within =

@@ -1,5 +1,5 @@
 -- What is read does at the next item, by whether something is half read.
-use Rattle.std.proofs.Common.{◌≡◌, true, List, [], ◌∷◌, length, refl, ap, ◌∙◌, sym}
+use Rattle.std.proofs.Common.{◌≡◌, true, List, [], ◌∷◌, length, refl, ap}
 use Rattle.std.specs.Prelude.{not, ◌==◌}
 use Rattle.roff_arguments.specs.declared.arguments.Place.{Place}
 use Rattle.roff_escape.specs.OpenEscape.{OpenEscape}

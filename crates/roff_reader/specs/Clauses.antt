@@ -10,11 +10,11 @@ pub use Rattle.roff_run.specs.Reading.{Passes, escape_ended, interrupted, undrop
 pub use Rattle.roff_run.specs.Reading.Arguments.{arguments_found, calling_all, line_ended, unit_found, arguments_ended}
 pub use Rattle.roff_run.specs.Reading.Beginnings.{beginning_found, first_escape, first_taking, going_on_told, line_begun, first_name, at_start}
 pub use Rattle.roff_run.specs.Reading.Branches.{condition_found, decided, is_so, condition_begun}
-pub use Rattle.roff_run.specs.Reading.Calls.{call_found, call_unit, behind_return}
+pub use Rattle.roff_run.specs.Reading.Calls.{call_found, call_unit, called_last, last_called, behind_return}
 pub use Rattle.roff_run.specs.Reading.ControlLines.{behind_name, line_taking, name_ended_taking}
 pub use Rattle.roff_run.specs.Reading.DefinedLines.{behind_definition, definition_found, definition_line}
 pub use Rattle.roff_run.specs.Reading.Definitions.{lines_begun, definition_begun, definition_cut, definition_grown}
-pub use Rattle.roff_run.specs.Reading.Ends.{end_taking, due, line_ends_first, interrupted_end}
+pub use Rattle.roff_run.specs.Reading.Ends.{end_taking, due, interrupted_end, is_left, is_unfinished}
 pub use Rattle.roff_run.specs.Reading.Escapes.{asking, interpolating, measuring, putting_nothing, putting_string, putting_argument}
 pub use Rattle.roff_run.specs.Reading.Items.{PageInput, going_on, meaning_events, telling}
 pub use Rattle.roff_run.specs.Reading.Messages.{message_found, message_unit}
@@ -27,7 +27,7 @@ pub use Rattle.roff_ahead.specs.Input.{holding_plain, holding_text}
 pub use Rattle.roff_ahead.specs.Input.Calls.{arguments_given}
 pub use Rattle.roff_run.specs.Definitions.{ends_mark}
 pub use Rattle.roff_escape.specs.OpenEscape.{unit_bytes}
-pub use Rattle.roff_run.specs.Registers.{AllRegisters, Remove, changed_by, value_in_force}
+pub use Rattle.roff_run.specs.Registers.{AllRegisters, Known, Remove, changed_by, value_in_force}
 pub use Rattle.roff_requests.specs.Registers.Coded.{known_of}
 pub use Rattle.roff_requests.specs.Request.Coded.{calls_of, changes_of, effect_of, name_in, register_named}
 pub use Rattle.roff_run.specs.Requests.{request_effect, called_by, row_of}

@@ -6,7 +6,10 @@ ghost use Rattle.roff_source.specs.Bytes.{backslash, is_dropped};
 ghost use Rattle.roff_run.specs.Events.Steps.{events_of, messages_of};
 ghost use Rattle.roff_run.specs.declared.step.Step.TheVariants.{Nothing};
 ghost use Rattle.roff_reader.specs.Clauses.{LineStart, TakesAs, fresh_reader};
-ghost use Rattle.roff_reader.specs.Clauses.{interrupted, first_unread, taking, due, line_ends_first};
+ghost use Rattle.roff_reader.specs.Clauses.{Known, interrupted, first_unread, is_left, is_unfinished, taking, due};
+ghost use Rattle.roff_run.specs.Registers.Capped.{admitted, after};
+ghost use Rattle.roff_run.specs.Starts.{given_change};
+ghost use Rattle.roff_run.specs.declared.phase.Phase.{Phase};
 ghost use Rattle.roff_reader.specs.Clauses.{behind_return};
 
 mod ahead;
@@ -30,7 +33,7 @@ mod text_lines;
 mod waiting;
 
 use crate::meaning::Meaning;
-use roff_num::{Limit, Limits, Name};
+use roff_num::{Limit, Limits, Name, Num};
 use roff_requests::{Environments, RunRegisters};
 use roff_run::{Due, LineEvents, LineState, Message, PageEvent, Request, Step};
 use roff_scan::{Unread, is_dropped};
@@ -127,11 +130,27 @@ impl Reader {
         self.reading.due()
     }
 
-    /// Whether a control line is read that ends where the input does, before the input's end is met.
-    pub fn line_ends_first(&self) -> bool
-        ensures { result ≡ line_ends_first self.now.reading }
+    /// Whether a line is to end where the input does: one of which something was read, or one that was
+    /// interrupted, if one is to end.
+    pub fn is_unfinished(&self, left: bool) -> bool
+        ensures { (phase : Phase) (k : Known) → is_left phase k.interrupted ≡ left
+            → result ≡ is_unfinished phase k self.now.reading }
     {
-        self.reading.line_ends_first()
+        self.reading.is_unfinished(left)
+    }
+
+    /// Sets a register that is given to a run, of a name of one byte, to a value.
+    ///
+    /// # Errors
+    ///
+    /// [`Limit::Names`] if more names than may would have a register; nothing changed then.
+    pub fn give(&mut self, name: u8, value: Num) -> Result<(), Limit>
+        ensures answer { result ≡ admitted (given_change name value) self.old.registers }
+        ensures registers { self.new ≡ record self.old {
+          registers = after (given_change name value) self.old.registers;
+        } }
+    {
+        self.registers.give(name, value)
     }
 
     /// A line begins.

@@ -10,6 +10,7 @@ use Rattle.roff_num.specs.declared.format.Format.TheVariants.{Decimal}
 use Rattle.roff_num.specs.declared.limit.Limit.{Limit}
 use Rattle.roff_num.specs.declared.limit.Limit.TheVariants.{Names}
 use Rattle.roff_num.specs.declared.num.Num.{Num}
+use Rattle.roff_num.specs.declared.short_name.ShortName.{ShortName}
 use Rattle.roff_store.proofs.Calls.{IsCounted-after as store_IsCounted-after}
 use Rattle.roff_store.proofs.Entries.{length-with_entry}
 use Rattle.roff_store.specs.Named.{Table, entry_of, with_entry, has_room, put_into, admitted as admitted_name}
@@ -46,58 +47,58 @@ by_room-by_limit false true go stay differ = refl
 by_room-by_limit false false go stay differ = cc
 
 -- a choice of tables, as one of registers
-capped_of-cond : (b : Bool) (t u : Table Register) (page : Register)
-    → capped_of (cond b t u) page ≡ cond b (capped_of t page) (capped_of u page)
-capped_of-cond true t u page = refl
-capped_of-cond false t u page = refl
+capped_of-cond : (b : Bool) (t u : Table Register) (page : Register) (last : Option ShortName)
+    → capped_of (cond b t u) page last ≡ cond b (capped_of t page last) (capped_of u page last)
+capped_of-cond true t u page last = refl
+capped_of-cond false t u page last = refl
 
 -- a change that gives a name of a table this register
-pub record GivesTo (name : List ℕ) (r : Register) (t : Table Register) (page : Register) (change : Change) : Type 0 where
-  pub changed : with_change change (capped_of t page) ≡ capped_of (record t { entries = with_entry name r t.entries }) page
+pub record GivesTo (name : List ℕ) (r : Register) (t : Table Register) (page : Register) (last : Option ShortName) (change : Change) : Type 0 where
+  pub changed : with_change change (capped_of t page last) ≡ capped_of (record t { entries = with_entry name r t.entries }) page last
 
 -- the table answers what asking for the change does
-pub admitted-given : (name : List ℕ) (r : Register) (t : Table Register) (page : Register) (change : Change)
-    → length t.entries ≤ t.cap → GivesTo name r t page change → admitted_name name t ≡ admitted change (capped_of t page)
-admitted-given name r t page change within gives =
+pub admitted-given : (name : List ℕ) (r : Register) (t : Table Register) (page : Register) (last : Option ShortName) (change : Change)
+    → length t.entries ≤ t.cap → GivesTo name r t page last change → admitted_name name t ≡ admitted change (capped_of t page last)
+admitted-given name r t page last change within gives =
     let refusing : Capped → Result (Unit {0}) Limit = λ next. if is_past_cap next then Err Names else Ok tt in
     by_room-by_limit (has_room name t) _ (Ok tt) (Err Names) (past-with_entry name r t within) ∙ ap refusing (sym gives.changed)
 
 -- and is what is left behind it
-pub capped_of-given : (name : List ℕ) (r : Register) (t : Table Register) (page : Register) (change : Change)
-    → length t.entries ≤ t.cap → GivesTo name r t page change
-    → capped_of (put_into name r t) page ≡ after change (capped_of t page)
-capped_of-given name r t page change within gives =
+pub capped_of-given : (name : List ℕ) (r : Register) (t : Table Register) (page : Register) (last : Option ShortName) (change : Change)
+    → length t.entries ≤ t.cap → GivesTo name r t page last change
+    → capped_of (put_into name r t) page last ≡ after change (capped_of t page last)
+capped_of-given name r t page last change within gives =
     let u : Table Register = record t { entries = with_entry name r t.entries } in
-    let chosen : Capped → Capped = λ next. if is_past_cap next then capped_of t page else next in
-    capped_of-cond (has_room name t) u t page
-    ∙ by_room-by_limit (has_room name t) _ (capped_of u page) (capped_of t page) (past-with_entry name r t within)
+    let chosen : Capped → Capped = λ next. if is_past_cap next then capped_of t page last else next in
+    capped_of-cond (has_room name t) u t page last
+    ∙ by_room-by_limit (has_room name t) _ (capped_of u page last) (capped_of t page last) (past-with_entry name r t within)
     ∙ ap chosen (sym gives.changed)
 
 -- a change of a name that is neither read-only nor the page number's changes the named registers
-named-changed : (read_only of_page : Bool) (page paged : Register) (named others : Registers) (cap : ℕ)
+named-changed : (read_only of_page : Bool) (page paged : Register) (named others : Registers) (last : Option ShortName) (cap : ℕ)
     → read_only ≡ false → of_page ≡ false
-    → (let rs : AllRegisters = record { named = named; page = page } in
+    → (let rs : AllRegisters = record { named = named; page = page; last_macro = last } in
     let next : AllRegisters = cond read_only rs (cond of_page (record rs { page = paged }) (record rs { named = others })) in
     let capped : Capped = record { all = next; cap = cap } in capped)
-    ≡ record { all = record { named = others; page = page }; cap = cap }
-named-changed true of_page page paged named others cap settable other = cc
-named-changed false true page paged named others cap settable other = cc
-named-changed false false page paged named others cap settable other = refl
+    ≡ record { all = record { named = others; page = page; last_macro = last }; cap = cap }
+named-changed true of_page page paged named others last cap settable other = cc
+named-changed false true page paged named others last cap settable other = cc
+named-changed false false page paged named others last cap settable other = refl
 
 -- `nr` gives a name a register
-pub SetTo-gives : (name : List ℕ) (value increment : Num) (t : Table Register) (page : Register)
-    → is_read_only name ≡ false → is_page name ≡ false → GivesTo name (record (register_of name t.entries) { value = value; increment = increment }) t page (SetTo name value increment)
-SetTo-gives name value increment t page settable other = record {
+pub SetTo-gives : (name : List ℕ) (value increment : Num) (t : Table Register) (page : Register) (last : Option ShortName)
+    → is_read_only name ≡ false → is_page name ≡ false → GivesTo name (record (register_of name t.entries) { value = value; increment = increment }) t page last (SetTo name value increment)
+SetTo-gives name value increment t page last settable other = record {
   changed = named-changed (is_read_only name) (is_page name) page (record page { value = value; increment = increment })
-      t.entries (with_setting name value increment t.entries) t.cap settable other;
+      t.entries (with_setting name value increment t.entries) last t.cap settable other;
 }
 
 -- and so does `af`
-pub FormatAs-gives : (name : List ℕ) (format : Format) (t : Table Register) (page : Register)
-    → is_read_only name ≡ false → is_page name ≡ false → GivesTo name (record (register_of name t.entries) { format = format }) t page (FormatAs name format)
-FormatAs-gives name format t page settable other = record {
+pub FormatAs-gives : (name : List ℕ) (format : Format) (t : Table Register) (page : Register) (last : Option ShortName)
+    → is_read_only name ≡ false → is_page name ≡ false → GivesTo name (record (register_of name t.entries) { format = format }) t page last (FormatAs name format)
+FormatAs-gives name format t page last settable other = record {
   changed = named-changed (is_read_only name) (is_page name) page (record page { format = format })
-      t.entries (with_format name format t.entries) t.cap settable other;
+      t.entries (with_format name format t.entries) last t.cap settable other;
 }
 
 -- a number in plain decimal

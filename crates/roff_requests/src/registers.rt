@@ -1,7 +1,7 @@
 //! The number registers of a run: those that a document sets, the page number, and the read-only
 //! ones (manual, section 8).
 
-ghost use Rattle.std.specs.Prelude.{◌≡◌, [], ◌∷◌, IfOk, IfSome, if◌then◌else◌};
+ghost use Rattle.std.specs.Prelude.{◌≡◌, [], ◌∷◌, Ok, IfOk, IfSome, if◌then◌else◌};
 ghost use Rattle.std.specs.Option.{option_to_list};
 ghost use Rattle.roff_num.specs.Ranges.{is_in_range};
 ghost use Rattle.roff_num.specs.RegisterText.{register_text};
@@ -13,7 +13,7 @@ mod read_only;
 
 use read_only::{is_read_only, query_of};
 use roff_lines::Settings;
-use roff_num::{Direction, Format, Limit, Name, Num, NumText, write_num};
+use roff_num::{Direction, Format, Limit, Name, Num, NumText, ShortName, write_num};
 use roff_run::{Message, TextLine};
 use roff_store::{RegTable, Register};
 use std::alloc::{AllocError, Global};
@@ -52,6 +52,8 @@ pub enum Change {
         name: Name,
         format: Format,
     },
+    /// `em`: the macro that is read behind the input, if there is one.
+    ReadLast(Option<ShortName>),
 }
 
 /// What the escape `\n` gives.
@@ -63,13 +65,15 @@ pub struct Interpolated {
     pub message: Option<Message>,
 }
 
-/// The registers that can be set: those by name, and the page number `%`.
+/// The registers that can be set: those by name, and the page number `%`; and the macro that is read
+/// behind the input.
 ///
 /// All memory is reserved as they are made.
 #[derive(Drop)]
 pub struct RunRegisters {
     named: RegTable,
     page: Register,
+    last_macro: Option<ShortName>,
 }
 
 impl Model for RunRegisters {
@@ -85,10 +89,11 @@ impl Model for RunRegisters {
 }
 
 impl RunRegisters {
-    ghost use Rattle.roff_run.specs.Registers.{Remove, SetTo, FormatAs, StepBy, changed_by_all, is_page, is_page_odd, known_behind, no_registers, settable, step_changes, step_messages, text_of_register, value_in_force};
+    ghost use Rattle.roff_run.specs.Registers.{Remove, SetTo, FormatAs, StepBy, ReadLast, changed_by_all, is_page, is_page_odd, known_behind, no_registers, settable, step_changes, step_messages, text_of_register, value_in_force};
     ghost use Rattle.roff_run.specs.Registers.Capped.{admitted, after, with_change};
     ghost use Rattle.roff_requests.specs.Registers.Coded.{change_of, known_of};
     ghost use Rattle.roff_run.specs.Registers.{Known};
+    ghost use Rattle.roff_run.specs.Starts.{given_change};
 
     /// No register is set, and the page number is 0; so many names may have one.
     pub fn new(alloc: Global, cap: u32) -> Result<Self, AllocError>
@@ -97,6 +102,7 @@ impl RunRegisters {
         Ok(RunRegisters {
             named: RegTable::new(alloc, cap)?,
             page: Register::default(),
+            last_macro: None,
         })
     }
 
@@ -169,7 +175,43 @@ impl RunRegisters {
                 increment,
             } => self.set(name, *value, *increment),
             Change::FormatAs { name, format } => self.set_format(name, *format),
+            Change::ReadLast(name) => {
+                self.read_last(*name);
+                Ok(())
+            }
         }
+    }
+
+    /// Sets a register that is given to a run, of a name of one byte, to a value, without an increment.
+    ///
+    /// # Errors
+    ///
+    /// [`Limit::Names`] if more names than may would have a register; the registers are then as
+    /// they were.
+    pub fn give(&mut self, name: u8, value: Num) -> Result<(), Limit>
+        ensures answer { result ≡ admitted (given_change name value) self.old }
+        ensures registers { self.new ≡ after (given_change name value) self.old }
+    {
+        let name = ShortName {
+            first: name,
+            second: None,
+        };
+        self.set(&name.name(), value, Num(0))
+    }
+
+    /// The macro that is read behind the input, if there is one.
+    pub fn last_macro(&self) -> Option<ShortName>
+        ensures { result ≡ self.now.all.last_macro }
+    {
+        self.last_macro
+    }
+
+    /// Sets the macro that is read behind the input.
+    fn read_last(&mut self, name: Option<ShortName>)
+        ensures registers { self.new ≡ with_change (ReadLast name) self.old }
+        ensures room { admitted (ReadLast name) self.old ≡ Ok tt }
+    {
+        self.last_macro = name;
     }
 
     /// Removes the register of a name (`rr`). The page number stays.
@@ -228,7 +270,7 @@ impl RunRegisters {
         ensures answer { result ≡ admitted (SetTo name.now value increment) self.old }
         ensures registers { self.new ≡ after (SetTo name.now value increment) self.old }
     {
-        let RunRegisters { named, page } = self;
+        let RunRegisters { named, page, .. } = self;
         if is_read_only(name) {
             return Ok(());
         }
@@ -245,7 +287,7 @@ impl RunRegisters {
         ensures answer { result ≡ admitted (FormatAs name.now format) self.old }
         ensures registers { self.new ≡ after (FormatAs name.now format) self.old }
     {
-        let RunRegisters { named, page } = self;
+        let RunRegisters { named, page, .. } = self;
         if is_read_only(name) {
             return Ok(());
         }

@@ -56,6 +56,7 @@ fn does(request: Request, known: RequestFacts, given: Given<'_>) -> Response
         Request::DefineMacro => Response::nothing(),
         Request::DefineString => Response::nothing(),
         Request::Else => Response::nothing(),
+        Request::EndMacro => naming::end_macro(given.first),
         Request::Environment => switching::switch(known, given.first),
         Request::Exit => Response::nothing(),
         Request::Fill => Response::setting(Param::Filling(true)),

@@ -6,7 +6,10 @@ use Rattle.roff_num.specs.declared.limits.Limits.{Limits}
 use Rattle.roff_escape.specs.Waiting.{is_ended_by}
 use Rattle.roff_ahead.specs.Input.{Ahead, ByteAhead, FreeAhead, EndAhead, ReturnAhead, DoAhead, cost, item_taken}
 use Rattle.roff_source.specs.Tape.{Tape, Item, Answer, Gives, Ends, OneByte, OneNote, Ending, Ended, Failed, Stopped, front, behind_front, items_then, only, Took}
-use Rattle.roff_scan.specs.Unread.{Unread, taking, taking_ahead, taking_answer, looked_then, answer_behind, asks_to_take, looking, looking_at, looking_past, asks_to_look, Asked}
+use Rattle.roff_scan.specs.declared.looked.Looked.{Looked}
+use Rattle.roff_scan.specs.declared.looked.Looked.TheVariants.{Nothing, Byte, Closed}
+use Rattle.roff_scan.specs.Looking.{answer_behind, is_closed, is_nothing, looked_then}
+use Rattle.roff_scan.specs.Unread.{Unread, taking, taking_ahead, taking_answer, asks_to_take, looking, looking_at, looking_past, asks_to_look, Asked}
 use Rattle.roff_ahead.specs.Shown.{Shown, ShowsByte, ShowsEnd, ShowsReturn, ShowsDo, ShowsNote, ShowsEnding, ShowsRefusal, shown_ahead, Sighted, SeesByte, SeesNothing, SeesNote, SeesEnding, seen_ahead}
 use Rattle.roff_run.proofs.InputCounts.{one_of}
 use Rattle.roff_run.specs.Reading.{interrupted}
@@ -35,7 +38,7 @@ shown_step l (ShowsRefusal limit) from behind = stopped_by l limit from
 
 -- a state over this unread input, where the source still gives this tape
 abbrev pub over_unread : Unread PageEvent → Tape → State → State
-over_unread u tape s = record s { tape = looked_then u.looked tape; input = u.input }
+over_unread u tape s = record s { tape = looked_then u.looked tape; input = u.input; is_closed = is_closed u.looked }
 
 -- the source's tape before and behind a call, by whether it was asked: it begins with what the source answered
 pub data Given (a : Answer) : Bool → Tape → Tape → Type 0 where
@@ -82,7 +85,7 @@ same_test old new count same = ap (λ limit. nat_lt limit count) same
 -- calls on this input, where the code's limits have the same limit on bytes
 module _ (l limits : Limits) (i : PageInput) (tape : Tape) (s : State) (cap : limits.bytes ≡ l.bytes) where
   -- an item ahead that no limit refuses
-  allowed_shown : (looked : Option ℕ) (item : Ahead PageEvent) (behind : List (Ahead PageEvent))
+  allowed_shown : (looked : Looked) (item : Ahead PageEvent) (behind : List (Ahead PageEvent))
       → let u : Unread PageEvent = record { input = i; looked = looked; limits = limits } in
       let from : State = over_unread u tape s in
       let taken : PageInput = item_taken item behind i in
@@ -94,7 +97,7 @@ module _ (l limits : Limits) (i : PageInput) (tape : Tape) (s : State) (cap : li
   allowed_shown looked (DoAhead e) behind = refl
 
   -- an item ahead
-  ahead_shown : (looked : Option ℕ) (item : Ahead PageEvent) (behind : List (Ahead PageEvent))
+  ahead_shown : (looked : Looked) (item : Ahead PageEvent) (behind : List (Ahead PageEvent))
       → let u : Unread PageEvent = record { input = i; looked = looked; limits = limits } in
       let from : State = over_unread u tape s in
       IsShown l from tape s (in_front_taken l (item ∷ behind) from) (taking_ahead item behind u)
@@ -103,19 +106,19 @@ module _ (l limits : Limits) (i : PageInput) (tape : Tape) (s : State) (cap : li
       either (IsShown l from tape s) _ _ _ _ _ _ (same_test limits.bytes l.bytes (i.charge + cost item) cap) refl (allowed_shown looked item behind)
 
   -- the byte that was looked at
-  looked_shown : (b : ℕ) → let u : Unread PageEvent = record { input = i; looked = Some b; limits = limits } in
+  looked_shown : (b : ℕ) → let u : Unread PageEvent = record { input = i; looked = Byte b; limits = limits } in
       let from : State = over_unread u tape s in
       IsShown l from tape s (in_front_taken l [] from) (taking_answer (Gives (OneByte b)) u)
   looked_shown b =
-      let from : State = over_unread (record { input = i; looked = Some b; limits = limits }) tape s in
+      let from : State = over_unread (record { input = i; looked = Byte b; limits = limits }) tape s in
       either (IsShown l from tape s) _ _ _ _ _ _ (same_test limits.bytes l.bytes (i.charge + 1) cap) refl refl
 
   -- an answer of the source
-  answer_shown : (a : Answer) → let u : Unread PageEvent = record { input = i; looked = None; limits = limits } in
+  answer_shown : (a : Answer) → let u : Unread PageEvent = record { input = i; looked = Nothing; limits = limits } in
       let from : State = over_unread u tape s in
       IsShown l from (behind_front tape) s (answered l a from) (taking_answer a u)
   answer_shown (Gives (OneByte b)) =
-      let from : State = over_unread (record { input = i; looked = None; limits = limits }) tape s in
+      let from : State = over_unread (record { input = i; looked = Nothing; limits = limits }) tape s in
       either (IsShown l from (behind_front tape) s) _ _ _ _ _ _ (same_test limits.bytes l.bytes (i.charge + 1) cap) refl refl
   answer_shown (Gives (OneNote message)) = refl
   answer_shown (Ends Ended) = refl
@@ -124,16 +127,17 @@ module _ (l limits : Limits) (i : PageInput) (tape : Tape) (s : State) (cap : li
 
 -- by what stands in front
 in_front_of : (l limits : Limits) (i : PageInput) (s : State) → limits.bytes ≡ l.bytes
-    → (ahead : List (Ahead PageEvent)) (looked : Option ℕ) (a : Answer) (tape behind : Tape)
+    → (ahead : List (Ahead PageEvent)) (looked : Looked) (a : Answer) (tape behind : Tape)
     → let u : Unread PageEvent = record { input = record i { ahead = ahead }; looked = looked; limits = limits } in
     Given a (asks_to_take u) tape behind
     → IsShown l (over_unread u tape s) behind s (in_front_taken l ahead (over_unread u tape s)) (taking a u)
-in_front_of l limits i s cap [] None a tape behind (WasAsked t gives) =
-    let u : Unread PageEvent = record { input = record i { ahead = [] }; looked = None; limits = limits } in
+in_front_of l limits i s cap [] Nothing a tape behind (WasAsked t gives) =
+    let u : Unread PageEvent = record { input = record i { ahead = [] }; looked = Nothing; limits = limits } in
     let from : State = over_unread u t s in
     subst (λ (b : Answer). IsShown l from (behind_front t) s (answered l b from) (taking_answer a u)) (sym gives)
     (answer_shown l limits u.input t s cap a)
-in_front_of l limits i s cap [] (Some b) a tape behind (WasNot t) = looked_shown l limits (record i { ahead = [] }) t s cap b
+in_front_of l limits i s cap [] (Byte b) a tape behind (WasNot t) = looked_shown l limits (record i { ahead = [] }) t s cap b
+in_front_of l limits i s cap [] (Closed kept) a tape behind (WasNot t) = refl
 in_front_of l limits i s cap (item ∷ items) looked a tape behind (WasNot t) =
     ahead_shown l limits (record i { ahead = item ∷ items }) t s cap looked item items
 
@@ -150,7 +154,7 @@ limits-answer (Gives (OneByte b)) u = one_of (λ (call : Shown PageEvent × Unre
 limits-answer (Gives (OneNote message)) u = refl
 limits-answer (Ends ending) u = refl
 
-limits-taking_of : (ahead : List (Ahead PageEvent)) (a : Answer) (i : PageInput) (looked : Option ℕ) (limits : Limits)
+limits-taking_of : (ahead : List (Ahead PageEvent)) (a : Answer) (i : PageInput) (looked : Looked) (limits : Limits)
     → let u : Unread PageEvent = record { input = record i { ahead = ahead }; looked = looked; limits = limits } in (taking a u).1.limits ≡ limits
 limits-taking_of [] a i looked limits = limits-answer (answer_behind looked a) (record { input = record i { ahead = [] }; looked = looked; limits = limits })
 limits-taking_of (item ∷ items) a i looked limits =
@@ -180,19 +184,20 @@ no_ending_ahead (DoAhead event) is = is
 abbrev LeavesState : State → Tape → State → Shown PageEvent × Unread PageEvent → Type 0
 LeavesState from tape s call = IsEnding call.0 → over_unread call.1 tape s ≡ from
 
-ending_of : (i : PageInput) (limits : Limits) (s : State) (ahead : List (Ahead PageEvent)) (looked : Option ℕ) (a : Answer) (tape behind : Tape)
+ending_of : (i : PageInput) (limits : Limits) (s : State) (ahead : List (Ahead PageEvent)) (looked : Looked) (a : Answer) (tape behind : Tape)
     → let u : Unread PageEvent = record { input = record i { ahead = ahead }; looked = looked; limits = limits } in
     Given a (asks_to_take u) tape behind → LeavesState (over_unread u tape s) behind s (taking a u)
-ending_of i limits s [] None (Gives (OneByte b)) tape behind given =
-    one_of (LeavesState (record s { tape = tape; input = record i { ahead = [] } }) behind s) (nat_lt limits.bytes (i.charge + 1)) _ _ (λ is. absurd is) (λ is. absurd is)
-ending_of i limits s [] None (Gives (OneNote message)) tape behind given = λ is. absurd is
-ending_of i limits s [] None (Ends ending) tape behind (WasAsked t ends) =
-    λ is. ap (λ (left : Tape). record s { tape = left; input = record i { ahead = [] } }) (ended-behind_front ending t ends)
-ending_of i limits s [] (Some b) a tape behind given =
-    let from : State = record s { tape = looked_then (Some b) tape; input = record i { ahead = [] } } in
+ending_of i limits s [] Nothing (Gives (OneByte b)) tape behind given =
+    one_of (LeavesState (record s { tape = tape; input = record i { ahead = [] }; is_closed = false }) behind s) (nat_lt limits.bytes (i.charge + 1)) _ _ (λ is. absurd is) (λ is. absurd is)
+ending_of i limits s [] Nothing (Gives (OneNote message)) tape behind given = λ is. absurd is
+ending_of i limits s [] Nothing (Ends ending) tape behind (WasAsked t ends) =
+    λ is. ap (λ (left : Tape). record s { tape = left; input = record i { ahead = [] }; is_closed = false }) (ended-behind_front ending t ends)
+ending_of i limits s [] (Closed kept) a tape behind (WasNot t) = λ is. refl
+ending_of i limits s [] (Byte b) a tape behind given =
+    let from : State = record s { tape = looked_then (Byte b) tape; input = record i { ahead = [] }; is_closed = false } in
     one_of (LeavesState from behind s) (nat_lt limits.bytes (i.charge + 1)) _ _ (λ is. absurd is) (λ is. absurd is)
 ending_of i limits s (item ∷ items) looked a tape behind given =
-    let from : State = record s { tape = looked_then looked tape; input = record i { ahead = item ∷ items } } in
+    let from : State = record s { tape = looked_then looked tape; input = record i { ahead = item ∷ items }; is_closed = is_closed looked } in
     one_of (LeavesState from behind s) (nat_lt limits.bytes (i.charge + cost item)) _ _ (λ is. absurd is) (λ is. absurd (no_ending_ahead item is))
 
 -- where the source's items end, the call changes nothing of the state
@@ -236,32 +241,33 @@ IsSighted l from tape s done call = done ≡ sighted_step l call.0 from (over_un
 
 -- an answer of the source that was looked at
 answer_sighted : (l limits : Limits) (i : PageInput) (a : Answer) (tape : Tape) (s : State) → front tape ≡ a
-    → let u : Unread PageEvent = record { input = i; looked = None; limits = limits } in
+    → let u : Unread PageEvent = record { input = i; looked = Nothing; limits = limits } in
     let from : State = over_unread u tape s in
     IsSighted l from (behind_front tape) s (awaited_of_source l a from) (looking_at a u)
 answer_sighted l limits i (Gives (OneByte b)) tape s gives =
-    let from : Tape → State = λ t. record s { tape = t; input = i } in
+    let from : Tape → State = λ t. record s { tape = t; input = i; is_closed = false } in
     subst (λ (t : Tape). awaited_of_source l (Gives (OneByte b)) (from tape) ≡ sighted_step l (SeesByte b) (from tape) (from t))
     (sym (looked-behind_front b tape gives)) refl
 answer_sighted l limits i (Gives (OneNote message)) tape s gives = refl
 answer_sighted l limits i (Ends Ended) tape s gives =
-    let from : Tape → State = λ t. record s { tape = t; input = i } in
+    let from : Tape → State = λ t. record s { tape = t; input = i; is_closed = false } in
     subst (λ (t : Tape). front_seen l None (from tape) ≡ front_step l None (from tape) (from t)) (sym (ended-behind_front Ended tape gives)) refl
 answer_sighted l limits i (Ends Failed) tape s gives = refl
 answer_sighted l limits i (Ends (Stopped limit)) tape s gives = refl
 
 -- by what is seen ahead of the source
 seen_of : (l limits : Limits) (i : PageInput) (s : State) (sight : Option Sighted) → IsSeenAhead sight
-    → (looked : Option ℕ) (a : Answer) (tape behind : Tape)
+    → (looked : Looked) (a : Answer) (tape behind : Tape)
     → let u : Unread PageEvent = record { input = i; looked = looked; limits = limits } in
     let call : Sighted × Unread PageEvent = looking_past sight a u in
-    Given a (is_none sight && is_none looked) tape behind
+    Given a (is_none sight && is_nothing looked) tape behind
     → IsSighted l (over_unread u tape s) behind s (awaited l sight (over_unread u tape s)) call
-seen_of l limits i s None is None a tape behind (WasAsked t gives) =
-    let u : Unread PageEvent = record { input = i; looked = None; limits = limits } in
+seen_of l limits i s None is Nothing a tape behind (WasAsked t gives) =
+    let u : Unread PageEvent = record { input = i; looked = Nothing; limits = limits } in
     let from : State = over_unread u t s in
     subst (λ (b : Answer). IsSighted l from (behind_front t) s (awaited_of_source l b from) (looking_at a u)) (sym gives) (answer_sighted l limits i a t s gives)
-seen_of l limits i s None is (Some b) a tape behind (WasNot t) = refl
+seen_of l limits i s None is (Byte b) a tape behind (WasNot t) = refl
+seen_of l limits i s None is (Closed kept) a tape behind (WasNot t) = refl
 seen_of l limits i s (Some (SeesByte b)) is looked a tape behind (WasNot t) = refl
 seen_of l limits i s (Some SeesNothing) is looked a tape behind (WasNot t) = refl
 seen_of l limits i s (Some (SeesNote message)) is looked a tape behind given = absurd is
@@ -300,16 +306,17 @@ IsNoNote (SeesEnding ending) = Unit {0}
 
 -- by what is seen ahead of the source
 unmoved_of : (limits : Limits) (i : PageInput) (s : State) (sight : Option Sighted)
-    → (looked : Option ℕ) (a : Answer) (tape behind : Tape)
+    → (looked : Looked) (a : Answer) (tape behind : Tape)
     → let u : Unread PageEvent = record { input = i; looked = looked; limits = limits } in
     let call : Sighted × Unread PageEvent = looking_past sight a u in
-    Given a (is_none sight && is_none looked) tape behind → IsNoNote call.0 → over_unread call.1 behind s ≡ over_unread u tape s
-unmoved_of limits i s None None (Gives (OneByte b)) tape behind (WasAsked t gives) quiet =
-    ap (λ (t : Tape). record s { tape = t; input = i }) (looked-behind_front b t gives)
-unmoved_of limits i s None None (Gives (OneNote message)) tape behind (WasAsked t gives) quiet = absurd quiet
-unmoved_of limits i s None None (Ends ending) tape behind (WasAsked t gives) quiet =
-    ap (λ (t : Tape). record s { tape = t; input = i }) (ended-behind_front ending t gives)
-unmoved_of limits i s None (Some b) a tape behind (WasNot t) quiet = refl
+    Given a (is_none sight && is_nothing looked) tape behind → IsNoNote call.0 → over_unread call.1 behind s ≡ over_unread u tape s
+unmoved_of limits i s None Nothing (Gives (OneByte b)) tape behind (WasAsked t gives) quiet =
+    ap (λ (t : Tape). record s { tape = t; input = i; is_closed = false }) (looked-behind_front b t gives)
+unmoved_of limits i s None Nothing (Gives (OneNote message)) tape behind (WasAsked t gives) quiet = absurd quiet
+unmoved_of limits i s None Nothing (Ends ending) tape behind (WasAsked t gives) quiet =
+    ap (λ (t : Tape). record s { tape = t; input = i; is_closed = false }) (ended-behind_front ending t gives)
+unmoved_of limits i s None (Byte b) a tape behind (WasNot t) quiet = refl
+unmoved_of limits i s None (Closed kept) a tape behind (WasNot t) quiet = refl
 unmoved_of limits i s (Some sight) looked a tape behind (WasNot t) quiet = refl
 
 -- a look changes nothing of the state, unless it shows a message of the source's

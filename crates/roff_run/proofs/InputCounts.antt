@@ -11,7 +11,9 @@ use Rattle.roff_ahead.specs.Input.{Ahead, ByteAhead, FreeAhead, EndAhead, Return
 use Rattle.roff_arguments.specs.Arguments.{live_bytes}
 use Rattle.roff_ahead.specs.Input.Names.{names_added, stored}
 use Rattle.roff_source.specs.Tape.{Answer, Gives, Ends, OneByte, OneNote}
-use Rattle.roff_scan.specs.Unread.{Unread, IsWithin, taking, taking_answer, answer_behind, input_refusal}
+use Rattle.roff_scan.specs.declared.looked.Looked.{Looked}
+use Rattle.roff_scan.specs.Looking.{answer_behind}
+use Rattle.roff_scan.specs.Unread.{Unread, IsWithin, taking, taking_answer, input_refusal}
 use Rattle.roff_ahead.specs.Shown.{Shown}
 use Rattle.roff_store.specs.Named.{Named}
 use Rattle.roff_store.specs.Texts.{Entry, bytes_in}
@@ -133,7 +135,7 @@ NoMore-answer (Gives (OneByte b)) u = one_of (LeavesNoMore u.input) _ _ _ (NoMor
 NoMore-answer (Gives (OneNote message)) u = NoMore-same u.input
 NoMore-answer (Ends ending) u = NoMore-same u.input
 
-NoMore-taking_of : (ahead : List (Ahead PageEvent)) (a : Answer) (i : PageInput) (looked : Option ℕ) (limits : Limits)
+NoMore-taking_of : (ahead : List (Ahead PageEvent)) (a : Answer) (i : PageInput) (looked : Looked) (limits : Limits)
     → let u : Unread PageEvent = record { input = record i { ahead = ahead }; looked = looked; limits = limits } in LeavesNoMore u.input (taking a u)
 NoMore-taking_of [] a i looked limits = NoMore-answer (answer_behind looked a) (record { input = record i { ahead = [] }; looked = looked; limits = limits })
 NoMore-taking_of (item ∷ items) a i looked limits =

@@ -12,17 +12,18 @@ use Rattle.roff_escape.specs.declared.open_escape.Waiting.{Waiting}
 use Rattle.roff_escape.specs.declared.open_escape.Waiting.TheVariants.{Takes, Decides, Waits}
 use Rattle.roff_ahead.specs.Input.{Ahead, ByteAhead, counting, item_taken, pushed, depth, result_count}
 use Rattle.roff_ahead.specs.Input.Names.{names_added, stored}
-use Rattle.roff_source.specs.Tape.{Tape, Answer, Gives, OneByte, front, items_then}
+use Rattle.roff_source.specs.Tape.{Tape, Answer, Gives, Ends, Ended, OneByte, front, items_then}
 use Rattle.roff_ahead.specs.Shown.{seen_ahead}
 use Rattle.roff_escape.specs.OpenEscape.{OpenEscape}
 use Rattle.roff_run.specs.declared.line_state.LineState.{LineState}
 use Rattle.roff_run.specs.ItemsTaken.{TakesItems, BytesAheadAreTaken, BytesOfTheSourceAreTaken}
 use Rattle.roff_run.specs.Within.{IsWithin}
+use Rattle.roff_run.specs.Reading.Ends.{due}
 use Rattle.roff_run.specs.Reading.Items.{PageInput, going_on}
 use Rattle.roff_run.specs.Registers.{AllRegisters}
 use Rattle.roff_run.specs.Requests.{PageEvent}
 use Rattle.roff_run.specs.Reading.Waiting.{waiting_in}
-use Rattle.roff_run.specs.Run.{State, made, byte_taken, escape_ends, awaited, awaited_of_source, answered, moved, in_front_taken, taking_ahead, taking_byte, taken_as, grown, unless_refused, stopped_by, read_waiting, item_read, step}
+use Rattle.roff_run.specs.Run.{State, made, byte_taken, escape_ends, awaited, awaited_of_source, answered, moved, in_front_taken, taking_ahead, taking_byte, taken_as, grown, unless_refused, stopped_by, read_waiting, item_read, step, source_answer}
 use Rattle.roff_run.specs.Run.Counts.{first_passed}
 use Rattle.roff_run.proofs.Waiting.{undecided}
 
@@ -30,6 +31,11 @@ use Rattle.roff_run.proofs.Waiting.{undecided}
 pub data Origin : Type 0 where
   FromAhead : (rest : List (Ahead PageEvent)) → Origin
   FromSource : (tape : Tape) → Origin
+
+-- bytes of the source come where it isn't closed
+abbrev pub IsOpenFor : Origin → Bool → Type 0
+IsOpenFor (FromAhead rest) closed = Unit {0}
+IsOpenFor (FromSource tape) closed = closed ≡ false
 
 -- what is ahead of the source, where these bytes come first
 abbrev pub ahead_at : Origin → List ℕ → List (Ahead PageEvent)
@@ -53,7 +59,7 @@ going s reading from bytes arguments half charge line = record s {
   input = input_of s from bytes arguments half charge line;
   reading = reading;
   to_do = [];
-  is_closing = false;
+  is_closed = false;
   ended = None;
 }
 
@@ -81,15 +87,24 @@ taking_ahead-within l b behind s within =
     ap (λ (c : Bool). if c then stopped_by l Bytes s else done) (le-ltb l.bytes (s.input.charge + 1) (omega arith))
 
 -- a step of a run that takes items
+pub step-reads : (l : Limits) (s : State) → s.ended ≡ None → s.to_do ≡ [] → due s.reading ≡ None → step l s ≡ item_read l s
+step-reads l s going idle none_due = rw (going, idle, none_due) refl
+
 pub step-TakesItems : (l : Limits) (s : State) → TakesItems s → step l s ≡ item_read l s
-step-TakesItems l s on = rw (on.going, on.idle, on.not_closing, on.none_due) refl
+step-TakesItems l s on = step-reads l s on.going on.idle on.none_due
+
+-- a byte ahead is taken, whether the source is closed or not
+pub byte_ahead_is_taken : (l : Limits) (s : State) (b : ℕ) (behind : List (Ahead PageEvent)) → s.ended ≡ None → s.to_do ≡ [] → due s.reading ≡ None
+    → s.input.ahead ≡ ByteAhead b ∷ behind → is_ended_by s.input.escapes (Some b) ≡ false → s.input.charge < l.bytes
+    → step l s ≡ made l s (byte_taken b (record s { input = item_taken (ByteAhead b) behind s.input }))
+byte_ahead_is_taken l s b behind going idle none_due ahead is within =
+    step-reads l s going idle none_due ∙ item_read-byte l b behind s ahead is ∙ taking_ahead-within l b behind s within
 
 pub bytes_ahead_are_taken : BytesAheadAreTaken
-bytes_ahead_are_taken l s b behind on ahead is within =
-    step-TakesItems l s on ∙ item_read-byte l b behind s ahead is ∙ taking_ahead-within l b behind s within
+bytes_ahead_are_taken l s b behind on ahead is within = byte_ahead_is_taken l s b behind on.going on.idle on.none_due ahead is within
 
 -- a byte of the source is taken, whether it is waited for or not
-read-source : (l : Limits) (w : Waiting) (b : ℕ) (s : State) → s.input.ahead ≡ [] → front s.tape ≡ Gives (OneByte b)
+read-source : (l : Limits) (w : Waiting) (b : ℕ) (s : State) → s.input.ahead ≡ [] → source_answer s ≡ Gives (OneByte b)
     → is_ended_by s.input.escapes (Some b) ≡ false → decides w ≡ false → read_waiting l w s ≡ taking_byte l b s
 read-source l Takes b s none gives is undecided =
     ap (λ (items : List (Ahead PageEvent)). in_front_taken l items s) none ∙ ap (λ (a : Answer). answered l a s) gives
@@ -102,7 +117,7 @@ read-source l Waits b s none gives is undecided =
     ∙ ap (λ (a : Answer). answered l a s) gives
 
 -- the input is read where a byte of the source comes first
-item_read-source : (l : Limits) (b : ℕ) (s : State) → s.input.ahead ≡ [] → front s.tape ≡ Gives (OneByte b) → is_ended_by s.input.escapes (Some b) ≡ false
+item_read-source : (l : Limits) (b : ℕ) (s : State) → s.input.ahead ≡ [] → source_answer s ≡ Gives (OneByte b) → is_ended_by s.input.escapes (Some b) ≡ false
     → item_read l s ≡ taking_byte l b s
 item_read-source l b s none gives is =
     read-source l (waiting_in s.reading s.input) b s none gives is (undecided s.reading s.input.arguments.place s.input.escapes (Some b) is)
@@ -116,7 +131,8 @@ taking_byte-within l b s within =
 
 pub bytes_of_the_source_are_taken : BytesOfTheSourceAreTaken
 bytes_of_the_source_are_taken l s b on none gives is within =
-    step-TakesItems l s on ∙ item_read-source l b s none gives is ∙ taking_byte-within l b s within
+    let answers : source_answer s ≡ Gives (OneByte b) = ap (λ (closed : Bool). if closed then Ends Ended else front s.tape) on.is_open ∙ gives in
+    step-TakesItems l s on ∙ item_read-source l b s none answers is ∙ taking_byte-within l b s within
 
 -- of two tests neither holds
 pub not-first : (first second : Bool) → IsTrue (not (first || second)) → first ≡ false

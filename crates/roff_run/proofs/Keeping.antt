@@ -6,7 +6,8 @@ use Rattle.std.specs.Prelude.{◌||◌, ◌==◌}
 use Rattle.roff_source.specs.Bytes.{tab, newline, blank, is_dropped}
 use Rattle.roff_escape.specs.OpenEscapes.{byte_read, reading_ended}
 use Rattle.roff_ahead.specs.Input.{beginning_line, choosing}
-use Rattle.roff_ahead.specs.Input.Calls.{arguments_given, last_result, without_last}
+use Rattle.roff_ahead.specs.Input.Calls.{arguments_given, called_text, last_result, without_last}
+use Rattle.roff_ahead.specs.Input.Names.{body_named}
 use Rattle.roff_escape.specs.declared.open_escape.CopyUnit.{CopyUnit}
 use Rattle.roff_escape.specs.declared.open_escape.CopyUnit.TheVariants.{Kept}
 use Rattle.roff_escape.specs.OpenEscape.{OpenEscape, unit_bytes}
@@ -26,7 +27,7 @@ use Rattle.roff_run.specs.declared.request.Called.TheVariants.{Request as AReque
 use Rattle.roff_run.specs.declared.definition.DefinitionLine.{DefinitionLine}
 use Rattle.roff_run.specs.declared.definition.DefinitionLine.TheVariants.{MayBeLast, IsLast, IsText}
 use Rattle.roff_run.specs.Definitions.{end_mark, ends_mark, front_of, line_from, matched_behind}
-use Rattle.roff_num.specs.ShortNames.{name_at}
+use Rattle.roff_num.specs.ShortNames.{name_at, name_bytes}
 use Rattle.roff_run.specs.declared.request.Request.{Request}
 use Rattle.roff_run.specs.Reading.{undropped_taking, interrupted, taking, escape_ended}
 use Rattle.roff_run.specs.Reading.Arguments.{arguments_ended}
@@ -35,17 +36,18 @@ use Rattle.roff_run.specs.Reading.Branches.{branch_of, branch_taking, is_so, dec
 use Rattle.roff_run.specs.Reading.ControlLines.{ends_name, line_taking, called_taking, name_ended_taking, behind_called, behind_name}
 use Rattle.roff_run.specs.Reading.DefinedLines.{behind_definition, definition_unit, definition_line, definition_found}
 use Rattle.roff_run.specs.Reading.Definitions.{definition_dropped, definition_grown}
-use Rattle.roff_run.specs.Reading.Ends.{end_taking, line_ends_first}
-use Rattle.roff_run.specs.Reading.Items.{PageInput, Taking}
+use Rattle.roff_run.specs.Reading.Calls.{called_last, last_called}
+use Rattle.roff_run.specs.Reading.Ends.{end_taking}
+use Rattle.roff_run.specs.Reading.Items.{PageInput, Taking, going_on}
 use Rattle.roff_run.specs.Reading.Strings.{string_entered, string_line_ended}
 use Rattle.roff_run.specs.Reading.TextLines.{on_line}
 use Rattle.roff_run.specs.Reading.Units.{no_unit_found}
 use Rattle.roff_run.specs.Registers.{Known}
 use Rattle.roff_run.specs.Requests.{called_by, row_of}
-use Rattle.roff_run.specs.TurnsToCome.{begun, endings_of}
+use Rattle.roff_run.specs.TurnsToCome.{begun, endings_of, turns_of, unended}
 use Rattle.roff_run.proofs.EscapeCounts.{Falls, Leaves, freed_endings, endings-byte_read, endings-reading_ended, some_ending}
 use Rattle.roff_run.proofs.MarkEnds.{ends-line_from, ends_mark-begins_nothing, ends_mark-chooses_nothing}
-use Rattle.roff_run.proofs.KeepingText.{Keeps, KeepsBy, Keeps-if, Stays, Keeps-stays, Stays-skipping_taking, Stays-dropped_taking, unnamed-branch_of, Keeps-with_escapes, Keeps-text_found, Keeps-beginning_found}
+use Rattle.roff_run.proofs.KeepingText.{Keeps, KeepsBy, free_ahead-called, Keeps-if, Stays, Keeps-stays, Stays-skipping_taking, Stays-dropped_taking, unnamed-branch_of, Keeps-with_escapes, Keeps-text_found, Keeps-beginning_found}
 use Rattle.roff_run.proofs.KeepingLines.{Alike-same, Keeps-alike, Keeps-no_more, Alike-string_entered, Alike-definition_grown, Alike-definition_dropped, Keeps-arguments_ended, Keeps-no_unit_found, Keeps-arguments_found, Keeps-string_line_ended, Keeps-string_name_found, Keeps-string_text_found, Keeps-message_found, Keeps-called, Keeps-call_found}
 
 -- the first byte of a branch
@@ -355,7 +357,7 @@ Keeps-end_taking k (InText line) i = Keeps-undropped_taking k (InText line) i ne
 Keeps-end_taking k (Control breaks) i = KeepsTwoMore-same i LineStart
 Keeps-end_taking k (Name breaks first) i = Keeps-undropped_taking k (Name breaks first) i newline
 Keeps-end_taking k (InArguments breaks request) i = Keeps-undropped_taking k (InArguments breaks request) i newline
-Keeps-end_taking k (Deciding keeping) i = Keeps-undropped_taking k (Deciding keeping) i newline
+Keeps-end_taking k (Deciding keeping) i = KeepsTwoMore-same i LineStart
 Keeps-end_taking k (StringName appends) i = Keeps-last_string i appends (name_at 0 (arguments_given i))
 Keeps-end_taking k (StringText name appends is_front) i =
     Keeps-alike _ i i (StringText name appends is_front) (string_entered name appends i) LineStart
@@ -367,8 +369,8 @@ Keeps-end_taking k (Defining name appends end matched) i =
 Keeps-end_taking k (Skipping opened closed behind) i = KeepsTwoMore-same i LineStart
 Keeps-end_taking k Dropped i = KeepsTwoMore-same i LineStart
 Keeps-end_taking k (Telling aborts is_front) i = Keeps-undropped_taking k (Telling aborts is_front) i newline
-Keeps-end_taking k (Told aborts) i = Keeps-undropped_taking k (Told aborts) i newline
-Keeps-end_taking k Exiting i = KeepsTwoMore-same i Exiting
+Keeps-end_taking k (Told aborts) i = record { charge = refl; newlines = refl; line = refl; free = refl; escapes = omega arith }
+Keeps-end_taking k Exiting i = KeepsTwoMore-same i LineStart
 
 -- an input where nothing is half read
 abbrev plain : PageInput → PageInput
@@ -410,32 +412,88 @@ module _ (k : Known) (i : PageInput) (breaks : Bool) where
   Keeps-last_name (ABody name) = Keeps-called 3 (plain i) (plain i) LineStart name (Keeps-plain i 3 LineStart (omega arith))
   Keeps-last_name Unknown = Keeps-plain i 3 LineStart (omega arith)
 
--- a control line that ends first
-ends_plain : (k : Known) (reading : LineState) (i : PageInput) → line_ends_first reading ≡ true
-    → OneFewer (plain i) reading (end_taking k reading (plain i))
-ends_plain k (Name breaks first) i is = Keeps-last_name k i breaks (called_by (record { first = first; second = None }) i.names)
-ends_plain k (InArguments breaks request) i is = Keeps-last_arguments k i breaks request
-ends_plain k (Calling name) i is = Keeps-called 0 (plain i) (plain i) LineStart name (Keeps-plain i 0 LineStart (omega arith))
-ends_plain k (Telling aborts is_front) i is = Keeps-plain i 1 (Told aborts) (omega arith)
-ends_plain k LineStart i is = absurd (cc)
-ends_plain k Branch i is = absurd (cc)
-ends_plain k Braced i is = absurd (cc)
-ends_plain k (InText line) i is = absurd (cc)
-ends_plain k (Control breaks) i is = absurd (cc)
-ends_plain k (Deciding keeping) i is = absurd (cc)
-ends_plain k (StringName appends) i is = absurd (cc)
-ends_plain k (StringText name appends is_front) i is = absurd (cc)
-ends_plain k (Skipping opened closed behind) i is = absurd (cc)
-ends_plain k (Defining name appends end matched) i is =
-    Keeps-alike 2 (plain i) (plain i) LineStart (definition_dropped name (plain i)) LineStart (Keeps-plain i 2 LineStart (omega arith))
-    (Alike-definition_dropped name (plain i)) refl
-ends_plain k Dropped i is = absurd (cc)
-ends_plain k (Told aborts) i is = absurd (cc)
-ends_plain k Exiting i is = absurd (cc)
+-- one line is read at the most
+pub unended-few : (reading : LineState) → unended reading ≤ 1
+unended-few LineStart = omega arith
+unended-few Branch = omega arith
+unended-few Braced = omega arith
+unended-few (InText line) = omega arith
+unended-few (Control breaks) = omega arith
+unended-few (Name breaks first) = omega arith
+unended-few (InArguments breaks request) = omega arith
+unended-few (Deciding keeping) = omega arith
+unended-few (StringName appends) = omega arith
+unended-few (StringText name appends is_front) = omega arith
+unended-few (Calling name) = omega arith
+unended-few (Defining name appends end matched) = omega arith
+unended-few (Skipping opened closed behind) = omega arith
+unended-few Dropped = omega arith
+unended-few (Telling aborts is_front) = omega arith
+unended-few (Told aborts) = omega arith
+unended-few Exiting = omega arith
 
-pub Keeps-line_ends : (k : Known) (reading : LineState) (i : PageInput) → line_ends_first reading ≡ true → i.escapes ≡ []
-    → OneFewer i reading (end_taking k reading i)
-Keeps-line_ends k reading i is none =
-    let with_escapes : List OpenEscape → PageInput = λ half. record i { escapes = half } in
-    subst (λ (half : List OpenEscape). OneFewer (with_escapes half) reading (end_taking k reading (with_escapes half))) (sym none)
-    (ends_plain k reading i is)
+-- fewer turns are to come of what is half read and of what is read, by two
+abbrev pub FewerTurns : PageInput → LineState → Taking → Type 0
+FewerTurns i old t = turns_of (endings_of t.input.escapes) t.reading + 2 ≤ turns_of (endings_of i.escapes) old
+
+-- what the end of a line with the input leaves to come: where one begins nothing changes, and else fewer turns are to come
+pub data LineEnded (k : Known) (i : PageInput) : LineState → Type 0 where
+  AtStart : LineEnded k i LineStart
+  AtBrace : LineEnded k i Braced
+  Within : (reading : LineState) → FewerTurns i reading (end_taking k reading i) → LineEnded k i reading
+
+-- where one is read that keeps fewer
+within_fewer : (k : Known) (reading : LineState) (i : PageInput) (most : ℕ) → Keeps most (plain i) (end_taking k reading (plain i)).input (end_taking k reading (plain i)).reading
+    → most + 1 ≤ begun reading → LineEnded k (plain i) reading
+within_fewer k reading i most keeps fewer =
+    Within reading (omega (arith, keeps.escapes, fewer, unended-few (end_taking k reading (plain i)).reading))
+
+line_ended_plain : (k : Known) (reading : LineState) (i : PageInput) → LineEnded k (plain i) reading
+line_ended_plain k LineStart i = AtStart
+line_ended_plain k Branch i = Within Branch (omega arith)
+line_ended_plain k Braced i = AtBrace
+line_ended_plain k (InText line) i = Within (InText line) (omega arith)
+line_ended_plain k (Control breaks) i = Within (Control breaks) (omega arith)
+line_ended_plain k (Name breaks first) i =
+    within_fewer k (Name breaks first) i 3 (Keeps-last_name k i breaks (called_by (record { first = first; second = None }) i.names)) (omega arith)
+line_ended_plain k (InArguments breaks request) i = within_fewer k (InArguments breaks request) i 3 (Keeps-last_arguments k i breaks request) (omega arith)
+line_ended_plain k (Deciding keeping) i = Within (Deciding keeping) (omega arith)
+line_ended_plain k (StringName appends) i =
+    let keeps = Keeps-string_line_ended 0 (plain i) (plain i) LineStart appends (name_at 0 (arguments_given (plain i))) (Keeps-plain i 0 LineStart (omega arith)) in
+    Within (StringName appends) (omega (arith, keeps.escapes))
+line_ended_plain k (StringText name appends is_front) i =
+    let keeps = Keeps-alike 0 (plain i) (plain i) LineStart (string_entered name appends (plain i)) LineStart
+    (Keeps-plain i 0 LineStart (omega arith)) (Alike-string_entered name appends (plain i)) refl in
+    Within (StringText name appends is_front) (omega (arith, keeps.escapes))
+line_ended_plain k (Calling name) i =
+    within_fewer k (Calling name) i 0 (Keeps-called 0 (plain i) (plain i) LineStart name (Keeps-plain i 0 LineStart (omega arith))) (omega arith)
+line_ended_plain k (Defining name appends end matched) i =
+    within_fewer k (Defining name appends end matched) i 0
+    (Keeps-alike 0 (plain i) (plain i) LineStart (definition_dropped name (plain i)) LineStart (Keeps-plain i 0 LineStart (omega arith))
+    (Alike-definition_dropped name (plain i)) refl) (omega arith)
+line_ended_plain k (Skipping opened closed behind) i = Within (Skipping opened closed behind) (omega arith)
+line_ended_plain k Dropped i = Within Dropped (omega arith)
+line_ended_plain k (Telling aborts is_front) i = within_fewer k (Telling aborts is_front) i 1 (Keeps-plain i 1 (Told aborts) (omega arith)) (omega arith)
+line_ended_plain k (Told aborts) i = Within (Told aborts) (omega arith)
+line_ended_plain k Exiting i = Within Exiting (omega arith)
+
+-- with nothing half read a line ends so with the input
+pub line_ended : (k : Known) (reading : LineState) (i : PageInput) → i.escapes ≡ [] → LineEnded k i reading
+line_ended k reading i none =
+    subst (λ (half : List OpenEscape). LineEnded k (record i { escapes = half }) reading) (sym none) (line_ended_plain k reading i)
+
+-- the last macro is read
+Keeps-called_last : (called : Called) (i : PageInput) → KeepsBy (2 * endings_of i.escapes) i (going_on (called_last called i) LineStart)
+Keeps-called_last (ABody name) i = record {
+  charge = refl;
+  newlines = refl;
+  line = refl;
+  free = free_ahead-called (called_text (body_named (name_bytes name) i)) i.ahead;
+  escapes = omega arith;
+}
+Keeps-called_last (ARequest request) i = record { charge = refl; newlines = refl; line = refl; free = refl; escapes = omega arith }
+Keeps-called_last Unknown i = record { charge = refl; newlines = refl; line = refl; free = refl; escapes = omega arith }
+
+pub Keeps-last_called : (name : Option ShortName) (i : PageInput) → KeepsBy (2 * endings_of i.escapes) i (going_on (last_called name i) LineStart)
+Keeps-last_called None i = record { charge = refl; newlines = refl; line = refl; free = refl; escapes = omega arith }
+Keeps-last_called (Some name) i = Keeps-called_last (called_by name i.names) i

@@ -56,12 +56,12 @@ pub step-taken : (l : Limits) (s : State) (names : Named Entry) (from : Origin) 
     → step l (run_at s names p from (b ∷ bytes) i) ≡ t
 step-taken l s names (FromAhead rest) p b bytes i t on none_due stays few is within =
     let before : State = run_at s names p (FromAhead rest) (b ∷ bytes) i in
-    bytes_ahead_are_taken l before b (map ByteAhead bytes ++ rest) (record { going = on.going; not_closing = on.not_closing; idle = on.idle; none_due = none_due })
+    bytes_ahead_are_taken l before b (map ByteAhead bytes ++ rest) (record { going = on.going; is_open = on.is_open; idle = on.idle; none_due = none_due })
     refl stays (omega (arith, few))
     ∙ ap (made l before) is ∙ made-Fits l before t (Fits-IsWithin l t within)
 step-taken l s names (FromSource tape) p b bytes i t on none_due stays few is within =
     let before : State = run_at s names p (FromSource tape) (b ∷ bytes) i in
-    bytes_of_the_source_are_taken l before b (record { going = on.going; not_closing = on.not_closing; idle = on.idle; none_due = none_due })
+    bytes_of_the_source_are_taken l before b (record { going = on.going; is_open = on.is_open; idle = on.idle; none_due = none_due })
     refl refl stays (omega (arith, few))
     ∙ ap (made l before) is ∙ made-Fits l before t (Fits-IsWithin l t within)
 
@@ -130,7 +130,7 @@ ends_ahead-behind : (from : Origin) (b : ℕ) (bytes : List ℕ) → ends_ahead 
 ends_ahead-behind (FromAhead rest) b bytes = refl
 ends_ahead-behind (FromSource tape) b bytes = refl
 
-HasRoom-behind : (l : Limits) (s : State) (names : Named Entry) (from : Origin) (most : Most) (p q : Stage) (b : ℕ) (bytes : List ℕ) (i : PageInput)
+pub HasRoom-behind : (l : Limits) (s : State) (names : Named Entry) (from : Origin) (most : Most) (p q : Stage) (b : ℕ) (bytes : List ℕ) (i : PageInput)
     → held q.arguments ≤ held p.arguments + 1 → HasRoom l s names from most p (b ∷ bytes) i → HasRoom l s names from most q bytes (behind_byte from b i)
 HasRoom-behind l s names from most p q b bytes i grows room = record {
   charged = omega (arith, room.charged);
@@ -150,7 +150,7 @@ pushed-stack_room : (l : Limits) (from : Origin) (most : Most) (p : Stage) (byte
 pushed-stack_room l (FromAhead rest) most p bytes i few room = room
 pushed-stack_room l (FromSource tape) most p bytes i few room = omega (arith, few, room)
 
-IsWithin-HasRoom : (l : Limits) (s : State) (names : Named Entry) (from : Origin) (most : Most) (p : Stage) (bytes : List ℕ) (i : PageInput)
+pub IsWithin-HasRoom : (l : Limits) (s : State) (names : Named Entry) (from : Origin) (most : Most) (p : Stage) (bytes : List ℕ) (i : PageInput)
     → IsSmall most p → HasRoom l s names from most p bytes i → IsWithin l (run_at s names p from bytes i)
 IsWithin-HasRoom l s names from most p bytes i small room = record {
   bytes = omega (arith, room.charged);

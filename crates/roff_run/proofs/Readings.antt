@@ -1,7 +1,7 @@
 -- The step with nothing to do has few outcomes, where a run isn't closing. What is proved of each holds of it.
 --
 -- Each function f of the run has its lemma ReadsOn-f here, with a line for each of its cases.
-use Rattle.std.proofs.Common.{◌≡◌, ℕ, ◌+◌, ◌*◌, ◌≤◌, Bool, true, false, List, [], ◌∷◌, ◌++◌, ◌-◌, Option, Some, None, refl, ap, arith}
+use Rattle.std.proofs.Common.{◌≡◌, ℕ, ◌+◌, ◌*◌, ◌≤◌, Bool, true, false, List, [], ◌∷◌, ◌++◌, ◌-◌, Option, Some, None, refl, ap, arith, ◌⊎◌, inl, inr}
 use Rattle.std.specs.Prelude.{nat_lt, if◌then◌else◌}
 use Rattle.std.proofs.lemmas.Bool.Decides.{nat_tests}
 use Rattle.roff_num.specs.declared.limit.Limit.{Limit}
@@ -16,20 +16,22 @@ use Rattle.roff_ahead.specs.Shown.{Sighted, SeesByte, SeesNothing, SeesNote, See
 use Rattle.roff_escape.specs.OpenEscape.{OpenEscape}
 use Rattle.roff_run.specs.Requests.{PageEvent}
 use Rattle.roff_run.specs.Reading.Calls.{behind_return}
-use Rattle.roff_run.specs.Reading.Ends.{due, line_ends_first}
+use Rattle.roff_run.specs.Reading.Ends.{due, is_unfinished}
 use Rattle.roff_run.specs.declared.line_state.Due.{Due}
 use Rattle.roff_run.specs.declared.line_state.Due.TheVariants.{Leaves, Tells as TellsText}
 use Rattle.roff_run.specs.declared.line_state.LineState.{LineState}
 use Rattle.roff_run.specs.declared.line_state.LineState.TheVariants.{LineStart, Branch, Braced, Text as InText, Control, Name, Arguments as InArguments, Deciding, StringName, StringText, Skipping, Dropped, Telling, Told, Exiting, Calling, Defining}
 use Rattle.roff_run.specs.Reading.Waiting.{waiting_in}
-use Rattle.roff_run.specs.Run.{read_waiting, State, known, ending_as, ending_with, stopped_by, unless_refused, grown, made, moved, byte_taken, escape_ends, end_met, ahead_taken, taking_ahead, taking_byte, ending_input, answered, in_front_taken, front_seen, awaited_of_source, awaited, item_read, input_ended, message_told, aborted, input_left, reading_by, reading_on}
+use Rattle.roff_run.specs.Run.{read_waiting, State, known, ending_as, ending_with, stopped_by, unless_refused, grown, made, moved, byte_taken, escape_ends, ahead_taken, taking_ahead, taking_byte, ending_input, answered, in_front_taken, front_seen, awaited_of_source, awaited, item_read, input_ended, message_told, aborted, input_left, reading_by, reading_on, phase_ended}
 use Rattle.roff_run.specs.Run.Counts.{passes_bytes, first_passed}
+use Rattle.roff_run.specs.declared.phase.Phase.{Phase}
+use Rattle.roff_run.specs.declared.phase.Phase.TheVariants.{Reading, LastMacro, Closing}
 use Rattle.roff_run.specs.declared.message.Message.TheVariants.{ReadFailed}
 use Rattle.roff_run.specs.declared.status.Status.TheVariants.{Device, Limit as Limited}
 use Rattle.roff_run.specs.TurnsToCome.{begun, endings_of}
 use Rattle.roff_run.proofs.KeepingText.{Keeps}
 use Rattle.roff_run.proofs.Waiting.{ended-deciding}
-use Rattle.roff_run.proofs.Keeping.{KeepsTwoMore-same, Keeps-taking, Keeps-interrupted, Keeps-escape_ended, Keeps-line_ends}
+use Rattle.roff_run.proofs.Keeping.{KeepsTwoMore-same, Keeps-taking, Keeps-interrupted, Keeps-escape_ended, Keeps-end_taking, Keeps-last_called}
 
 -- no count passes its limit in a state
 abbrev pub IsMade : Limits → State → Type 0
@@ -47,9 +49,13 @@ behind_byte b s = byte_taken b (moved (record s { input = counting b s.input }))
 abbrev pub behind_note : List ℕ → State → State
 behind_note message s = moved (record s { messages = s.messages ++ message })
 
--- behind the end of a control line with the input
+-- behind the end of an unfinished line with the input
 abbrev pub line_ends : State → State
 line_ends s = input_ended true s
+
+-- the source has ended, or is closed
+abbrev pub HasEnded : State → Type 0
+HasEnded s = (s.is_closed ≡ true) ⊎ (front s.tape ≡ Ends Ended)
 
 -- what a step came to
 pub data ReadsOn (l : Limits) (s : State) : State → Type 0 where
@@ -59,27 +65,27 @@ pub data ReadsOn (l : Limits) (s : State) : State → Type 0 where
   AheadTaken : (item : Ahead PageEvent) (behind : List (Ahead PageEvent)) → s.input.ahead ≡ item ∷ behind
       → s.input.charge + cost item ≤ l.bytes → IsMade l (behind_ahead item behind s) → ReadsOn l s (behind_ahead item behind s)
   -- a byte of the source was taken
-  ByteTaken : (b : ℕ) → s.input.ahead ≡ [] → front s.tape ≡ Gives (OneByte b)
+  ByteTaken : (b : ℕ) → s.input.ahead ≡ [] → s.is_closed ≡ false → front s.tape ≡ Gives (OneByte b)
       → s.input.charge + 1 ≤ l.bytes → IsMade l (behind_byte b s) → ReadsOn l s (behind_byte b s)
   -- a note of the source was taken
-  NoteTaken : (message : List ℕ) → front s.tape ≡ Gives (OneNote message) → ReadsOn l s (behind_note message s)
+  NoteTaken : (message : List ℕ) → s.is_closed ≡ false → front s.tape ≡ Gives (OneNote message) → ReadsOn l s (behind_note message s)
   -- the innermost of what is half read ended
   HalfEnds : (first : OpenEscape) (others : List OpenEscape) → s.input.escapes ≡ first ∷ others → IsMade l (escape_ends s) → ReadsOn l s (escape_ends s)
-  -- the input ended, with nothing half read
-  InputEnds : s.input.ahead ≡ [] → s.input.escapes ≡ [] → front s.tape ≡ Ends Ended → IsMade l (end_met s)
-      → ReadsOn l s (end_met s)
-  -- it ended in a control line that ends first
-  LineEnds : line_ends_first s.reading ≡ true → s.input.escapes ≡ [] → IsMade l (line_ends s) → ReadsOn l s (line_ends s)
+  -- a phase ended, at a line's beginning, with nothing ahead or half read
+  PhaseEnds : s.input.ahead ≡ [] → s.input.escapes ≡ [] → HasEnded s → is_unfinished s.phase (known s) s.reading ≡ false
+      → IsMade l (phase_ended s.phase s) → ReadsOn l s (phase_ended s.phase s)
+  -- an unfinished line ended first
+  LineEnds : is_unfinished s.phase (known s) s.reading ≡ true → s.input.escapes ≡ [] → HasEnded s → IsMade l (line_ends s) → ReadsOn l s (line_ends s)
   -- a message was told
   MessageTold : s.reading ≡ Told false → IsMade l (message_told s) → ReadsOn l s (message_told s)
   -- a message ended the run
   RunAborts : s.reading ≡ Told true → ReadsOn l s (aborted s)
   -- the input was left
-  InputLeft : s.reading ≡ Exiting → IsMade l (end_met (input_left s)) → ReadsOn l s (end_met (input_left s))
+  InputLeft : s.reading ≡ Exiting → IsMade l (input_left s) → ReadsOn l s (input_left s)
   -- the source failed
-  SourceFails : front s.tape ≡ Ends Failed → ReadsOn l s (ending_with Device ReadFailed s)
+  SourceFails : s.is_closed ≡ false → front s.tape ≡ Ends Failed → ReadsOn l s (ending_with Device ReadFailed s)
   -- a limit of the source's own stopped the run
-  SourceStops : (limit : Limit) → front s.tape ≡ Ends (Stopped limit) → ReadsOn l s (ending_as (Limited limit) s)
+  SourceStops : (limit : Limit) → s.is_closed ≡ false → front s.tape ≡ Ends (Stopped limit) → ReadsOn l s (ending_as (Limited limit) s)
 
 -- what isn't above a limit is within it
 pub within : (limit size : ℕ) → nat_lt limit size ≡ false → size ≤ limit
@@ -107,35 +113,41 @@ ReadsOn-taking_ahead l item behind s is =
     (λ goes. ReadsOn-made l s (behind_ahead item behind s) (AheadTaken item behind is (within l.bytes (s.input.charge + cost item) goes)))
 
 -- a byte of the source
-ReadsOn-taking_byte : (l : Limits) (b : ℕ) (s : State) → s.input.ahead ≡ [] → front s.tape ≡ Gives (OneByte b) → ReadsOn l s (taking_byte l b s)
-ReadsOn-taking_byte l b s none gives =
+ReadsOn-taking_byte : (l : Limits) (b : ℕ) (s : State) → s.input.ahead ≡ [] → s.is_closed ≡ false → front s.tape ≡ Gives (OneByte b)
+    → ReadsOn l s (taking_byte l b s)
+ReadsOn-taking_byte l b s none is_open gives =
     ReadsOn-if l s (passes_bytes l s.input) _ _ (λ passes. LimitStops Bytes)
-    (λ goes. ReadsOn-made l s (behind_byte b s) (ByteTaken b none gives (within l.bytes (s.input.charge + 1) goes)))
+    (λ goes. ReadsOn-made l s (behind_byte b s) (ByteTaken b none is_open gives (within l.bytes (s.input.charge + 1) goes)))
 
 -- the end of the input, with nothing half read
-ReadsOn-input_ended : (l : Limits) (first : Bool) (s : State) → s.input.ahead ≡ [] → s.input.escapes ≡ []
-    → front s.tape ≡ Ends Ended
-    → line_ends_first s.reading ≡ first → ReadsOn l s (made l s (input_ended first s))
-ReadsOn-input_ended l false s none half ends is = ReadsOn-made l s (end_met s) (InputEnds none half ends)
-ReadsOn-input_ended l true s none half ends is = ReadsOn-made l s (line_ends s) (LineEnds is half)
+ReadsOn-input_ended : (l : Limits) (first : Bool) (s : State) → s.input.ahead ≡ [] → s.input.escapes ≡ [] → HasEnded s
+    → is_unfinished s.phase (known s) s.reading ≡ first → ReadsOn l s (made l s (input_ended first s))
+ReadsOn-input_ended l false s none half ends is = ReadsOn-made l s (phase_ended s.phase s) (PhaseEnds none half ends is)
+ReadsOn-input_ended l true s none half ends is = ReadsOn-made l s (line_ends s) (LineEnds is half ends)
 
 -- the end of the input
-ReadsOn-ending_input : (l : Limits) (half : List OpenEscape) (s : State) → s.input.ahead ≡ [] → s.input.escapes ≡ half → front s.tape ≡ Ends Ended
+ReadsOn-ending_input : (l : Limits) (half : List OpenEscape) (s : State) → s.input.ahead ≡ [] → s.input.escapes ≡ half → HasEnded s
     → ReadsOn l s (ending_input l half s)
-ReadsOn-ending_input l [] s none is ends = ReadsOn-input_ended l (line_ends_first s.reading) s none is ends refl
+ReadsOn-ending_input l [] s none is ends = ReadsOn-input_ended l (is_unfinished s.phase (known s) s.reading) s none is ends refl
 ReadsOn-ending_input l (first ∷ others) s none is ends = ReadsOn-made l s (escape_ends s) (HalfEnds first others is)
 
 -- the source answered
-ReadsOn-answered : (l : Limits) (a : Answer) (s : State) → s.input.ahead ≡ [] → front s.tape ≡ a → ReadsOn l s (answered l a s)
-ReadsOn-answered l (Gives (OneByte b)) s none gives = ReadsOn-taking_byte l b s none gives
-ReadsOn-answered l (Gives (OneNote message)) s none gives = NoteTaken message gives
-ReadsOn-answered l (Ends Ended) s none ends = ReadsOn-ending_input l s.input.escapes s none refl ends
-ReadsOn-answered l (Ends Failed) s none ends = SourceFails ends
-ReadsOn-answered l (Ends (Stopped limit)) s none ends = SourceStops limit ends
+ReadsOn-answered : (l : Limits) (a : Answer) (s : State) → s.input.ahead ≡ [] → s.is_closed ≡ false → front s.tape ≡ a → ReadsOn l s (answered l a s)
+ReadsOn-answered l (Gives (OneByte b)) s none is_open gives = ReadsOn-taking_byte l b s none is_open gives
+ReadsOn-answered l (Gives (OneNote message)) s none is_open gives = NoteTaken message is_open gives
+ReadsOn-answered l (Ends Ended) s none is_open ends = ReadsOn-ending_input l s.input.escapes s none refl (inr ends)
+ReadsOn-answered l (Ends Failed) s none is_open ends = SourceFails is_open ends
+ReadsOn-answered l (Ends (Stopped limit)) s none is_open ends = SourceStops limit is_open ends
+
+-- if it is asked
+ReadsOn-asked : (l : Limits) (closed : Bool) (s : State) → s.input.ahead ≡ [] → s.is_closed ≡ closed
+    → ReadsOn l s (answered l (if closed then Ends Ended else front s.tape) s)
+ReadsOn-asked l true s none is = ReadsOn-ending_input l s.input.escapes s none refl (inl is)
+ReadsOn-asked l false s none is = ReadsOn-answered l (front s.tape) s none is refl
 
 -- the item in front
 ReadsOn-in_front_taken : (l : Limits) (ahead : List (Ahead PageEvent)) (s : State) → s.input.ahead ≡ ahead → ReadsOn l s (in_front_taken l ahead s)
-ReadsOn-in_front_taken l [] s is = ReadsOn-answered l (front s.tape) s is refl
+ReadsOn-in_front_taken l [] s is = ReadsOn-asked l s.is_closed s is refl
 ReadsOn-in_front_taken l (item ∷ behind) s is = ReadsOn-taking_ahead l item behind s is
 
 -- what stays ends something that is half read
@@ -151,12 +163,18 @@ ReadsOn-front_seen l seen s =
     (λ stays. ReadsOn-made l s (escape_ends s) (half_ends l s s.input.escapes seen refl stays)) (λ taken. ReadsOn-in_front_taken l s.input.ahead s refl)
 
 -- the source was seen there
-ReadsOn-awaited_of_source : (l : Limits) (a : Answer) (s : State) → front s.tape ≡ a → ReadsOn l s (awaited_of_source l a s)
-ReadsOn-awaited_of_source l (Gives (OneByte b)) s gives = ReadsOn-front_seen l (Some b) s
-ReadsOn-awaited_of_source l (Gives (OneNote message)) s gives = NoteTaken message gives
-ReadsOn-awaited_of_source l (Ends Ended) s ends = ReadsOn-front_seen l None s
-ReadsOn-awaited_of_source l (Ends Failed) s ends = SourceFails ends
-ReadsOn-awaited_of_source l (Ends (Stopped limit)) s ends = SourceStops limit ends
+ReadsOn-awaited_of_source : (l : Limits) (a : Answer) (s : State) → s.is_closed ≡ false → front s.tape ≡ a → ReadsOn l s (awaited_of_source l a s)
+ReadsOn-awaited_of_source l (Gives (OneByte b)) s is_open gives = ReadsOn-front_seen l (Some b) s
+ReadsOn-awaited_of_source l (Gives (OneNote message)) s is_open gives = NoteTaken message is_open gives
+ReadsOn-awaited_of_source l (Ends Ended) s is_open ends = ReadsOn-front_seen l None s
+ReadsOn-awaited_of_source l (Ends Failed) s is_open ends = SourceFails is_open ends
+ReadsOn-awaited_of_source l (Ends (Stopped limit)) s is_open ends = SourceStops limit is_open ends
+
+-- if it was asked
+ReadsOn-awaited_asked : (l : Limits) (closed : Bool) (s : State) → s.is_closed ≡ closed
+    → ReadsOn l s (awaited_of_source l (if closed then Ends Ended else front s.tape) s)
+ReadsOn-awaited_asked l true s closed = ReadsOn-front_seen l None s
+ReadsOn-awaited_asked l false s is_open = ReadsOn-awaited_of_source l (front s.tape) s is_open refl
 
 -- anything was
 ReadsOn-awaited : (l : Limits) (sight : Option Sighted) (s : State) → ReadsOn l s (awaited l sight s)
@@ -164,7 +182,7 @@ ReadsOn-awaited l (Some (SeesByte b)) s = ReadsOn-front_seen l (Some b) s
 ReadsOn-awaited l (Some SeesNothing) s = ReadsOn-front_seen l None s
 ReadsOn-awaited l (Some (SeesNote message)) s = ReadsOn-front_seen l None s
 ReadsOn-awaited l (Some (SeesEnding ending)) s = ReadsOn-front_seen l None s
-ReadsOn-awaited l None s = ReadsOn-awaited_of_source l (front s.tape) s refl
+ReadsOn-awaited l None s = ReadsOn-awaited_asked l s.is_closed s refl
 
 -- by what is read does at the next item
 ReadsOn-read_waiting : (l : Limits) (s : State) (w : Waiting) → waiting_in s.reading s.input ≡ w → ReadsOn l s (read_waiting l w s)
@@ -223,7 +241,7 @@ ReadsOn-reading_by : (l : Limits) (what : Option Due) (s : State) → due s.read
 ReadsOn-reading_by l None s is = ReadsOn-item_read l s
 ReadsOn-reading_by l (Some (TellsText false)) s is = ReadsOn-made l s (message_told s) (MessageTold (told_where_due s.reading false is))
 ReadsOn-reading_by l (Some (TellsText true)) s is = RunAborts (told_where_due s.reading true is)
-ReadsOn-reading_by l (Some Leaves) s is = ReadsOn-made l s (end_met (input_left s)) (InputLeft (left_where_due s.reading is))
+ReadsOn-reading_by l (Some Leaves) s is = ReadsOn-made l s (input_left s) (InputLeft (left_where_due s.reading is))
 
 -- what is due, or one item of the input, or how it ends
 pub ReadsOn-reading_on : (l : Limits) (s : State) → ReadsOn l s (reading_on l s)
@@ -234,7 +252,8 @@ pub record Behind (most : ℕ) (s t : State) : Type 0 where
   pub input : Keeps most s.input t.input t.reading
   pub tape : t.tape ≡ s.tape
   pub history : t.history ≡ s.history
-  pub is_closing : t.is_closing ≡ s.is_closing
+  pub phase : t.phase ≡ s.phase
+  pub is_closed : t.is_closed ≡ s.is_closed
   pub ended : t.ended ≡ s.ended
   pub last_message : t.last_message ≡ s.last_message
 
@@ -244,7 +263,8 @@ Behind-byte_taken b s = record {
   input = Keeps-taking (known s) s.reading s.input b;
   tape = refl;
   history = refl;
-  is_closing = refl;
+  phase = refl;
+  is_closed = refl;
   ended = refl;
   last_message = refl;
 }
@@ -274,17 +294,18 @@ pub Behind-ahead_taken : (item : Ahead PageEvent) (s : State) → Behind (2 * en
 Behind-ahead_taken (ByteAhead b) s = Behind-byte_taken b s
 Behind-ahead_taken (FreeAhead b) s = Behind-byte_taken b s
 Behind-ahead_taken EndAhead s =
-    record { input = KeepsTwoMore-same s.input s.reading; tape = refl; history = refl; is_closing = refl; ended = refl; last_message = refl }
+    record { input = KeepsTwoMore-same s.input s.reading; tape = refl; history = refl; phase = refl; is_closed = refl; ended = refl; last_message = refl }
 Behind-ahead_taken ReturnAhead s = record {
   input = record { charge = refl; newlines = refl; line = refl; free = refl; escapes = omega (arith, begun-behind_return s.reading) };
   tape = refl;
   history = refl;
-  is_closing = refl;
+  phase = refl;
+  is_closed = refl;
   ended = refl;
   last_message = refl;
 }
 Behind-ahead_taken (DoAhead event) s =
-    record { input = Keeps-interrupted s.reading s.input; tape = refl; history = refl; is_closing = refl; ended = refl; last_message = refl }
+    record { input = Keeps-interrupted s.reading s.input; tape = refl; history = refl; phase = refl; is_closed = refl; ended = refl; last_message = refl }
 
 -- what is half read
 pub Behind-escape_ends : (s : State) (first : OpenEscape) (others : List OpenEscape) → s.input.escapes ≡ first ∷ others → Behind (2 * endings_of s.input.escapes + begun s.reading - 1) s (escape_ends s)
@@ -292,19 +313,52 @@ Behind-escape_ends s first others is = record {
   input = Keeps-escape_ended (known s) s.reading s.input first others is;
   tape = refl;
   history = refl;
-  is_closing = refl;
+  phase = refl;
+  is_closed = refl;
   ended = refl;
   last_message = refl;
 }
 
--- a control line that ends with the input
-pub Behind-line_ends : (s : State) → line_ends_first s.reading ≡ true → s.input.escapes ≡ []
-    → Behind (2 * endings_of s.input.escapes + begun s.reading - 1) s (line_ends s)
-Behind-line_ends s first none = record {
-  input = Keeps-line_ends (known s) s.reading s.input first none;
+-- an unfinished line that ends with the input
+pub Behind-line_ends : (s : State) → Behind (2 * endings_of s.input.escapes + begun s.reading + 4) s (line_ends s)
+Behind-line_ends s = record {
+  input = Keeps-end_taking (known s) s.reading s.input;
   tape = refl;
   history = refl;
-  is_closing = refl;
+  phase = refl;
+  is_closed = refl;
   ended = refl;
+  last_message = refl;
+}
+
+-- a state behind the end of a phase
+pub record Passed (s t : State) : Type 0 where
+  pub input : Keeps (2 * endings_of s.input.escapes + begun s.reading) s.input t.input t.reading
+  pub tape : t.tape ≡ s.tape
+  pub history : t.history ≡ s.history
+  pub is_closed : t.is_closed ≡ s.is_closed
+  pub last_message : t.last_message ≡ s.last_message
+
+pub Passed-phase_ended : (phase : Phase) (s : State) → Passed s (phase_ended phase s)
+Passed-phase_ended Reading s =
+    let keeps = Keeps-last_called s.registers.last_macro s.input in record {
+      input = record { charge = keeps.charge; newlines = keeps.newlines; line = keeps.line; free = keeps.free; escapes = omega (arith, keeps.escapes) };
+      tape = refl;
+      history = refl;
+      is_closed = refl;
+      last_message = refl;
+    }
+Passed-phase_ended LastMacro s = record {
+  input = record { charge = refl; newlines = refl; line = refl; free = refl; escapes = omega arith };
+  tape = refl;
+  history = refl;
+  is_closed = refl;
+  last_message = refl;
+}
+Passed-phase_ended Closing s = record {
+  input = record { charge = refl; newlines = refl; line = refl; free = refl; escapes = omega arith };
+  tape = refl;
+  history = refl;
+  is_closed = refl;
   last_message = refl;
 }

@@ -39,7 +39,7 @@ none_of b [] others text = refl
 none_of b (c ∷ bytes) others text =
     ap (λ (same : Bool). same || list_any (λ d. b == d) bytes) (is_other b c text others.0) ∙ none_of b bytes others.1 text
 
-heard-text : (b : ℕ) → is_text_byte b ≡ true → is_silent b ≡ false
+pub heard-text : (b : ℕ) → is_text_byte b ≡ true → is_silent b ≡ false
 heard-text b text = none_of b (2 ∷ 3 ∷ 5 ∷ 6 ∷ 7 ∷ []) (refl, (refl, (refl, (refl, (refl, tt))))) text
 
 -- a line with a glyph, and without leading blanks

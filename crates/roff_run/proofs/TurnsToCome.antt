@@ -1,23 +1,23 @@
 -- How many turns of a run are still to come: each takes something, or ends what is half read.
-use Rattle.std.proofs.Common.{◌≡◌, ℕ, ◌+◌, ◌≤◌, Bool, true, false, List, [], ◌∷◌, length, Option, refl, arith}
+use Rattle.std.proofs.Common.{◌≡◌, ℕ, ◌+◌, ◌≤◌, Bool, true, false, List, [], ◌∷◌, length, refl, arith}
 use Rattle.std.specs.Prelude.{nat_lt, if◌then◌else◌}
 use Rattle.std.proofs.lemmas.Bool.{ltb-false}
 use Rattle.roff_num.specs.declared.limit.Limit.TheVariants.{Bytes}
 use Rattle.roff_ahead.specs.Input.{Ahead, ByteAhead, FreeAhead, EndAhead, ReturnAhead, DoAhead, cost, item_taken}
 use Rattle.roff_source.specs.Tape.{Answer, Gives, Ends, OneByte, OneNote}
-use Rattle.roff_scan.specs.Unread.{Unread, taking, taking_answer, answer_behind}
+use Rattle.roff_scan.specs.declared.looked.Looked.{Looked}
+use Rattle.roff_scan.specs.Looking.{answer_behind}
+use Rattle.roff_scan.specs.Unread.{Unread, taking, taking_answer}
 use Rattle.roff_ahead.specs.Shown.{Shown, ShowsByte, ShowsEnd, ShowsReturn, ShowsDo, ShowsNote, ShowsEnding, ShowsRefusal}
 use Rattle.roff_escape.specs.OpenEscape.{OpenEscape}
 use Rattle.roff_run.specs.Reading.{escape_ended, taking as byte_taking}
-use Rattle.roff_run.specs.Reading.Ends.{end_taking, line_ends_first}
 use Rattle.roff_run.specs.Reading.Items.{PageInput}
 use Rattle.roff_run.specs.Registers.{Known}
 use Rattle.roff_run.specs.Requests.{PageEvent}
 use Rattle.roff_run.specs.declared.line_state.LineState.{LineState}
-use Rattle.roff_run.specs.declared.line_state.LineState.TheVariants.{LineStart, Branch, Braced, Text as InText, Control, Name, Arguments as InArguments, Deciding, StringName, StringText, Skipping, Dropped, Telling, Told, Exiting, Calling, Defining}
 use Rattle.roff_run.specs.TurnsToCome.{begun, endings_of, turns_within, turns_to_come}
 use Rattle.roff_run.proofs.EscapeCounts.{some_ending}
-use Rattle.roff_run.proofs.Keeping.{KeepsTwoMore, Keeps-taking, Keeps-escape_ended, Keeps-line_ends}
+use Rattle.roff_run.proofs.Keeping.{KeepsTwoMore, Keeps-taking, Keeps-escape_ended}
 
 -- a call took a byte, the end of a text or of a body, or an event
 abbrev pub IsTaken : Shown PageEvent → Type 0
@@ -52,7 +52,7 @@ falls-answer (Gives (OneByte b)) u = falls_unless u.limits.bytes (u.input.charge
 falls-answer (Gives (OneNote message)) u = λ taken. absurd taken
 falls-answer (Ends ending) u = λ taken. absurd taken
 
-falls-taking : (ahead : List (Ahead PageEvent)) (a : Answer) (i : PageInput) (looked : Option ℕ) (v : Unread PageEvent)
+falls-taking : (ahead : List (Ahead PageEvent)) (a : Answer) (i : PageInput) (looked : Looked) (v : Unread PageEvent)
     → let u : Unread PageEvent = record v { input = record i { ahead = ahead }; looked = looked } in Falls u (taking a u)
 falls-taking [] a i looked v = falls-answer (answer_behind looked a) (record v { input = record i { ahead = [] }; looked = looked })
 falls-taking (item ∷ items) a i looked v =
@@ -86,30 +86,3 @@ ended bytes k reading i (first ∷ others) is some =
 pub turns_within-escape_ended : (bytes : ℕ) (k : Known) (reading : LineState) (i : PageInput) → 1 ≤ length i.escapes
     → turns_within bytes (escape_ended k reading i).input + begun (escape_ended k reading i).reading + 1 ≤ turns_within bytes i + begun reading
 turns_within-escape_ended bytes k reading i some = ended bytes k reading i i.escapes refl some
-
--- what a control line reads that ends first needs a turn
-pub begun-line_ends_first : (reading : LineState) → line_ends_first reading ≡ true → 1 ≤ begun reading
-begun-line_ends_first (Name breaks first) is = omega arith
-begun-line_ends_first (InArguments breaks request) is = omega arith
-begun-line_ends_first (Calling name) is = omega arith
-begun-line_ends_first (Telling aborts is_front) is = omega arith
-begun-line_ends_first LineStart is = absurd (cc)
-begun-line_ends_first Branch is = absurd (cc)
-begun-line_ends_first Braced is = absurd (cc)
-begun-line_ends_first (InText line) is = absurd (cc)
-begun-line_ends_first (Control breaks) is = absurd (cc)
-begun-line_ends_first (Deciding keeping) is = absurd (cc)
-begun-line_ends_first (StringName appends) is = absurd (cc)
-begun-line_ends_first (StringText name appends is_front) is = absurd (cc)
-begun-line_ends_first (Skipping opened closed behind) is = absurd (cc)
-begun-line_ends_first (Defining name appends end matched) is = omega arith
-begun-line_ends_first Dropped is = absurd (cc)
-begun-line_ends_first (Told aborts) is = absurd (cc)
-begun-line_ends_first Exiting is = absurd (cc)
-
--- so where it ends with the input, a turn fewer is to come
-pub turns_within-line_ends : (bytes : ℕ) (k : Known) (reading : LineState) (i : PageInput) → line_ends_first reading ≡ true
-    → i.escapes ≡ [] → turns_within bytes (end_taking k reading i).input + begun (end_taking k reading i).reading + 1 ≤ turns_within bytes i + begun reading
-turns_within-line_ends bytes k reading i first none =
-    let keeps = Keeps-line_ends k reading i first none in
-    omega (arith, keeps.charge, keeps.free, keeps.escapes, begun-line_ends_first reading first)

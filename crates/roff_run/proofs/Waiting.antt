@@ -1,5 +1,5 @@
 -- What waits, and what ends it.
-use Rattle.std.proofs.Common.{◌≡◌, ℕ, ◌≤◌, Bool, true, false, List, [], ◌∷◌, length, Option, refl, ap, ◌∙◌, arith}
+use Rattle.std.proofs.Common.{◌≡◌, ℕ, ◌≤◌, Bool, true, false, List, [], ◌∷◌, length, Option, refl, ap, arith}
 use Rattle.std.specs.Prelude.{if◌then◌else◌}
 use Rattle.roff_arguments.specs.Arguments.{is_behind_quote}
 use Rattle.roff_arguments.specs.declared.arguments.Place.{Place}
@@ -9,7 +9,6 @@ use Rattle.roff_escape.specs.OpenEscapes.{reads_text, surroundings}
 use Rattle.roff_escape.specs.Waiting.{decides, is_ended_by}
 use Rattle.roff_escape.specs.declared.open_escape.ConditionPart.{ConditionPart}
 use Rattle.roff_escape.specs.declared.open_escape.ConditionPart.TheVariants.{Choice, Expression, Compared, Decided}
-use Rattle.roff_escape.specs.declared.open_escape.Waiting.{Waiting}
 use Rattle.roff_escape.specs.declared.open_escape.Waiting.TheVariants.{Takes, Decides, Waits}
 use Rattle.roff_run.specs.Reading.Waiting.{copies_in, line_waits, waiting_above}
 use Rattle.roff_run.specs.declared.line_state.LineState.{LineState}

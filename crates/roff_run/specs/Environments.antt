@@ -1,11 +1,11 @@
 -- The three environments: what happened in each of them, and which one is in force (manual, section 17).
 --
 -- They stand in a ring: the one in force, the next behind it, and the last, with 0 behind 2.
-use Rattle.std.specs.Prelude.{ℕ, ◌+◌, Bool, true, false, not, List, [], ◌∷◌, length, Option, Some, None, if◌then◌else◌, ◌==◌}
+use Rattle.std.specs.Prelude.{ℕ, Bool, true, false, List, [], ◌∷◌, Option, Some, None, if◌then◌else◌, ◌==◌}
 use Rattle.roff_lines.specs.Events.{History, is_interrupted}
 use Rattle.roff_lines.specs.declared.event.Event.{Event}
 use Rattle.roff_lines.specs.declared.event.Event.TheVariants.{Interrupt as IsInterrupted}
-use Rattle.roff_lines.specs.Words.{is_empty, line_glyphs}
+use Rattle.roff_lines.specs.Places.{has_line_glyph}
 pub use Rattle.roff_run.specs.declared.environment_number.EnvironmentNumber.{EnvironmentNumber}
 pub use Rattle.roff_run.specs.declared.environment_number.EnvironmentNumber.TheVariants.{Zero, One, Two}
 use Rattle.roff_run.specs.declared.event.PageEvent.{PageEvent}
@@ -111,7 +111,7 @@ text_of h = (environments h).in_force.text
 
 -- the line that an interruption left, with so many leading blanks untold, behind a history
 abbrev pub line_left : History → ℕ → TextLine
-line_left h untold = record { has_glyph = not (is_empty (line_glyphs h)); has_other = true; has_brace = false; leading = untold }
+line_left h untold = record { has_glyph = has_line_glyph h; has_other = true; has_brace = false; leading = untold }
 
 -- the interrupted line of an environment, if one is to go on there
 abbrev pub line_to_go_on : InEnvironment → Option TextLine

@@ -8,10 +8,10 @@ use Rattle.roff_run.specs.Reading.Ends.{due}
 use Rattle.roff_run.specs.Requests.{PageEvent}
 use Rattle.roff_run.specs.Run.{State, made, byte_taken, moved, step}
 
--- a run takes items: it hasn't ended and isn't about to, and there is nothing to do first, and nothing due
+-- a run takes items: it hasn't ended, its source isn't closed, and there is nothing to do first, and nothing due
 pub record TakesItems (s : State) : Type 0 where
   pub going : s.ended ≡ None
-  pub not_closing : s.is_closing ≡ false
+  pub is_open : s.is_closed ≡ false
   pub idle : s.to_do ≡ []
   pub none_due : due s.reading ≡ None
 

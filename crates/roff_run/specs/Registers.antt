@@ -1,11 +1,12 @@
 -- The number registers of a run: those that a document sets, the page number, and the read-only ones (manual,
--- section 8 and the lists of registers before section 1).
+-- section 8 and the lists of registers before section 1). Beside them stands what else a run keeps.
 use Rattle.std.specs.Prelude.{ℕ, ◌*◌, ◌%◌, ◌==◌, unsigned_abs, Bool, ◌&&◌, not, List, [], ◌∷◌, ℤ, pos, bytes_eq, codes, decimal, find, fold, min, is_some, option_map, Option, Some, None, if◌then◌else◌}
 use Rattle.roff_lines.specs.declared.settings.Settings.{Settings}
 use Rattle.roff_num.specs.Ranges.{is_in_range}
 use Rattle.roff_num.specs.RegisterText.{register_text}
 use Rattle.roff_num.specs.declared.format.Format.{Format}
 use Rattle.roff_num.specs.declared.num.Num.{Num}
+use Rattle.roff_num.specs.declared.short_name.ShortName.{ShortName}
 use Rattle.roff_store.specs.Named.{without_entry}
 use Rattle.roff_store.specs.Registers.{Registers, register_of, unset_register, next_value, with_setting, with_format, with_step}
 use Rattle.roff_num.specs.declared.direction.Direction.{Direction}
@@ -17,14 +18,16 @@ use Rattle.roff_run.specs.declared.query.Query.{Query}
 use Rattle.roff_run.specs.declared.query.Query.TheVariants.{Newlines, Indent, LineLength, LastWidth, Filling, LineSpacing, ColumnWidth, Arguments, Later}
 pub mod Capped
 
--- the registers that can be set: those by name, and the page number `%`, which always is one
+-- the registers that can be set: those by name, and the page number `%`, which always is one; and the macro that is read
+-- behind the input, if there is one
 pub record AllRegisters : Type 0 where
   pub named : Registers
   pub page : Register
+  pub last_macro : Option ShortName
 
--- at first none is set, and the page number is 0
+-- at first none is set, the page number is 0, and there is no such macro
 abbrev pub no_registers : AllRegisters
-no_registers = record { named = []; page = unset_register }
+no_registers = record { named = []; page = unset_register; last_macro = None }
 
 -- all that a request or an escape may ask of the run
 pub record Known : Type 0 where
@@ -120,6 +123,8 @@ pub data Change : Type 0 where
   Remove : (names : List (List ℕ)) → Change
   -- `\n+x`, `\n-x`: a step, if it isn't out of range
   StepBy : (name : List ℕ) (direction : Direction) → Change
+  -- `em`: this macro is read behind the input
+  ReadLast : (name : Option ShortName) → Change
 
 -- the page number stepped, if the step isn't out of range
 abbrev pub stepped_page : Direction → Register → Register
@@ -142,6 +147,7 @@ changed_by (FormatAs name format) rs =
 changed_by (Remove names) rs = record rs { named = fold (λ named name. without_entry name named) rs.named names }
 changed_by (StepBy name direction) rs =
     changing_one name (stepped_page direction) (with_step direction name) rs
+changed_by (ReadLast name) rs = record rs { last_macro = name }
 
 -- behind some changes, one after another
 abbrev pub changed_by_all : List Change → AllRegisters → AllRegisters

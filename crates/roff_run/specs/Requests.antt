@@ -9,7 +9,7 @@ pub use Rattle.roff_run.specs.Registers.{Known}
 use Rattle.roff_run.specs.declared.request.LineReading.{LineReading}
 use Rattle.roff_run.specs.declared.request.LineReading.TheVariants.{ByArguments, ByCondition, ByElse, ByLastLine, ByMessage, ByString, ByLines}
 use Rattle.roff_run.specs.declared.request.Request.{Request}
-use Rattle.roff_run.specs.declared.request.Request.TheVariants.{Abort, Adjust, AppendString, AssignFormat, Break, DefineString, Else, Exit, Fill, If, IfElse, Indent, LineLength, NoAdjust, NoFill, NumberRegister, RemoveNames, RemoveRegisters, Rename, Space as SpaceDown, TellMessage, WithoutEffect, LeftOut, AppendMacro, DefineMacro, Ignore, Centre, Environment as SwitchEnvironment, LineSpacing, TabStops, TemporaryIndent}
+use Rattle.roff_run.specs.declared.request.Request.TheVariants.{Abort, Adjust, AppendString, AssignFormat, Break, DefineString, Else, EndMacro, Exit, Fill, If, IfElse, Indent, LineLength, NoAdjust, NoFill, NumberRegister, RemoveNames, RemoveRegisters, Rename, Space as SpaceDown, TellMessage, WithoutEffect, LeftOut, AppendMacro, DefineMacro, Ignore, Centre, Environment as SwitchEnvironment, LineSpacing, TabStops, TemporaryIndent}
 use Rattle.roff_run.specs.declared.request.Called.{Called}
 use Rattle.roff_run.specs.declared.request.Called.TheVariants.{Request as ARequest, Body as ABody, Nothing as Unknown}
 use Rattle.roff_run.specs.declared.request.LinesFor.TheVariants.{Macro, Nobody}
@@ -21,7 +21,7 @@ use Rattle.roff_run.specs.Requests.Spacing.{space_down, line_spacing}
 use Rattle.roff_run.specs.Requests.Lengths.{line_length, indent, temporary_indent}
 use Rattle.roff_run.specs.Requests.Tabs.{tab_stops}
 use Rattle.roff_run.specs.Requests.Switching.{switch}
-use Rattle.roff_run.specs.Requests.Naming.{remove_names, rename}
+use Rattle.roff_run.specs.Requests.Naming.{end_macro, remove_names, rename}
 use Rattle.roff_run.specs.Requests.Numbering.{assign_format, set_register, remove_registers}
 pub mod Effects
 pub mod Adjustment
@@ -59,6 +59,7 @@ row_of Centre = row (codes "ce") ByArguments true (λ known. centre)  -- section
 row_of DefineMacro = row (codes "de") (ByLines (Macro false)) false (always nothing)  -- section 7
 row_of DefineString = row (codes "ds") (ByString false) false (always nothing)  -- section 7
 row_of Else = row (codes "el") ByElse false (always nothing)  -- section 16
+row_of EndMacro = row (codes "em") ByArguments false (λ known. end_macro)  -- section 7
 row_of SwitchEnvironment = row (codes "ev") ByArguments false switch  -- section 17
 row_of Exit = row (codes "ex") ByLastLine false (always nothing)  -- section 18
 row_of Fill = row (codes "fi") ByArguments true (always (setting (Filling true)))  -- section 4
@@ -106,7 +107,7 @@ names_left_out =
 abbrev pub built : List Request
 built =
     Abort ∷ Adjust ∷ AssignFormat ∷ AppendMacro ∷ AppendString ∷ Break ∷ Centre ∷ DefineMacro ∷ DefineString ∷ Else
-    ∷ SwitchEnvironment ∷ Exit ∷ Fill ∷ IfElse ∷ If ∷ Ignore ∷ Indent ∷ LineLength ∷ LineSpacing ∷ NoAdjust ∷ NoFill
+    ∷ EndMacro ∷ SwitchEnvironment ∷ Exit ∷ Fill ∷ IfElse ∷ If ∷ Ignore ∷ Indent ∷ LineLength ∷ LineSpacing ∷ NoAdjust ∷ NoFill
     ∷ NumberRegister ∷ RemoveNames ∷ Rename ∷ RemoveRegisters ∷ SpaceDown ∷ TabStops ∷ TemporaryIndent ∷ TellMessage ∷ []
 
 -- those that do nothing, or nothing but say that they are left out

@@ -1,6 +1,7 @@
 -- What a whole run gives: where it ends, and what it wrote, reported, answered and left until then.
 use Rattle.std.specs.Prelude.{ℕ, zero, suc, ◌+◌, ◌*◌, List, length, Option, Some, None}
 use Rattle.roff_num.specs.declared.limits.Limits.{Limits}
+use Rattle.roff_run.specs.declared.start.Start.{Start}
 use Rattle.roff_run.specs.declared.status.Status.{Status}
 use Rattle.roff_run.specs.Run.{State, initial, step, after, output, reported}
 use Rattle.roff_source.specs.Tape.{Tape}
@@ -14,31 +15,32 @@ abbrev pub turns : Limits → ℕ → State → State
 turns l zero s = s
 turns l (suc n) s = elim s.ended [ None ↦ turns l n (turn l s) | Some status ↦ s ]
 
--- the state in which a run ends: what is charged takes a turn, and may begin something whose end takes four more; each
--- item of the source that isn't charged takes one, the input's end takes one, and the run's end one
-abbrev pub last_state : Limits → Tape → State
-last_state l tape = turns l (5 * l.bytes + length tape.items + 2) (initial tape)
+-- The state in which a run ends: what is charged takes a turn, and may begin something whose end takes four more; each item of
+-- the source that isn't charged takes one. Each of these may leave a line unfinished, and one interrupted, whose ends with
+-- the input take a turn: four for one are enough. The ends of the input, of the last macro and of the run take five more at the most.
+abbrev pub last_state : Limits → Start → Tape → State
+last_state l start tape = turns l (4 * (5 * l.bytes + length tape.items) + 5) (initial l start tape)
 
 -- what a run writes
-abbrev pub output_of : Limits → Tape → List ℕ
-output_of l tape = output (last_state l tape)
+abbrev pub output_of : Limits → Start → Tape → List ℕ
+output_of l start tape = output (last_state l start tape)
 
 -- what it reports
-abbrev pub messages_of : Limits → Tape → List ℕ
-messages_of l tape = reported (last_state l tape)
+abbrev pub messages_of : Limits → Start → Tape → List ℕ
+messages_of l start tape = reported (last_state l start tape)
 
 -- what it reports without the message that says why it ended, if there is one
-abbrev pub messages_on_the_way : Limits → Tape → List ℕ
-messages_on_the_way l tape = (last_state l tape).messages
+abbrev pub messages_on_the_way : Limits → Start → Tape → List ℕ
+messages_on_the_way l start tape = (last_state l start tape).messages
 
 -- the status with which it ends
-abbrev pub status_of : Limits → Tape → Option Status
-status_of l tape = (last_state l tape).ended
+abbrev pub status_of : Limits → Start → Tape → Option Status
+status_of l start tape = (last_state l start tape).ended
 
 -- the items that it doesn't take, and how they end
-abbrev pub rest_of : Limits → Tape → Tape
-rest_of l tape = (last_state l tape).tape
+abbrev pub rest_of : Limits → Start → Tape → Tape
+rest_of l start tape = (last_state l start tape).tape
 
 -- how much it takes: bytes, ends of pushed texts, events put back
-abbrev pub charge_of : Limits → Tape → ℕ
-charge_of l tape = (last_state l tape).input.charge
+abbrev pub charge_of : Limits → Start → Tape → ℕ
+charge_of l start tape = (last_state l start tape).input.charge

@@ -12,9 +12,11 @@ use Rattle.roff_num.specs.declared.limits.Limits.{Limits}
 use Rattle.roff_escape.specs.Waiting.{is_ended_by}
 use Rattle.roff_escape.specs.declared.open_escape.Waiting.{Waiting}
 use Rattle.roff_escape.specs.declared.open_escape.Waiting.TheVariants.{Takes, Decides, Waits}
+use Rattle.roff_num.specs.declared.num.Num.{Num}
 use Rattle.roff_ahead.specs.Input.{Ahead, ByteAhead, FreeAhead, EndAhead, DoAhead, initial_input, cost, item_taken, counting, leaving, ReturnAhead}
 use Rattle.roff_ahead.specs.Input.Calls.{arguments_live}
 use Rattle.roff_source.specs.Tape.{Tape, Answer, OneByte, OneNote, Ended, Failed, Stopped, Gives, Ends, front, behind_front}
+use Rattle.roff_scan.specs.declared.looked.Looked.TheVariants.{Nothing as NothingLooked}
 use Rattle.roff_scan.specs.Unread.{Unread}
 use Rattle.roff_ahead.specs.Shown.{Sighted, SeesByte, SeesNothing, SeesNote, SeesEnding, seen_ahead}
 use Rattle.roff_arguments.specs.Arguments.{no_arguments}
@@ -23,9 +25,9 @@ use Rattle.roff_run.specs.Messages.{message_line, message_lines, told_line}
 use Rattle.roff_run.specs.Environments.{environments, interrupted_line}
 use Rattle.roff_run.specs.Output.{PageHistory, text_of, written}
 use Rattle.roff_run.specs.Reading.{taking, escape_ended, interrupted}
-use Rattle.roff_run.specs.Reading.Calls.{behind_return}
-use Rattle.roff_run.specs.Reading.Ends.{end_taking, due, line_ends_first}
-use Rattle.roff_run.specs.Reading.Items.{PageInput, Taking}
+use Rattle.roff_run.specs.Reading.Calls.{behind_return, last_called}
+use Rattle.roff_run.specs.Reading.Ends.{end_taking, due, is_unfinished}
+use Rattle.roff_run.specs.Reading.Items.{PageInput, Taking, going_on, meaning_events}
 use Rattle.roff_run.specs.Reading.Messages.{message_text_read}
 use Rattle.roff_run.specs.Reading.Waiting.{waiting_in}
 use Rattle.roff_run.specs.Registers.{AllRegisters, Known, no_registers, changed_by_all}
@@ -38,7 +40,11 @@ use Rattle.roff_run.specs.declared.line_state.LineState.{LineState}
 use Rattle.roff_run.specs.declared.line_state.LineState.TheVariants.{LineStart}
 use Rattle.roff_run.specs.declared.status.Status.{Status}
 use Rattle.roff_run.specs.declared.status.Status.TheVariants.{Aborted, Done, Device, Limit as Limited}
-use Rattle.roff_run.specs.Run.Counts.{passes_bytes, first_passed, refusal, counts_in}
+use Rattle.roff_run.specs.declared.phase.Phase.{Phase}
+use Rattle.roff_run.specs.declared.phase.Phase.TheVariants.{Reading, LastMacro, Closing}
+use Rattle.roff_run.specs.declared.start.Start.{Start}
+use Rattle.roff_run.specs.Starts.{with_given}
+use Rattle.roff_run.specs.Run.Counts.{passes_bytes, first_passed, refusal, names_counted, counts_in}
 pub mod Counts
 
 -- a state of the run
@@ -57,8 +63,9 @@ pub record State : Type 0 where
   pub history : PageHistory
   -- the messages, as they are written
   pub messages : List ℕ
-  -- whether the end of the input was met
-  pub is_closing : Bool
+  -- how far the run has come with its input, and whether nothing more is taken of the source
+  pub phase : Phase
+  pub is_closed : Bool
   -- how the run ended, and the message with which it did, if there is one
   pub ended : Option Status
   pub last_message : List ℕ
@@ -69,11 +76,11 @@ first_input = record (initial_input (length requests)) { names = first_entries }
 
 -- the same within these limits
 abbrev pub first_unread : Limits → Unread PageEvent
-first_unread l = record { input = first_input; looked = None; limits = l }
+first_unread l = record { input = first_input; looked = NothingLooked; limits = l }
 
--- before the first step
-abbrev pub initial : Tape → State
-initial tape = record {
+-- before anything is given
+abbrev pub blank_state : Tape → State
+blank_state tape = record {
   tape = tape;
   input = first_input;
   reading = LineStart;
@@ -81,7 +88,8 @@ initial tape = record {
   to_do = [];
   history = [];
   messages = [];
-  is_closing = false;
+  phase = Reading;
+  is_closed = false;
   ended = None;
   last_message = [];
 }
@@ -128,6 +136,17 @@ abbrev pub unless_refused : Limits → Option Limit → State → State → Stat
 unless_refused l None s done = done
 unless_refused l (Some limit) s done = stopped_by l limit s
 
+-- the registers that are given are set, one after another, up to the first that the limit on names refuses
+abbrev pub with_registers : Limits → List (ℕ × Num) → State → State
+with_registers l [] s = s
+with_registers l (given ∷ others) s =
+    let behind : AllRegisters = with_given given s.registers in
+    unless_refused l (first_passed l (names_counted behind)) s (with_registers l others (record s { registers = behind }))
+
+-- before the first step: what is given to the run stands
+abbrev pub initial : Limits → Start → Tape → State
+initial l start tape = with_registers l start.registers.items (blank_state tape)
+
 -- an event is performed, or refused by a limit
 abbrev pub performing : Limits → PageEvent → List PageEvent → State → State
 performing l e rest s = unless_refused l (refusal l s.history e) s (record s { to_do = rest; history = e ∷ s.history })
@@ -156,14 +175,20 @@ byte_taken b s = taken_as (taking (known s) s.reading s.input b) s
 abbrev pub escape_ends : State → State
 escape_ends s = taken_as (escape_ended (known s) s.reading s.input) s
 
--- the end of the input is met: an unfinished line ends, and then the pending line is placed
-abbrev pub end_met : State → State
-end_met s =
-    taken_as (end_taking (known s) s.reading s.input) (record s { is_closing = true; to_do = Text WordEnd ∷ Text Break ∷ [] })
+-- the events that finish the last line
+abbrev pub closing_events : List PageEvent
+closing_events = Text WordEnd ∷ Text Break ∷ []
 
--- with nothing half read the end of the input is met, unless a control line is to end first: that ends as by a newline
+-- A phase ends at a line's beginning: behind the input the last macro is read, and behind that the pending line is placed; then
+-- the run is done.
+abbrev pub phase_ended : Phase → State → State
+phase_ended Reading s = taken_as (going_on (last_called s.registers.last_macro s.input) LineStart) (record s { phase = LastMacro })
+phase_ended LastMacro s = taken_as (meaning_events s.input LineStart closing_events) (record s { phase = Closing })
+phase_ended Closing s = ending_as Done s
+
+-- with nothing half read the phase ends, unless a line is unfinished: that ends first, as by a newline
 abbrev pub input_ended : Bool → State → State
-input_ended false s = end_met s
+input_ended false s = phase_ended s.phase s
 input_ended true s = taken_as (end_taking (known s) s.reading s.input) s
 
 -- a message is told, and its text is released
@@ -178,9 +203,9 @@ message_told s = record s {
 abbrev pub aborted : State → State
 aborted s = record s { ended = Some Aborted; last_message = told_line true (message_text_read s.input) }
 
--- what stands ahead of the source is dropped
+-- what stands ahead of the source is dropped, and nothing more is taken of it
 abbrev pub input_left : State → State
-input_left s = record s { input = leaving s.input }
+input_left s = record s { input = leaving s.input; reading = LineStart; is_closed = true }
 
 -- an item ahead of the source was taken: a byte is read, and an event that was put back is to be performed
 abbrev pub ahead_taken : Ahead PageEvent → State → State
@@ -204,7 +229,7 @@ taking_byte l b s =
 
 -- the end of the input: what is half read ends first, one after another
 abbrev pub ending_input : Limits → List OpenEscape → State → State
-ending_input l [] s = made l s (input_ended (line_ends_first s.reading) s)
+ending_input l [] s = made l s (input_ended (is_unfinished s.phase (known s) s.reading) s)
 ending_input l (first ∷ others) s = made l s (escape_ends s)
 
 -- the source was asked, with nothing ahead of it, and answered this. At the limit a byte is looked at and not taken.
@@ -215,9 +240,13 @@ answered l (Ends Ended) s = ending_input l s.input.escapes s
 answered l (Ends Failed) s = ending_with Device ReadFailed s
 answered l (Ends (Stopped limit)) s = ending_as (Limited limit) s
 
+-- what the source answers where it is asked: a closed one isn't, and has ended
+abbrev pub source_answer : State → Answer
+source_answer s = if s.is_closed then Ends Ended else front s.tape
+
 -- the item in front is taken: one ahead, or one of the source
 abbrev pub in_front_taken : Limits → List (Ahead PageEvent) → State → State
-in_front_taken l [] s = answered l (front s.tape) s
+in_front_taken l [] s = answered l (source_answer s) s
 in_front_taken l (item ∷ behind) s = taking_ahead l item behind s
 
 -- what is read waits for a byte, and this is seen, a byte or nothing that can be read: it stays, and ends what is half read, or
@@ -239,7 +268,7 @@ awaited l (Some (SeesByte b)) s = front_seen l (Some b) s
 awaited l (Some SeesNothing) s = front_seen l None s
 awaited l (Some (SeesNote message)) s = front_seen l None s
 awaited l (Some (SeesEnding ending)) s = front_seen l None s
-awaited l None s = awaited_of_source l (front s.tape) s
+awaited l None s = awaited_of_source l (source_answer s) s
 
 -- What is read does this at the next item. What waits for a byte sees the first one behind any ends of texts before it takes
 -- one of these; a condition that is read decides before anything is taken or seen.
@@ -252,21 +281,21 @@ read_waiting l Waits s = awaited l (seen_ahead s.input.ahead) s
 abbrev pub item_read : Limits → State → State
 item_read l s = read_waiting l (waiting_in s.reading s.input) s
 
--- what is due comes first: a message is told, or ends the run; or the input is left, and its end is met
+-- what is due comes first: a message is told, or ends the run; or the input is left
 abbrev pub reading_by : Limits → Option Due → State → State
 reading_by l None s = item_read l s
 reading_by l (Some (TellsText false)) s = made l s (message_told s)
 reading_by l (Some (TellsText true)) s = aborted s
-reading_by l (Some Leaves) s = made l s (end_met (input_left s))
+reading_by l (Some Leaves) s = made l s (input_left s)
 
 -- what is due, or one item of the input, or how it ends
 abbrev pub reading_on : Limits → State → State
 reading_on l s = reading_by l (due s.reading) s
 
--- one step of a run that hasn't ended: the first of the events to do, the end, or an item
+-- one step of a run that hasn't ended: the first of the events to do, what is due, or an item
 abbrev pub step_with : Limits → List PageEvent → State → State
 step_with l (e ∷ rest) s = performing l e rest s
-step_with l [] s = if s.is_closing then ending_as Done s else reading_on l s
+step_with l [] s = reading_on l s
 
 -- one step: a run that has ended stays as it is
 abbrev pub step : Limits → State → State

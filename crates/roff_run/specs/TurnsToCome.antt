@@ -1,13 +1,17 @@
 -- How many turns of a run are still to come at the most: each takes something, or ends what is half read.
-use Rattle.std.specs.Prelude.{ℕ, ◌+◌, ◌-◌, ◌*◌, List, [], ◌∷◌, None}
+use Rattle.std.specs.Prelude.{ℕ, ◌+◌, ◌-◌, ◌*◌, List, [], ◌∷◌, Option, Some, None}
 use Rattle.roff_escape.specs.OpenEscape.{OpenEscape, Condition}
 use Rattle.roff_ahead.specs.Input.{Ahead, ByteAhead, FreeAhead, EndAhead, ReturnAhead, DoAhead}
 use Rattle.roff_scan.specs.Unread.{Unread}
 use Rattle.roff_escape.specs.declared.open_escape.ConditionPart.TheVariants.{Decided}
 use Rattle.roff_run.specs.Reading.Items.{PageInput}
 use Rattle.roff_run.specs.Requests.{PageEvent}
+use Rattle.roff_run.specs.Environments.{PageHistory}
+use Rattle.roff_run.specs.declared.line_state.TextLine.{TextLine}
+use Rattle.roff_run.specs.declared.phase.Phase.{Phase}
+use Rattle.roff_run.specs.declared.phase.Phase.TheVariants.{Reading, LastMacro, Closing}
 use Rattle.roff_run.specs.declared.line_state.LineState.{LineState}
-use Rattle.roff_run.specs.declared.line_state.LineState.TheVariants.{Name, Arguments as InArguments, Telling, Told, Calling, Defining}
+use Rattle.roff_run.specs.declared.line_state.LineState.TheVariants.{LineStart, Braced, Name, Arguments as InArguments, Telling, Told, Calling, Defining}
 
 -- the bytes ahead that cost nothing
 abbrev pub free_ahead : List (Ahead PageEvent) → ℕ
@@ -26,7 +30,7 @@ endings_of (Condition (Decided decision None) text ∷ rest) = endings_of rest +
 endings_of (Condition part text ∷ rest) = endings_of rest + 2
 endings_of (half ∷ rest) = endings_of rest + 1
 
--- What is read may need turns of its own. A control line that ends where the input does takes one, and behind it a message
+-- What is read may need turns of its own, beside the one in which an unfinished line ends with the input. Behind that a message
 -- is told, or a definition begins; what ends in a definition may end that, and begin a line of arguments or a condition.
 abbrev pub begun : LineState → ℕ
 begun (Name breaks first) = 4
@@ -37,6 +41,17 @@ begun (Told aborts) = 1
 begun (Defining name appends end matched) = 3
 begun (_) = 0
 
+-- how many unfinished lines are read: one, but at the beginning of one
+abbrev pub unended : LineState → ℕ
+unended LineStart = 0
+unended Braced = 0
+unended (_) = 1
+
+-- How many turns are to come of this, where so many endings are: each of the others is worth four, of which three are for an
+-- unfinished line that it leaves, and for an interrupted one.
+abbrev pub turns_of : ℕ → LineState → ℕ
+turns_of endings reading = 4 * (2 * endings + begun reading) + 2 * unended reading
+
 -- what falls with each turn beside that, within so many bytes: each item is paid for or free, and may begin two endings;
 -- each ending takes a turn, and may begin a line whose end takes another one
 abbrev pub turns_within : ℕ → PageInput → ℕ
@@ -45,3 +60,19 @@ turns_within bytes i = 5 * (bytes - i.charge) + 5 * free_ahead i.ahead + 2 * end
 -- the same of the unread input, within its limit
 abbrev pub turns_to_come : Unread PageEvent → ℕ
 turns_to_come u = turns_within u.limits.bytes u.input
+
+-- the history behind some events
+abbrev pub behind_all : List PageEvent → PageHistory → PageHistory
+behind_all [] h = h
+behind_all (e ∷ es) h = behind_all es (e ∷ h)
+
+-- an interrupted line that is to end takes a turn
+abbrev pub lines_left : Option TextLine → ℕ
+lines_left None = 0
+lines_left (Some line) = 1
+
+-- and so does each phase, in which it may be the last macro that leaves one
+abbrev pub phases_left : Phase → ℕ
+phases_left Reading = 5
+phases_left LastMacro = 3
+phases_left Closing = 1

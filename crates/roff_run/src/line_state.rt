@@ -1,11 +1,13 @@
 //! What is being read of a line, and what stands on it.
 
 ghost use Rattle.std.specs.Prelude.{◌≡◌};
-ghost use Rattle.roff_run.specs.Reading.Ends.{due, line_ends_first};
+ghost use Rattle.roff_run.specs.Reading.Ends.{due, is_left, is_unfinished};
 ghost use Rattle.roff_run.specs.Reading.Waiting.{copies_in};
 ghost use Rattle.roff_num.specs.ShortNames.{name_bytes};
 ghost use Rattle.roff_num.specs.ShortNames.{short_name};
 ghost use Rattle.roff_run.specs.Reading.ControlLines.{ends_name};
+ghost use Rattle.roff_run.specs.Registers.{Known};
+ghost use Rattle.roff_run.specs.declared.phase.Phase.{Phase};
 
 mod behind;
 mod text_line;
@@ -154,18 +156,16 @@ impl LineState {
         }
     }
 
-    /// Whether a control line is read that ends where the input does, or a definition that is dropped
-    /// there, before the input's end is met.
-    pub fn line_ends_first(self) -> bool
-        ensures { result ≡ line_ends_first self }
+    /// Whether a line is to end where the input does: one of which something was read, or one that was
+    /// interrupted, if one is to end.
+    pub fn is_unfinished(self, left: bool) -> bool
+        ensures { (phase : Phase) (k : Known) → is_left phase k.interrupted ≡ left
+            → result ≡ is_unfinished phase k self }
     {
         match self {
-            LineState::Name { .. } => true,
-            LineState::Arguments { .. } => true,
-            LineState::Calling { .. } => true,
-            LineState::Telling { .. } => true,
-            LineState::Defining { .. } => true,
-            _ => false,
+            LineState::LineStart => left,
+            LineState::Braced => left,
+            _ => true,
         }
     }
 }

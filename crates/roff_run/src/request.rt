@@ -31,6 +31,8 @@ pub enum Request {
     DefineString,
     /// `el`: the other branch of a condition.
     Else,
+    /// `em`: the macro that is read behind the input.
+    EndMacro,
     /// `ev`: another environment, or back.
     Environment,
     /// `ex`: the end of all input.
@@ -138,7 +140,7 @@ pub struct Row {
 }
 
 /// The requests that are built, in the order of their names.
-static BUILT: [Request; 29] = [
+static BUILT: [Request; 30] = [
     Request::Abort,
     Request::Adjust,
     Request::AssignFormat,
@@ -149,6 +151,7 @@ static BUILT: [Request; 29] = [
     Request::DefineMacro,
     Request::DefineString,
     Request::Else,
+    Request::EndMacro,
     Request::Environment,
     Request::Exit,
     Request::Fill,
@@ -195,7 +198,7 @@ static LEFT_OUT: [[u8; 2]; 24] = [
 
 impl Request {
     /// How many there are.
-    pub const COUNT: u16 = 68;
+    pub const COUNT: u16 = 69;
 
     /// The request of this place in the table, if there is one.
     pub fn numbered(number: usize) -> Option<Request>
@@ -227,6 +230,7 @@ impl Request {
             Request::DefineMacro => Row { name: *b"de", line: ByLines(LinesFor::Macro { appends: false }), breaks: false },
             Request::DefineString => Row { name: *b"ds", line: ByString { appends: false }, breaks: false },
             Request::Else => Row { name: *b"el", line: ByElse, breaks: false },
+            Request::EndMacro => Row { name: *b"em", line: ByArguments, breaks: false },
             Request::Environment => Row { name: *b"ev", line: ByArguments, breaks: false },
             Request::Exit => Row { name: *b"ex", line: ByLastLine, breaks: false },
             Request::Fill => Row { name: *b"fi", line: ByArguments, breaks: true },

@@ -10,6 +10,7 @@ use Rattle.roff_source.specs.Bytes.{is_text_byte}
 use Rattle.roff_ahead.specs.Input.{Input, is_none_ahead}
 use Rattle.roff_ahead.specs.Input.Names.{adding, calling_on, stored}
 use Rattle.roff_source.specs.Tape.{Tape}
+use Rattle.roff_scan.specs.Looking.{Nothing}
 use Rattle.roff_scan.specs.Unread.{Unread, IsWithin, changing, input_refusal, unless_passed}
 use Rattle.roff_scan.specs.Unread.Calls.{IsFront, NoNewline, OfSource, PassesFront, PassesSource, front_bytes}
 use Rattle.roff_scan.specs.Unread.Runs.{TakesRun, room_for}
@@ -146,7 +147,7 @@ module _ {E : Type 0} where
   adding-none i = ap (λ (j : Input E). j.open_texts) (adding-texts [] i) ∙ texts_added-none (newest i.open_texts) i.open_texts
 
   module _ (u new : Unread E) (ready text : List ℕ) (r : Result (Unit {0}) Limit) (made : (r, new) ≡ changing (adding text u.input) u) (allowed : r ≡ Ok tt)
-      (ahead : is_none_ahead u.input.ahead ≡ true) (looked : u.looked ≡ None) (same : text ≡ take (length text) ready) where
+      (ahead : is_none_ahead u.input.ahead ≡ true) (looked : u.looked ≡ Nothing) (same : text ≡ take (length text) ready) where
     -- the texts in the making behind them
     abbrev texts : List (List ℕ)
     texts = grown u new text r made

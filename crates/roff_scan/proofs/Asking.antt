@@ -3,7 +3,8 @@ use Rattle.std.proofs.Common.{Bool, true, false, ◌&&◌, ◌≡◌, ℕ, ◌�
 use Rattle.std.specs.Prelude.{IfSome, get_or, is_none}
 use Rattle.roff_ahead.specs.Input.{Ahead, ByteAhead, FreeAhead, EndAhead, ReturnAhead, DoAhead, is_none_ahead}
 use Rattle.roff_source.specs.Tape.{Tape, Answer, Answers, Took, Gives, Ends, OneByte, Ending, Ended}
-use Rattle.roff_scan.specs.Unread.{Unread, Asked, Stays, answer_behind, taking, taking_first, taking_answer, asks_to_take, looking, looking_past, looking_at, asks_to_look}
+use Rattle.roff_scan.specs.Unread.{Unread, Asked, Stays, taking, taking_first, taking_answer, asks_to_take, looking, looking_past, looking_at, asks_to_look}
+use Rattle.roff_scan.specs.Looking.{Looked, Nothing, Byte, Closed, answer_behind, is_nothing}
 use Rattle.roff_ahead.specs.Shown.{Shown, ShowsByte, Sighted, SeesByte, SeesNote, SeesEnding, seen_ahead}
 use Rattle.roff_scan.specs.Unread.Calls.{Takes, Looks}
 
@@ -34,36 +35,45 @@ module _ {E : Type 0} (tapes : Tape → Type 0) (kept before after : Unread E) (
   pub takes_ahead : is_none_ahead kept.input.ahead ≡ false → ((a : Answer) → (item, after) ≡ taking a before) → Takes tapes tapes before after item
   takes_ahead some taken = record {
     answer = Ends Ended;
-    asked = unasked_by tapes (Ends Ended) (asks_to_take before) (ap asks_to_take (sym is) ∙ ap (λ n. n && is_none kept.looked) some);
+    asked = unasked_by tapes (Ends Ended) (asks_to_take before) (ap asks_to_take (sym is) ∙ ap (λ n. n && is_nothing kept.looked) some);
     taken = taken (Ends Ended);
   }
 
   -- what is taken where nothing is ahead
-  taken_by : (looked : Option ℕ) (a : Answer) → is_none_ahead kept.input.ahead ≡ true → kept.looked ≡ looked
+  taken_by : (looked : Looked) (a : Answer) → is_none_ahead kept.input.ahead ≡ true → kept.looked ≡ looked
       → taking a before ≡ taking_answer (answer_behind looked a) before
   taken_by looked a none is_looked =
       taking_none before.input.ahead a before (ap (λ (u : Unread E). is_none_ahead u.input.ahead) (sym is) ∙ none)
       ∙ ap (λ o. taking_answer (answer_behind o a) before) (ap (λ (u : Unread E). u.looked) (sym is) ∙ is_looked)
 
-  asks_by : (looked : Option ℕ) → is_none_ahead kept.input.ahead ≡ true → kept.looked ≡ looked → asks_to_take before ≡ is_none looked
-  asks_by looked none is_looked = ap asks_to_take (sym is) ∙ ap (λ n. n && is_none kept.looked) none ∙ ap (λ o. is_none o) is_looked
+  asks_by : (looked : Looked) → is_none_ahead kept.input.ahead ≡ true → kept.looked ≡ looked → asks_to_take before ≡ is_nothing looked
+  asks_by looked none is_looked = ap asks_to_take (sym is) ∙ ap (λ n. n && is_nothing kept.looked) none ∙ ap is_nothing is_looked
 
   -- the byte that was looked at is taken
-  pub takes_looked : (b : ℕ) → is_none_ahead kept.input.ahead ≡ true → kept.looked ≡ Some b → (item, after) ≡ taking_answer (Gives (OneByte b)) before
+  pub takes_looked : (b : ℕ) → is_none_ahead kept.input.ahead ≡ true → kept.looked ≡ Byte b → (item, after) ≡ taking_answer (Gives (OneByte b)) before
       → Takes tapes tapes before after item
   takes_looked b none looked taken = record {
     answer = Ends Ended;
-    asked = unasked_by tapes (Ends Ended) (asks_to_take before) (asks_by (Some b) none looked);
-    taken = taken ∙ sym (taken_by (Some b) (Ends Ended) none looked);
+    asked = unasked_by tapes (Ends Ended) (asks_to_take before) (asks_by (Byte b) none looked);
+    taken = taken ∙ sym (taken_by (Byte b) (Ends Ended) none looked);
+  }
+
+  -- where nothing more is taken of the source, it has ended
+  pub takes_closed : (byte : Option ℕ) → is_none_ahead kept.input.ahead ≡ true → kept.looked ≡ Closed byte → (item, after) ≡ taking_answer (Ends Ended) before
+      → Takes tapes tapes before after item
+  takes_closed byte none looked taken = record {
+    answer = Ends Ended;
+    asked = unasked_by tapes (Ends Ended) (asks_to_take before) (asks_by (Closed byte) none looked);
+    taken = taken ∙ sym (taken_by (Closed byte) (Ends Ended) none looked);
   }
 
   -- the source is asked
-  pub takes_asked : (new : Tape → Type 0) (a : Answer) → is_none_ahead kept.input.ahead ≡ true → kept.looked ≡ None → Answers tapes new a
+  pub takes_asked : (new : Tape → Type 0) (a : Answer) → is_none_ahead kept.input.ahead ≡ true → kept.looked ≡ Nothing → Answers tapes new a
       → (item, after) ≡ taking_answer a before → Takes tapes new before after item
   takes_asked new a none looked answers taken = record {
     answer = a;
-    asked = asked_by tapes new a (asks_to_take before) (asks_by None none looked) answers;
-    taken = taken ∙ sym (taken_by None a none looked);
+    asked = asked_by tapes new a (asks_to_take before) (asks_by Nothing none looked) answers;
+    taken = taken ∙ sym (taken_by Nothing a none looked);
   }
 
 -- a source gave the first of the bytes that stood ready
@@ -85,11 +95,11 @@ module _ {E : Type 0} (tapes : Tape → Type 0) (kept before : Unread E) (is : k
   pub looks_ahead : (sight : Sighted) → seen_ahead kept.input.ahead ≡ Some sight → Looks tapes tapes before before sight
   looks_ahead sight seen = record {
     answer = Ends Ended;
-    asked = unasked_by tapes (Ends Ended) (asks_to_look before) (ap asks_to_look (sym is) ∙ ap (λ s. is_none s && is_none kept.looked) seen);
+    asked = unasked_by tapes (Ends Ended) (asks_to_look before) (ap asks_to_look (sym is) ∙ ap (λ s. is_none s && is_nothing kept.looked) seen);
     seen = ap (λ s. looking_past s (Ends Ended) before) (sym (ap (λ (u : Unread E). seen_ahead u.input.ahead) (sym is) ∙ seen));
   }
 
-  module _ (looked : Option ℕ) (none : seen_ahead kept.input.ahead ≡ None) (is_looked : kept.looked ≡ looked) where
+  module _ (looked : Looked) (none : seen_ahead kept.input.ahead ≡ None) (is_looked : kept.looked ≡ looked) where
     -- the byte that was looked at is that of the input
     same_looked : before.looked ≡ looked
     same_looked = ap (λ (u : Unread E). u.looked) (sym is) ∙ is_looked
@@ -100,24 +110,32 @@ module _ {E : Type 0} (tapes : Tape → Type 0) (kept before : Unread E) (is : k
         looking_none (seen_ahead before.input.ahead) a before (ap (λ (u : Unread E). seen_ahead u.input.ahead) (sym is) ∙ none)
         ∙ ap (λ o. looking_at (answer_behind o a) before) same_looked
 
-    asks_sight : asks_to_look before ≡ is_none looked
-    asks_sight = ap asks_to_look (sym is) ∙ ap (λ s. is_none s && is_none kept.looked) none ∙ ap (λ o. is_none o) is_looked
+    asks_sight : asks_to_look before ≡ is_nothing looked
+    asks_sight = ap asks_to_look (sym is) ∙ ap (λ s. is_none s && is_nothing kept.looked) none ∙ ap is_nothing is_looked
 
   -- the byte that was looked at is seen
-  pub looks_looked : (b : ℕ) → seen_ahead kept.input.ahead ≡ None → kept.looked ≡ Some b → Looks tapes tapes before before (SeesByte b)
+  pub looks_looked : (b : ℕ) → seen_ahead kept.input.ahead ≡ None → kept.looked ≡ Byte b → Looks tapes tapes before before (SeesByte b)
   looks_looked b none looked = record {
     answer = Ends Ended;
-    asked = unasked_by tapes (Ends Ended) (asks_to_look before) (asks_sight (Some b) none looked);
-    seen = ap (λ o. (SeesByte b, record before { looked = o })) (same_looked (Some b) none looked) ∙ sym (seen_by (Some b) none looked (Ends Ended));
+    asked = unasked_by tapes (Ends Ended) (asks_to_look before) (asks_sight (Byte b) none looked);
+    seen = ap (λ o. (SeesByte b, record before { looked = o })) (same_looked (Byte b) none looked) ∙ sym (seen_by (Byte b) none looked (Ends Ended));
+  }
+
+  -- where nothing more is taken of the source, its end is seen
+  pub looks_closed : (byte : Option ℕ) → seen_ahead kept.input.ahead ≡ None → kept.looked ≡ Closed byte → Looks tapes tapes before before (SeesEnding Ended)
+  looks_closed byte none looked = record {
+    answer = Ends Ended;
+    asked = unasked_by tapes (Ends Ended) (asks_to_look before) (asks_sight (Closed byte) none looked);
+    seen = sym (seen_by (Closed byte) none looked (Ends Ended));
   }
 
   -- the source is asked
-  pub looks_asked : (after : Unread E) (sight : Sighted) (new : Tape → Type 0) (a : Answer) → seen_ahead kept.input.ahead ≡ None → kept.looked ≡ None
+  pub looks_asked : (after : Unread E) (sight : Sighted) (new : Tape → Type 0) (a : Answer) → seen_ahead kept.input.ahead ≡ None → kept.looked ≡ Nothing
       → Answers tapes new a → (sight, after) ≡ looking_at a before → Looks tapes new before after sight
   looks_asked after sight new a none looked answers seen = record {
     answer = a;
-    asked = asked_by tapes new a (asks_to_look before) (asks_sight None none looked) answers;
-    seen = seen ∙ sym (seen_by None none looked a);
+    asked = asked_by tapes new a (asks_to_look before) (asks_sight Nothing none looked) answers;
+    seen = seen ∙ sym (seen_by Nothing none looked a);
   }
 
 module _ {E : Type 0} where

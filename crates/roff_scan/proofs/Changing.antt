@@ -8,6 +8,7 @@ use Rattle.roff_arguments.specs.Arguments.{Arguments, held}
 use Rattle.roff_escape.specs.OpenEscape.{OpenEscape, texts_held}
 use Rattle.roff_ahead.specs.Input.{Input, EndAhead, pushed, depth, result_count, pushing, freeing, leaving, with_arguments, with_escapes}
 use Rattle.roff_ahead.specs.Input.Names.{names_added, stored}
+use Rattle.roff_scan.specs.Looking.{Looked}
 use Rattle.roff_scan.specs.Unread.{Unread, IsWithin, changing, unless_passed}
 use Rattle.roff_scan.proofs.CallsOver.{results_below-few}
 use Rattle.roff_arguments.proofs.KeptArguments.{held-only_kept}
@@ -238,8 +239,8 @@ module _ {E : Type 0} (u : Unread E) (a : Arguments) (within : IsWithin u) (byte
     plain_within = changing_within u (record u.input { arguments = a }) others-plain plain_pushed within.depth
 
 -- where nothing stands ahead
-pub IsWithin-leaving : {E : Type 0} (u : Unread E) → IsWithin u → IsWithin (record u { input = leaving u.input })
-IsWithin-leaving u within = record {
+pub IsWithin-leaving : {E : Type 0} (looked : Looked) (u : Unread E) → IsWithin u → IsWithin (record u { input = leaving u.input; looked = looked })
+IsWithin-leaving looked u within = record {
   charge = within.charge;
   newlines = within.newlines;
   pushed = omega (arith, within.pushed);

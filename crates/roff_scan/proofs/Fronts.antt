@@ -1,10 +1,10 @@
 -- Bytes that stand in front: those of a slice, and what is left of the input behind so many of them.
-use Rattle.std.proofs.Common.{◌≡◌, count_by, ℕ, ◌+◌, ◌-◌, ◌==◌, ◌≤◌, Bool, true, false, if◌then◌else◌, List, [], ◌∷◌, ◌++◌, length, map, take, drop, Option, Some, None, refl, sym, ap, subst, ◌∙◌, arith}
-use Rattle.std.specs.Prelude.{is_some}
+use Rattle.std.proofs.Common.{◌≡◌, count_by, ℕ, ◌+◌, ◌-◌, ◌==◌, ◌≤◌, Bool, true, false, if◌then◌else◌, List, [], ◌∷◌, ◌++◌, length, map, take, drop, refl, sym, ap, subst, ◌∙◌, arith}
 use Rattle.std.proofs.lemmas.List.{length-take-le, take-take}
 use Rattle.roff_source.specs.Bytes.{newline}
 use Rattle.roff_ahead.specs.Input.{Ahead, ByteAhead, Input, counting, is_none_ahead, leading, lines_taken, returns_ahead}
 use Rattle.roff_source.specs.Tape.{Tape, OneByte, Took}
+use Rattle.roff_scan.specs.Looking.{Looked, Nothing, Byte, Closed, is_nothing}
 use Rattle.roff_scan.specs.Unread.{Unread, IsWithin}
 use Rattle.roff_scan.specs.Unread.Calls.{IsFront, NoNewline, PassesFront, OfTexts, PassesSource, front_bytes, next_bytes}
 use Rattle.roff_ahead.proofs.Counts.{returns_ahead-bytes}
@@ -13,9 +13,10 @@ use Rattle.roff_ahead.proofs.Leading.{Begins, begins, leading-parted}
 use Rattle.roff_scan.proofs.Passing.{counted, lines_taken-last}
 
 -- no byte was looked at
-pub nothing_looked : (looked : Option ℕ) → is_some looked ≡ false → looked ≡ None
-nothing_looked None is = refl
-nothing_looked (Some b) is = cc
+pub nothing_looked : (looked : Looked) → is_nothing looked ≡ true → looked ≡ Nothing
+nothing_looked Nothing is = refl
+nothing_looked (Byte b) is = cc
+nothing_looked (Closed kept) is = cc
 
 -- what begins a beginning begins the whole
 begins-further : (front given bytes : List ℕ) (most : ℕ) → Begins front given most → given ≡ take (length given) bytes → Begins front bytes most
@@ -29,21 +30,23 @@ begins-further front given bytes most front_begins is =
 
 module _ {E : Type 0} where
   -- the bytes ahead come next, where something is ahead
-  next-ahead : (items : List (Ahead E)) (looked : Option ℕ) (ready : List ℕ) → is_none_ahead items ≡ false → next_bytes items looked ready ≡ leading items
+  next-ahead : (items : List (Ahead E)) (looked : Looked) (ready : List ℕ) → is_none_ahead items ≡ false → next_bytes items looked ready ≡ leading items
   next-ahead [] looked ready some = cc
   next-ahead (item ∷ items) looked ready some = refl
 
   -- those that stand ready do, where nothing is ahead and none was looked at
-  pub next-ready : (items : List (Ahead E)) (looked : Option ℕ) (ready : List ℕ) → is_none_ahead items ≡ true → looked ≡ None → next_bytes items looked ready ≡ ready
-  next-ready [] None ready none unlooked = refl
-  next-ready [] (Some b) ready none unlooked = cc
+  pub next-ready : (items : List (Ahead E)) (looked : Looked) (ready : List ℕ) → is_none_ahead items ≡ true → looked ≡ Nothing → next_bytes items looked ready ≡ ready
+  next-ready [] Nothing ready none unlooked = refl
+  next-ready [] (Byte b) ready none unlooked = cc
+  next-ready [] (Closed kept) ready none unlooked = cc
   next-ready (item ∷ items) looked ready none unlooked = cc
 
   -- where nothing is ahead and bytes come next, none was looked at, and they are those that stand ready
-  next-source : (items : List (Ahead E)) (looked : Option ℕ) (ready : List ℕ) (count : ℕ) → is_none_ahead items ≡ true → 1 ≤ count
-      → count ≤ length (next_bytes items looked ready) → (items ≡ []) × ((looked ≡ None) × (next_bytes items looked ready ≡ ready))
-  next-source [] None ready count none some few = (refl, (refl, refl))
-  next-source [] (Some b) ready count none some few = absurd (omega (arith, some, few))
+  next-source : (items : List (Ahead E)) (looked : Looked) (ready : List ℕ) (count : ℕ) → is_none_ahead items ≡ true → 1 ≤ count
+      → count ≤ length (next_bytes items looked ready) → (items ≡ []) × ((looked ≡ Nothing) × (next_bytes items looked ready ≡ ready))
+  next-source [] Nothing ready count none some few = (refl, (refl, refl))
+  next-source [] (Byte b) ready count none some few = absurd (omega (arith, some, few))
+  next-source [] (Closed kept) ready count none some few = absurd (omega (arith, some, few))
   next-source (item ∷ items) looked ready count none some few = cc
 
   -- a byte that is no newline is counted
@@ -67,7 +70,7 @@ module _ {E : Type 0} where
   lines_taken-is [] count i is some plain = absurd (omega (arith, is, some))
   lines_taken-is (b ∷ bytes) count i is some plain = lines_taken-plain b bytes i plain ∙ ap (λ (n : ℕ). behind_line n i) is
 
-module _ {E : Type 0} (items : List (Ahead E)) (looked : Option ℕ) (ready front : List ℕ) (most : ℕ) where
+module _ {E : Type 0} (items : List (Ahead E)) (looked : Looked) (ready front : List ℕ) (most : ℕ) where
   -- bytes of a slice of those ahead begin those that come next
   pub begins-ahead : (given : List ℕ) → is_none_ahead items ≡ false → given ≡ take (length given) (leading items) → front ≡ take most given
       → Begins front (next_bytes items looked ready) most
@@ -76,7 +79,7 @@ module _ {E : Type 0} (items : List (Ahead E)) (looked : Option ℕ) (ready fron
       (is ∙ ap (take (length given)) (sym (next-ahead items looked ready some)))
 
   -- and so do those that stand ready
-  pub begins-ready : is_none_ahead items ≡ true → looked ≡ None → front ≡ take most ready → Begins front (next_bytes items looked ready) most
+  pub begins-ready : is_none_ahead items ≡ true → looked ≡ Nothing → front ≡ take most ready → Begins front (next_bytes items looked ready) most
   begins-ready none unlooked cut =
       begins front (next_bytes items looked ready) most (cut ∙ ap (take most) (sym (next-ready items looked ready none unlooked)))
 
@@ -142,7 +145,7 @@ module _ {E : Type 0} (ready : List ℕ) (u : Unread E) where
       })
 
     module _ (some : 1 ≤ count) (none : is_none_ahead u.input.ahead ≡ true) where
-      source : (u.input.ahead ≡ []) × ((u.looked ≡ None) × (next_bytes u.input.ahead u.looked ready ≡ ready))
+      source : (u.input.ahead ≡ []) × ((u.looked ≡ Nothing) × (next_bytes u.input.ahead u.looked ready ≡ ready))
       source = next-source u.input.ahead u.looked ready count none some front.among
 
       -- they stand ready
@@ -168,7 +171,7 @@ module _ {E : Type 0} (ready : List ℕ) (u : Unread E) where
       pub passes_lines : (old new : Tape → Type 0) (front passed : List ℕ) (last : ℕ) → passed ≡ take count ready → passed ≡ front ++ last ∷ []
           → Took old new (map OneByte (take count ready))
           → PassesSource old new (front_bytes count ready u) u
-          (record u { input = counting last (counted (length front) (count_by (λ b. b == newline) front) u.input); looked = None })
+          (record u { input = counting last (counted (length front) (count_by (λ b. b == newline) front) u.input); looked = Nothing })
       passes_lines old new front passed last cut split took =
           let ours : Took old new (map OneByte (front_bytes count ready u)) =
           subst (λ (bytes : List ℕ). Took old new (map OneByte (take count bytes))) (sym source.1.1) took in
@@ -179,7 +182,7 @@ module _ {E : Type 0} (ready : List ℕ) (u : Unread E) where
             in_front = ours.before;
             some = (ours.some, ours.some_given);
             input =
-                ap (λ (i : Input E). record u { input = i; looked = None }) (sym (ap (λ (bytes : List ℕ). lines_taken bytes u.input) are ∙ lines_taken-last front last u.input))
-                ∙ ap (λ (o : Option ℕ). record u { input = lines_taken (front_bytes count ready u) u.input; looked = o }) (sym source.1.0);
+                ap (λ (i : Input E). record u { input = i; looked = Nothing }) (sym (ap (λ (bytes : List ℕ). lines_taken bytes u.input) are ∙ lines_taken-last front last u.input))
+                ∙ ap (λ (o : Looked). record u { input = lines_taken (front_bytes count ready u) u.input; looked = o }) (sym source.1.0);
             within = allowed;
           }

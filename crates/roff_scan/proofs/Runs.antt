@@ -1,6 +1,5 @@
 -- Bytes that stand in front and are taken together as a run.
-use Rattle.std.proofs.Common.{◌≡◌, ℕ, ◌+◌, ◌≤◌, Bool, true, false, if◌then◌else◌, List, [], length, take, take_while, None, Some, refl, sym, ap, subst, ◌∙◌, arith}
-use Rattle.std.specs.Prelude.{is_none, is_some, Option}
+use Rattle.std.proofs.Common.{◌≡◌, ℕ, ◌+◌, ◌≤◌, Bool, true, false, if◌then◌else◌, List, [], length, take, take_while, refl, sym, ap, subst, ◌∙◌, arith}
 use Rattle.std.specs.List.{AllByRecursion}
 use Rattle.std.proofs.lemmas.Bool.{and_parts}
 use Rattle.std.proofs.lemmas.List.{length-take-le, take-take}
@@ -15,20 +14,23 @@ use Rattle.roff_scan.specs.Unread.Calls.{IsFront, NoNewline, PassesFront, front_
 use Rattle.roff_scan.specs.Unread.Runs.{HalvesBehind, TakesRun, arguments_behind, room_for, texts_behind}
 use Rattle.roff_scan.specs.declared.run_kind.RunKind.{RunKind}
 use Rattle.roff_scan.specs.declared.run_kind.RunKind.TheVariants.{Text, Blanks, Arguments, CallArguments, Name, Condition, Definition, Ignored, Dropped}
+use Rattle.roff_scan.specs.Looking.{Looked, Nothing, Byte, Closed, is_nothing}
 use Rattle.roff_scan.proofs.Fronts.{passes_none}
 use Rattle.roff_scan.proofs.AddedFronts.{adding-none}
 use Rattle.roff_scan.proofs.Staged.{passes-staged, stage-behind, staged}
 use Rattle.roff_scan.proofs.RunKinds.{count_held, fewer-none, halves-none, run-none, run-plain, run-texts}
 
 -- no byte was looked at
-is_none-none : (looked : Option ℕ) → is_none looked ≡ true → looked ≡ None
-is_none-none None is = refl
-is_none-none (Some b) is = cc
+is_nothing-nothing : (looked : Looked) → is_nothing looked ≡ true → looked ≡ Nothing
+is_nothing-nothing Nothing is = refl
+is_nothing-nothing (Byte b) is = cc
+is_nothing-nothing (Closed kept) is = cc
 
 -- nor is one that was
-not_none : (looked : Option ℕ) → is_some looked ≡ true → is_none looked ≡ true → ⊥
-not_none None some none = cc
-not_none (Some b) some none = cc
+not_nothing : (looked : Looked) → is_nothing looked ≡ false → is_nothing looked ≡ true → ⊥
+not_nothing Nothing some none = cc
+not_nothing (Byte b) some none = cc
+not_nothing (Closed kept) some none = cc
 
 module _ {E : Type 0} where
   -- no count is above its limit where so many bytes more are held at the most, for which there is room
@@ -74,7 +76,7 @@ module _ {E : Type 0} where
         → AllByRecursion (λ b. is_of kind b ≡ true) (take count front) → HeldFewer (most_whole kind) (take count front) u.input.arguments
         → a ≡ arguments_behind kind (take count front) u.input.arguments → HalvesBehind kind u.input.escapes (take count front) half
         → (goes_by_bytes kind ≡ true → take count front ≡ take_while (is_of kind) front)
-        → (is_none_ahead u.input.ahead ≡ true → u.looked ≡ None → front ≡ take most ready)
+        → (is_none_ahead u.input.ahead ≡ true → u.looked ≡ Nothing → front ≡ take most ready)
         → (goes_by_bytes kind ≡ true → most ≡ room_for kind u)
         → PassesFront old new (front_bytes count ready u) (record u { input = staged half a u.input.open_texts u.input }) after
         → TakesRun kind old new ready count u after
@@ -93,19 +95,19 @@ module _ {E : Type 0} where
           half_read = subst (HalvesBehind kind u.input.escapes bytes) (sym (ap (λ (i : Input E). i.escapes) stage)) halves;
           texts = ap (λ (i : Input E). i.open_texts) stage ∙ sym (run-texts kind bytes u.input other);
           whole = λ goes asks.
-              let parts = and_parts (is_none_ahead u.input.ahead) (is_none u.looked) asks in
+              let parts = and_parts (is_none_ahead u.input.ahead) (is_nothing u.looked) asks in
               far goes
-              ∙ ap (take_while (is_of kind)) (all parts.0 (is_none-none u.looked parts.1))
+              ∙ ap (take_while (is_of kind)) (all parts.0 (is_nothing-nothing u.looked parts.1))
               ∙ ap (λ (n : ℕ). take_while (is_of kind) (take n ready)) (room goes);
         }
 
   -- where the front is empty none of the source is of the run, as far as there is room
   pub none-whole : (kind : RunKind) (ready : List ℕ) (u : Unread E) (front : List ℕ) (most : ℕ) → front ≡ []
-      → (is_none_ahead u.input.ahead ≡ true → u.looked ≡ None → front ≡ take most ready) → (goes_by_bytes kind ≡ true → most ≡ room_for kind u)
+      → (is_none_ahead u.input.ahead ≡ true → u.looked ≡ Nothing → front ≡ take most ready) → (goes_by_bytes kind ≡ true → most ≡ room_for kind u)
       → goes_by_bytes kind ≡ true → asks_to_take u ≡ true → [] ≡ take_while (is_of kind) (take (room_for kind u) ready)
   none-whole kind ready u front most empty all room goes asks =
-      let parts = and_parts (is_none_ahead u.input.ahead) (is_none u.looked) asks in
-      ap (take_while (is_of kind)) (sym empty ∙ all parts.0 (is_none-none u.looked parts.1))
+      let parts = and_parts (is_none_ahead u.input.ahead) (is_nothing u.looked) asks in
+      ap (take_while (is_of kind)) (sym empty ∙ all parts.0 (is_nothing-nothing u.looked parts.1))
       ∙ ap (λ (n : ℕ). take_while (is_of kind) (take n ready)) (room goes)
 
   -- no bytes are put behind no text
@@ -138,14 +140,14 @@ module _ {E : Type 0} where
 
   -- no text is put behind another one where the source's next byte isn't the next one
   not_asked-ahead : (u : Unread E) → is_none_ahead u.input.ahead ≡ false → asks_to_take u ≡ true → ⊥
-  not_asked-ahead u some asks = let none = (and_parts (is_none_ahead u.input.ahead) (is_none u.looked) asks).0 in cc
+  not_asked-ahead u some asks = let none = (and_parts (is_none_ahead u.input.ahead) (is_nothing u.looked) asks).0 in cc
 
   pub adds_none-ahead : (gives : Tape → Type 0) (ready : List ℕ) (u : Unread E) → u.input.charge ≤ u.limits.bytes → is_none_ahead u.input.ahead ≡ false
       → TakesRun Definition gives gives ready 0 u u
   adds_none-ahead gives ready u within some = takes_none Definition gives ready u within (λ goes asks. absurd (not_asked-ahead u some asks))
 
-  pub adds_none-looked : (gives : Tape → Type 0) (ready : List ℕ) (u : Unread E) → u.input.charge ≤ u.limits.bytes → is_some u.looked ≡ true
+  pub adds_none-looked : (gives : Tape → Type 0) (ready : List ℕ) (u : Unread E) → u.input.charge ≤ u.limits.bytes → is_nothing u.looked ≡ false
       → TakesRun Definition gives gives ready 0 u u
   adds_none-looked gives ready u within some =
       takes_none Definition gives ready u within
-      (λ goes asks. absurd (not_none u.looked some (and_parts (is_none_ahead u.input.ahead) (is_none u.looked) asks).1))
+      (λ goes asks. absurd (not_nothing u.looked some (and_parts (is_none_ahead u.input.ahead) (is_nothing u.looked) asks).1))

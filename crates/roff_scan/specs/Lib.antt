@@ -1,2 +1,3 @@
+pub mod Looking
 pub mod RunKinds
 pub mod Unread

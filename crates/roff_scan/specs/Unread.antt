@@ -1,7 +1,7 @@
 -- The unread input, and what its calls answer (manual, section 7).
 --
--- Beside the input it has the limits, and the byte of the source that was looked at and isn't taken yet: that byte
--- stands behind what is ahead, and before what the source still gives.
+-- Beside the input it has the limits, and what was looked at of the source: a byte that isn't taken yet stands behind what is
+-- ahead, and before what the source still gives; or nothing more is taken of it.
 pub mod Calls
 pub mod Kept
 pub mod Runs
@@ -18,13 +18,14 @@ use Rattle.roff_escape.specs.declared.open_escape.Decision.TheVariants.{Is}
 use Rattle.roff_escape.specs.declared.open_escape.Found.{Found}
 use Rattle.roff_escape.specs.declared.open_escape.Found.TheVariants.{Decides}
 use Rattle.roff_escape.specs.declared.open_escape.Surroundings.{Surroundings}
+use Rattle.roff_scan.specs.Looking.{Looked, Nothing, Byte, answer_behind, is_nothing}
 use Rattle.roff_ahead.specs.Shown.{no_texts, Shown, shown_ahead, Sighted, seen_ahead, ShowsByte, ShowsNote, ShowsEnding, ShowsRefusal, SeesByte, SeesNote, SeesEnding}
 
 -- the unread input
 pub record Unread (E : Type 0) : Type 0 where
   pub input : Input E
-  -- the byte of the source that was looked at
-  pub looked : Option ℕ
+  -- what was looked at of the source
+  pub looked : Looked
   pub limits : Limits
 
 -- no count is above its limit
@@ -47,17 +48,7 @@ texts_within l i = record (no_texts l i.first_names) {
 
 -- before anything is read
 abbrev pub initial_unread : {E : Type 0} → Limits → ℕ → Unread E
-initial_unread limits first_names = record { input = initial_input first_names; looked = None; limits = limits }
-
--- the source's items, with the byte that was looked at in front
-abbrev pub looked_then : Option ℕ → Tape → Tape
-looked_then None t = t
-looked_then (Some b) t = items_then (OneByte b ∷ []) t
-
--- the source's next answer: the byte that was looked at comes before all others
-abbrev pub answer_behind : Option ℕ → Answer → Answer
-answer_behind None a = a
-answer_behind (Some b) a = Gives (OneByte b)
+initial_unread limits first_names = record { input = initial_input first_names; looked = Nothing; limits = limits }
 
 -- a source that isn't asked may give what it might have given, and nothing else
 pub record Stays (old new : Tape → Type 0) : Type 0 where
@@ -80,8 +71,8 @@ taking_ahead item behind u =
 abbrev pub taking_answer : {E : Type 0} → Answer → Unread E → Shown E × Unread E
 taking_answer (Gives (OneByte b)) u =
     if nat_lt u.limits.bytes (u.input.charge + 1)
-    then (ShowsRefusal Bytes, record u { looked = Some b })
-    else (ShowsByte b, record u { input = counting b u.input; looked = None })
+    then (ShowsRefusal Bytes, record u { looked = Byte b })
+    else (ShowsByte b, record u { input = counting b u.input; looked = Nothing })
 taking_answer (Gives (OneNote message)) u = (ShowsNote message, u)
 taking_answer (Ends ending) u = (ShowsEnding ending, u)
 
@@ -94,13 +85,13 @@ taking_first (item ∷ behind) a u = taking_ahead item behind u
 abbrev pub taking : {E : Type 0} → Answer → Unread E → Shown E × Unread E
 taking a u = taking_first u.input.ahead a u
 
--- whether the source is asked for what stands in front: nothing is ahead, and no byte was looked at
+-- whether the source is asked for what stands in front: nothing is ahead, no byte was looked at, and more is taken of it
 abbrev pub asks_to_take : {E : Type 0} → Unread E → Bool
-asks_to_take u = is_none_ahead u.input.ahead && is_none u.looked
+asks_to_take u = is_none_ahead u.input.ahead && is_nothing u.looked
 
 -- what is seen of the source by its answer; a byte stays, and was looked at
 abbrev pub looking_at : {E : Type 0} → Answer → Unread E → Sighted × Unread E
-looking_at (Gives (OneByte b)) u = (SeesByte b, record u { looked = Some b })
+looking_at (Gives (OneByte b)) u = (SeesByte b, record u { looked = Byte b })
 looking_at (Gives (OneNote message)) u = (SeesNote message, u)
 looking_at (Ends ending) u = (SeesEnding ending, u)
 
@@ -113,9 +104,9 @@ looking_past (Some sight) a u = (sight, u)
 abbrev pub looking : {E : Type 0} → Answer → Unread E → Sighted × Unread E
 looking a u = looking_past (seen_ahead u.input.ahead) a u
 
--- whether the source is asked for what is seen: nothing is seen ahead, and no byte was looked at
+-- whether the source is asked for what is seen: nothing is seen ahead, no byte was looked at, and more is taken of it
 abbrev pub asks_to_look : {E : Type 0} → Unread E → Bool
-asks_to_look u = is_none (seen_ahead u.input.ahead) && is_none u.looked
+asks_to_look u = is_none (seen_ahead u.input.ahead) && is_nothing u.looked
 
 -- The first limit that a count of this input is above, those of the texts before those of what stands in front; that on
 -- diversions stands behind those on the store and on names, and a text that is made beside the diversions counts as none of them.

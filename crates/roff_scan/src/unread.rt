@@ -14,6 +14,7 @@ mod runs;
 mod skipped;
 mod taken;
 
+use crate::looked::Looked;
 use roff_ahead::InputAhead;
 use roff_arguments::{ArgumentTexts, Calls};
 use roff_escape::OpenEscapes;
@@ -34,8 +35,8 @@ pub struct Unread<E> {
     /// The results of conditions that are kept for their other branch, the newest at the back, each
     /// with how many calls weren't over then.
     results: Vec<(bool, u32)>,
-    /// The byte of the source that was looked at and isn't taken yet.
-    looked: Option<u8>,
+    /// What was looked at of the source.
+    looked: Looked,
     charge: u32,
     newlines: u32,
     line: u32,
@@ -70,7 +71,7 @@ impl<E: Copy> Unread<E> {
             calls: Calls::new(alloc, limits.stack, limits.depth)?,
             escapes: OpenEscapes::new(alloc, limits.stack)?,
             results: Vec::with_capacity(alloc, limits.conditions as usize)?,
-            looked: None,
+            looked: Looked::Nothing,
             charge: 0,
             newlines: 0,
             line: 1,

@@ -4,9 +4,9 @@ use Rattle.std.proofs.lemmas.Bool.Decides.{nat_tests}
 use Rattle.std.proofs.lemmas.List.{length-map, length-take-le, map-append, take-append-drop, take-map, take-take, take_all}
 use Rattle.std.specs.Io.KnownBytes.{Appends}
 use Rattle.roff_num.specs.declared.limit.Limit.TheVariants.{Output}
-use Rattle.roff_pages.proofs.Appending.{Appends-append}
-use Rattle.roff_pages.specs.Devices.{AppendsBetween, Seen}
-use Rattle.roff_pages.specs.Sinks.{CountsFault, Sunk}
+use Rattle.roff_sinks.proofs.Appending.{Appends-append}
+use Rattle.roff_sinks.specs.Devices.{AppendsBetween, Seen}
+use Rattle.roff_sinks.specs.Sinks.{CountsFault, Sunk}
 use Rattle.roff_run.specs.declared.status.Status.{Status}
 use Rattle.roff_run.specs.declared.status.Status.TheVariants.{Device, Limit as Limited}
 use Rattle.roff_source.specs.Tape.{Item, OneByte, Tape, items_then}

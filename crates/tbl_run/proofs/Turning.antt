@@ -2,9 +2,9 @@
 use Rattle.std.proofs.Common.{◌≡◌, ◌∙◌, ◌⊎◌, ℕ, ◌+◌, ◌-◌, ◌<◌, ◌≤◌, suc, Bool, true, false, List, [], ◌∷◌, ◌++◌, length, length-append, nat_lt, Option, Some, None, ap, append_assoc, arith, inl, inr, refl, subst, sym}
 use Rattle.std.specs.Io.KnownBytes.{Appends}
 use Rattle.roff_num.specs.Faults.{Rises}
-use Rattle.roff_pages.proofs.Appending.{Appends-append, Appends-nothing}
-use Rattle.roff_pages.specs.Devices.{AppendsBetween, Seen}
-use Rattle.roff_pages.specs.Sinks.{CountsFault, Sunk}
+use Rattle.roff_sinks.proofs.Appending.{Appends-append, Appends-nothing}
+use Rattle.roff_sinks.specs.Devices.{AppendsBetween, Seen}
+use Rattle.roff_sinks.specs.Sinks.{CountsFault, Sunk}
 use Rattle.roff_run.specs.declared.status.Status.{Status}
 use Rattle.roff_source.specs.Tape.{Answer, Ended, Ends, Failed, Gives, Item, OneByte, OneNote, Stopped, Tape, items_then}
 use Rattle.tbl_layout.specs.Messages.{tbl_message_line}

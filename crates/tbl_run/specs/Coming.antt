@@ -1,7 +1,7 @@
 -- How far the loop has come, as a run of the definition.
 use Rattle.std.specs.Prelude.{◌≡◌, ℕ, ◌≤◌, List, length, None}
 use Rattle.std.specs.Io.KnownBytes.{Appends}
-use Rattle.roff_pages.specs.Devices.{NoSinkFault, Seen}
+use Rattle.roff_sinks.specs.Devices.{NoSinkFault, Seen}
 use Rattle.roff_source.specs.Tape.{Item, Tape, items_then}
 use Rattle.tbl_layout.specs.declared.limits.TblLimits.{TblLimits}
 use Rattle.tbl_core.specs.Yields.{At}

@@ -2,8 +2,8 @@
 use Rattle.std.specs.Prelude.{◌≡◌, ◌⊎◌, ℕ, ◌++◌, List, Some, None}
 use Rattle.std.specs.Io.KnownBytes.{Appends}
 use Rattle.roff_num.specs.Faults.{Rises}
-use Rattle.roff_pages.specs.Devices.{AppendsBetween, NoSinkFault, Seen}
-use Rattle.roff_pages.specs.Sinks.{CountsFault}
+use Rattle.roff_sinks.specs.Devices.{AppendsBetween, NoSinkFault, Seen}
+use Rattle.roff_sinks.specs.Sinks.{CountsFault}
 use Rattle.roff_run.specs.declared.status.Status.{Status}
 use Rattle.roff_run.specs.declared.status.Status.TheVariants.{Device}
 use Rattle.roff_source.specs.Tape.{Item, Tape, Took, items_then}

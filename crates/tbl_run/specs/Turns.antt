@@ -1,6 +1,6 @@
 -- What a turn of the loop makes of the sinks.
 use Rattle.std.specs.Prelude.{◌≡◌, ◌⊎◌, ℕ, ◌+◌, ◌≤◌, List, ◌++◌, length, Some, None, Result, Ok, Err}
-use Rattle.roff_pages.specs.Sinks.{Fails, Sunk, Writes}
+use Rattle.roff_sinks.specs.Sinks.{Fails, Sunk, Writes}
 use Rattle.roff_run.specs.declared.status.Status.{Status}
 use Rattle.roff_run.specs.declared.status.Status.TheVariants.{Device}
 use Rattle.roff_source.specs.Tape.{Answer, Ends, Failed}

@@ -2,15 +2,15 @@
 
 ghost use Rattle.std.specs.Prelude.{◌≡◌, ◌+◌, ◌≤◌, None, length, take};
 ghost use Rattle.roff_source.specs.Tape.{Gives, OneByte, answer_of};
-ghost use Rattle.roff_pages.specs.Devices.{seen};
+ghost use Rattle.roff_sinks.specs.Devices.{seen};
 ghost use Rattle.tbl_core.specs.Yields.{at_start};
 ghost use Rattle.tbl_run.specs.Outcome.{PutsTables};
 ghost use Rattle.tbl_run.specs.Run.{Written};
 ghost use Rattle.tbl_run.specs.Turns.{FrontPut, Tells, Turned};
 
 use roff_num::Limit;
-use roff_pages::ByteSink;
 use roff_run::Status;
+use roff_sinks::ByteSink;
 use roff_source::{ByteSource, Taken, at_most};
 use tbl_core::{Message, TblLimits, TblSource, Told};
 

@@ -1,26 +1,31 @@
 -- How a run of the code stands to the run of the definition.
-use Rattle.std.specs.Prelude.{◌≡◌, ◌⊎◌, List, ◌++◌, Some, None}
+use Rattle.std.specs.Prelude.{◌≡◌, ◌⊎◌, true, List, [], ◌++◌, Some, None, IsSome}
 use Rattle.std.specs.Io.KnownBytes.{Appends}
 use Rattle.roff_num.specs.declared.limits.Limits.{Limits}
 use Rattle.roff_source.specs.Tape.{Tape, Item, Took, behind_front, items_then}
 use Rattle.roff_num.specs.Faults.{Rises}
 use Rattle.roff_run.specs.declared.status.Status.{Status}
 use Rattle.roff_run.specs.declared.status.Status.TheVariants.{Aborted, Done, Device, Limit as Limited}
-use Rattle.roff_run.specs.declared.line_state.LineState.TheVariants.{Exiting}
+use Rattle.roff_run.specs.declared.start.Start.{Start}
 use Rattle.roff_run.specs.declared.message.Message.TheVariants.{WriteFailed}
 use Rattle.roff_run.specs.Messages.{message_line}
 use Rattle.roff_run.specs.Run.{State, Leads, initial, step, output, reported}
-pub use Rattle.roff_pages.specs.Devices.{AppendsBetween, NoSinkFault, Seen, seen}
-use Rattle.roff_pages.specs.Sinks.{CountsFault}
+pub use Rattle.roff_sinks.specs.Devices.{AppendsBetween, NoSinkFault, Seen, seen}
+use Rattle.roff_sinks.specs.Sinks.{CountsFault}
 
 -- what is left of a source whose tape this would be: all of it, or all but the item in front, which was looked at
 abbrev pub IsLeftOf : Tape → Tape → Type 0
 IsLeftOf left tape = (left ≡ tape) ⊎ (left ≡ behind_front tape)
 
+-- what a run begins with: what is given to it, and its tape
+pub record Beginning : Type 0 where
+  pub start : Start
+  pub tape : Tape
+
 -- the run of the definition comes to this state, and what it wrote and reported until then was
 -- written and reported
-pub record Reaches (l : Limits) (t : Tape) (before now : Seen) (s : State) : Type 0 where
-  pub comes : Leads l (initial t) s
+pub record Reaches (l : Limits) (t : Beginning) (before now : Seen) (s : State) : Type 0 where
+  pub comes : Leads l (initial l t.start t.tape) s
   pub text : Appends before.out.contents now.out.contents (output s)
   pub messages : Appends before.err.contents now.err.contents (reported s)
   pub faults : NoSinkFault before now
@@ -28,7 +33,7 @@ pub record Reaches (l : Limits) (t : Tape) (before now : Seen) (s : State) : Typ
 -- a run that ended so, in this state, may have looked at the item in front: a limit stopped it, or it was aborted, or it
 -- left its input
 abbrev pub MayHaveLooked : Status → State → Type 0
-MayHaveLooked Done s = s.reading ≡ Exiting
+MayHaveLooked Done s = s.is_closed ≡ true
 MayHaveLooked Device s = ⊥
 MayHaveLooked Aborted s = Unit {0}
 MayHaveLooked (Limited limit) s = Unit {0}
@@ -40,7 +45,7 @@ IsRest status left s = (left ≡ s.tape) ⊎ (MayHaveLooked status s × (left �
 -- The run ended by itself, with all of it written and reported without a fault of a sink, and left the tape of its last state; where it didn't
 -- come to its source's end perhaps without the item in front, which was looked at. If by a fault, the source's: its count
 -- rose.
-pub record Completes (l : Limits) (t left : Tape) (status : Status) (before now : Seen) : Type 0 where
+pub record Completes (l : Limits) (t : Beginning) (left : Tape) (status : Status) (before now : Seen) : Type 0 where
   pub state : State
   pub reaches : Reaches l t before now state
   pub ended : state.ended ≡ Some status
@@ -49,15 +54,15 @@ pub record Completes (l : Limits) (t left : Tape) (status : Status) (before now 
 
 -- The output failed in the step that the run made from this state: what was written begins with the text
 -- of all steps before it and is a beginning of that text with the step's own.
-pub record OutputStops (l : Limits) (t : Tape) (before now : Seen) (s : State) : Type 0 where
-  pub comes : Leads l (initial t) s
+pub record OutputStops (l : Limits) (t : Beginning) (before now : Seen) (s : State) : Type 0 where
+  pub comes : Leads l (initial l t.start t.tape) s
   pub goes_on : s.ended ≡ None
   pub text : AppendsBetween before.out.contents now.out.contents (output s) (output (step l s))
   pub fault : CountsFault before.out.failures now.out.failures
 
 -- The run ended as the output failed, once. The fault is reported with the line of that step; of this
 -- message a beginning alone was written if the message sink failed too.
-pub record OutputFails (l : Limits) (t left : Tape) (status : Status) (before now : Seen) : Type 0 where
+pub record OutputFails (l : Limits) (t : Beginning) (left : Tape) (status : Status) (before now : Seen) : Type 0 where
   pub is_device : status ≡ Device
   pub state : State
   pub stops : OutputStops l t before now state
@@ -70,10 +75,10 @@ pub record OutputFails (l : Limits) (t left : Tape) (status : Status) (before no
 -- The run ended as the message sink failed, once, in the step that the run made from this state: what was
 -- reported begins with the messages of all steps before it and is a beginning of these with the step's
 -- own. The text is that of the steps before, and the output had no fault.
-pub record MessagesFail (l : Limits) (t left : Tape) (status : Status) (before now : Seen) : Type 0 where
+pub record MessagesFail (l : Limits) (t : Beginning) (left : Tape) (status : Status) (before now : Seen) : Type 0 where
   pub is_device : status ≡ Device
   pub state : State
-  pub comes : Leads l (initial t) state
+  pub comes : Leads l (initial l t.start t.tape) state
   pub goes_on : state.ended ≡ None
   pub text : Appends before.out.contents now.out.contents (output state)
   pub messages : AppendsBetween before.err.contents now.err.contents (reported state) (reported (step l state))
@@ -81,14 +86,30 @@ pub record MessagesFail (l : Limits) (t left : Tape) (status : Status) (before n
   pub output_stays : now.out.failures ≡ before.out.failures
   pub rest : IsLeftOf left (step l state).tape
 
--- a run over a tape, of which this is left, comes to one of these
-abbrev pub Outcome : Limits → Tape → Tape → Status → Seen → Seen → Type 0
-Outcome l t left status before now =
-    Completes l t left status before now ⊎ OutputFails l t left status before now ⊎ MessagesFail l t left status before now
+-- The run ended before its first step, as a limit refused what was given to it, and the message sink failed, once, as that was told:
+-- a beginning of the message was written, and no text.
+pub record StartFails (l : Limits) (t : Beginning) (left : Tape) (status : Status) (before now : Seen) : Type 0 where
+  pub is_device : status ≡ Device
+  pub refused : IsSome (initial l t.start t.tape).ended
+  pub text : Appends before.out.contents now.out.contents []
+  pub messages : AppendsBetween before.err.contents now.err.contents [] (reported (initial l t.start t.tape))
+  pub fault : CountsFault before.err.failures now.err.failures
+  pub output_stays : now.out.failures ≡ before.out.failures
+  pub rest : IsLeftOf left (initial l t.start t.tape).tape
+
+-- a run with such a beginning, of whose tape this is left, comes to one of these
+abbrev pub OutcomeOf : Limits → Beginning → Tape → Status → Seen → Seen → Type 0
+OutcomeOf l t left status before now =
+    Completes l t left status before now ⊎ OutputFails l t left status before now
+    ⊎ MessagesFail l t left status before now ⊎ StartFails l t left status before now
+
+-- the same of what is given, and a tape
+abbrev pub Outcome : Limits → Start → Tape → Tape → Status → Seen → Seen → Type 0
+Outcome l start t left status before now = OutcomeOf l (record { start = start; tape = t }) left status before now
 
 -- A run over a source that might give the tapes `old` and may now give the tapes `new`. It took items;
 -- whatever may still come, the run over these items and then that is the definition's.
-pub record Runs (l : Limits) (status : Status) (old new : Tape → Type 0) (before now : Seen) : Type 0 where
+pub record Runs (l : Limits) (start : Start) (status : Status) (old new : Tape → Type 0) (before now : Seen) : Type 0 where
   pub taken : List Item
   pub took : Took old new taken
-  pub outcome : (left : Tape) → new left → Outcome l (items_then taken left) left status before now
+  pub outcome : (left : Tape) → new left → Outcome l start (items_then taken left) left status before now

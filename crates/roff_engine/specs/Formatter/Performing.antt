@@ -4,38 +4,37 @@ use Rattle.std.specs.Io.KnownBytes.{Appends}
 use Rattle.roff_num.specs.declared.limit.Limit.{Limit}
 use Rattle.roff_num.specs.declared.limits.Limits.{Limits}
 use Rattle.roff_source.specs.Tape.{Tape}
-use Rattle.roff_lines.specs.declared.event.Event.TheVariants.{WordEnd, Break}
 use Rattle.roff_requests.specs.Environments.Standing.{StandFor}
 use Rattle.roff_requests.specs.declared.environments.Environments.{Environments as EnvironmentsOf}
 use Rattle.roff_engine.specs.declared.formatter.Formatter.{Formatter}
 use Rattle.roff_engine.specs.declared.halt.Halt.{Halt}
 use Rattle.roff_engine.specs.declared.halt.Halt.TheVariants.{Limit as Limited, Refused, Output, Messages}
-use Rattle.roff_engine.specs.Engine.Outcome.{Seen, AppendsBetween, NoSinkFault, OutputStops, Reaches, seen}
+use Rattle.roff_engine.specs.Engine.Outcome.{Beginning, Seen, AppendsBetween, OutputStops, Reaches, seen}
 use Rattle.roff_run.specs.Messages.{message_lines}
 use Rattle.roff_run.specs.Output.{PageHistory, written}
+use Rattle.roff_run.specs.TurnsToCome.{behind_all}
 use Rattle.roff_run.specs.Reading.Items.{PageInput, Taking}
 use Rattle.roff_run.specs.Registers.{AllRegisters, Known}
 use Rattle.roff_run.specs.declared.event.PageEvent.{PageEvent}
-use Rattle.roff_run.specs.declared.event.PageEvent.TheVariants.{Text}
 use Rattle.roff_run.specs.declared.message.Message.{Message}
 use Rattle.roff_run.specs.declared.line_state.LineState.{LineState}
+use Rattle.roff_run.specs.declared.phase.Phase.{Phase}
 use Rattle.roff_run.specs.Run.{State, Leads, initial, step, stopped_by, made, taken_as, known_at, output, reported}
 use Rattle.roff_reader.specs.Reader.Taken.{CameTo, IsReady}
 use Rattle.roff_run.specs.Reading.Items.{PageUnread}
-use Rattle.roff_pages.specs.Sinks.{CountsFault, Sunk}
+use Rattle.roff_sinks.specs.Sinks.{CountsFault, Sunk}
 
 -- the same state going on, with these events to do behind this history
 abbrev pub acting : State → List PageEvent → PageHistory → State
 acting s to_do history = record s { to_do = to_do; history = history; ended = None }
 
--- the events were performed: the definition comes to the state behind them, for which the environment stands
-pub record AllPerformed (l : Limits) (t : Tape) (before now : Seen) (s : State) (rest : List PageEvent) (es : EnvironmentsOf) : Type 0 where
-  pub history : PageHistory
-  pub reaches : Reaches l t before now (acting s rest history)
-  pub stands : StandFor l history es
+-- the events were performed: the definition comes to the state behind them, of this history, for which the environment stands
+pub record AllPerformed (l : Limits) (t : Beginning) (before now : Seen) (s : State) (behind : PageHistory) (rest : List PageEvent) (es : EnvironmentsOf) : Type 0 where
+  pub reaches : Reaches l t before now (acting s rest behind)
+  pub stands : StandFor l behind es
 
 -- the definition comes to a state whose next event a limit refuses
-pub record StoppedAt (l : Limits) (t : Tape) (before now : Seen) (s : State) (limit : Limit) : Type 0 where
+pub record StoppedAt (l : Limits) (t : Beginning) (before now : Seen) (s : State) (limit : Limit) : Type 0 where
   pub next : PageEvent
   pub to_do : List PageEvent
   pub history : PageHistory
@@ -43,7 +42,7 @@ pub record StoppedAt (l : Limits) (t : Tape) (before now : Seen) (s : State) (li
   pub stops : step l (acting s (next ∷ to_do) history) ≡ stopped_by l limit (acting s (next ∷ to_do) history)
 
 -- the definition comes to a state in whose next event the output failed
-pub record FailedAt (l : Limits) (t : Tape) (before now : Seen) (s : State) : Type 0 where
+pub record FailedAt (l : Limits) (t : Beginning) (before now : Seen) (s : State) : Type 0 where
   pub next : PageEvent
   pub to_do : List PageEvent
   pub history : PageHistory
@@ -51,20 +50,20 @@ pub record FailedAt (l : Limits) (t : Tape) (before now : Seen) (s : State) : Ty
   pub messages : Appends before.err.contents now.err.contents (reported s)
   pub messages_stay : now.err.failures ≡ before.err.failures
 
--- how far the code performed the events in front of `rest`, by its answer
-abbrev pub Performs : Limits → Tape → Seen → Seen → State → List PageEvent → Result (Unit {0}) Halt → EnvironmentsOf → Type 0
-Performs l t before now s rest (Ok done) es = AllPerformed l t before now s rest es
-Performs l t before now s rest (Err (Limited limit)) es = StoppedAt l t before now s limit
-Performs l t before now s rest (Err Output) es = FailedAt l t before now s
-Performs l t before now s rest (Err Messages) es = ⊥
-Performs l t before now s rest (Err (Refused limit)) es = ⊥
+-- how far the code performed the events in front of `rest`, behind which the history is this, by its answer
+abbrev pub Performs : Limits → Beginning → Seen → Seen → State → PageHistory → List PageEvent → Result (Unit {0}) Halt → EnvironmentsOf → Type 0
+Performs l t before now s behind rest (Ok done) es = AllPerformed l t before now s behind rest es
+Performs l t before now s behind rest (Err (Limited limit)) es = StoppedAt l t before now s limit
+Performs l t before now s behind rest (Err Output) es = FailedAt l t before now s
+Performs l t before now s behind rest (Err Messages) es = ⊥
+Performs l t before now s behind rest (Err (Refused limit)) es = ⊥
 
 -- An environment and a sink performed some events, as far as the answer says: for each state of a run that has
 -- these events in front of others to do.
 pub record PerformsEvents (events : List PageEvent) (old new : EnvironmentsOf) (out_old out_new : Sunk) (result : Result (Unit {0}) Halt) : Type 0 where
-  pub performs : (l : Limits) (t : Tape) (before : Seen) (failures : ℕ) (err : Sunk) (s : State) (h : PageHistory) (rest : List PageEvent)
+  pub performs : (l : Limits) (t : Beginning) (before : Seen) (failures : ℕ) (err : Sunk) (s : State) (h : PageHistory) (rest : List PageEvent)
       → StandFor l h old → Reaches l t before (seen failures out_old err) (acting s (events ++ rest) h)
-      → Performs l t before (seen failures out_new err) s rest result new
+      → Performs l t before (seen failures out_new err) s (behind_all events h) rest result new
 
 -- a formatter did that, and changed nothing else: what is read stays as it was
 pub record PerformsOnly (events : List PageEvent) (old new : Formatter) (out_old out_new : Sunk) (result : Result (Unit {0}) Halt) : Type 0 where
@@ -80,8 +79,8 @@ pub record Means (l : Limits) (from s : State) (h : PageHistory) (line : ℕ) (m
   pub said : reported s ≡ reported from ++ message_lines line messages
 
 -- the message sink failed in the step from this state
-pub record LostAt (l : Limits) (t : Tape) (before now : Seen) (from : State) : Type 0 where
-  pub comes : Leads l (initial t) from
+pub record LostAt (l : Limits) (t : Beginning) (before now : Seen) (from : State) : Type 0 where
+  pub comes : Leads l (initial l t.start t.tape) from
   pub goes_on : from.ended ≡ None
   pub text : Appends before.out.contents now.out.contents (output from)
   pub messages : AppendsBetween before.err.contents now.err.contents (reported from) (reported (step l from))
@@ -89,9 +88,9 @@ pub record LostAt (l : Limits) (t : Tape) (before now : Seen) (from : State) : T
   pub output_stays : now.out.failures ≡ before.out.failures
 
 -- how far the code did what an item means, by its answer
-abbrev pub MeaningDone : Limits → Tape → Seen → Seen → State → State → List PageEvent → Result (Unit {0}) Halt → EnvironmentsOf → Type 0
-MeaningDone l t before now from s rest (Err Messages) es = LostAt l t before now from
-MeaningDone l t before now from s rest result es = Performs l t before now s rest result es
+abbrev pub MeaningDone : Limits → Beginning → Seen → Seen → State → State → PageHistory → List PageEvent → Result (Unit {0}) Halt → EnvironmentsOf → Type 0
+MeaningDone l t before now from s behind rest (Err Messages) es = LostAt l t before now from
+MeaningDone l t before now from s behind rest result es = Performs l t before now s behind rest result es
 
 -- what both sinks of a run tell
 pub record Sinks : Type 0 where
@@ -104,15 +103,15 @@ sinks out err = record { out = out; err = err }
 
 -- A formatter did what an item means, as far as it answers: for each state of a run whose next step means that.
 pub record DoesMeaning (line : ℕ) (messages : List Message) (events : List PageEvent) (old new : Formatter) (told_old told_new : Sinks) (result : Result (Unit {0}) Halt) : Type 0 where
-  pub does : (l : Limits) (t : Tape) (before : Seen) (failures : ℕ) (from s : State) (h : PageHistory) (rest : List PageEvent)
+  pub does : (l : Limits) (t : Beginning) (before : Seen) (failures : ℕ) (from s : State) (h : PageHistory) (rest : List PageEvent)
       → StandFor l h old.environments → Reaches l t before (seen failures told_old.out told_old.err) from
       → Means l from s h line messages events rest
-      → MeaningDone l t before (seen failures told_new.out told_new.err) from s rest result new.environments
+      → MeaningDone l t before (seen failures told_new.out told_new.err) from s (behind_all events h) rest result new.environments
   pub reader : new.reader ≡ old.reader
 
 -- a state of a run that hasn't ended, by all that it has
-abbrev pub going : Tape → PageInput → LineState → AllRegisters → PageHistory → List ℕ → Bool → List PageEvent → State
-going tape i reading rs h messages is_closing to_do = record {
+abbrev pub going : Tape → PageInput → LineState → AllRegisters → PageHistory → List ℕ → Phase → Bool → List PageEvent → State
+going tape i reading rs h messages phase is_closed to_do = record {
   tape = tape;
   input = i;
   reading = reading;
@@ -120,7 +119,8 @@ going tape i reading rs h messages is_closing to_do = record {
   to_do = to_do;
   history = h;
   messages = messages;
-  is_closing = is_closing;
+  phase = phase;
+  is_closed = is_closed;
   ended = None;
   last_message = [];
 }
@@ -134,29 +134,25 @@ pub record Opens (l : Limits) (from done : State) (h : PageHistory) (messages : 
   pub said : reported from ≡ messages
 
 -- a limit refuses the step from this state
-pub record RefusedAt (l : Limits) (t : Tape) (before now : Seen) (from : State) (limit : Limit) : Type 0 where
+pub record RefusedAt (l : Limits) (t : Beginning) (before now : Seen) (from : State) (limit : Limit) : Type 0 where
   pub reaches : Reaches l t before now from
   pub goes_on : from.ended ≡ None
   pub stops : step l from ≡ stopped_by l limit from
 
 -- how far the code did a taking, from this state to that, by its answer
-abbrev pub TakingDone : Limits → Tape → Seen → Seen → State → State → List PageEvent → Result (Unit {0}) Halt → EnvironmentsOf → Type 0
-TakingDone l t before now from done rest (Err (Refused limit)) es = RefusedAt l t before now from limit
-TakingDone l t before now from done rest result es = MeaningDone l t before now from done rest result es
+abbrev pub TakingDone : Limits → Beginning → Seen → Seen → State → State → PageHistory → List PageEvent → Result (Unit {0}) Halt → EnvironmentsOf → Type 0
+TakingDone l t before now from done behind rest (Err (Refused limit)) es = RefusedAt l t before now from limit
+TakingDone l t before now from done behind rest result es = MeaningDone l t before now from done behind rest result es
 
 -- The code did what the definition takes, and performed some events more, as far as it answers: for each state of a
 -- run from which one step leads to the taking's, with these events and others to do behind its own.
 pub record DoesTaking (t : Known → Taking) (more : List PageEvent) (old new : Formatter) (before behind : PageUnread) (told_old told_new : Sinks) (result : Result (Unit {0}) Halt) : Type 0 where
   pub became : (l : Limits) (h : PageHistory) → StandFor l h old.environments → IsReady old.reader.registers before
       → OnOk result (CameTo (t (known_at h old.reader.registers.all before.input)) old.reader.registers new.reader before behind)
-  pub does : (t0 : Tape) (start : Seen) (failures : ℕ) (from : State) (tape : Tape) (h : PageHistory) (messages : List ℕ) (is_closing : Bool) (rest : List PageEvent)
+  pub does : (t0 : Beginning) (start : Seen) (failures : ℕ) (from : State) (tape : Tape) (h : PageHistory) (messages : List ℕ) (phase : Phase) (is_closed : Bool) (rest : List PageEvent)
       → StandFor before.limits h old.environments → IsReady old.reader.registers before
       → Reaches before.limits t0 start (seen failures told_old.out told_old.err) from
       → let known : Known = known_at h old.reader.registers.all before.input in
-      let state : State = going tape before.input old.reader.reading old.reader.registers.all h messages is_closing (more ++ rest) in
+      let state : State = going tape before.input old.reader.reading old.reader.registers.all h messages phase is_closed (more ++ rest) in
       Opens before.limits from (taken_as (t known) state) h messages
-      → TakingDone before.limits t0 start (seen failures told_new.out told_new.err) from (taken_as (t known) state) rest result new.environments
-
--- the events that finish the last line
-abbrev pub closing_events : List PageEvent
-closing_events = Text WordEnd ∷ Text Break ∷ []
+      → TakingDone before.limits t0 start (seen failures told_new.out told_new.err) from (taken_as (t known) state) (behind_all ((t known).effect.events ++ more) h) rest result new.environments

@@ -1,11 +1,15 @@
 -- How far a run of the code has come, as a run of the definition.
-use Rattle.std.specs.Prelude.{◌≡◌, ◌⊎◌, ℕ, ◌+◌, ◌<◌, ◌≤◌, Bool, true, false, List, [], ◌∷◌, length, None, OnOk, Result, Ok, Err}
+use Rattle.std.specs.Prelude.{◌≡◌, ◌⊎◌, ℕ, ◌*◌, ◌+◌, ◌<◌, ◌≤◌, Bool, true, false, if◌then◌else◌, List, [], ◌∷◌, None, OnOk, Result, Ok, Err}
 use Rattle.std.specs.Io.KnownBytes.{Appends}
 use Rattle.roff_num.specs.declared.limit.Limit.{Limit}
 use Rattle.roff_num.specs.declared.limits.Limits.{Limits}
+use Rattle.roff_requests.specs.declared.environments.Environments.{Environments as EnvironmentsOf}
+use Rattle.roff_run.specs.declared.start.Start.{Start}
 use Rattle.roff_source.specs.Tape.{Tape, Item, items_then}
 use Rattle.roff_source.specs.declared.source.ByteSource as byte_source
-use Rattle.roff_scan.specs.Unread.{asks_to_take, looked_then}
+use Rattle.roff_scan.specs.Looking.{is_closed, looked_then}
+use Rattle.roff_scan.specs.declared.looked.Looked.TheVariants.{Nothing}
+use Rattle.roff_scan.specs.Unread.{asks_to_take}
 use Rattle.roff_requests.specs.Environments.Standing.{StandFor}
 use Rattle.roff_engine.specs.declared.formatter.Formatter.{Formatter}
 use Rattle.roff_engine.specs.declared.running.Running.{Running as Coded}
@@ -13,36 +17,57 @@ use Rattle.roff_run.specs.declared.status.Status.{Status}
 use Rattle.roff_run.specs.declared.status.Status.TheVariants.{Device}
 use Rattle.roff_engine.specs.declared.halt.Halt.{Halt}
 use Rattle.roff_engine.specs.declared.halt.Halt.TheVariants.{Limit as Limited, Refused, Output, Messages}
-use Rattle.roff_engine.specs.Engine.Outcome.{Seen, seen, NoSinkFault, IsLeftOf, Reaches, OutputStops, MessagesFail, Outcome}
-use Rattle.roff_pages.specs.Sinks.{Sunk}
+use Rattle.roff_engine.specs.Engine.Outcome.{Beginning, Seen, seen, IsLeftOf, Reaches, OutputStops, MessagesFail, OutcomeOf}
 use Rattle.roff_engine.specs.Formatter.Performing.{Opens, going}
+use Rattle.roff_sinks.specs.Sinks.{Sunk}
 use Rattle.roff_reader.specs.Reader.State.{fresh_reader}
 use Rattle.roff_reader.specs.Reader.Taken.{IsReady}
 use Rattle.roff_run.specs.Reading.Items.{PageUnread}
-use Rattle.roff_run.specs.TurnsToCome.{begun, turns_to_come}
-use Rattle.roff_run.specs.Reading.Ends.{due, line_ends_first}
+use Rattle.roff_run.specs.TurnsToCome.{begun, behind_all, lines_left, phases_left, turns_to_come, turns_within}
 use Rattle.roff_run.specs.declared.line_state.LineState.{LineState}
-use Rattle.roff_run.specs.declared.line_state.LineState.TheVariants.{Exiting}
-use Rattle.roff_escape.specs.OpenEscape.{OpenEscape}
-use Rattle.roff_run.specs.Environments.{PageHistory}
-use Rattle.roff_run.specs.Run.{State, first_unread, escape_ends, input_ended, step, stopped_by, reported}
+use Rattle.roff_run.specs.declared.line_state.LineState.TheVariants.{LineStart, Braced}
+use Rattle.roff_run.specs.declared.phase.Phase.TheVariants.{Closing}
+use Rattle.roff_run.specs.Reading.Ends.{due, is_unfinished}
+use Rattle.roff_run.specs.Environments.{PageHistory, interrupted_line}
+use Rattle.roff_run.specs.Run.{State, first_unread, escape_ends, initial, input_ended, known, known_at, step, stopped_by, reported}
 
 -- the state of a run that reads on, where the source still gives this tape
 abbrev pub state_at : Tape → Coded → PageHistory → List ℕ → State
 state_at tape run h messages =
-    going (looked_then run.unread.looked tape) run.unread.input run.formatter.reader.reading run.formatter.reader.registers.all h messages false []
+    going (looked_then run.unread.looked tape) run.unread.input run.formatter.reader.reading run.formatter.reader.registers.all h messages run.phase (is_closed run.unread.looked) []
 
 -- the end of the input: what is half read ends first, one after another
 abbrev pub input_ends : State → State
-input_ends s = elim s.input.escapes [ [] ↦ input_ended (line_ends_first s.reading) s | first ∷ others ↦ escape_ends s ]
+input_ends s = elim s.input.escapes [ [] ↦ input_ended (is_unfinished s.phase (known s) s.reading) s | first ∷ others ↦ escape_ends s ]
 
--- something is half read where the input ends, or a control line that ends first
-abbrev pub IsEnded : List OpenEscape → LineState → Type 0
-IsEnded half reading = (1 ≤ length half) ⊎ (line_ends_first reading ≡ true)
-
--- how many turns are to come of a run at the most
+-- how many turns are to come of a run beside those of the line that ends with the input, and of phases
 abbrev pub turns_left : Coded → ℕ
 turns_left run = turns_to_come run.unread + begun run.formatter.reader.reading
+
+-- whether an interrupted line is to go on in the environment in force
+abbrev pub lines_left_in : EnvironmentsOf → ℕ
+lines_left_in es = if es.in_force.lines.is_interrupted then 1 else 0
+
+-- what a line that ends with the input counts beside turns: where one begins, one that was interrupted and is to go on
+abbrev pub line_turns : LineState → ℕ → ℕ
+line_turns LineStart left = left
+line_turns Braced left = left
+line_turns (_) left = 2
+
+-- how many turns are to come at the most of a run whose source has no notes
+abbrev pub turns_of_run : Coded → ℕ
+turns_of_run run =
+    4 * turns_left run + line_turns run.formatter.reader.reading (lines_left_in run.formatter.environments) + phases_left run.phase
+
+-- and where it has so many
+abbrev pub turns_with : Coded → ℕ → ℕ
+turns_with run notes = turns_of_run run + 4 * notes
+
+-- the same of a state within so many bytes, once its events are performed
+abbrev pub turns_at : ℕ → State → ℕ
+turns_at bytes s =
+    4 * (turns_within bytes s.input + begun s.reading) + line_turns s.reading (lines_left (interrupted_line (behind_all s.to_do s.history)))
+    + phases_left s.phase
 
 -- a step of the definition does this from the state that the run of the code is at
 abbrev pub StepDoes : (State → State) → Tape → Coded → PageHistory → List ℕ → Type 0
@@ -52,7 +77,7 @@ StepDoes does tape run history messages =
 
 -- The run of the code over the tape t has come as far as one of the definition that reads on, with this tape to come
 -- of the source: it stands for its history, and reads what it reads.
-pub record IsAt (t tape : Tape) (start now : Seen) (run : Coded) : Type 0 where
+pub record IsAt (t : Beginning) (tape : Tape) (start now : Seen) (run : Coded) : Type 0 where
   pub history : PageHistory
   pub messages : List ℕ
   pub reaches : Reaches run.limits t start now (state_at tape run history messages)
@@ -61,7 +86,7 @@ pub record IsAt (t tape : Tape) (start now : Seen) (run : Coded) : Type 0 where
   pub limits : run.unread.limits ≡ run.limits
 
 -- the definition stops at a limit in the step behind a state of this line
-pub record LimitStops (l : Limits) (t left : Tape) (line : ℕ) (limit : Limit) (before now : Seen) : Type 0 where
+pub record LimitStops (l : Limits) (t : Beginning) (left : Tape) (line : ℕ) (limit : Limit) (before now : Seen) : Type 0 where
   pub state : State
   pub reaches : Reaches l t before now state
   pub goes_on : state.ended ≡ None
@@ -70,8 +95,20 @@ pub record LimitStops (l : Limits) (t left : Tape) (line : ℕ) (limit : Limit) 
   pub quiet : state.last_message ≡ []
   pub line_is : state.input.line ≡ line
 
+-- a limit refused what was given to the run, which stops before its first step, at a state of this line in which nothing happened yet
+pub record StartStops (l : Limits) (t : Beginning) (left : Tape) (line : ℕ) (limit : Limit) (before now : Seen) : Type 0 where
+  pub state : State
+  pub stops : initial l t.start t.tape ≡ stopped_by l limit state
+  pub history : state.history ≡ []
+  pub messages : state.messages ≡ []
+  pub source : before.failures ≤ now.failures
+  pub out : now.out ≡ before.out
+  pub err : now.err ≡ before.err
+  pub rest : IsLeftOf left state.tape
+  pub line_is : state.input.line ≡ line
+
 -- the output failed in the step behind a state of this line
-pub record OutputStopsAt (l : Limits) (t left : Tape) (line : ℕ) (before now : Seen) : Type 0 where
+pub record OutputStopsAt (l : Limits) (t : Beginning) (left : Tape) (line : ℕ) (before now : Seen) : Type 0 where
   pub state : State
   pub stops : OutputStops l t before now state
   pub messages : Appends before.err.contents now.err.contents (reported state)
@@ -86,20 +123,20 @@ line_told (Refused limit) line_before line = line_before
 line_told (_) line_before line = line
 
 -- why the run can't go on, before that is reported
-abbrev pub Halts : Limits → Tape → Tape → ℕ → Halt → Seen → Seen → Type 0
+abbrev pub Halts : Limits → Beginning → Tape → ℕ → Halt → Seen → Seen → Type 0
 Halts l t left line (Limited limit) before now = LimitStops l t left line limit before now
-Halts l t left line (Refused limit) before now = LimitStops l t left line limit before now
+Halts l t left line (Refused limit) before now = LimitStops l t left line limit before now ⊎ StartStops l t left line limit before now
 Halts l t left line Output before now = OutputStopsAt l t left line before now
 Halts l t left line Messages before now = MessagesFail l t left Device before now
 
 -- the run goes on, with this tape to come, or it ended, with this tape left
-abbrev pub Continues : Tape → Tape → Seen → Seen → Result (Unit {0}) Status → Coded → Type 0
+abbrev pub Continues : Beginning → Tape → Seen → Seen → Result (Unit {0}) Status → Coded → Type 0
 Continues t tape start now (Ok done) run = IsAt t tape start now run
-Continues t tape start now (Err status) run = Outcome run.limits t tape status start now
+Continues t tape start now (Err status) run = OutcomeOf run.limits t tape status start now
 
 -- The code took an item, and stands behind it; the definition stands before it, at this state, and a step of it
 -- leads to what is done with the item. The byte before stood on this line.
-pub record TookFrom (t tape : Tape) (start now : Seen) (line : ℕ) (does : State → State) (from : State) (run : Coded) : Type 0 where
+pub record TookFrom (t : Beginning) (tape : Tape) (start now : Seen) (line : ℕ) (does : State → State) (from : State) (run : Coded) : Type 0 where
   pub history : PageHistory
   pub messages : List ℕ
   pub reaches : Reaches run.limits t start now from
@@ -112,14 +149,19 @@ pub record TookFrom (t tape : Tape) (start now : Seen) (line : ℕ) (does : Stat
   pub rest : IsLeftOf tape from.tape
 
 -- The code did what is to be done with an item that it took, or has ended: for each state from which a step of the
--- definition leads to that. Where it goes on, the input and what is read are the definition's.
+-- definition leads to that. Where it goes on, as many turns are to come as of the definition's state.
 pub record DoesItem (line : ℕ) (does : State → State) (old new : Coded) (now behind : Seen) (r : Result (Unit {0}) Status) : Type 0 where
   pub limits : new.limits ≡ old.limits
-  pub acts : (t tape : Tape) (start : Seen) (from : State) → TookFrom t tape start now line does from old → Continues t tape start behind r new
-  pub input : (t tape : Tape) (start : Seen) (from : State) → (took : TookFrom t tape start now line does from old)
-      → OnOk r (new.unread.input ≡ (does (state_at tape old took.history took.messages)).input)
-  pub reading : (t tape : Tape) (start : Seen) (from : State) → (took : TookFrom t tape start now line does from old)
-      → OnOk r (new.formatter.reader.reading ≡ (does (state_at tape old took.history took.messages)).reading)
+  pub acts : (t : Beginning) (tape : Tape) (start : Seen) (from : State) → TookFrom t tape start now line does from old → Continues t tape start behind r new
+  pub turns : (t : Beginning) (tape : Tape) (start : Seen) (from : State) → (took : TookFrom t tape start now line does from old)
+      → OnOk r (turns_of_run new ≡ turns_at old.limits.bytes (does (state_at tape old took.history took.messages)))
+
+-- at the end of its input a run goes on: something is half read, or a line unfinished, or it isn't in its last phase
+abbrev pub MayGoOn : Coded → PageHistory → Type 0
+MayGoOn run h =
+    let reading : LineState = run.formatter.reader.reading in
+    run.unread.input.escapes ≡ [] → is_unfinished run.phase (known_at h run.formatter.reader.registers.all run.unread.input) reading ≡ false
+    → run.phase ≡ Closing → ⊥
 
 -- nothing is half read, and the source is asked for what stands in front
 abbrev pub AsksFirst : PageUnread → Type 0
@@ -129,17 +171,17 @@ AsksFirst u = (u.input.escapes ≡ []) × (asks_to_take u ≡ true)
 abbrev pub HasTape : Coded → (Tape → Type 0) → Type 0
 HasTape run gives = (AsksFirst run.unread × (due run.formatter.reader.reading ≡ None)) ⊎ ((tape : Tape) × gives tape)
 
--- a run may end where nothing was looked at that it doesn't take, or it leaves its input
+-- a run may end where nothing was looked at that it doesn't take, or its source is closed
 abbrev pub MayEnd : Coded → Type 0
-MayEnd run = (run.unread.looked ≡ None) ⊎ (run.formatter.reader.reading ≡ Exiting)
+MayEnd run = (run.unread.looked ≡ Nothing) ⊎ (is_closed run.unread.looked ≡ true)
 
 -- What is due was done: the run goes on where nothing is, or has ended. Where nothing was due it stays.
 pub record DoesDue (old new : Coded) (now behind : Seen) (r : Result (Unit {0}) Status) : Type 0 where
   pub limits : new.limits ≡ old.limits
   pub idle : due old.formatter.reader.reading ≡ None → (r ≡ Ok tt) × (new ≡ old)
-  pub does_due : (t tape : Tape) (start : Seen) → IsAt t tape start now old → Continues t tape start behind r new
+  pub does_due : (t : Beginning) (tape : Tape) (start : Seen) → IsAt t tape start now old → Continues t tape start behind r new
   pub none_due : OnOk r (due new.formatter.reader.reading ≡ None)
-  pub turns : OnOk r (turns_left new ≤ turns_left old)
+  pub turns : OnOk r (turns_of_run new ≤ turns_of_run old)
 
 -- The run took items of its source, and goes on or has ended, whatever the source may still give, where a step of the
 -- definition does this; it goes on only so many times, and each message of the source's is one.
@@ -148,10 +190,10 @@ pub record TurnsBy (does : State → State) (gave gives : Tape → Type 0) (note
   pub taken : List Item
   pub before : (tape : Tape) → gives tape → gave (items_then taken tape)
   pub some : HasTape old gave → (tape : Tape) × gives tape
-  pub turns : (t tape : Tape) (start : Seen) → gives tape → (at : IsAt t (items_then taken tape) start now old)
+  pub turns : (t : Beginning) (tape : Tape) (start : Seen) → gives tape → (at : IsAt t (items_then taken tape) start now old)
       → StepDoes does (items_then taken tape) old at.history at.messages → Continues t tape start behind r new
-  pub falls : (t tape : Tape) (start : Seen) → gives tape → (at : IsAt t (items_then taken tape) start now old)
-      → StepDoes does (items_then taken tape) old at.history at.messages → OnOk r (turns_left new + notes < turns_left old + noted)
+  pub falls : (t : Beginning) (tape : Tape) (start : Seen) → gives tape → (at : IsAt t (items_then taken tape) start now old)
+      → StepDoes does (items_then taken tape) old at.history at.messages → OnOk r (turns_with new notes < turns_with old noted)
 
 -- The run took items of its source, and goes on behind them, whatever the source may still give; no more turns are to come.
 pub record GoesPast (gave gives : Tape → Type 0) (noted notes : ℕ) (old new : Coded) (now behind : Seen) : Type 0 where
@@ -159,13 +201,13 @@ pub record GoesPast (gave gives : Tape → Type 0) (noted notes : ℕ) (old new 
   pub taken : List Item
   pub before : (tape : Tape) → gives tape → gave (items_then taken tape)
   pub some : HasTape old gave → HasTape new gives
-  pub past : (t tape : Tape) (start : Seen) → gives tape → IsAt t (items_then taken tape) start now old → IsAt t tape start behind new
-  pub turns : turns_left new + notes ≤ turns_left old + noted
+  pub past : (t : Beginning) (tape : Tape) (start : Seen) → gives tape → IsAt t (items_then taken tape) start now old → IsAt t tape start behind new
+  pub turns : turns_with new notes ≤ turns_with old noted
 
 -- the run went past bytes, and fewer turns are to come where a line begins behind them
 pub record GoesFurther (begins : Bool) (gave gives : Tape → Type 0) (noted notes : ℕ) (old new : Coded) (now behind : Seen) : Type 0 where
   pub past : GoesPast gave gives noted notes old new now behind
-  pub fewer : begins ≡ true → turns_left new + notes < turns_left old + noted
+  pub fewer : begins ≡ true → turns_with new notes < turns_with old noted
 
 -- the same over a source that was at one state and is at another, whatever was written
 abbrev pub GoesPastOver : {S : Type 0} → byte_source.Ghosts S → S → S → Coded → Coded → Type 0
@@ -178,11 +220,11 @@ GoesFurtherOver begins g was is old new =
 
 -- The run of the code has come so far, over a source that might have given the tapes `old` and may now give
 -- the tapes `new`: it took items, and whatever may still come, it is at its place in the run over all of these.
-pub record HasCome (old new : Tape → Type 0) (start now : Seen) (run : Coded) : Type 0 where
+pub record HasCome (given : Start) (old new : Tape → Type 0) (start now : Seen) (run : Coded) : Type 0 where
   pub taken : List Item
   pub before : (tape : Tape) → new tape → old (items_then taken tape)
   pub some : HasTape run new
-  pub at : (tape : Tape) → new tape → IsAt (items_then taken tape) tape start now run
+  pub at : (tape : Tape) → new tape → IsAt (record { start = given; tape = items_then taken tape }) tape start now run
 
 -- before the first item: nothing is read, set or ahead, and the requests have their names
 pub record IsFresh (l : Limits) (f : Formatter) (u : PageUnread) : Type 0 where

@@ -1,14 +1,21 @@
 //! Ends of what is half read, of lines, and of the input.
 
-ghost use Rattle.std.specs.Prelude.{[]};
+ghost use Rattle.std.specs.Prelude.{◌≡◌, []};
 ghost use Rattle.roff_engine.specs.Clauses.{DoesTaking, closing_events, sinks, end_taking};
-ghost use Rattle.roff_engine.specs.Clauses.{escape_ended};
+ghost use Rattle.roff_engine.specs.Clauses.{LineStart, StandFor, Sunk, escape_ended};
+ghost use Rattle.roff_num.specs.declared.limits.Limits.{Limits as LimitsOf};
+ghost use Rattle.roff_run.specs.Output.{PageHistory};
+ghost use Rattle.roff_run.specs.Reading.Calls.{last_called};
+ghost use Rattle.roff_run.specs.Reading.Ends.{is_unfinished};
+ghost use Rattle.roff_run.specs.Reading.Items.{PageInput, PageUnread, going_on, meaning_events};
+ghost use Rattle.roff_run.specs.Registers.{AllRegisters};
+ghost use Rattle.roff_run.specs.Run.{known_at};
 
 use super::Formatter;
 use crate::halt::Halt;
-use roff_pages::ByteSink;
-use roff_run::{PageEvent, Step};
+use roff_run::{PageEvent, Phase, Step};
 use roff_scan::Unread;
+use roff_sinks::ByteSink;
 
 impl Formatter {
     /// Ends what is half read, before a newline that stays or at the end of the input.
@@ -47,24 +54,38 @@ impl Formatter {
         }
     }
 
-    /// The end of the input: an unfinished line ends, and the pending line is placed.
-    pub(crate) fn finish<O: ByteSink, E: ByteSink>(
-        &mut self,
-        unread: &mut Unread<PageEvent>,
-        out: &mut O,
-        err: &mut E,
-    ) -> Result<(), Halt>
-        ensures { DoesTaking (λ k. end_taking k self.old.reader.reading unread.old.input)
-            closing_events self.old self.new unread.old unread.new
-            (sinks (O.sunk out.old) (E.sunk err.old))
-            (sinks (O.sunk out.new) (E.sunk err.new)) result }
+    /// Whether a line is to end where the input does, in this phase of the run.
+    pub(crate) fn is_unfinished(&self, phase: Phase) -> bool
+        ensures { (l : LimitsOf) (h : PageHistory) (rs : AllRegisters) (i : PageInput) → StandFor l h self.now.environments
+            → result ≡ is_unfinished phase (known_at h rs i) self.now.reader.reading }
     {
-        match self.reader.end_line_of_input(&self.environments, unread) {
-            Ok(step) => match self.perform(step, unread.line(), out, err) {
-                Ok(()) => self.perform_line(Step::Break, out),
-                Err(halt) => Err(halt),
-            },
+        let left = match phase {
+            Phase::Reading => self.environments.interrupted_line().is_some(),
+            Phase::LastMacro => self.environments.interrupted_line().is_some(),
+            Phase::Closing => false,
+        };
+        self.reader.is_unfinished(left)
+    }
+
+    /// The last macro is read behind the input, if there is one.
+    pub(crate) fn read_last_macro(&mut self, unread: &mut Unread<PageEvent>) -> Result<(), Halt>
+        ensures { (out err : Sunk) → DoesTaking
+            (λ k. going_on (last_called self.old.reader.registers.all.last_macro unread.old.input) LineStart) []
+            self.old self.new unread.old unread.new (sinks out err) (sinks out err) result }
+    {
+        match self.reader.read_last_macro(unread) {
+            Ok(_) => Ok(()),
             Err(limit) => Err(Halt::Refused(limit)),
         }
+    }
+
+    /// The run closes: the pending line is placed.
+    pub(crate) fn finish<O: ByteSink>(&mut self, out: &mut O) -> Result<(), Halt>
+        ensures { (u : PageUnread) (err : Sunk) → DoesTaking
+            (λ k. meaning_events u.input LineStart closing_events) [] self.old self.new u u
+            (sinks (O.sunk out.old) err) (sinks (O.sunk out.new) err) result }
+    {
+        self.reader.begin_next_line();
+        self.perform_line(Step::Break, out)
     }
 }

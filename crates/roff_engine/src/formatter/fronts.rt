@@ -13,6 +13,7 @@ const MOST_AT_ONCE: usize = 128;
 impl Formatter {
     /// Tells bytes of plain text, of those that stand in front: as many as no limit refuses, and
     /// none that finishes a line. How many they are.
+    #[inline(always)]
     pub(crate) fn text_front(&mut self, front: &[u8]) -> usize
         ensures { TellsFront front.now result self.old self.new }
     {

@@ -9,8 +9,8 @@ use super::Formatter;
 use crate::halt::Halt;
 use crate::report::report;
 use roff_lines::{Event, Glyph};
-use roff_pages::ByteSink;
 use roff_run::{EnvironmentNumber, Message, PageEvent, Step};
+use roff_sinks::ByteSink;
 
 impl Formatter {
     /// Does what an item means that ended on this line of the input: its message is reported, and then

@@ -5,9 +5,9 @@ ghost use Rattle.roff_engine.specs.Clauses.{DoesTaking, sinks, taking};
 
 use super::Formatter;
 use crate::halt::Halt;
-use roff_pages::ByteSink;
 use roff_run::PageEvent;
 use roff_scan::Unread;
+use roff_sinks::ByteSink;
 
 impl Formatter {
     /// Takes a byte that was taken of the unread input.

@@ -10,7 +10,7 @@ ghost use Rattle.roff_engine.specs.Clauses.{PerformsOnly, Text, Space, Puts, Sun
 use super::Formatter;
 use crate::halt::Halt;
 use roff_lines::{Glyph, Line};
-use roff_pages::{Block, ByteSink};
+use roff_sinks::{Block, ByteSink};
 
 impl Formatter {
     /// Prints a glyph behind so many leading blanks.

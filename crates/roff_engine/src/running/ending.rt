@@ -1,19 +1,22 @@
 //! Ends of what is half read, of the input, and of the run.
 
-ghost use Rattle.std.specs.Prelude.{◌≡◌, ℕ, true, None, Result, Err, OnOk};
-ghost use Rattle.roff_run.specs.Run.{end_met, escape_ends, input_ended};
-ghost use Rattle.roff_engine.specs.Clauses.{Outcome, Sunk, Tape, Puts, Seen, seen, message_line};
-ghost use Rattle.roff_engine.specs.Clauses.{ReadFailed, Device};
+ghost use Rattle.std.specs.Prelude.{◌≡◌, ℕ, true, Result, OnOk};
+ghost use Rattle.roff_run.specs.Run.{escape_ends, input_ended, phase_ended};
+ghost use Rattle.roff_engine.specs.Clauses.{OutcomeOf, Sunk, Tape, Puts, Seen, seen, message_line};
+ghost use Rattle.roff_engine.specs.Clauses.{Beginning, ReadFailed, Device, StandFor};
+ghost use Rattle.roff_num.specs.declared.limits.Limits.{Limits as LimitsOf};
+ghost use Rattle.roff_run.specs.Output.{PageHistory};
+ghost use Rattle.roff_run.specs.declared.phase.Phase.TheVariants.{Reading, LastMacro};
 
 use super::Running;
 use crate::halt::Halt;
 use crate::report::report;
-use roff_pages::{ByteSink, SinkFault};
-use roff_run::{Message, Status};
+use roff_run::{Message, Phase, Status};
+use roff_sinks::{ByteSink, SinkFault};
 
 impl Running {
-    ghost use Rattle.roff_engine.specs.Running.Turning.{DoesItem, Halts, IsEnded, MayEnd, input_ends};
-    ghost use Rattle.roff_engine.specs.Running.Turning.{line_told};
+    ghost use Rattle.roff_engine.specs.Running.Turning.{DoesItem, Halts, MayEnd, MayGoOn};
+    ghost use Rattle.roff_engine.specs.Running.Turning.{input_ends, line_told};
 
     /// Ends what is half read, before what stays.
     pub(super) fn end_escape<O: ByteSink, E: ByteSink>(
@@ -32,31 +35,48 @@ impl Running {
         }
     }
 
-    /// The end of the input: what is half read ends first, then a control line, and then the run.
+    /// The end of the input: what is half read ends first, then an unfinished line, and then the phase.
     #[inline(never)]
     pub(super) fn end_input<O: ByteSink, E: ByteSink>(
         &mut self,
         out: &mut O,
         err: &mut E,
     ) -> Result<(), Status>
-        ensures acts { self.old.unread.looked ≡ None → (failures : ℕ)
+        ensures acts { MayEnd self.old → (failures : ℕ)
             → DoesItem self.old.unread.input.line input_ends self.old self.new
             (seen failures (O.sunk out.old) (E.sunk err.old))
             (seen failures (O.sunk out.new) (E.sunk err.new)) result }
-        // It goes on only where something was half read, or a control line.
-        ensures some { OnOk result (IsEnded self.old.unread.input.escapes
-            self.old.formatter.reader.reading) }
+        ensures goes_on { (l : LimitsOf) (h : PageHistory)
+            → StandFor l h self.old.formatter.environments → OnOk result (MayGoOn self.old h) }
     {
         if self.unread.has_open_escape() {
             return self.end_escape(out, err);
         }
-        if self.formatter.reader.line_ends_first() {
+        if self.formatter.is_unfinished(self.phase) {
             return self.end_line(out, err);
         }
-        Err(self.finish(out, err))
+        match self.phase {
+            Phase::Reading => self.read_last_macro(err),
+            Phase::LastMacro => self.finish(out, err),
+            Phase::Closing => Err(Status::Done),
+        }
     }
 
-    /// Ends a control line, with nothing half read.
+    /// Reads the last macro behind the input, if there is one.
+    fn read_last_macro<E: ByteSink>(&mut self, err: &mut E) -> Result<(), Status>
+        requires { self.old.phase ≡ Reading }
+        ensures { (failures : ℕ) (out : Sunk) → DoesItem self.old.unread.input.line (phase_ended Reading)
+            self.old self.new (seen failures out (E.sunk err.old)) (seen failures out (E.sunk err.new)) result }
+    {
+        let line = self.unread.line();
+        self.phase = Phase::LastMacro;
+        match self.formatter.read_last_macro(&mut self.unread) {
+            Ok(()) => Ok(()),
+            Err(halt) => Err(self.halted(halt, line, line, err)),
+        }
+    }
+
+    /// Ends an unfinished line, with nothing half read.
     fn end_line<O: ByteSink, E: ByteSink>(&mut self, out: &mut O, err: &mut E) -> Result<(), Status>
         ensures { (failures : ℕ) → DoesItem self.old.unread.input.line (input_ended true)
             self.old self.new
@@ -70,17 +90,19 @@ impl Running {
         }
     }
 
-    /// Ends the run, with nothing half read: its status.
-    pub(super) fn finish<O: ByteSink, E: ByteSink>(&mut self, out: &mut O, err: &mut E) -> Status
-        ensures { MayEnd self.old → (failures : ℕ)
-            → DoesItem self.old.unread.input.line end_met self.old self.new
+    /// Places the pending line behind the last macro, with nothing half read.
+    fn finish<O: ByteSink, E: ByteSink>(&mut self, out: &mut O, err: &mut E) -> Result<(), Status>
+        requires { self.old.phase ≡ LastMacro }
+        ensures { (failures : ℕ) → DoesItem self.old.unread.input.line (phase_ended LastMacro)
+            self.old self.new
             (seen failures (O.sunk out.old) (E.sunk err.old))
-            (seen failures (O.sunk out.new) (E.sunk err.new)) (Err result) }
+            (seen failures (O.sunk out.new) (E.sunk err.new)) result }
     {
         let line = self.unread.line();
-        match self.formatter.finish(&mut self.unread, out, err) {
-            Ok(()) => Status::Done,
-            Err(halt) => self.halted(halt, line, line, err),
+        self.phase = Phase::Closing;
+        match self.formatter.finish(out) {
+            Ok(()) => Ok(()),
+            Err(halt) => Err(self.halted(halt, line, line, err)),
         }
     }
 
@@ -94,10 +116,11 @@ impl Running {
         line: u32,
         err: &mut E,
     ) -> Status
-        ensures { (t left : Tape) (start : Seen) (failures : ℕ) (out : Sunk)
+        ensures { (t : Beginning) (left : Tape) (start : Seen) (failures : ℕ) (out : Sunk)
             → Halts self.now.limits t left (line_told halt line_before line) halt
             start (seen failures out (E.sunk err.old))
-            → Outcome self.now.limits t left result start (seen failures out (E.sunk err.new)) }
+            → OutcomeOf self.now.limits t left result start
+            (seen failures out (E.sunk err.new)) }
     {
         let told = match halt {
             Halt::Refused(_) => line_before,

@@ -1,11 +1,14 @@
 //! Lines that call bodies.
 
-ghost use Rattle.roff_reader.specs.Clauses.{EnvironmentsOf, TakesAs, call_found, call_unit};
+ghost use Rattle.roff_reader.specs.Clauses.{EnvironmentsOf, LineStart, TakesAs, call_found, call_unit};
+ghost use Rattle.roff_reader.specs.Clauses.{called_by, called_last, going_on, last_called};
+ghost use Rattle.roff_run.specs.declared.request.Called.TheVariants as Called;
 
 use super::Reader;
+use super::control_lines::called_by;
 use roff_num::{Limit, ShortName};
 use roff_requests::Environments;
-use roff_run::{LineState, PageEvent, Step};
+use roff_run::{Called, LineState, PageEvent, Step};
 use roff_scan::{CopyUnit, Found, Unread};
 
 /// How many arguments a body gets that a line calls.
@@ -57,5 +60,49 @@ impl Reader {
             unread.hold(unit)?;
         }
         Ok(self.read_on(LineState::Calling { name }))
+    }
+
+    /// The last macro is read behind the input, if there is one, as the body of a call without arguments.
+    ///
+    /// # Errors
+    ///
+    /// A limit that it would pass; what was changed then is of no more use.
+    pub fn read_last_macro(&mut self, unread: &mut Unread<PageEvent>) -> Result<Step, Limit>
+        ensures { (es : EnvironmentsOf) → TakesAs (λ k. going_on
+            (last_called self.old.registers.all.last_macro unread.old.input) LineStart)
+            es self.old self.new unread.old unread.new result }
+    {
+        match self.registers.last_macro() {
+            None => Ok(self.read_on(LineState::LineStart)),
+            Some(name) => self.read_last(name, unread),
+        }
+    }
+
+    /// What a name stands for is read as the body of a call without arguments, if it is one.
+    fn read_last(&mut self, name: ShortName, unread: &mut Unread<PageEvent>) -> Result<Step, Limit>
+        ensures { (es : EnvironmentsOf) → TakesAs (λ k. going_on
+            (called_last (called_by name unread.old.input.names) unread.old.input) LineStart)
+            es self.old self.new unread.old unread.new result }
+    {
+        match called_by(name, unread) {
+            Called::Body(name) => self.read_last_body(name, unread),
+            Called::Request(_) => Ok(self.read_on(LineState::LineStart)),
+            Called::Nothing => Ok(self.read_on(LineState::LineStart)),
+        }
+    }
+
+    /// The body of a name is read as that of a call without arguments.
+    fn read_last_body(
+        &mut self,
+        name: ShortName,
+        unread: &mut Unread<PageEvent>,
+    ) -> Result<Step, Limit>
+        ensures { (es : EnvironmentsOf) → TakesAs (λ k. going_on
+            (called_last (Called.Body name) unread.old.input) LineStart)
+            es self.old self.new unread.old unread.new result }
+    {
+        unread.begin_arguments();
+        unread.call(&name.name())?;
+        Ok(self.read_on(LineState::LineStart))
     }
 }

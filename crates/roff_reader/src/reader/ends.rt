@@ -3,7 +3,7 @@
 ghost use Rattle.std.specs.Prelude.{Ok};
 ghost use Rattle.roff_reader.specs.Clauses.{EnvironmentsOf, PageUnread, TakesAs, definition_cut};
 ghost use Rattle.roff_reader.specs.Clauses.{end_taking, escape_ended, interrupted_end};
-ghost use Rattle.roff_reader.specs.Clauses.{meaning_events};
+ghost use Rattle.roff_reader.specs.Clauses.{LineStart, meaning_events};
 
 use super::Reader;
 use roff_num::{Limit, ShortName};
@@ -59,15 +59,12 @@ impl Reader {
             environments.now self.old self.new unread.old unread.new result }
     {
         match self.reading {
-            LineState::LineStart => Ok(self.end_interrupted(LineState::LineStart, environments)),
-            LineState::Braced => Ok(self.end_interrupted(LineState::LineStart, environments)),
-            LineState::Control { .. } => Ok(self.end_interrupted(
-                LineState::LineStart,
-                environments,
-            )),
+            LineState::LineStart => Ok(self.end_interrupted(environments)),
+            LineState::Braced => Ok(self.end_interrupted(environments)),
+            LineState::Control { .. } => Ok(self.end_interrupted(environments)),
             LineState::StringName { appends } => {
                 self.end_string_line(appends, unread)?;
-                Ok(self.end_interrupted(LineState::LineStart, environments))
+                Ok(self.end_interrupted(environments))
             }
             LineState::StringText {
                 name,
@@ -76,26 +73,25 @@ impl Reader {
             } => {
                 let end = CopyUnit::Byte(b'\n');
                 self.read_unit_of_string(name, appends, is_front, end, unread)?;
-                Ok(self.end_interrupted(LineState::LineStart, environments))
+                Ok(self.end_interrupted(environments))
             }
-            LineState::Skipping { .. } => Ok(self.end_interrupted(
-                LineState::LineStart,
-                environments,
-            )),
-            LineState::Dropped => Ok(self.end_interrupted(LineState::LineStart, environments)),
-            LineState::Exiting => Ok(self.end_interrupted(LineState::Exiting, environments)),
+            LineState::Deciding { .. } => Ok(self.end_interrupted(environments)),
+            LineState::Skipping { .. } => Ok(self.end_interrupted(environments)),
+            LineState::Dropped => Ok(self.end_interrupted(environments)),
+            LineState::Told { .. } => Ok(self.end_interrupted(environments)),
+            LineState::Exiting => Ok(self.end_interrupted(environments)),
             LineState::Defining { name, .. } => Ok(self.drop_definition(name, unread)),
             _ => self.read_undropped(b'\n', environments, unread),
         }
     }
 
-    /// An interrupted line that no text line went on with ends, and this is read.
-    fn end_interrupted(&mut self, behind: LineState, environments: &Environments) -> Step
+    /// An interrupted line that no text line went on with ends, and a line begins.
+    fn end_interrupted(&mut self, environments: &Environments) -> Step
         ensures { (u : PageUnread) → TakesAs
-            (λ k. meaning_events u.input behind (interrupted_end k.interrupted))
+            (λ k. meaning_events u.input LineStart (interrupted_end k.interrupted))
             environments.now self.old self.new u u (Ok result) }
     {
-        self.reading = behind;
+        self.reading = LineState::LineStart;
         match environments.interrupted_line() {
             None => Step::Nothing,
             Some(line) => {

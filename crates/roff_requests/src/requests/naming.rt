@@ -1,11 +1,13 @@
-//! Renaming strings, macros and requests.
+//! Renaming strings, macros and requests, and the macro that is read last.
 
 ghost use Rattle.std.specs.Prelude.{◌≡◌, ℕ, List, slice_get};
 ghost use Rattle.std.specs.Option.{option_copied};
 ghost use Rattle.roff_requests.specs.Request.Coded.{response_of};
-ghost use Rattle.roff_run.specs.Requests.Naming.{rename};
+ghost use Rattle.roff_run.specs.Requests.Naming.{end_macro, rename};
 
+use crate::registers::Change;
 use crate::requests::{Changes, Response, name_given, register_named};
+use roff_num::ShortName;
 
 /// `rn`: what a name stands for goes to another one.
 pub(super) fn rename(first: Option<&[u8]>, second: Option<&[u8]>) -> Response
@@ -20,4 +22,16 @@ pub(super) fn rename(first: Option<&[u8]>, second: Option<&[u8]>) -> Response
         },
         _ => Response::unsaid(),
     }
+}
+
+/// `em`: this is the macro that is read behind the input; without a name there is none.
+pub(super) fn end_macro(first: Option<&[u8]>) -> Response
+    ensures { (as_given : List (List ℕ)) → option_copied first.entry ≡ slice_get as_given 0
+        → response_of as_given result ≡ end_macro as_given }
+{
+    let name = match first {
+        Some(text) => ShortName::of(text),
+        None => None,
+    };
+    Response::changing(Changes::One(Change::ReadLast(name)))
 }

@@ -1,5 +1,5 @@
 -- Lines that call bodies: strings and macros (manual, sections 7.2 and 7.3).
-use Rattle.std.specs.Prelude.{nat_le, length, if◌then◌else◌, ◌==◌}
+use Rattle.std.specs.Prelude.{Option, Some, None, nat_le, length, if◌then◌else◌, ◌==◌}
 use Rattle.roff_source.specs.Bytes.{newline, quote}
 use Rattle.roff_ahead.specs.Input.Names.{body_named}
 use Rattle.roff_ahead.specs.Input.Calls.{calling_body}
@@ -15,7 +15,11 @@ use Rattle.roff_num.specs.ShortNames.{name_bytes}
 use Rattle.roff_run.specs.declared.line_state.LineState.{LineState}
 use Rattle.roff_run.specs.declared.line_state.LineState.TheVariants.{LineStart, Branch, Braced, Text as InText, Calling}
 use Rattle.roff_num.specs.declared.short_name.ShortName.{ShortName}
+use Rattle.roff_run.specs.declared.request.Called.{Called}
+use Rattle.roff_run.specs.declared.request.Called.TheVariants.{Request as ARequest, Body as ABody, Nothing as Unknown}
 use Rattle.roff_run.specs.Registers.{Known}
+use Rattle.roff_run.specs.Requests.{called_by}
+use Rattle.roff_ahead.specs.Input.{without_arguments}
 
 -- the arguments of a call are held up to the ninth
 abbrev pub holding_call : CopyUnit → PageInput → PageInput
@@ -34,6 +38,17 @@ abbrev pub call_found : Known → PageInput → ShortName → Found → Taking
 call_found k i name (Unit unit) = call_unit i name unit
 call_found k i name (Escape b) = call_unit i name (Kept b)
 call_found k i name found = no_unit_found k (settling i) (Calling name) found
+
+-- what a name stands for is read as the body of a call without arguments, if it is one
+abbrev pub called_last : Called → PageInput → PageInput
+called_last (ABody name) i = calling_body (body_named (name_bytes name) i) (without_arguments i)
+called_last (ARequest request) i = i
+called_last Unknown i = i
+
+-- and so is the last macro, if there is one
+abbrev pub last_called : Option ShortName → PageInput → PageInput
+last_called None i = i
+last_called (Some name) i = called_last (called_by name i.names) i
 
 -- what is read behind the end of a body that a line called: a line begins, unless a control line is being read
 abbrev pub behind_return : LineState → LineState

@@ -1,7 +1,9 @@
--- Removing and renaming strings, macros and requests (manual, section 7).
+-- Removing and renaming strings, macros and requests, and the macro that is read last (manual, section 7).
 use Rattle.std.specs.Prelude.{ℕ, List, [], ◌∷◌, map}
 use Rattle.roff_store.specs.TextCalls.{Call, Remove, Rename}
-use Rattle.roff_run.specs.Requests.Effects.{Response, Ignored, naming}
+use Rattle.roff_num.specs.ShortNames.{name_at, name_or_none}
+use Rattle.roff_run.specs.Registers.{ReadLast}
+use Rattle.roff_run.specs.Requests.Effects.{Response, Ignored, changing, naming}
 use Rattle.roff_run.specs.Requests.Numbering.{if_named, name_given, names_given}
 
 -- names go, one after another
@@ -17,3 +19,7 @@ abbrev pub rename : List (List ℕ) → Response
 rename [] = Ignored []
 rename (from ∷ []) = Ignored []
 rename (from ∷ to ∷ others) = if_named from (if_named to (naming (Rename (name_given from) (name_given to) ∷ [])))
+
+-- `em`: this is the macro that is read behind the input; without a name there is none
+abbrev pub end_macro : List (List ℕ) → Response
+end_macro as_given = changing (ReadLast (name_or_none (name_at 0 as_given)))

@@ -34,6 +34,10 @@ first_passed l (c ∷ cs) = if nat_lt (value_of l c.0) c.1 then Some c.0 else fi
 abbrev pub refusal : Limits → PageHistory → PageEvent → Option Limit
 refusal l h e = first_passed l (counts h e)
 
+-- the names that registers have count, as they are behind a change
+abbrev pub names_counted : AllRegisters → List (Limit × ℕ)
+names_counted rs = (Names, length rs.named) ∷ []
+
 -- What a step may make grow, as it is behind the step, in the order in which it is looked at: names, the store's bytes and the texts
 -- in the making come before what stands in front. One text may be made beside the diversions: that of a string or a macro.
 abbrev pub counts_in : AllRegisters → PageInput → List (Limit × ℕ)

@@ -1,10 +1,11 @@
 -- What calls tell that take, see or pass over what is unread.
-use Rattle.std.specs.Prelude.{◌≡◌, ℕ, ◌+◌, ◌≤◌, ◌==◌, false, List, [], ◌∷◌, ◌++◌, length, map, take, Option, Some, None}
+use Rattle.std.specs.Prelude.{◌≡◌, ℕ, ◌+◌, ◌≤◌, ◌==◌, false, List, [], ◌∷◌, ◌++◌, length, map, take}
 use Rattle.std.specs.List.{AllByRecursion}
 use Rattle.roff_source.specs.Bytes.{newline}
 use Rattle.roff_escape.specs.ConditionFronts.{HalvesTaken}
 use Rattle.roff_ahead.specs.Input.{Ahead, ByteAhead, EndAhead, ReturnAhead, bytes_taken, item_taken, leading, lines_taken}
 use Rattle.roff_source.specs.Tape.{Tape, Answer, OneByte, items_then}
+use Rattle.roff_scan.specs.Looking.{Looked, Nothing, Byte, Closed}
 use Rattle.roff_scan.specs.Unread.{Unread, Asked, Stays, asks_to_take, asks_to_look, taking, looking}
 use Rattle.roff_ahead.specs.Shown.{Shown, Sighted}
 
@@ -21,12 +22,13 @@ pub record Looks {E : Type 0} (old new : Tape → Type 0) (before after : Unread
   pub seen : (sight, after) ≡ looking answer before
 
 -- the bytes of the source that come next: those that stand ready, where none was looked at
-abbrev pub ready_behind : Option ℕ → List ℕ → List ℕ
-ready_behind None ready = ready
-ready_behind (Some b) ready = []
+abbrev pub ready_behind : Looked → List ℕ → List ℕ
+ready_behind Nothing ready = ready
+ready_behind (Byte b) ready = []
+ready_behind (Closed kept) ready = []
 
 -- the bytes that come next: those ahead up to the first other item, or where nothing is ahead those of the source
-abbrev pub next_bytes : {E : Type 0} → List (Ahead E) → Option ℕ → List ℕ → List ℕ
+abbrev pub next_bytes : {E : Type 0} → List (Ahead E) → Looked → List ℕ → List ℕ
 next_bytes [] looked ready = ready_behind looked ready
 next_bytes (item ∷ items) looked ready = leading (item ∷ items)
 
@@ -47,7 +49,7 @@ NoNewline bytes = AllByRecursion (λ b. (b == newline) ≡ false) bytes
 -- there is such a tape.
 pub record PassesSource {E : Type 0} (old new : Tape → Type 0) (bytes : List ℕ) (before after : Unread E) : Type 0 where
   pub ahead : before.input.ahead ≡ []
-  pub looked : before.looked ≡ None
+  pub looked : before.looked ≡ Nothing
   pub in_front : (t : Tape) → new t → old (items_then (map OneByte bytes) t)
   pub some : (t : Tape) × new t
   pub input : after ≡ record before { input = lines_taken bytes before.input }

@@ -1,10 +1,12 @@
 //! Bytes that stand in front, as they lie together.
 
-ghost use Rattle.std.specs.Prelude.{true, false, ◌≡◌, ◌≤◌, length, None, take};
+ghost use Rattle.std.specs.Prelude.{true, false, ◌≡◌, ◌≤◌, length, take};
+ghost use Rattle.roff_scan.specs.Looking.{Nothing};
 ghost use Rattle.roff_scan.specs.Unread.Calls.{next_bytes};
 ghost use Rattle.roff_ahead.specs.Input.{is_none_ahead};
 
 use super::Unread;
+use crate::looked::Looked;
 use roff_ahead::InputAhead;
 use roff_source::{ByteSource, at_most, newlines_among};
 
@@ -111,7 +113,7 @@ impl<E: Copy> Unread<E> {
 #[inline]
 pub(super) fn front_of<'a, E: Copy, S: ByteSource>(
     input_ahead: &'a InputAhead<E>,
-    looked: Option<u8>,
+    looked: Looked,
     source: &'a S,
     most: usize,
 ) -> &'a [u8]
@@ -120,13 +122,13 @@ pub(super) fn front_of<'a, E: Copy, S: ByteSource>(
     ensures among { length result.now
         ≤ length (next_bytes input_ahead.now.ahead looked (S.ready source.now)) }
     ensures few { length result.now ≤ most }
-    ensures whole { is_none_ahead input_ahead.now.ahead ≡ true → looked ≡ None
+    ensures whole { is_none_ahead input_ahead.now.ahead ≡ true → looked ≡ Nothing
         → result.now ≡ take most (S.ready source.now) }
 {
     if !input_ahead.is_empty() {
         return at_most(input_ahead.front(), most);
     }
-    if looked.is_some() {
+    if !looked.is_nothing() {
         return &[];
     }
     at_most(source.buffered(), most)

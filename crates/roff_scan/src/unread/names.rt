@@ -10,6 +10,7 @@ use roff_num::{Limit, Name};
 use roff_store::{Entry, Kind};
 
 impl<E: Copy> Unread<E> {
+    ghost use Rattle.roff_scan.specs.Looking.{Nothing};
     ghost use Rattle.roff_scan.specs.Unread.{changing};
     ghost use Rattle.roff_store.specs.TextCalls.{Open, Remove, Rename, Set};
 

@@ -10,6 +10,7 @@ use super::results::drop_results;
 use roff_num::{Limit, Name};
 
 impl<E: Copy> Unread<E> {
+    ghost use Rattle.roff_scan.specs.Looking.{closing};
     ghost use Rattle.roff_scan.specs.Unread.{changing};
 
     /// Whether as many pushed texts haven't ended as may be.
@@ -77,10 +78,14 @@ impl<E: Copy> Unread<E> {
         self.input_ahead.free(bytes);
     }
 
-    /// Drops all that stands ahead of the source. That costs nothing.
+    /// Drops all that stands ahead of the source, of which nothing more is taken. That costs nothing.
     pub fn leave(&mut self)
-        ensures change { self.new ≡ record self.old { input = leaving self.old.input } }
+        ensures change { self.new ≡ record self.old {
+          input = leaving self.old.input;
+          looked = closing self.old.looked;
+        } }
     {
+        self.looked = self.looked.closing();
         self.input_ahead.clear();
         self.calls.clear();
         drop_results(&mut self.results, 1);

@@ -169,7 +169,7 @@ impl<E: Copy> Unread<E> {
         if !self.input_ahead.is_empty() {
             return 0;
         }
-        if self.looked.is_some() {
+        if !self.looked.is_nothing() {
             return 0;
         }
         let room = self.limits.store as usize - self.input_ahead.stored();

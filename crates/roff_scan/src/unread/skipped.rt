@@ -57,7 +57,7 @@ impl<E: Copy> Unread<E> {
         ensures notes { S.notes source.new ≤ S.notes source.old }
         ensures failures { S.failures source.new ≡ S.failures source.old }
     {
-        if self.looked.is_some() {
+        if !self.looked.is_nothing() {
             return false;
         }
         match source.buffered() {

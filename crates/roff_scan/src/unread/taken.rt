@@ -8,22 +8,25 @@ ghost use Rattle.roff_ahead.specs.Input.{is_none_ahead, counting};
 
 use super::Unread;
 use super::calls::end_call;
+use crate::looked::Looked;
 use roff_ahead::{Item, Sight};
 use roff_num::Limit;
 use roff_source::{ByteSource, Taken};
 
 impl<E: Copy> Unread<E> {
     ghost use Rattle.roff_ahead.specs.Shown.{shown, ShowsByte, ShowsNote, ShowsEnding};
+    ghost use Rattle.roff_scan.specs.Looking.{Nothing, is_closed};
     ghost use Rattle.roff_scan.specs.Unread.{taking, taking_answer};
     ghost use Rattle.roff_ahead.specs.Shown.{sighted, SeesNote, SeesEnding};
     ghost use Rattle.roff_scan.specs.Unread.Calls.{Takes, Looks};
 
     /// Takes the item in front. The source is asked where nothing is ahead and no byte was looked
-    /// at.
+    /// at; a closed one is never asked, and has ended.
     #[inline(always)]
     pub fn take<S: ByteSource>(&mut self, source: &mut S) -> Item<E>
         ensures takes { Takes (S.gives source.old) (S.gives source.new) self.old self.new
             (shown result) }
+        ensures closed { is_closed self.old.looked ≡ true → source.new ≡ source.old }
         ensures notes { S.notes source.new ≤ S.notes source.old }
         ensures note { (m : _) → shown result ≡ ShowsNote m
             → S.notes source.new < S.notes source.old }
@@ -34,15 +37,16 @@ impl<E: Copy> Unread<E> {
         if !self.input_ahead.is_empty() {
             return self.take_ahead();
         }
-        if let Some(byte) = self.looked {
-            return self.take_byte(byte);
-        }
-        match source.next_byte() {
-            Taken::Byte(byte) => self.take_byte(byte),
-            Taken::Note(note) => Item::Note(note),
-            Taken::End => Item::SourceEnd,
-            Taken::Fault => Item::Fault,
-            Taken::Stop(limit) => Item::Stop(limit),
+        match self.looked {
+            Looked::Nothing => match source.next_byte() {
+                Taken::Byte(byte) => self.take_byte(byte),
+                Taken::Note(note) => Item::Note(note),
+                Taken::End => Item::SourceEnd,
+                Taken::Fault => Item::Fault,
+                Taken::Stop(limit) => Item::Stop(limit),
+            },
+            Looked::Byte(byte) => self.take_byte(byte),
+            Looked::Closed(_) => Item::SourceEnd,
         }
     }
 
@@ -63,16 +67,19 @@ impl<E: Copy> Unread<E> {
         if self.limits.bytes == self.charge {
             return None;
         }
-        if let Some(byte) = self.looked {
-            self.count(byte);
-            return Some(byte);
-        }
-        match source.ready_byte() {
-            None => None,
-            Some(byte) => {
+        match self.looked {
+            Looked::Nothing => match source.ready_byte() {
+                None => None,
+                Some(byte) => {
+                    self.count(byte);
+                    Some(byte)
+                }
+            },
+            Looked::Byte(byte) => {
                 self.count(byte);
                 Some(byte)
             }
+            Looked::Closed(_) => None,
         }
     }
 
@@ -148,7 +155,7 @@ impl<E: Copy> Unread<E> {
         ensures notes { S.notes source.new ≤ S.notes source.old }
         ensures failures { S.failures source.new ≡ S.failures source.old }
     {
-        if self.looked.is_some() {
+        if !self.looked.is_nothing() {
             return None;
         }
         match source.buffered() {
@@ -171,7 +178,7 @@ impl<E: Copy> Unread<E> {
         ensures takes { (shown result, self.new) ≡ taking_answer (Gives (OneByte byte)) self.old }
     {
         if self.charge >= self.limits.bytes {
-            self.looked = Some(byte);
+            self.looked = Looked::Byte(byte);
             return Item::Refused(Limit::Bytes);
         }
         self.count(byte);
@@ -183,9 +190,9 @@ impl<E: Copy> Unread<E> {
     pub(super) fn count(&mut self, byte: u8)
         requires { self.old.input.charge < self.old.limits.bytes }
         ensures counts { self.new
-            ≡ record self.old { input = counting byte self.old.input; looked = None } }
+            ≡ record self.old { input = counting byte self.old.input; looked = Nothing } }
     {
-        self.looked = None;
+        self.looked = Looked::Nothing;
         self.line = self.newlines + 1;
         self.charge += 1;
         if byte == b'\n' {
@@ -216,11 +223,12 @@ impl<E: Copy> Unread<E> {
     }
 
     /// Looks at the first byte behind any ends of texts. The source is asked where none stands
-    /// ahead and no byte was looked at.
+    /// ahead and no byte was looked at; a closed one is never asked.
     #[inline(never)]
     pub fn look<S: ByteSource>(&mut self, source: &mut S) -> Sight
         ensures looks { Looks (S.gives source.old) (S.gives source.new) self.old self.new
             (sighted result) }
+        ensures closed { is_closed self.old.looked ≡ true → source.new ≡ source.old }
         ensures notes { S.notes source.new ≤ S.notes source.old }
         ensures note { (m : _) → sighted result ≡ SeesNote m
             → S.notes source.new < S.notes source.old }
@@ -231,18 +239,19 @@ impl<E: Copy> Unread<E> {
         if let Some(sight) = self.input_ahead.seen() {
             return sight;
         }
-        if let Some(byte) = self.looked {
-            return Sight::Byte(byte);
-        }
-        match source.next_byte() {
-            Taken::Byte(byte) => {
-                self.looked = Some(byte);
-                Sight::Byte(byte)
-            }
-            Taken::Note(note) => Sight::Note(note),
-            Taken::End => Sight::SourceEnd,
-            Taken::Fault => Sight::Fault,
-            Taken::Stop(limit) => Sight::Stop(limit),
+        match self.looked {
+            Looked::Nothing => match source.next_byte() {
+                Taken::Byte(byte) => {
+                    self.looked = Looked::Byte(byte);
+                    Sight::Byte(byte)
+                }
+                Taken::Note(note) => Sight::Note(note),
+                Taken::End => Sight::SourceEnd,
+                Taken::Fault => Sight::Fault,
+                Taken::Stop(limit) => Sight::Stop(limit),
+            },
+            Looked::Byte(byte) => Sight::Byte(byte),
+            Looked::Closed(_) => Sight::SourceEnd,
         }
     }
 }

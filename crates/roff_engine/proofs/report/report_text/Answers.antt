@@ -1,7 +1,7 @@
 use Rattle.std.proofs.Common.{[], ◌∷◌}
 use Rattle.roff_run.specs.Messages.{text_told}
 use Rattle.roff_source.specs.Bytes.{newline}
-use Rattle.roff_pages.proofs.Appending.{Fails-front, Puts-behind}
+use Rattle.roff_sinks.proofs.Appending.{Fails-front, Puts-behind}
 use Rattle.roff_engine.proofs.report.report_text.Goals as goal
 
 pub returns-in-Ok : goal.returns-in-Ok

@@ -1,6 +1,6 @@
 use Rattle.std.proofs.Common.{rules, ◌≡◌, ◌∙◌, ◌-◌, ◌≤◌, ap, arith, length, refl, sym}
 use Rattle.std.proofs.lemmas.Bool.Decides.{nat_tests}
-use Rattle.roff_pages.specs.Devices.{seen}
+use Rattle.roff_sinks.specs.Devices.{seen}
 use Rattle.tbl_layout.specs.declared.limits.TblLimits.{TblLimits}
 use Rattle.tbl_core.specs.NotesLeft.{notes_left}
 use Rattle.tbl_run.proofs.Fronts.{front-pending, front_falls, front_goes_on, front_has_ended, front_room, front_some, given_fewer}

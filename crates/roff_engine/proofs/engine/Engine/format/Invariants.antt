@@ -1,15 +1,15 @@
-use Rattle.std.proofs.Common.{◌≡◌, ◌+◌}
+use Rattle.std.proofs.Common.{◌≡◌}
 use Rattle.roff_engine.specs.Engine.Outcome.{seen}
-use Rattle.roff_engine.specs.Running.Turning.{HasCome, turns_left}
+use Rattle.roff_engine.specs.Running.Turning.{HasCome, turns_with}
 use Rattle.roff_engine.proofs.engine.Engine.format.Given as goal
 
 abbrev pub invariant-loop-running : goal.invariant-loop-running
 invariant-loop-running g l = record {
-  come : HasCome (g.S.ByteSource.gives l.initial.source) (g.S.ByteSource.gives l.source)
-      (seen (g.S.ByteSource.failures l.initial.source) (g.O.ByteSink.sunk l.initial.out) (g.E.ByteSink.sunk l.initial.err))
+  come : HasCome l.fn.self.start (g.S.ByteSource.gives l.fn.source) (g.S.ByteSource.gives l.source)
+      (seen (g.S.ByteSource.failures l.fn.source) (g.O.ByteSink.sunk l.fn.out) (g.E.ByteSink.sunk l.fn.err))
       (seen (g.S.ByteSource.failures l.source) (g.O.ByteSink.sunk l.out) (g.E.ByteSink.sunk l.err)) l.running;
-  limits : l.running.limits ≡ l.fn.self;
+  limits : l.running.limits ≡ l.fn.self.limits;
 }
 
 abbrev pub decreases-loop-running : goal.decreases-loop-running
-decreases-loop-running g l = turns_left l.running + g.S.ByteSource.notes l.source
+decreases-loop-running g l = turns_with l.running (g.S.ByteSource.notes l.source)

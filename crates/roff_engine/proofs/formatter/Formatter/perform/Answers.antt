@@ -4,8 +4,8 @@ use Rattle.roff_run.specs.declared.event.PageEvent.{PageEvent}
 use Rattle.roff_run.specs.declared.message.Message.{Message}
 use Rattle.roff_engine.specs.declared.halt.Halt.{Halt}
 use Rattle.roff_engine.specs.Formatter.Performing.{DoesMeaning, sinks}
-use Rattle.roff_pages.specs.Sinks.{Puts}
-use Rattle.roff_pages.proofs.Appending.{Writes-nothing}
+use Rattle.roff_sinks.specs.Sinks.{Puts}
+use Rattle.roff_sinks.proofs.Appending.{Writes-nothing}
 use Rattle.roff_engine.proofs.NamedSteps.{named-events, named-quiet}
 use Rattle.roff_engine.proofs.Performed.{told_then_performed}
 use Rattle.roff_engine.proofs.formatter.Formatter.perform.Goals as goal

@@ -1,13 +1,18 @@
-use Rattle.std.proofs.Common.{◌≡◌, ◌+◌, ◌++◌, [], ◌∷◌, rules, ap, sym, ◌∙◌}
+use Rattle.std.proofs.Common.{◌≡◌, ◌+◌, ◌++◌, List, [], ◌∷◌, refl, rules, ap, subst, sym, ◌∙◌}
 use Rattle.std.specs.Prelude.{drop, slice_get}
 use Rattle.roff_reader.specs.Reader.State.{ReaderState}
+use Rattle.roff_engine.specs.Engine.Outcome.{seen}
+use Rattle.roff_engine.specs.Formatter.Performing.{AllPerformed}
+use Rattle.roff_run.specs.Output.{PageHistory}
+use Rattle.roff_run.specs.TurnsToCome.{behind_all}
+use Rattle.roff_run.specs.declared.event.PageEvent.{PageEvent}
 use Rattle.roff_engine.proofs.EventsLeft.{drop-at, drop-past}
 use Rattle.roff_engine.proofs.Performed.{performs_halted}
 use Rattle.roff_engine.proofs.formatter.Formatter.perform_each.Goals as goal
 
 pub loop-event-init : goal.loop-event-init
 loop-event-init g c = record {
-  performed = λ k t before failures err s h rest stood reached. record { history = h; reaches = reached; stands = stood };
+  performed = λ k t before failures err s h rest stood reached. (h, refl, record { reaches = reached; stands = stood });
   reader = search rules;
 }
 
@@ -19,8 +24,11 @@ loop-event-preserved g c =
     let there = ap (λ (r : ReaderState). slice_get r.meaning.events n) (sym so_far.reader) in
     let opened : drop n events ≡ c.in-Some.event ∷ drop (n + 1) events = drop-at events n c.in-Some.event (there ∙ sym c.event.ensures.at ∙ c.in-Some.is) in record {
       performed = λ k t before failures err s h rest stood reached.
-          let now = so_far.performed k t before failures err s h rest stood reached in
-          c.in-Ok.ensures.events_performed.performs k t before failures err s now.history (drop (n + 1) events ++ rest) now.stands (rw opened at now.reaches);
+          let now = so_far.performed k t before failures err s h rest stood reached in (
+            c.in-Some.event ∷ now.0,
+            ap (λ (left : List PageEvent). behind_all left now.0) (sym opened) ∙ now.1,
+            c.in-Ok.ensures.events_performed.performs k t before failures err s now.0 (drop (n + 1) events ++ rest) now.2.stands (rw opened at now.2.reaches),
+          );
       reader = c.perform_event.ensures.reader ∙ so_far.reader;
     }
 
@@ -34,8 +42,8 @@ returns-in-Err g c =
       events_performed = record {
         performs = λ l t before failures err s h rest stood reached.
             let now = so_far.performed l t before failures err s h rest stood reached in
-            performs_halted l t before _ s (drop (n + 1) events ++ rest) rest c.in-Err.halt _ _
-            (c.in-Err.ensures.events_performed.performs l t before failures err s now.history (drop (n + 1) events ++ rest) now.stands (rw opened at now.reaches));
+            performs_halted l t before _ s (c.in-Some.event ∷ now.0) (behind_all events h) (drop (n + 1) events ++ rest) rest c.in-Err.halt _ _
+            (c.in-Err.ensures.events_performed.performs l t before failures err s now.0 (drop (n + 1) events ++ rest) now.2.stands (rw opened at now.2.reaches));
       };
       reader = c.perform_event.ensures.reader ∙ so_far.reader;
     }
@@ -48,7 +56,10 @@ returns g c =
     let there = ap (λ (r : ReaderState). slice_get r.meaning.events n) (sym so_far.reader) in
     let closed : drop n events ≡ [] = drop-past events n (there ∙ sym c.event.ensures.at ∙ c.in_default.is) in record {
       events_performed = record {
-        performs = λ l t before failures err s h rest stood reached. rw closed at (so_far.performed l t before failures err s h rest stood reached);
+        performs = λ l t before failures err s h rest stood reached.
+            let now = so_far.performed l t before failures err s h rest stood reached in
+            let all : now.0 ≡ behind_all events h = ap (λ (left : List PageEvent). behind_all left now.0) (sym closed) ∙ now.1 in
+            subst (λ (behind : PageHistory). AllPerformed l t before (seen failures (g.O.ByteSink.sunk c.loop-event.out) err) s behind rest c.loop-event.self.environments) all (rw closed at now.2);
       };
       reader = so_far.reader;
     }

@@ -17,4 +17,4 @@ returns-in-Output g c = λ t left before failures out halts.
     inr (inl (output_reported _ t left _ before failures out _ _ c.report.result (rw c.in-Output.is at halts) c.report.ensures))
 
 pub returns-in-Messages : goal.returns-in-Messages
-returns-in-Messages g c = λ t left before failures out halts. inr (inr (rw c.in-Messages.is at halts))
+returns-in-Messages g c = λ t left before failures out halts. inr (inr (inl (rw c.in-Messages.is at halts)))

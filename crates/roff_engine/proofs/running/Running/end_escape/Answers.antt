@@ -1,4 +1,4 @@
-use Rattle.std.proofs.Common.{[], false, refl}
+use Rattle.std.proofs.Common.{[], refl}
 use Rattle.roff_run.specs.Run.{escape_ends}
 use Rattle.roff_run.specs.Reading.{escape_ended}
 use Rattle.roff_run.specs.Registers.{Known}
@@ -9,12 +9,12 @@ pub returns-in-Ok : goal.returns-in-Ok
 returns-in-Ok g c = λ failures.
     let old = c.args.self.now in
     taking_acts (λ (k : Known). escape_ended k old.formatter.reader.reading old.unread.input)
-    escape_ends [] _ old _ failures (λ tape h messages. refl) refl c.in-Ok.ensures
+    escape_ends old.phase [] _ old _ failures (λ tape h messages. refl) refl refl c.in-Ok.ensures
 
 pub returns-in-Err : goal.returns-in-Err
 returns-in-Err g c = λ failures.
     let old = c.args.self.now in
     halted_acts (λ (k : Known). escape_ended k old.formatter.reader.reading old.unread.input)
-    escape_ends false [] _ old (λ tape h messages. refl) _ failures c.in-Err.halt _ _ old.unread.input.line refl
+    escape_ends old.phase [] _ old (λ tape h messages. refl) _ failures c.in-Err.halt _ _ old.unread.input.line refl
     (λ k. line-escape_ended k old.formatter.reader.reading old.unread.input)
     c.in-Err.ensures (λ t left start halts. c.halted.ensures t left start failures _ (rw c.line-line.ensures halts))

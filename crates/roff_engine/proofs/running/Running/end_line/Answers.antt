@@ -1,4 +1,4 @@
-use Rattle.std.proofs.Common.{[], true, false, refl}
+use Rattle.std.proofs.Common.{[], true, refl}
 use Rattle.roff_run.specs.Run.{input_ended}
 use Rattle.roff_run.specs.Reading.Ends.{end_taking}
 use Rattle.roff_run.specs.Registers.{Known}
@@ -10,12 +10,12 @@ pub returns-in-Ok : goal.returns-in-Ok
 returns-in-Ok g c = λ failures.
     let old = c.args.self.now in
     taking_acts (λ (k : Known). end_taking k old.formatter.reader.reading old.unread.input)
-    (input_ended true) [] _ old _ failures (λ tape h messages. refl) refl c.in-Ok.ensures
+    (input_ended true) old.phase [] _ old _ failures (λ tape h messages. refl) refl refl c.in-Ok.ensures
 
 pub returns-in-Err : goal.returns-in-Err
 returns-in-Err g c = λ failures.
     let old = c.args.self.now in
     halted_acts (λ (k : Known). end_taking k old.formatter.reader.reading old.unread.input)
-    (input_ended true) false [] _ old (λ tape h messages. refl) _ failures c.in-Err.halt _ _ old.unread.input.line refl
+    (input_ended true) old.phase [] _ old (λ tape h messages. refl) _ failures c.in-Err.halt _ _ old.unread.input.line refl
     (λ k. (Keeps-end_taking k old.formatter.reader.reading old.unread.input).line)
     c.in-Err.ensures (λ t left start halts. c.halted.ensures t left start failures _ (rw c.line-line.ensures halts))

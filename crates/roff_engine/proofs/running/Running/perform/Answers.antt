@@ -1,4 +1,4 @@
-use Rattle.std.proofs.Common.{[], ◌∷◌, false, refl, sym, ◌∙◌}
+use Rattle.std.proofs.Common.{[], ◌∷◌, refl, sym, ◌∙◌}
 use Rattle.roff_ahead.specs.Input.{DoAhead}
 use Rattle.roff_run.specs.Run.{ahead_taken}
 use Rattle.roff_engine.proofs.Acting.{taking_acts, halted_acts, event_taking, event_does, event_meant, line-interrupted}
@@ -8,14 +8,14 @@ pub returns-in-Ok : goal.returns-in-Ok
 returns-in-Ok g c = λ failures.
     let old = c.args.self.now in
     taking_acts (event_taking old.formatter.reader.reading old.unread.input)
-    (ahead_taken (DoAhead c.args.event)) (c.args.event ∷ []) _ old _ failures (event_meant c.args.event old) refl
+    (ahead_taken (DoAhead c.args.event)) old.phase (c.args.event ∷ []) _ old _ failures (event_meant c.args.event old) refl refl
     (event_does c.args.event _ _ _ _ _ _ _ _ c.interrupt.ensures c.in-Ok.ensures)
 
 pub returns-in-Err : goal.returns-in-Err
 returns-in-Err g c = λ failures.
     let old = c.args.self.now in
     halted_acts (event_taking old.formatter.reader.reading old.unread.input)
-    (ahead_taken (DoAhead c.args.event)) false (c.args.event ∷ []) _ old (event_meant c.args.event old) _ failures c.in-Err.halt _ _ c.line-line.result refl
+    (ahead_taken (DoAhead c.args.event)) old.phase (c.args.event ∷ []) _ old (event_meant c.args.event old) _ failures c.in-Err.halt _ _ c.line-line.result refl
     (λ k. line-interrupted old.formatter.reader.reading old.unread.input ∙ sym c.line-line.ensures)
     (event_does c.args.event _ _ _ _ _ _ _ _ c.interrupt.ensures c.in-Err.ensures)
     (λ t left start. c.halted.ensures t left start failures _)

@@ -1,4 +1,4 @@
-use Rattle.std.proofs.Common.{[], false, refl, sym, ◌∙◌}
+use Rattle.std.proofs.Common.{[], refl, sym, ◌∙◌}
 use Rattle.roff_run.specs.Run.{byte_taken}
 use Rattle.roff_run.specs.Reading.{taking}
 use Rattle.roff_run.specs.Registers.{Known}
@@ -10,12 +10,12 @@ pub returns-in-Ok : goal.returns-in-Ok
 returns-in-Ok g c = λ failures.
     let old = c.args.self.now in
     taking_acts (λ (k : Known). taking k old.formatter.reader.reading old.unread.input c.args.byte)
-    (byte_taken c.args.byte) [] _ old _ failures (λ tape h messages. refl) refl c.in-Ok.ensures
+    (byte_taken c.args.byte) old.phase [] _ old _ failures (λ tape h messages. refl) refl refl c.in-Ok.ensures
 
 pub returns-in-Err : goal.returns-in-Err
 returns-in-Err g c = λ failures.
     let old = c.args.self.now in
     halted_acts (λ (k : Known). taking k old.formatter.reader.reading old.unread.input c.args.byte)
-    (byte_taken c.args.byte) false [] _ old (λ tape h messages. refl) _ failures c.in-Err.halt _ _ c.line-line.result refl
+    (byte_taken c.args.byte) old.phase [] _ old (λ tape h messages. refl) _ failures c.in-Err.halt _ _ c.line-line.result refl
     (λ k. (Keeps-taking k old.formatter.reader.reading old.unread.input c.args.byte).line ∙ sym c.line-line.ensures)
     c.in-Err.ensures (λ t left start. c.halted.ensures t left start failures _)

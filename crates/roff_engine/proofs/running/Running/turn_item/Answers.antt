@@ -30,7 +30,7 @@ returns-in-Note g c =
 pub returns-in-SourceEnd : goal.returns-in-SourceEnd
 returns-in-SourceEnd g c =
     let shown = c.in-SourceEnd.ensures in
-    front_ended c.args.self.now _ _ _ _ _ _ shown.failures shown.notes c.end_input.new.self _ _ shown.takes (λ none. c.end_input.ensures.acts none _) c.end_input.ensures.some
+    front_ended c.args.self.now _ _ _ _ _ _ shown.failures shown.notes c.end_input.new.self _ _ shown.takes (λ may. c.end_input.ensures.acts may _) c.end_input.ensures.goes_on
 
 pub returns-in-Fault : goal.returns-in-Fault
 returns-in-Fault g c =

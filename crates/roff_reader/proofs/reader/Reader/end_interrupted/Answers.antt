@@ -7,6 +7,7 @@ use Rattle.roff_run.specs.Reading.Ends.{interrupted_end}
 use Rattle.roff_run.specs.Reading.Items.{going_on, meaning_events}
 use Rattle.roff_run.specs.declared.event.PageEvent.{PageEvent}
 use Rattle.roff_run.specs.declared.event.PageEvent.TheVariants.{Text}
+use Rattle.roff_run.specs.declared.line_state.LineState.TheVariants.{LineStart}
 use Rattle.roff_run.specs.declared.line_state.TextLine.{TextLine}
 use Rattle.roff_reader.proofs.TakesAs.{TakesAs-asked, TakesAs-meant, TakesAs-said}
 use Rattle.roff_run.specs.declared.step.Step.TheVariants.{Meaning, Nothing}
@@ -14,7 +15,7 @@ use Rattle.roff_reader.proofs.reader.Reader.end_interrupted.Goals as goal
 
 pub returns-in-None : goal.returns-in-None
 returns-in-None c = λ u.
-    let behind = c.args.behind in
+    let behind = LineStart in
     let es = c.args.environments.now in
     let old = c.args.self.now in
     let new : ReaderState = record { reading = behind; registers = c.self.inside.registers; meaning = c.self.inside.meaning } in
@@ -27,7 +28,7 @@ returns-in-None c = λ u.
 
 pub returns-in-Some : goal.returns-in-Some
 returns-in-Some c = λ u.
-    let behind = c.args.behind in
+    let behind = LineStart in
     let es = c.args.environments.now in
     let old = c.args.self.now in
     let line : Option TextLine = Some c.in-Some.line in

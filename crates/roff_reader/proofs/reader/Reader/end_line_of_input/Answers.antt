@@ -7,7 +7,7 @@ use Rattle.roff_run.specs.Reading.Ends.{end_taking}
 use Rattle.roff_run.specs.Reading.Items.{going_on}
 use Rattle.roff_run.specs.Reading.Strings.{string_entered, string_line_ended}
 use Rattle.roff_num.specs.ShortNames.{name_at}
-use Rattle.roff_run.specs.declared.line_state.LineState.TheVariants.{Braced, Control, Defining, Dropped, Exiting, LineStart, Skipping, StringName, StringText}
+use Rattle.roff_run.specs.declared.line_state.LineState.TheVariants.{Braced, Control, Deciding, Defining, Dropped, Exiting, LineStart, Skipping, StringName, StringText, Told}
 use Rattle.roff_reader.proofs.TakesAs.{TakesAs-as, TakesAs-last_line, TakesAs-no_last_line, TakesAs-where, end_taking-newline, string_line_ended-going}
 use Rattle.roff_reader.proofs.reader.Reader.end_line_of_input.Goals as goal
 
@@ -31,6 +31,22 @@ returns-in-Exiting c =
     let done = c.end_interrupted-in-Exiting in
     let is : c.args.self.now.reading ≡ Exiting = search rules in
     TakesAs-where (λ k r. end_taking k r u.input) Exiting c.args.environments.now c.args.self.now done.new.self u u (Ok done.result) is (done.ensures u)
+
+pub returns-in-Deciding : goal.returns-in-Deciding
+returns-in-Deciding c =
+    let u = c.args.unread.now in
+    let done = c.end_interrupted-in-Deciding in
+    let place = Deciding c.in-Deciding.keeps in
+    let is : c.args.self.now.reading ≡ place = search rules in
+    TakesAs-where (λ k r. end_taking k r u.input) place c.args.environments.now c.args.self.now done.new.self u u (Ok done.result) is (done.ensures u)
+
+pub returns-in-Told : goal.returns-in-Told
+returns-in-Told c =
+    let u = c.args.unread.now in
+    let done = c.end_interrupted-in-Told in
+    let place = Told c.in-Told.aborts in
+    let is : c.args.self.now.reading ≡ place = search rules in
+    TakesAs-where (λ k r. end_taking k r u.input) place c.args.environments.now c.args.self.now done.new.self u u (Ok done.result) is (done.ensures u)
 
 pub returns-in-Defining : goal.returns-in-Defining
 returns-in-Defining c =
@@ -140,4 +156,5 @@ returns-in_default c =
     (λ appends at. c.in_default.not-StringName appends (same ∙ at))
     (λ name appends is_front at. c.in_default.not-StringText name appends is_front (same ∙ at))
     (λ opened closed behind at. c.in_default.not-Skipping opened closed behind (same ∙ at))
-    (λ name appends end matched at. c.in_default.not-Defining name appends end matched (same ∙ at))) c.read_undropped.ensures
+    (λ name appends end matched at. c.in_default.not-Defining name appends end matched (same ∙ at))
+    (λ keeps at. c.in_default.not-Deciding keeps (same ∙ at)) (λ aborts at. c.in_default.not-Told aborts (same ∙ at))) c.read_undropped.ensures

@@ -1,7 +1,8 @@
-use Rattle.std.proofs.Common.{◌≡◌, ◌+◌, ◌≤◌, None, [], true, ap, rules, sym, take, take_while, length, ◌∙◌, arith}
+use Rattle.std.proofs.Common.{◌≡◌, ◌+◌, ◌≤◌, [], true, ap, rules, sym, take, take_while, length, ◌∙◌, arith}
 use Rattle.roff_ahead.specs.Input.{is_none_ahead}
 use Rattle.roff_ahead.specs.Input.Names.{stored}
 use Rattle.roff_source.specs.Bytes.{is_text_byte}
+use Rattle.roff_scan.specs.Looking.{Nothing}
 use Rattle.roff_scan.specs.Unread.Kept.{kept_by}
 use Rattle.roff_scan.specs.Unread.Runs.{room_for}
 use Rattle.roff_scan.specs.declared.run_kind.RunKind.TheVariants.{Definition}
@@ -16,11 +17,11 @@ returns-then-not-is_empty-clause-takes g c =
     (adds_none-ahead (g.S.ByteSource.gives c.args.source.now) (g.S.ByteSource.ready c.args.source.now) (kept_by c.self.inside) c.self.invariant.within.charge
     (sym c.is_empty.ensures ∙ c.if-not-is_empty.true))
 
-pub returns-then-is_some-clause-takes : goal.returns-then-is_some-clause-takes
-returns-then-is_some-clause-takes g c =
+pub returns-then-not-is_nothing-clause-takes : goal.returns-then-not-is_nothing-clause-takes
+returns-then-not-is_nothing-clause-takes g c =
     rw (← c.self.view_is)
     (adds_none-looked (g.S.ByteSource.gives c.args.source.now) (g.S.ByteSource.ready c.args.source.now) (kept_by c.self.inside) c.self.invariant.within.charge
-    (sym c.is_some.ensures ∙ c.if-is_some.true))
+    (sym c.is_nothing.ensures ∙ c.if-not-is_nothing.true))
 
 pub returns-then-count-eq0-clause-takes : goal.returns-then-count-eq0-clause-takes
 returns-then-count-eq0-clause-takes g c =
@@ -34,7 +35,7 @@ returns-then-count-eq0-clause-takes g c =
 pub pass_source-requires-clause-plain : goal.pass_source-requires-clause-plain
 pass_source-requires-clause-plain g c =
     let ahead : is_none_ahead c.args.self.now.input.ahead ≡ true = rw (← c.self.view_is) (sym c.is_empty.ensures ∙ c.if-not-is_empty.false) in
-    let looked : c.args.self.now.looked ≡ None = rw (← c.self.view_is) (nothing_looked c.self.inside.looked (sym c.is_some.ensures ∙ c.if-is_some.false)) in
+    let looked : c.args.self.now.looked ≡ Nothing = rw (← c.self.view_is) (nothing_looked c.self.inside.looked (sym c.is_nothing.ensures ∙ c.if-not-is_nothing.false)) in
     added_no_newline c.args.self.now c.add.new.self (g.S.ByteSource.ready c.args.source.now) c.text_ready-text.result.now c.add.result c.add.ensures.change c.in-Ok.is
     ahead looked c.text_ready-text.ensures.bytes c.text_ready-text.ensures.plain
 
@@ -42,7 +43,7 @@ pub returns-in-Ok-clause-takes : goal.returns-in-Ok-clause-takes
 returns-in-Ok-clause-takes g c =
     let ready = g.S.ByteSource.ready c.args.source.now in
     let ahead : is_none_ahead c.args.self.now.input.ahead ≡ true = rw (← c.self.view_is) (sym c.is_empty.ensures ∙ c.if-not-is_empty.false) in
-    let looked : c.args.self.now.looked ≡ None = rw (← c.self.view_is) (nothing_looked c.self.inside.looked (sym c.is_some.ensures ∙ c.if-is_some.false)) in
+    let looked : c.args.self.now.looked ≡ Nothing = rw (← c.self.view_is) (nothing_looked c.self.inside.looked (sym c.is_nothing.ensures ∙ c.if-not-is_nothing.false)) in
     let room : c.min.result ≡ room_for Definition (kept_by c.self.inside) = omega (arith, c.min.ensures, c.stored.ensures) in
     let here : c.min.result ≡ room_for Definition c.args.self.now = rw (← c.self.view_is) room in
     adds_run c.args.self.now c.add.new.self ready c.text_ready-text.result.now c.add.result c.add.ensures.change c.in-Ok.is

@@ -20,5 +20,5 @@ invariant_of-self g c =
       results = rw c.drop_results.ensures.capacity c.self.invariant.results;
       within =
           rw (c.clear.ensures, c.clear-2.ensures, c.drop_results.ensures.results)
-          (IsWithin-leaving (kept_by c.self.inside) c.self.invariant.within);
+          (IsWithin-leaving c.closing-self-inside.result (kept_by c.self.inside) c.self.invariant.within);
     }

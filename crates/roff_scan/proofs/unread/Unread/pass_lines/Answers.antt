@@ -1,5 +1,6 @@
-use Rattle.std.proofs.Common.{◌≡◌, None, true, length, ap, sym, subst, ◌∙◌, take}
+use Rattle.std.proofs.Common.{◌≡◌, true, length, ap, sym, subst, ◌∙◌, take}
 use Rattle.roff_ahead.specs.Input.{counting, is_none_ahead}
+use Rattle.roff_scan.specs.Looking.{Nothing}
 use Rattle.roff_scan.specs.Unread.{Unread}
 use Rattle.roff_scan.specs.Unread.Calls.{IsFront, PassesSource, front_bytes}
 use Rattle.roff_scan.specs.Unread.Kept.{kept_by}
@@ -31,5 +32,5 @@ returns-in-Some-clause-passes g c =
     let none : is_none_ahead kept.input.ahead ≡ true = rw (← c.self.view_is) at c.requires.none_ahead in
     let cut = c.split_at.ensures.front ∙ ap (take count) c.buffered.ensures in
     subst (λ (u : Unread _). PassesSource gave gives (front_bytes count ready c.args.self.now) c.args.self.now u)
-    (sym (c.count.ensures.counts ∙ ap (λ n. record kept { input = counting last (counted (length front) n kept.input); looked = None }) c.newlines_among.ensures))
+    (sym (c.count.ensures.counts ∙ ap (λ n. record kept { input = counting last (counted (length front) n kept.input); looked = Nothing }) c.newlines_among.ensures))
     (rw (← c.self.view_is) (passes_lines ready kept count stands c.requires.some none gave gives front c.split_at.result.0.now last cut c.in-Some.ensures.cases.0 c.pass.ensures.gives))

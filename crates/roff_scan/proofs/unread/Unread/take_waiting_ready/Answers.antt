@@ -1,9 +1,11 @@
-use Rattle.std.proofs.Common.{◌≡◌, ℕ, ◌+◌, List, false, true, None, arith, map, take, refl, rules, subst, sym}
+use Rattle.std.proofs.Common.{◌≡◌, ◌∙◌, ℕ, ◌+◌, List, false, true, arith, map, take, refl, subst, sym}
 use Rattle.std.specs.Prelude.{get_or, nat_lt}
 use Rattle.std.proofs.lemmas.Bool.{le-ltb}
 use Rattle.roff_ahead.specs.Input.{is_none_ahead}
 use Rattle.roff_source.specs.Tape.{Gives, OneByte, Took}
+use Rattle.roff_scan.specs.Looking.{Nothing}
 use Rattle.roff_scan.proofs.Asking.{answers_first, takes_asked}
+use Rattle.roff_scan.proofs.Fronts.{nothing_looked}
 use Rattle.roff_scan.proofs.unread.Unread.take_waiting_ready.Goals as goal
 
 pub returns-else-not-waits_for-clause-takes : goal.returns-else-not-waits_for-clause-takes
@@ -12,7 +14,7 @@ returns-else-not-waits_for-clause-takes g c =
     let bytes = c.buffered.result.now in
     let gave = g.S.ByteSource.gives c.args.source.now in
     let gives = g.S.ByteSource.gives c.pass.new.self in
-    let none : c.self.inside.looked ≡ None = search rules in
+    let none : c.self.inside.looked ≡ Nothing = nothing_looked c.self.inside.looked (sym c.is_nothing.ensures ∙ c.if-not-is_nothing.false) in
     let none_ahead : is_none_ahead c.self.inside.input_ahead.ahead ≡ true = rw (← c.self.view_is) at c.requires.none_ahead in
     let room : nat_lt now.limits.bytes (now.input.charge + 1) ≡ false = le-ltb now.limits.bytes (now.input.charge + 1) (omega (arith, c.requires.room)) in
     let took : Took gave gives (map OneByte (take 1 bytes)) = subst (λ (ready : List ℕ). Took gave gives (map OneByte (take 1 ready))) (sym c.buffered.ensures) c.pass.ensures.gives in

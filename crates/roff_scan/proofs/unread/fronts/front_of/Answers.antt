@@ -20,14 +20,14 @@ returns-then-not-is_empty-clause-few g c =
 pub returns-clause-bytes : goal.returns-clause-bytes
 returns-clause-bytes g c =
     (begins-ready c.args.input_ahead.now.ahead c.args.looked (g.S.ByteSource.ready c.args.source.now) c.at_most-2.result.now c.args.most
-    (sym c.is_empty.ensures ∙ c.if-not-is_empty.false) (nothing_looked c.args.looked (sym c.is_some.ensures ∙ c.if-is_some.false)) (c.at_most-2.ensures ∙ ap (take c.args.most) c.buffered.ensures)).same
+    (sym c.is_empty.ensures ∙ c.if-not-is_empty.false) (nothing_looked c.args.looked (sym c.is_nothing.ensures ∙ c.if-not-is_nothing.false)) (c.at_most-2.ensures ∙ ap (take c.args.most) c.buffered.ensures)).same
 
 pub returns-clause-among : goal.returns-clause-among
 returns-clause-among g c =
     (begins-ready c.args.input_ahead.now.ahead c.args.looked (g.S.ByteSource.ready c.args.source.now) c.at_most-2.result.now c.args.most
-    (sym c.is_empty.ensures ∙ c.if-not-is_empty.false) (nothing_looked c.args.looked (sym c.is_some.ensures ∙ c.if-is_some.false)) (c.at_most-2.ensures ∙ ap (take c.args.most) c.buffered.ensures)).among
+    (sym c.is_empty.ensures ∙ c.if-not-is_empty.false) (nothing_looked c.args.looked (sym c.is_nothing.ensures ∙ c.if-not-is_nothing.false)) (c.at_most-2.ensures ∙ ap (take c.args.most) c.buffered.ensures)).among
 
 pub returns-clause-few : goal.returns-clause-few
 returns-clause-few g c =
     (begins-ready c.args.input_ahead.now.ahead c.args.looked (g.S.ByteSource.ready c.args.source.now) c.at_most-2.result.now c.args.most
-    (sym c.is_empty.ensures ∙ c.if-not-is_empty.false) (nothing_looked c.args.looked (sym c.is_some.ensures ∙ c.if-is_some.false)) (c.at_most-2.ensures ∙ ap (take c.args.most) c.buffered.ensures)).few
+    (sym c.is_empty.ensures ∙ c.if-not-is_empty.false) (nothing_looked c.args.looked (sym c.is_nothing.ensures ∙ c.if-not-is_nothing.false)) (c.at_most-2.ensures ∙ ap (take c.args.most) c.buffered.ensures)).few

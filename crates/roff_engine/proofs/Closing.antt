@@ -1,0 +1,66 @@
+-- What the end of a phase takes: the last macro is read, or the pending line is placed.
+use Rattle.std.proofs.Common.{◌≡◌, [], ◌++◌, Option, Result, Ok, append-nil, refl, subst, sym, ap, ◌∙◌}
+use Rattle.roff_num.specs.declared.limit.Limit.{Limit}
+use Rattle.roff_engine.specs.declared.formatter.Formatter.{Formatter}
+use Rattle.roff_engine.specs.declared.halt.Halt.{Halt}
+use Rattle.roff_engine.specs.Formatter.Performing.{DoesTaking, PerformsOnly, Sinks, going, sinks}
+use Rattle.roff_engine.proofs.Acting.{OnOk-fact, TakingDone-performed}
+use Rattle.roff_sinks.specs.Sinks.{Sunk}
+use Rattle.roff_reader.specs.Reader.State.{ReaderState}
+use Rattle.roff_reader.specs.Reader.Taken.{TakesAs}
+use Rattle.roff_requests.specs.Environments.Standing.{StandFor}
+use Rattle.roff_requests.specs.declared.environments.Environments.{Environments as EnvironmentsOf}
+use Rattle.roff_run.proofs.Leads.{Leads-to}
+use Rattle.roff_run.specs.Reading.Items.{PageInput, PageUnread, going_on, meaning_events}
+use Rattle.roff_run.specs.Run.{State, closing_events, initial, step, taken_as, unless_refused}
+use Rattle.roff_run.specs.TurnsToCome.{behind_all}
+use Rattle.roff_run.specs.declared.line_state.LineState.{LineState}
+use Rattle.roff_run.specs.declared.line_state.LineState.TheVariants.{LineStart}
+use Rattle.roff_run.specs.declared.step.Step.{Step}
+
+-- the reader took what only reads on
+pub reads_on_taking : (j : PageInput) (next : LineState) (old : Formatter) (reader : ReaderState) (before behind : PageUnread) (told : Sinks) (m : Step)
+    → TakesAs (λ k. going_on j next) old.environments old.reader reader before behind (Ok m)
+    → DoesTaking (λ k. going_on j next) [] old (record old { reader = reader }) before behind told told (Ok tt)
+reads_on_taking j next old reader before behind told m takes = record {
+  became = λ l h stood ready. (takes.takes l h stood ready).became;
+  does = λ t0 start failures from tape h messages phase closed rest stood ready reached opens.
+      let took = takes.takes before.limits h stood ready in
+      let s : State = taken_as (going_on j next) (going tape before.input old.reader.reading old.reader.registers.all h messages phase closed rest) in
+      let goes : step before.limits from ≡ s = opens.opens ∙ ap (λ (r : Option Limit). unless_refused before.limits r from s) took.became.within in record {
+        reaches = record {
+          comes = Leads-to before.limits (initial before.limits t0.start t0.tape) from s reached.comes goes;
+          text = rw (← opens.wrote) reached.text;
+          messages = rw (append-nil (messages ++ []), append-nil messages, ← opens.said) reached.messages;
+          faults = reached.faults;
+        };
+        stands = stood;
+      };
+}
+
+-- a line begins, and the pending line is placed
+pub closing_taking : (old mid new : Formatter) (u : PageUnread) (out_old out_new err : Sunk) (r : Result (Unit {0}) Halt)
+    → mid ≡ record old { reader = record old.reader { reading = LineStart } } → PerformsOnly closing_events mid new out_old out_new r
+    → DoesTaking (λ k. meaning_events u.input LineStart closing_events) [] old new u u (sinks out_old err) (sinks out_new err) r
+closing_taking old mid new u out_old out_new err r is performs =
+    let reader : new.reader ≡ record old.reader { reading = LineStart } = performs.reader ∙ ap (λ (f : Formatter). f.reader) is in
+    let environments : mid.environments ≡ old.environments = ap (λ (f : Formatter). f.environments) is in record {
+      became = λ l h stood ready. OnOk-fact r _ (record {
+        input = refl;
+        reading = ap (λ (s : ReaderState). s.reading) reader;
+        registers = ap (λ (s : ReaderState). s.registers) reader;
+        within = ready.within;
+      });
+      does = λ t0 start failures from tape h messages phase closed rest stood ready reached opens.
+          let s : State =
+          taken_as (meaning_events u.input LineStart closing_events) (going tape u.input old.reader.reading old.reader.registers.all h messages phase closed rest) in
+          let goes : step u.limits from ≡ s = opens.opens ∙ ap (λ (r : Option Limit). unless_refused u.limits r from s) ready.within in
+          TakingDone-performed u.limits t0 start _ from s (behind_all closing_events h) rest r new.environments
+          (performs.events_performed.performs u.limits t0 start failures err s h rest
+          (subst (λ (es : EnvironmentsOf). StandFor u.limits h es) (sym environments) stood) (record {
+            comes = Leads-to u.limits (initial u.limits t0.start t0.tape) from s reached.comes goes;
+            text = rw (← opens.wrote) reached.text;
+            messages = rw (append-nil (messages ++ []), append-nil messages, ← opens.said) reached.messages;
+            faults = reached.faults;
+          }));
+    }

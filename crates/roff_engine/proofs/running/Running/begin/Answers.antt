@@ -1,0 +1,11 @@
+use Rattle.std.proofs.Common.{List, subst}
+use Rattle.std.specs.Prelude.{ℕ}
+use Rattle.roff_num.specs.declared.num.Num.{Num}
+use Rattle.roff_engine.specs.Running.Starting.{IsRefused}
+use Rattle.roff_engine.proofs.Starting.{begin_refused}
+use Rattle.roff_engine.proofs.running.Running.begin.Goals as goal
+
+pub returns-in-Err-clause-ends : goal.returns-in-Err-clause-ends
+returns-in-Err-clause-ends g c = λ had asks is out.
+    let refused = subst (λ (given : List (ℕ × Num)). IsRefused c.args.self.now c.set_registers.new.self given c.in-Err.limit) c.as_slice.ensures.value c.in-Err.ensures in
+    begin_refused _ _ c.args.self.now c.set_registers.new.self c.args.start.now c.in-Err.limit _ _ _ refused had asks is (λ asks stops. c.refuse.ensures c.args.start.now out asks stops)

@@ -1,0 +1,9 @@
+use Rattle.std.proofs.Common.{length}
+use Rattle.roff_engine.proofs.Starting.{SetSoFar}
+use Rattle.roff_engine.proofs.running.Running.set_registers.Given as goal
+
+abbrev pub invariant-loop-first : goal.invariant-loop-first
+invariant-loop-first l = SetSoFar l.initial.self l.self l.fn.given l.rest
+
+abbrev pub decreases-loop-first : goal.decreases-loop-first
+decreases-loop-first l = length l.rest

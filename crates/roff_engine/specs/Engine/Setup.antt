@@ -1,0 +1,8 @@
+-- What an engine is made with.
+use Rattle.roff_num.specs.declared.limits.Limits.{Limits}
+use Rattle.roff_run.specs.declared.start.Start.{Start}
+
+-- its limits, and what is given to its run
+pub record Setup : Type 0 where
+  pub limits : Limits
+  pub start : Start
