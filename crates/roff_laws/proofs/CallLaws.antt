@@ -52,18 +52,18 @@ use Rattle.roff_run.specs.declared.request.Called.TheVariants.{Body as ABody, No
 use Rattle.roff_run.proofs.NameBytes.{stage, turns-first}
 
 -- what begins a control line
-turns-control : (names : Named Entry) (a : Arguments) (texts : List (List ℕ)) (control : ℕ) → IsControl control
+pub turns-control : (names : Named Entry) (a : Arguments) (texts : List (List ℕ)) (control : ℕ) → IsControl control
     → (breaks : Bool) × Turns names (stage LineStart a texts) control (stage (Control breaks) a texts)
 turns-control names a texts _ IsDot = (true, λ k i. refl)
 turns-control names a texts _ IsApostrophe = (false, λ k i. refl)
 
 -- what a name stands for, and what is read behind it then: so does the second byte of a name, and so each byte behind a name of one byte
 pub record ReadsAs (names : Named Entry) (name : ShortName) (there : LineState) : Type 0 where
-  called : Called
-  is : called_by name names ≡ called
-  none_due : due there ≡ None
-  whole : (i : PageInput) (breaks : Bool) → behind_called i breaks called ≡ going_on i there
-  ended : (k : Known) (i : PageInput) (breaks : Bool) (b : ℕ) → called_taking k i breaks called b ≡ undropped_taking k there i b
+  pub called : Called
+  pub is : called_by name names ≡ called
+  pub none_due : due there ≡ None
+  pub whole : (i : PageInput) (breaks : Bool) → behind_called i breaks called ≡ going_on i there
+  pub ended : (k : Known) (i : PageInput) (breaks : Bool) (b : ℕ) → called_taking k i breaks called b ≡ undropped_taking k there i b
 
 turns-second : (names : Named Entry) (a : Arguments) (texts : List (List ℕ)) (breaks : Bool) (first b : ℕ) (there : LineState) → BelongsToName b
     → ReadsAs names (record { first = first; second = Some b }) there → Turns names (stage (Name breaks first) a texts) b (stage there a texts)
@@ -78,24 +78,24 @@ turns-second names a texts breaks first b there belongs reads k i =
 
 -- at a blank or a newline one thing that is read does as another does
 pub record DoesAs (names : Named Entry) (reading there : LineState) : Type 0 where
-  none_due : due reading ≡ None
-  at_blank : (k : Known) (p : Stage) (i : PageInput) → taking k reading (input_at names p i) blank ≡ taking k there (input_at names p i) blank
-  at_newline : (k : Known) (p : Stage) (i : PageInput) → taking k reading (input_at names p i) newline ≡ taking k there (input_at names p i) newline
+  pub none_due : due reading ≡ None
+  pub at_blank : (k : Known) (p : Stage) (i : PageInput) → taking k reading (input_at names p i) blank ≡ taking k there (input_at names p i) blank
+  pub at_newline : (k : Known) (p : Stage) (i : PageInput) → taking k reading (input_at names p i) newline ≡ taking k there (input_at names p i) newline
 
 -- what is read behind a name, in front of which a line begins
 pub record ReadsName (most : Most) (names : Named Entry) (a : Arguments) (texts : List (List ℕ)) (bytes : List ℕ) (there : LineState) : Type 0 where
-  reading : LineState
-  path : Path most names (stage LineStart a texts) bytes (stage reading a texts)
-  does : DoesAs names reading there
+  pub reading : LineState
+  pub path : Path most names (stage LineStart a texts) bytes (stage reading a texts)
+  pub does : DoesAs names reading there
 
 -- as much may be held as is
 pub record Allows (most : Most) (a : Arguments) (texts : List (List ℕ)) : Type 0 where
-  held_few : held a ≤ most.held
-  stored_few : sum_by length texts ≤ most.stored
-  texts_few : length texts ≤ most.texts
+  pub held_few : held a ≤ most.held
+  pub stored_few : sum_by length texts ≤ most.stored
+  pub texts_few : length texts ≤ most.texts
 
 -- a byte that changes what is read alone
-onward : (most : Most) (names : Named Entry) (a : Arguments) (texts : List (List ℕ)) (from there : LineState) (b : ℕ) (bytes : List ℕ) (r : Stage) → due from ≡ None
+pub onward : (most : Most) (names : Named Entry) (a : Arguments) (texts : List (List ℕ)) (from there : LineState) (b : ℕ) (bytes : List ℕ) (r : Stage) → due from ≡ None
     → Turns names (stage from a texts) b (stage there a texts) → Allows most a texts → Path most names (stage there a texts) bytes r
     → Path most names (stage from a texts) (b ∷ bytes) r
 onward most names a texts from there b bytes r none_due turns allows path =
@@ -138,16 +138,16 @@ reads-name_of most names a texts control first (Some second) there is_control be
       does = record { none_due = reads.none_due; at_blank = λ k p i. refl; at_newline = λ k p i. refl };
     }
 
-reads-name : (most : Most) (names : Named Entry) (a : Arguments) (texts : List (List ℕ)) (control : ℕ) (name : ShortName) (there : LineState)
+pub reads-name : (most : Most) (names : Named Entry) (a : Arguments) (texts : List (List ℕ)) (control : ℕ) (name : ShortName) (there : LineState)
     → IsControl control → All BelongsToName (name_bytes name) → Allows most a texts → ReadsAs names name there
     → ReadsName most names a texts (control ∷ name_bytes name) there
 reads-name most names a texts control name there = reads-name_of most names a texts control name.first name.second there
 
 -- the arguments of a call behind a byte: up to the ninth they are held
-abbrev hold : Arguments → ℕ → Arguments
+abbrev pub hold : Arguments → ℕ → Arguments
 hold a b = if nat_le 9 (length a.whole) then a else only_kept (with_argument_byte a b)
 
-abbrev call_byte : Arguments → ℕ → Arguments
+abbrev pub call_byte : Arguments → ℕ → Arguments
 call_byte a b = if b == quote then hold a b else hold (only_kept (settled a)) b
 
 -- an input that holds other arguments, or doesn't
@@ -161,7 +161,7 @@ going_on-if true i reading a there = refl
 going_on-if false i reading a there = refl
 
 -- a byte of a call goes to its arguments
-turns-call : (names : Named Entry) (name : ShortName) (a : Arguments) (texts : List (List ℕ)) (b : ℕ) → StandsForItself b
+pub turns-call : (names : Named Entry) (name : ShortName) (a : Arguments) (texts : List (List ℕ)) (b : ℕ) → StandsForItself b
     → Turns names (stage (Calling name) a texts) b (stage (Calling name) (call_byte a b) texts)
 turns-call names name a texts b itself k i =
     let reading : LineState = Calling name in
@@ -180,7 +180,7 @@ turns-call names name a texts b itself k i =
     ∙ going_on-if (b == quote) here reading (hold a b) (hold (only_kept (settled a)) b)
 
 -- arguments that are read so far
-abbrev arguments_at : List (List ℕ) → List ℕ → Place → Arguments
+abbrev pub arguments_at : List (List ℕ) → List ℕ → Place → Arguments
 arguments_at whole begun place = record { whole = whole; begun = begun; place = place }
 
 -- few of them are all kept
@@ -190,13 +190,13 @@ kept-few zero (text ∷ texts) few = absurd (omega (arith, few))
 kept-few (suc n) [] few = refl
 kept-few (suc n) (text ∷ texts) few = ap (λ (others : List (List ℕ)). text ∷ others) (kept-few n texts (omega (arith, few)))
 
-only_kept-few : (whole : List (List ℕ)) (begun : List ℕ) (place : Place) → length whole ≤ 32 → only_kept (arguments_at whole begun place) ≡ arguments_at whole begun place
+pub only_kept-few : (whole : List (List ℕ)) (begun : List ℕ) (place : Place) → length whole ≤ 32 → only_kept (arguments_at whole begun place) ≡ arguments_at whole begun place
 only_kept-few whole begun place few =
     ap (λ (texts : List (List ℕ)). arguments_at (reverse texts) begun place) (kept-few 32 (reverse whole) (omega (arith, few, length-reverse whole)))
     ∙ ap (λ (texts : List (List ℕ)). arguments_at texts begun place) (reverse-reverse whole)
 
 -- a byte is held where fewer than nine are whole
-hold-few : (whole : List (List ℕ)) (begun : List ℕ) (place : Place) (b : ℕ) → length whole ≤ 8
+pub hold-few : (whole : List (List ℕ)) (begun : List ℕ) (place : Place) (b : ℕ) → length whole ≤ 8
     → hold (arguments_at whole begun place) b ≡ only_kept (with_argument_byte (arguments_at whole begun place) b)
 hold-few whole begun place b few =
     let a : Arguments = arguments_at whole begun place in
@@ -242,11 +242,11 @@ call_byte-blank whole begun few =
     ∙ hold-blank (nat_le 9 (length (reverse begun ∷ whole))) (reverse begun ∷ whole) (omega (arith, few))
 
 -- nothing is held behind the ninth
-same-if : (c : Bool) (a : Arguments) → (if c then a else a) ≡ a
+pub same-if : (c : Bool) (a : Arguments) → (if c then a else a) ≡ a
 same-if true a = refl
 same-if false a = refl
 
-call_byte-full : (whole : List (List ℕ)) (b : ℕ) → length whole ≡ 9 → call_byte (arguments_at whole [] Between) b ≡ arguments_at whole [] Between
+pub call_byte-full : (whole : List (List ℕ)) (b : ℕ) → length whole ≡ 9 → call_byte (arguments_at whole [] Between) b ≡ arguments_at whole [] Between
 call_byte-full whole b full =
     let a : Arguments = arguments_at whole [] Between in
     let same : only_kept a ≡ a = only_kept-few whole [] Between (omega (arith, full)) in
@@ -256,7 +256,7 @@ call_byte-full whole b full =
     ∙ same-if (b == quote) a
 
 -- what may be held on the way
-abbrev most_of : ℕ → List (List ℕ) → Most
+abbrev pub most_of : ℕ → List (List ℕ) → Most
 most_of most texts = record { held = most; stored = sum_by length texts; texts = length texts }
 
 -- a byte of a call, and others behind it
@@ -381,7 +381,7 @@ reads-arguments names name texts most whole (suc n) (argument ∷ next ∷ argum
     }
 
 -- a line whose name stands for a body calls it
-reads-body : (names : Named Entry) (name : ShortName) (body : List ℕ) → entry_of (name_bytes name) names ≡ Some (Body body) → ReadsAs names name (Calling name)
+pub reads-body : (names : Named Entry) (name : ShortName) (body : List ℕ) → entry_of (name_bytes name) names ≡ Some (Body body) → ReadsAs names name (Calling name)
 reads-body names name body stands_for = record {
   called = ABody name;
   is = ap (called_as name) stands_for;
@@ -392,11 +392,11 @@ reads-body names name body stands_for = record {
 
 -- a call is read up to its newline
 pub record ReadsCall (names : Named Entry) (name : ShortName) (texts : List (List ℕ)) (most : ℕ) (bytes : List ℕ) (as_given : List (List ℕ)) : Type 0 where
-  reading : LineState
-  there : Arguments
-  path : Path (most_of most texts) names (stage LineStart no_arguments texts) bytes (stage reading there texts)
-  given : reverse (only_kept (finished there)).whole ≡ as_given
-  does : DoesAs names reading (Calling name)
+  pub reading : LineState
+  pub there : Arguments
+  pub path : Path (most_of most texts) names (stage LineStart no_arguments texts) bytes (stage reading there texts)
+  pub given : reverse (only_kept (finished there)).whole ≡ as_given
+  pub does : DoesAs names reading (Calling name)
 
 reads-behind : (names : Named Entry) (name : ShortName) (texts : List (List ℕ)) (most : ℕ) (front : List ℕ) (arguments : List (List ℕ))
     → ReadsName (most_of most texts) names no_arguments texts front (Calling name) → All (All StandsForItself) arguments → total_length (take 9 arguments) ≤ most
@@ -428,11 +428,11 @@ reads-behind names name texts most front (argument ∷ others) begins themselves
     }
 
 -- a run that called a body
-abbrev called_from : State → Origin → List ℕ → List ℕ → List (List ℕ) → State
+abbrev pub called_from : State → Origin → List ℕ → List ℕ → List (List ℕ) → State
 called_from s from line body arguments = record s { tape = tape_at from [] s.tape; input = with_call body arguments (counted from line s.input) }
 
 -- the newline of the line calls it
-newline-calls : (s : State) (from : Origin) (name : ShortName) (body front : List ℕ) (arguments : List (List ℕ)) (reading : LineState) (there : Arguments)
+pub newline-calls : (s : State) (from : Origin) (name : ShortName) (body front : List ℕ) (arguments : List (List ℕ)) (reading : LineState) (there : Arguments)
     → BeginsLine s → entry_of (name_bytes name) s.input.names ≡ Some (Body body) → reverse (only_kept (finished there)).whole ≡ take 9 arguments
     → DoesAs s.input.names reading (Calling name)
     → byte_taken newline (run_at s s.input.names (stage reading there s.input.open_texts) from [] (behind_byte from newline (behind_bytes from front s.input)))

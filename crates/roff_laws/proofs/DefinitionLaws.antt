@@ -48,32 +48,32 @@ use Rattle.roff_run.specs.declared.line_state.LineState.TheVariants.{Defining}
 use Rattle.roff_num.specs.declared.short_name.ShortName.{ShortName}
 
 -- a definition: what it defines and how, what ends it, and the texts in the making, of which its own is the last
-record Definition : Type 0 where
-  name : Option ShortName
-  appends : Bool
-  end : Option ShortName
-  before : List (List ℕ)
-  others : List (List ℕ)
+pub record Definition : Type 0 where
+  pub name : Option ShortName
+  pub appends : Bool
+  pub end : Option ShortName
+  pub before : List (List ℕ)
+  pub others : List (List ℕ)
 
 -- the texts in the making, where this is its own so far; one without a name has none
-abbrev making : Option ShortName → List (List ℕ) → List (List ℕ) → List ℕ → List (List ℕ)
+abbrev pub making : Option ShortName → List (List ℕ) → List (List ℕ) → List ℕ → List (List ℕ)
 making None before others text = others
 making (Some name) before others text = before ++ text ∷ []
 
 -- where so many bytes of its mark stand in front of its line, if that may be the last one
-abbrev defining : Definition → Arguments → List ℕ → Option ℕ → Stage
+abbrev pub defining : Definition → Arguments → List ℕ → Option ℕ → Stage
 defining d a text matched =
     record { reading = Defining d.name d.appends d.end matched; escapes = []; arguments = a; texts = making d.name d.before d.others text }
 
 -- the newest of some texts is the last
-newest-last : (before : List (List ℕ)) (text : List ℕ) → newest (before ++ text ∷ []) ≡ Some (length before)
+pub newest-last : (before : List (List ℕ)) (text : List ℕ) → newest (before ++ text ∷ []) ≡ Some (length before)
 newest-last [] text = refl
 newest-last (first ∷ before) text =
     let all : length (before ++ text ∷ []) ≡ length (first ∷ before) = omega (arith, length-append before (text ∷ [])) in
     ap (λ (n : ℕ). Some n) all
 
 -- its text grows
-grown-by : (name : Option ShortName) (before others : List (List ℕ)) (text bytes : List ℕ) (i : PageInput)
+pub grown-by : (name : Option ShortName) (before others : List (List ℕ)) (text bytes : List ℕ) (i : PageInput)
     → definition_grown name bytes (record i { open_texts = making name before others text }) ≡ record i { open_texts = making name before others (text ++ bytes) }
 grown-by None before others text bytes i = refl
 grown-by (Some name) before others text bytes i =
@@ -121,19 +121,19 @@ reads-unit names d a text matched half unit b k i is_kept reads =
     ∙ ap (read_in k (Defining d.name d.appends d.end matched) here) reads
 
 -- a byte that is no backslash gives itself
-reads-itself : (b : ℕ) → (b == backslash) ≡ false → byte_read AboveCopy [] b ≡ (GivesUnit (Byte b), [])
+pub reads-itself : (b : ℕ) → (b == backslash) ≡ false → byte_read AboveCopy [] b ≡ (GivesUnit (Byte b), [])
 reads-itself b plain = ap (λ (c : Bool). if c then (GoesOn, Backslash ∷ []) else (GivesUnit (Byte b), [])) plain
 
 -- the bytes that give a unit: a byte that stands for itself, or a backslash and the byte behind it
-data Writes : CopyUnit → List ℕ → Type 0 where
+pub data Writes : CopyUnit → List ℕ → Type 0 where
   AsItself : (b : ℕ) → StandsForItself b → Writes (Byte b) (b ∷ [])
   Escaped : (unit : CopyUnit) (b : ℕ) → is_dropped b ≡ false → byte_read AboveCopy (Backslash ∷ []) b ≡ (GivesUnit unit, []) → Writes unit (backslash ∷ b ∷ [])
 
 -- as much may be held as texts of so many bytes make of it
-record Allows (most : Most) (d : Definition) (a : Arguments) (bound : ℕ) : Type 0 where
-  held_few : held a ≤ most.held
-  stored_few : (text : List ℕ) → length text ≤ bound → sum_by length (making d.name d.before d.others text) ≤ most.stored
-  texts_few : (text : List ℕ) → length (making d.name d.before d.others text) ≤ most.texts
+pub record Allows (most : Most) (d : Definition) (a : Arguments) (bound : ℕ) : Type 0 where
+  pub held_few : held a ≤ most.held
+  pub stored_few : (text : List ℕ) → length text ≤ bound → sum_by length (making d.name d.before d.others text) ≤ most.stored
+  pub texts_few : (text : List ℕ) → length (making d.name d.before d.others text) ≤ most.texts
 
 -- a byte that gives a unit, and others behind it
 onward : (most : Most) (names : Named Entry) (d : Definition) (a : Arguments) (bound : ℕ) (text there : List ℕ) (matched m : Option ℕ) (b : ℕ) (bytes : List ℕ) (r : Stage)
@@ -145,13 +145,13 @@ onward most names d a bound text there matched m b bytes r allows small plain is
     (record { none_half = refl; held_few = allows.held_few; stored_few = allows.stored_few there small; texts_few = allows.texts_few there }) (omega arith) path
 
 -- what is known of a byte that stands for itself
-no_backslash : (b : ℕ) → StandsForItself b → (b == backslash) ≡ false
+pub no_backslash : (b : ℕ) → StandsForItself b → (b == backslash) ≡ false
 no_backslash b itself = not-first (b == backslash) (is_dropped b || b == newline) itself
 
-none_dropped : (b : ℕ) → StandsForItself b → is_dropped b ≡ false
+pub none_dropped : (b : ℕ) → StandsForItself b → is_dropped b ≡ false
 none_dropped b itself = not-first (is_dropped b) (b == newline) (IsRead-itself b itself)
 
-no_newline : (b : ℕ) → StandsForItself b → (b == newline) ≡ false
+pub no_newline : (b : ℕ) → StandsForItself b → (b == newline) ≡ false
 no_newline b itself = not-second (is_dropped b) (b == newline) (IsRead-itself b itself)
 
 -- the bytes of a unit, and others behind them
@@ -179,13 +179,13 @@ onward-text most names d a bound text front matched unit written bytes r allows 
     (subst (λ (m : Option ℕ). Copies names d a unit text matched there m) behind (copies-text names d a unit text front matched is_front is_text)) path
 
 -- a line without its newline, and what it is copied to: its units don't end it
-data IsCopied : List ℕ → List ℕ → Type 0 where
+pub data IsCopied : List ℕ → List ℕ → Type 0 where
   NoUnit : IsCopied [] []
   OneUnit : (unit : CopyUnit) (written line text : List ℕ) → Writes unit written → matched_behind unit ≡ None → IsCopied line text
       → IsCopied (written ++ line) (unit_bytes unit ++ text)
 
 -- bytes in front of a line and of others
-regrouped : (written line more : List ℕ) → ((written ++ line) ++ newline ∷ []) ++ more ≡ written ++ ((line ++ newline ∷ []) ++ more)
+pub regrouped : (written line more : List ℕ) → ((written ++ line) ++ newline ∷ []) ++ more ≡ written ++ ((line ++ newline ∷ []) ++ more)
 regrouped written line more =
     ap (λ (front : List ℕ). front ++ more) (append_assoc written line (newline ∷ [])) ∙ append_assoc written (line ++ newline ∷ []) more
 
@@ -367,7 +367,7 @@ copied-two true b c line is of_line of_line_too only whole behind behind_plain =
 copied-two false b c line is of_line of_line_too only whole behind behind_plain =
     copied-itself b (c ∷ line) (copied (c ∷ line)) of_line is (behind_plain only whole)
 
-copied-line : (line : List ℕ) → All IsOfLine line → is_only_copied line ≡ true → is_whole line ≡ true → IsCopied line (copied line)
+pub copied-line : (line : List ℕ) → All IsOfLine line → is_only_copied line ≡ true → is_whole line ≡ true → IsCopied line (copied line)
 copied-line [] bytes only whole = NoUnit
 copied-line (b ∷ []) bytes only whole = copied-itself b [] [] (All-head IsOfLine b [] bytes) (not-true (b == backslash) whole) NoUnit
 copied-line (b ∷ c ∷ line) bytes only whole =
@@ -376,7 +376,7 @@ copied-line (b ∷ c ∷ line) bytes only whole =
     (copied-line line (All-tail IsOfLine c line others)) (copied-line (c ∷ line) others)
 
 -- all its lines
-path-lines : (most : Most) (names : Named Entry) (d : Definition) (a : Arguments) (bound : ℕ) (text : List ℕ) (lines : List (List ℕ)) (more : List ℕ) (r : Stage)
+pub path-lines : (most : Most) (names : Named Entry) (d : Definition) (a : Arguments) (bound : ℕ) (text : List ℕ) (lines : List (List ℕ)) (more : List ℕ) (r : Stage)
     → Allows most d a bound → All StandsForItself (end_mark d.end) → All (IsTextLine d.end) lines → length text + length (text_of_lines lines) ≤ bound
     → Path most names (defining d a (text ++ text_of_lines lines) (Some 0)) more r
     → Path most names (defining d a text (Some 0)) (bytes_of_lines lines ++ more) r
@@ -415,18 +415,18 @@ path-mark most names d a bound text done (c ∷ todo) allows small mark is =
     (path-mark most names d a bound text next todo allows small (All-tail StandsForItself c todo mark) (is ∙ sym (append_assoc done (c ∷ []) todo))))
 
 -- the text enters its name, if it has one
-abbrev entered_by : Option ShortName → Bool → List ℕ → List (List ℕ) → PageInput → PageInput
+abbrev pub entered_by : Option ShortName → Bool → List ℕ → List (List ℕ) → PageInput → PageInput
 entered_by None appends text before i = i
 entered_by (Some name) appends text before i = with_definition name appends text before i
 
-remove-last : (before : List (List ℕ)) (text : List ℕ) → remove (before ++ text ∷ []) (length before) ≡ before
+pub remove-last : (before : List (List ℕ)) (text : List ℕ) → remove (before ++ text ∷ []) (length before) ≡ before
 remove-last before text =
     let none : length before - length before ≡ 0 = omega arith in
     remove-append_right before (text ∷ []) (length before) (length before) refl (omega arith)
     ∙ ap (λ (n : ℕ). before ++ remove (text ∷ []) n) none
     ∙ append-nil before
 
-entered-by : (name : Option ShortName) (appends : Bool) (before others : List (List ℕ)) (text : List ℕ) (i : PageInput)
+pub entered-by : (name : Option ShortName) (appends : Bool) (before others : List (List ℕ)) (text : List ℕ) (i : PageInput)
     → string_entered name appends (record i { open_texts = making name before others text }) ≡ entered_by name appends text before (record i { open_texts = others })
 entered-by None appends before others text i = refl
 entered-by (Some name) appends before others text i =
@@ -492,7 +492,7 @@ beside-few : (name : Option ShortName) (n bound : ℕ) → n ≤ bound → besid
 beside-few None n bound few = omega arith
 beside-few (Some name) n bound few = few
 
-making-stored : (name : Option ShortName) (before others : List (List ℕ)) (text : List ℕ) → others ≡ making name before others []
+pub making-stored : (name : Option ShortName) (before others : List (List ℕ)) (text : List ℕ) → others ≡ making name before others []
     → sum_by length (making name before others text) ≤ sum_by length others + beside name (length text)
 making-stored None before others text is = omega arith
 making-stored (Some name) before others text is =
@@ -500,7 +500,7 @@ making-stored (Some name) before others text is =
     let size : List ℕ → ℕ = length in
     omega (arith, same, sum_by-append size before (text ∷ []), sum_by-append size before ([] ∷ []), sum_by-cons size text [], sum_by-cons size [] [])
 
-making-length : (name : Option ShortName) (before others : List (List ℕ)) (text : List ℕ) → others ≡ making name before others []
+pub making-length : (name : Option ShortName) (before others : List (List ℕ)) (text : List ℕ) → others ≡ making name before others []
     → length (making name before others text) ≡ length others
 making-length None before others text is = refl
 making-length (Some name) before others text is =

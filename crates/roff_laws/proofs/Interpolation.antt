@@ -8,7 +8,7 @@ use Rattle.roff_arguments.specs.Arguments.{Arguments, settled, only_kept, held}
 use Rattle.roff_source.specs.Bytes.{newline, backslash, is_dropped}
 use Rattle.roff_escape.specs.OpenEscapes.{byte_read}
 use Rattle.roff_escape.specs.Waiting.{is_ended_by}
-use Rattle.roff_ahead.specs.Input.{Ahead, ByteAhead, EndAhead, cost, depth}
+use Rattle.roff_ahead.specs.Input.{Ahead, ByteAhead, EndAhead, cost}
 use Rattle.roff_source.specs.Tape.{Tape}
 use Rattle.roff_escape.specs.OpenEscape.{OpenEscape, Backslash, texts_held}
 use Rattle.roff_escape.specs.declared.open_escape.Found.{Found}
@@ -45,12 +45,12 @@ pub is-going : (s : State) (from : Origin) (bytes : List ℕ) → TakesItems s �
     → going s s.reading from bytes s.input.arguments s.input.escapes s.input.charge s.input.line ≡ s
 is-going s from bytes on ahead tape =
     let of : Tape → List (Ahead PageEvent) → List PageEvent → Bool → Option Status → State = λ t items es c e.
-    record s { tape = t; input = record s.input { ahead = items }; to_do = es; is_closing = c; ended = e } in
+    record s { tape = t; input = record s.input { ahead = items }; to_do = es; is_closed = c; ended = e } in
     ap (of (tape_at from bytes s.tape) (ahead_at from bytes) [] false) (sym on.going)
-    ∙ ap (λ (c : Bool). of (tape_at from bytes s.tape) (ahead_at from bytes) [] c s.ended) (sym on.not_closing)
-    ∙ ap (λ (es : List PageEvent). of (tape_at from bytes s.tape) (ahead_at from bytes) es s.is_closing s.ended) (sym on.idle)
-    ∙ ap (λ (items : List (Ahead PageEvent)). of (tape_at from bytes s.tape) items s.to_do s.is_closing s.ended) (sym ahead)
-    ∙ ap (λ (t : Tape). of t s.input.ahead s.to_do s.is_closing s.ended) (sym tape)
+    ∙ ap (λ (c : Bool). of (tape_at from bytes s.tape) (ahead_at from bytes) [] c s.ended) (sym on.is_open)
+    ∙ ap (λ (es : List PageEvent). of (tape_at from bytes s.tape) (ahead_at from bytes) es s.is_closed s.ended) (sym on.idle)
+    ∙ ap (λ (items : List (Ahead PageEvent)). of (tape_at from bytes s.tape) items s.to_do s.is_closed s.ended) (sym ahead)
+    ∙ ap (λ (t : Tape). of t s.input.ahead s.to_do s.is_closed s.ended) (sym tape)
 
 -- a byte that is read, and doesn't end the line
 abbrev pub IsRead : ℕ → Type 0
@@ -149,14 +149,14 @@ pub step-byte : (l : Limits) (s : State) (reading : LineState) (from : Origin) (
     → Fits l t.registers t.input → step l (going s reading from (b ∷ bytes) a half charge line) ≡ t
 step-byte l s reading (FromAhead rest) b bytes a half charge line t none_due read goes within is fits =
     let before : State = going s reading (FromAhead rest) (b ∷ bytes) a half charge line in
-    bytes_ahead_are_taken l before b (map ByteAhead bytes ++ rest) (record { going = refl; not_closing = refl; idle = refl; none_due = none_due }) refl
+    bytes_ahead_are_taken l before b (map ByteAhead bytes ++ rest) (record { going = refl; is_open = refl; idle = refl; none_due = none_due }) refl
     goes (omega arith)
     ∙ ap (made l before) is ∙ made-Fits l before t fits
 step-byte l s reading (FromSource tape) b bytes a half charge line t none_due read goes within is fits =
     let before : State = going s reading (FromSource tape) (b ∷ bytes) a half charge line in
     let behind : State = going s reading (FromSource tape) bytes a half (charge + 1) (s.input.newlines + 1) in
     let plain : (b == newline) ≡ false = not-second (is_dropped b) (b == newline) read in
-    bytes_of_the_source_are_taken l before b (record { going = refl; not_closing = refl; idle = refl; none_due = none_due }) refl refl goes (omega arith)
+    bytes_of_the_source_are_taken l before b (record { going = refl; is_open = refl; idle = refl; none_due = none_due }) refl refl goes (omega arith)
     ∙ ap (λ (c : Bool). made l before (byte_taken b (record behind { input = record behind.input { newlines = if c then s.input.newlines + 1 else s.input.newlines } }))) plain
     ∙ ap (made l before) is ∙ made-Fits l before t fits
 

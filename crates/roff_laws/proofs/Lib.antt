@@ -21,5 +21,17 @@ pub mod Skipping
 pub mod SkippingRuns
 pub mod CallLaws
 pub mod DefinitionLaws
+pub mod StringLaws
+pub mod TextLaws
+pub mod ElseLaws
+pub mod AskedHalves
+pub mod AskingRuns
+pub mod AskingLaws
+pub mod BranchLaws
+pub mod WordArguments
+pub mod ReadArguments
+pub mod WordCalls
+pub mod EndLaws
+pub mod EndedLines
 pub mod EnvironmentTurns
 pub mod TapeInFront

@@ -144,12 +144,19 @@ itself-quoted_line (argument ∷ next ∷ arguments) themselves =
     (itself-quoted argument (All-head (All StandsForItself) argument (next ∷ arguments) themselves))
     (All-cons StandsForItself blank (quoted_line (next ∷ arguments)) refl others)
 
--- a request gets those that are kept
-pub requests_get_quoted_arguments : RequestsGetQuotedArguments
-requests_get_quoted_arguments k breaks request i arguments half none themselves =
+-- a request gets the arguments that bytes of a line are read as
+pub gets-read : (k : Known) (breaks : Bool) (request : Request) (i : PageInput) (bytes : List ℕ) (read : List (List ℕ)) → i.escapes ≡ [] → i.arguments ≡ no_arguments
+    → All StandsForItself bytes → arguments_read (fold with_argument_byte no_arguments bytes) ≡ read
+    → taking_all k (InArguments breaks request) i (bytes ++ newline ∷ []) ≡ given_taking k breaks request i (row_of request).line (kept read)
+gets-read k breaks request i bytes read half none themselves is =
     let input : record i { escapes = []; arguments = no_arguments } ≡ i =
     ap (λ (h : List OpenEscape). record i { escapes = h; arguments = no_arguments }) (sym half) ∙ ap (λ (a : Arguments). record i { arguments = a }) (sym none) in
-    ap (λ (j : PageInput). taking_all k (InArguments breaks request) j (quoted_line arguments ++ newline ∷ [])) (sym input)
-    ∙ taking_all-arguments k breaks request i no_arguments (quoted_line arguments) (itself-quoted_line arguments themselves)
-    ∙ ap (λ (texts : List (List ℕ)). line_taken k breaks request i (kept texts)) (quoted_arguments_read_back arguments)
-    ∙ ap (λ (h : List OpenEscape). given_taking k breaks request (record i { escapes = h }) (row_of request).line (kept arguments)) (sym half)
+    ap (λ (j : PageInput). taking_all k (InArguments breaks request) j (bytes ++ newline ∷ [])) (sym input)
+    ∙ taking_all-arguments k breaks request i no_arguments bytes themselves
+    ∙ ap (λ (texts : List (List ℕ)). line_taken k breaks request i (kept texts)) is
+    ∙ ap (λ (h : List OpenEscape). given_taking k breaks request (record i { escapes = h }) (row_of request).line (kept read)) (sym half)
+
+-- and so those that are written in quotes
+pub requests_get_quoted_arguments : RequestsGetQuotedArguments
+requests_get_quoted_arguments k breaks request i arguments half none themselves =
+    gets-read k breaks request i (quoted_line arguments) arguments half none (itself-quoted_line arguments themselves) (quoted_arguments_read_back arguments)

@@ -3,7 +3,7 @@ use Rattle.std.proofs.Common.{◌≡◌, ℕ, Bool, true, false, cond, not, List
 use Rattle.std.proofs.lemmas.Bool.{cond-true}
 use Rattle.std.specs.Fmt.{decimal, digits}
 use Rattle.std.specs.List.{fold}
-use Rattle.std.specs.Prelude.{min, ◌&&◌, if◌then◌else◌}
+use Rattle.std.specs.Prelude.{bytes_eq, min, ◌&&◌, if◌then◌else◌}
 use Rattle.roff_num.specs.Ranges.{is_in_range}
 use Rattle.roff_num.specs.RegisterText.{register_text}
 use Rattle.roff_num.specs.declared.format.Format.{Format}
@@ -19,7 +19,7 @@ use Rattle.roff_run.specs.declared.message.Message.TheVariants.{BadNumber}
 use Rattle.roff_run.specs.declared.query.Query.{Query}
 use Rattle.roff_run.specs.declared.query.Query.TheVariants.{Newlines, Indent, LineLength, LastWidth, Filling, LineSpacing, ColumnWidth, Arguments, Later}
 use Rattle.roff_laws.specs.RegisterLaws.{ValuesReadBack, FormatsReadBack, FormatsStay, UndefinedReadAsZero, ReadingMakesNone, ReadingIsSilent, ReadOnlyStay, ReadOnlyAreLeftAlone, RemovedReadAsZero}
-use Rattle.roff_run.specs.Registers.{AllRegisters, Known, SetTo, FormatAs, Remove, answer, greatest_number, is_page, is_read_only, known_behind, query_of, settable, stepped_page, text_asked}
+use Rattle.roff_run.specs.Registers.{AllRegisters, Known, SetTo, FormatAs, Remove, answer, changed_by, greatest_number, is_page, is_read_only, known_behind, query_of, settable, stepped_page, text_asked}
 
 -- what a name reads as, if this says whether it is the page number's
 abbrev settable_by : Bool → List ℕ → AllRegisters → Register
@@ -200,3 +200,37 @@ pub removed_read_as_zero : RemovedReadAsZero
 removed_read_as_zero k before name behind free other =
     undefined_read_as_zero (known_behind (Remove (before ++ name ∷ behind) ∷ []) k) name
     (record { not_read_only = free; not_page = other; absent = absent-removed before name behind k.registers.named })
+
+-- a register of another name stays
+register_of-other : (name other : List ℕ) (r : Register) (named : Registers) → bytes_eq name other ≡ false → register_of name (with_entry other r named) ≡ register_of name named
+register_of-other name other r named differ = let has = entry_of-with_entry name other r named in grind (arith, bytes_eq_tells)
+
+settable_by-other : (read_only other_page of_page : Bool) (name other : List ℕ) (value increment : Num) (rs : AllRegisters)
+    → bytes_eq name other ≡ false → (other_page ≡ true → of_page ≡ true → ⊥)
+    → settable_by of_page name (changing_by read_only other_page (record rs.page { value = value; increment = increment })
+    (with_setting other value increment rs.named) rs)
+    ≡ settable_by of_page name rs
+settable_by-other true other_page of_page name other value increment rs differ pages = refl
+settable_by-other false true true name other value increment rs differ pages = absurd (pages refl refl)
+settable_by-other false true false name other value increment rs differ pages = refl
+settable_by-other false false true name other value increment rs differ pages = refl
+settable_by-other false false false name other value increment rs differ pages = register_of-other name other _ rs.named differ
+
+-- as one that is set reads as its value
+pub settable-set : (name : List ℕ) (value increment : Num) (rs : AllRegisters) → is_read_only name ≡ false
+    → (settable name (changed_by (SetTo name value increment) rs)).value ≡ value
+settable-set name value increment rs free =
+    ap (λ (r : Register). r.value) (settable_by-set (is_read_only name) (is_page name) name value increment rs free)
+
+-- two names aren't both the page number's
+two_pages : (name other : List ℕ) → bytes_eq name other ≡ false → is_page other ≡ true → is_page name ≡ true → ⊥
+two_pages name other differ one two =
+    let same : bytes_eq name other ≡ true = grind (arith, bytes_eq_tells, one, two) in
+    absurd (cc)
+
+-- and others stay
+pub settable-other : (name other : List ℕ) (value increment : Num) (rs : AllRegisters) → bytes_eq name other ≡ false
+    → settable name (changed_by (SetTo other value increment) rs) ≡ settable name rs
+settable-other name other value increment rs differ =
+    settable_by-other (is_read_only other) (is_page other) (is_page name) name other value increment rs differ
+    (two_pages name other differ)

@@ -45,14 +45,14 @@ GoesOnTo-after l (suc n) s told =
 
 -- steps only append
 pub steps_only_append : StepsOnlyAppend
-steps_only_append l tape n more =
-    subst (λ (t : State). GoesOnTo (after l n (initial tape)) t) (sym (after-add l n more (initial tape)))
-    (GoesOnTo-after l more (after l n (initial tape)) (IsTold-run l tape n))
+steps_only_append l start tape n more =
+    subst (λ (t : State). GoesOnTo (after l n (initial l start tape)) t) (sym (after-add l n more (initial l start tape)))
+    (GoesOnTo-after l more (after l n (initial l start tape)) (IsTold-run l start tape n))
 
 -- so each state has a beginning of what the last one has
 pub each_state_is_a_beginning : EachStateIsABeginning
-each_state_is_a_beginning l tape s leads =
-    let enough : ℕ = (steps_lead_to_the_last_state l tape).steps in
-    let ends : after l (leads.steps + enough) (initial tape) ≡ last_state l tape =
-    ap (λ (i : ℕ). after l i (initial tape)) (add_comm leads.steps enough) ∙ after-more l tape leads.steps in
-    rw (leads.there, ends) at (steps_only_append l tape leads.steps enough)
+each_state_is_a_beginning l start tape s leads =
+    let enough : ℕ = (steps_lead_to_the_last_state l start tape).steps in
+    let ends : after l (leads.steps + enough) (initial l start tape) ≡ last_state l start tape =
+    ap (λ (i : ℕ). after l i (initial l start tape)) (add_comm leads.steps enough) ∙ after-more l start tape leads.steps in
+    rw (leads.there, ends) at (steps_only_append l start tape leads.steps enough)

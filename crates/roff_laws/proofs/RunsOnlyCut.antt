@@ -6,10 +6,11 @@ use Rattle.roff_run.specs.declared.status.Status.TheVariants.{Device, Limit as L
 use Rattle.roff_num.specs.declared.limits.Limits.{Limits}
 use Rattle.roff_laws.specs.Laws.{OnlyCuts, LimitsOnlyCut, SameUntilALimit, FailingOnlyCuts, SameUntilTheFault, over, failing_behind, going_on_behind}
 use Rattle.roff_laws.specs.Limits.{AreWithin}
-use Rattle.roff_run.specs.Run.{State, initial, after}
+use Rattle.roff_run.specs.Run.{State, blank_state, initial, after}
+use Rattle.roff_run.specs.declared.start.Start.{Start}
 use Rattle.roff_source.specs.Tape.{Tape, Item, Ending, Ends, Failed, front, behind_front}
 use Rattle.roff_laws.proofs.StepsAppend.{OnlyCuts-same}
-use Rattle.roff_laws.proofs.StepsOnlyCut.{Cut, Same, Short, Differ, Cut-after}
+use Rattle.roff_laws.proofs.StepsOnlyCut.{Cut, Same, Short, Differ, Cut-after, Cut-with_registers}
 
 -- a run that may be cut short was only cut
 pub OnlyCuts-Cut : (Beside : Tape → Tape → Type 0) (IsCause : Status → Type 0) (s whole : State) → Cut Beside IsCause s whole → OnlyCuts s whole
@@ -32,19 +33,21 @@ Differ-limits small large within = record {
 }
 
 -- the one with the smaller limits may be cut short
-Cut-limits : (small large : Limits) → AreWithin small large → (tape : Tape) (n : ℕ) → Cut IsSame IsLimit (after small n (initial tape)) (after large n (initial tape))
-Cut-limits small large within tape n =
-    Cut-after IsSame IsLimit small large (Differ-limits small large within) n (initial tape) (initial tape) (Same tape refl refl)
+Cut-limits : (small large : Limits) → AreWithin small large → (start : Start) (tape : Tape) (n : ℕ) → Cut IsSame IsLimit (after small n (initial small start tape)) (after large n (initial large start tape))
+Cut-limits small large within start tape n =
+    let differ = Differ-limits small large within in
+    Cut-after IsSame IsLimit small large differ n (initial small start tape) (initial large start tape)
+    (Cut-with_registers IsSame IsLimit small large differ start.registers.items (blank_state tape) tape refl)
 
 -- limits only cut
 pub limits_only_cut : LimitsOnlyCut
-limits_only_cut small large within tape n = OnlyCuts-Cut IsSame IsLimit _ _ (Cut-limits small large within tape n)
+limits_only_cut small large within start tape n = OnlyCuts-Cut IsSame IsLimit _ _ (Cut-limits small large within start tape n)
 
 -- larger limits change nothing until a limit stops the run
 pub same_until_a_limit : SameUntilALimit
-same_until_a_limit small large within tape n not_stopped =
-    elim (Cut-limits small large within tape n) [
-      | Same left same_tape same ↦ same ∙ ap (λ t. over t (after small n (initial tape))) same_tape
+same_until_a_limit small large within start tape n not_stopped =
+    elim (Cut-limits small large within start tape n) [
+      | Same left same_tape same ↦ same ∙ ap (λ t. over t (after small n (initial small start tape))) same_tape
       | Short status ended cause cuts ↦ absurd (not_stopped cause.0 (ended ∙ ap Some cause.1))
     ]
 
@@ -65,18 +68,19 @@ Differ-sources l = record { limits = inl refl; tapes = fronts }
     fronts t u (Behind (item ∷ items) more ending) = inr (refl, Behind items more ending)
 
 -- the one whose source fails may be cut short
-Cut-sources : (l : Limits) (items more : List Item) (ending : Ending) (n : ℕ) → Cut GoesOn IsFault (after l n (initial (failing_behind items))) (after l n (initial (going_on_behind items more ending)))
-Cut-sources l items more ending n =
-    Cut-after GoesOn IsFault l l (Differ-sources l) n _ _ (Same (going_on_behind items more ending) (Behind items more ending) refl)
+Cut-sources : (l : Limits) (start : Start) (items more : List Item) (ending : Ending) (n : ℕ) → Cut GoesOn IsFault (after l n (initial l start (failing_behind items))) (after l n (initial l start (going_on_behind items more ending)))
+Cut-sources l start items more ending n =
+    Cut-after GoesOn IsFault l l (Differ-sources l) n _ _
+    (Cut-with_registers GoesOn IsFault l l (Differ-sources l) start.registers.items (blank_state (failing_behind items)) (going_on_behind items more ending) (Behind items more ending))
 
 -- a failing source only cuts
 pub failing_only_cuts : FailingOnlyCuts
-failing_only_cuts l items more ending n = OnlyCuts-Cut GoesOn IsFault _ _ (Cut-sources l items more ending n)
+failing_only_cuts l start items more ending n = OnlyCuts-Cut GoesOn IsFault _ _ (Cut-sources l start items more ending n)
 
 -- a source that goes on changes nothing but what is left to take, until the run meets the fault
 pub same_until_the_fault : SameUntilTheFault
-same_until_the_fault l items more ending n not_met =
-    elim (Cut-sources l items more ending n) [
-      | Same left beside same ↦ ap (over (after l n (initial (failing_behind items))).tape) same
+same_until_the_fault l start items more ending n not_met =
+    elim (Cut-sources l start items more ending n) [
+      | Same left beside same ↦ ap (over (after l n (initial l start (failing_behind items))).tape) same
       | Short status ended cause cuts ↦ absurd (not_met (ended ∙ ap Some cause))
     ]

@@ -1,8 +1,8 @@
 -- No step passes a limit.
 --
 -- Each function f of the run has its lemma IsWithin-f here, with a line for each of its cases.
-use Rattle.std.proofs.Common.{◌≡◌, ◌≤◌, ◌+◌, ℕ, zero, suc, Bool, true, false, List, [], ◌∷◌, Some, None, inl, inr, refl, arith}
-use Rattle.std.specs.Prelude.{length, nat_lt, if◌then◌else◌}
+use Rattle.std.proofs.Common.{◌≡◌, ◌≤◌, ◌+◌, ℕ, zero, suc, Bool, true, false, List, [], ◌∷◌, Option, Some, None, inl, inr, refl, arith}
+use Rattle.std.specs.Prelude.{length, nat_lt}
 use Rattle.std.proofs.lemmas.Bool.{cases_Bool}
 use Rattle.roff_num.specs.declared.limit.Limit.{Limit}
 use Rattle.roff_num.specs.LimitValues.{value_of}
@@ -13,12 +13,14 @@ use Rattle.roff_laws.specs.Laws.{NoLimitIsPassed}
 use Rattle.roff_run.specs.Within.{EnvironmentsWithin, IsWithin}
 use Rattle.roff_run.specs.declared.event.PageEvent.{PageEvent}
 use Rattle.roff_run.specs.declared.event.PageEvent.TheVariants.{Text, Space, Interrupt, Environment, Back}
-use Rattle.roff_run.specs.Run.{State, known, initial, grown, input_left, moved, step_with, step, after}
-use Rattle.roff_run.specs.Run.Counts.{counts, first_passed, refusal}
-use Rattle.roff_run.proofs.Keeping.{Keeps-end_taking}
+use Rattle.roff_run.specs.Run.{State, blank_state, initial, grown, moved, stopped_by, unless_refused, with_registers, step_with, step, after}
+use Rattle.roff_run.specs.Run.Counts.{counts, first_passed, names_counted, refusal}
 use Rattle.roff_laws.proofs.PerformedOrStopped.{PerformedOrStopped, Performed, StoppedAt, performed_or_stopped}
-use Rattle.roff_run.proofs.Readings.{IsMade, ReadsOn, LimitStops, AheadTaken, ByteTaken, NoteTaken, HalfEnds, InputEnds, InputLeft, LineEnds, MessageTold, RunAborts, SourceFails, SourceStops, ReadsOn-reading_on, Behind-byte_taken, Behind-ahead_taken, Behind-escape_ends, Behind-line_ends, within}
+use Rattle.roff_run.proofs.Readings.{IsMade, ReadsOn, LimitStops, AheadTaken, ByteTaken, NoteTaken, HalfEnds, InputLeft, LineEnds, PhaseEnds, MessageTold, RunAborts, SourceFails, SourceStops, ReadsOn-reading_on, Behind-byte_taken, Behind-ahead_taken, Behind-escape_ends, Behind-line_ends, Passed-phase_ended, within}
 use Rattle.roff_ahead.specs.Input.{counting, item_taken}
+use Rattle.roff_num.specs.declared.num.Num.{Num}
+use Rattle.roff_run.specs.Starts.{with_given}
+use Rattle.roff_source.specs.Tape.{Tape}
 
 -- a state of the same input, registers and history
 IsWithin-same : (l : Limits) (s t : State) → t.input ≡ s.input → t.registers ≡ s.registers → t.history ≡ s.history → IsWithin l s → IsWithin l t
@@ -33,11 +35,6 @@ IsWithin-same l s t input registers history is = record {
   names = rw registers is.names;
   environments = rw history is.environments;
 }
-
--- either of two states, by a test
-IsWithin-if : (l : Limits) (b : Bool) (s t : State) → IsWithin l s → IsWithin l t → IsWithin l (if b then s else t)
-IsWithin-if l true s t first second = first
-IsWithin-if l false s t first second = second
 
 -- each count is within its own limit
 abbrev AllWithin : Limits → List (Limit × ℕ) → Type 0
@@ -118,28 +115,28 @@ IsWithin-read l s t (LimitStops limit) is = IsWithin-same l s t refl refl refl i
 IsWithin-read l s t (AheadTaken item behind ahead charge is_made) is =
     let read = Behind-ahead_taken item (record s { input = item_taken item behind s.input }) in
     IsWithin-made l s t (rw read.input.charge charge) read.history is_made is
-IsWithin-read l s t (ByteTaken b none gives charge is_made) is =
+IsWithin-read l s t (ByteTaken b none is_open gives charge is_made) is =
     let read = Behind-byte_taken b (moved (record s { input = counting b s.input })) in
     IsWithin-made l s t (rw read.input.charge charge) refl is_made is
-IsWithin-read l s t (NoteTaken message gives) is = IsWithin-same l s t refl refl refl is
+IsWithin-read l s t (NoteTaken message is_open gives) is = IsWithin-same l s t refl refl refl is
 IsWithin-read l s t (HalfEnds first others half is_made) is =
     IsWithin-made l s t (rw (Behind-escape_ends s first others half).input.charge is.bytes) refl is_made is
-IsWithin-read l s t (InputEnds none half ends is_made) is =
-    IsWithin-made l s t (rw (Keeps-end_taking (known s) s.reading s.input).charge is.bytes) refl is_made is
-IsWithin-read l s t (LineEnds first none is_made) is =
-    IsWithin-made l s t (rw (Behind-line_ends s first none).input.charge is.bytes) refl is_made is
+IsWithin-read l s t (PhaseEnds none half ends over is_made) is =
+    let passed = Passed-phase_ended s.phase s in
+    IsWithin-made l s t (rw passed.input.charge is.bytes) passed.history is_made is
+IsWithin-read l s t (LineEnds unfinished none ends is_made) is =
+    IsWithin-made l s t (rw (Behind-line_ends s).input.charge is.bytes) refl is_made is
 IsWithin-read l s t (MessageTold told is_made) is = IsWithin-made l s t is.bytes refl is_made is
 IsWithin-read l s t (RunAborts told) is = IsWithin-same l s t refl refl refl is
 IsWithin-read l s t (InputLeft leaves is_made) is =
-    IsWithin-made l s t (rw (Keeps-end_taking (known (input_left s)) s.reading (input_left s).input).charge is.bytes) refl is_made is
-IsWithin-read l s t (SourceFails fails) is = IsWithin-same l s t refl refl refl is
-IsWithin-read l s t (SourceStops limit stops) is = IsWithin-same l s t refl refl refl is
+    IsWithin-made l s t is.bytes refl is_made is
+IsWithin-read l s t (SourceFails is_open fails) is = IsWithin-same l s t refl refl refl is
+IsWithin-read l s t (SourceStops limit is_open stops) is = IsWithin-same l s t refl refl refl is
 
 -- a step of a run that hasn't ended
 IsWithin-step_with : (l : Limits) (es : List PageEvent) (s : State) → IsWithin l s → IsWithin l (step_with l es s)
 IsWithin-step_with l (e ∷ rest) s is = IsWithin-event l e rest s _ (performed_or_stopped l e rest s) is
-IsWithin-step_with l [] s is =
-    IsWithin-if l s.is_closing _ _ (IsWithin-same l s _ refl refl refl is) (IsWithin-read l s _ (ReadsOn-reading_on l s) is)
+IsWithin-step_with l [] s is = IsWithin-read l s _ (ReadsOn-reading_on l s) is
 
 -- a step
 IsWithin-step : (l : Limits) (s : State) → IsWithin l s → IsWithin l (step l s)
@@ -154,6 +151,25 @@ IsWithin-after : (l : Limits) (n : ℕ) (s : State) → IsWithin l s → IsWithi
 IsWithin-after l zero s is = is
 IsWithin-after l (suc n) s is = IsWithin-after l n (step l s) (IsWithin-step l s is)
 
+-- before anything is given no count is above its limit
+IsWithin-blank : (l : Limits) (tape : Tape) → IsWithin l (blank_state tape)
+IsWithin-blank l tape = record { bytes = omega arith; stack = omega arith; depth = omega arith; store = omega arith; texts = omega arith; making = omega arith; conditions = omega arith; names = omega arith; environments = record { in_force = omega arith; next = omega arith; last = omega arith; left = omega arith } }
+
+-- a register that is given is set, or the limit on names refuses it
+IsWithin-given : (l : Limits) (s behind done : State) (r : Option Limit) → first_passed l (names_counted behind.registers) ≡ r → behind ≡ record s { registers = behind.registers }
+    → IsWithin l s → (IsWithin l behind → IsWithin l done) → IsWithin l (unless_refused l r s done)
+IsWithin-given l s behind done None none same is others =
+    others (rw same (record { bytes = is.bytes; stack = is.stack; depth = is.depth; store = is.store; texts = is.texts; making = is.making; conditions = is.conditions; names = (counts_within l (names_counted behind.registers) none).0; environments = is.environments }))
+IsWithin-given l s behind done (Some limit) some same is others = IsWithin-same l s (stopped_by l limit s) refl refl refl is
+
+-- and so the others
+IsWithin-with_registers : (l : Limits) (given : List (ℕ × Num)) (s : State) → IsWithin l s → IsWithin l (with_registers l given s)
+IsWithin-with_registers l [] s is = is
+IsWithin-with_registers l (first ∷ others) s is =
+    let behind : State = record s { registers = with_given first s.registers } in
+    IsWithin-given l s behind (with_registers l others behind) (first_passed l (names_counted behind.registers)) refl refl is (IsWithin-with_registers l others behind)
+
 -- no run passes a limit
 pub no_limit_is_passed : NoLimitIsPassed
-no_limit_is_passed l tape n = IsWithin-after l n (initial tape) (record { bytes = omega arith; stack = omega arith; depth = omega arith; store = omega arith; texts = omega arith; making = omega arith; conditions = omega arith; names = omega arith; environments = record { in_force = omega arith; next = omega arith; last = omega arith; left = omega arith } })
+no_limit_is_passed l start tape n =
+    IsWithin-after l n (initial l start tape) (IsWithin-with_registers l start.registers.items (blank_state tape) (IsWithin-blank l tape))

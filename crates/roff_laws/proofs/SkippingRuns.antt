@@ -23,14 +23,14 @@ use Rattle.roff_run.specs.declared.line_state.LineState.{LineState}
 use Rattle.roff_run.specs.declared.line_state.LineState.TheVariants.{LineStart, Skipping}
 
 -- a run that has come to these bytes of the source
-abbrev run_at : State → Tape → List ℕ → PageInput → LineState → State
+abbrev pub run_at : State → Tape → List ℕ → PageInput → LineState → State
 run_at s tape bytes input reading = record s { tape = items_then (map OneByte bytes) tape; input = input; reading = reading }
 
 -- nothing is ahead of them, nothing is half read, and no count is above its limit
-record IsPlain (l : Limits) (s : State) (input : PageInput) : Type 0 where
-  none_ahead : input.ahead ≡ []
-  none_half : input.escapes ≡ []
-  within : IsWithin l (record s { input = input })
+pub record IsPlain (l : Limits) (s : State) (input : PageInput) : Type 0 where
+  pub none_ahead : input.ahead ≡ []
+  pub none_half : input.escapes ≡ []
+  pub within : IsWithin l (record s { input = input })
 
 -- so it stays behind a byte within the limit
 within-counting : (l : Limits) (s : State) (input : PageInput) (b : ℕ) → IsWithin l (record s { input = input }) → input.charge + 1 ≤ l.bytes
@@ -38,12 +38,12 @@ within-counting : (l : Limits) (s : State) (input : PageInput) (b : ℕ) → IsW
 within-counting l s input b within few =
     record { bytes = few; stack = within.stack; depth = within.depth; store = within.store; texts = within.texts; making = within.making; conditions = within.conditions; names = within.names; environments = within.environments }
 
-IsPlain-counting : (l : Limits) (s : State) (input : PageInput) (b : ℕ) → IsPlain l s input → input.charge + 1 ≤ l.bytes → IsPlain l s (counting b input)
+pub IsPlain-counting : (l : Limits) (s : State) (input : PageInput) (b : ℕ) → IsPlain l s input → input.charge + 1 ≤ l.bytes → IsPlain l s (counting b input)
 IsPlain-counting l s input b plain few =
     record { none_ahead = plain.none_ahead; none_half = plain.none_half; within = within-counting l s input b plain.within few }
 
 -- a step at a byte that means nothing
-step-counting : (l : Limits) (s : State) (tape : Tape) (b : ℕ) (bytes : List ℕ) (input : PageInput) (reading there : LineState)
+pub step-counting : (l : Limits) (s : State) (tape : Tape) (b : ℕ) (bytes : List ℕ) (input : PageInput) (reading there : LineState)
     → TakesItems s → due reading ≡ None → IsPlain l s input → input.charge + 1 ≤ l.bytes
     → taking (known_at s.history s.registers (counting b input)) reading (counting b input) b ≡ going_on (counting b input) there
     → step l (run_at s tape (b ∷ bytes) input reading) ≡ run_at s tape bytes (counting b input) there
@@ -51,7 +51,7 @@ step-counting l s tape b bytes input reading there on none_due plain within is =
     let before : State = run_at s tape (b ∷ bytes) input reading in
     let taken : State = run_at s tape bytes (counting b input) reading in
     let done : State = run_at s tape bytes (counting b input) there in
-    bytes_of_the_source_are_taken l before b (record { going = on.going; not_closing = on.not_closing; idle = on.idle; none_due = none_due }) plain.none_ahead refl
+    bytes_of_the_source_are_taken l before b (record { going = on.going; is_open = on.is_open; idle = on.idle; none_due = none_due }) plain.none_ahead refl
     (ap (λ (half : List OpenEscape). is_ended_by half (Some b)) plain.none_half) (omega (arith, within))
     ∙ ap (λ (t : Taking). made l before (taken_as t taken)) is
     ∙ ap (made l before) (taken_as-going_on (counting b input) there taken)

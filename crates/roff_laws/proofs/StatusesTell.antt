@@ -1,14 +1,17 @@
 -- What each status says of a run.
 --
 -- Each function f of the run has its lemma IsTold-f here, with a line for each of its cases.
-use Rattle.std.proofs.Common.{◌≡◌, ◌⊎◌, ap, inl, inr, ℕ, zero, suc, Bool, true, false, List, [], ◌∷◌, Option, Some, None, refl, sym, ◌∙◌, subst}
-use Rattle.std.specs.Prelude.{if◌then◌else◌}
+use Rattle.std.proofs.Common.{◌≡◌, ◌⊎◌, inl, inr, ℕ, zero, suc, true, List, [], ◌∷◌, Option, Some, None, refl, sym, ◌∙◌, subst}
 use Rattle.roff_num.specs.declared.limits.Limits.{Limits}
 use Rattle.roff_run.specs.declared.event.PageEvent.{PageEvent}
-use Rattle.roff_run.specs.Reading.Ends.{end_taking}
-use Rattle.roff_run.specs.declared.line_state.LineState.{LineState}
-use Rattle.roff_run.specs.declared.line_state.LineState.TheVariants.{Exiting}
-use Rattle.roff_run.specs.Run.{State, initial, input_left, known, step_with, step, after}
+use Rattle.roff_run.specs.Run.{State, blank_state, initial, phase_ended, unless_refused, with_registers, step_with, step, after}
+use Rattle.roff_run.specs.Run.Counts.{first_passed, names_counted}
+use Rattle.roff_run.specs.Starts.{with_given}
+use Rattle.roff_run.specs.declared.phase.Phase.{Phase}
+use Rattle.roff_run.specs.declared.phase.Phase.TheVariants.{Reading, LastMacro, Closing}
+use Rattle.roff_run.specs.declared.start.Start.{Start}
+use Rattle.roff_num.specs.declared.limit.Limit.{Limit}
+use Rattle.roff_num.specs.declared.num.Num.{Num}
 use Rattle.roff_run.specs.Results.{last_state}
 use Rattle.roff_laws.specs.Statuses.{HasMet, Tells, EachStatusTells}
 use Rattle.roff_run.specs.declared.status.Status.{Status}
@@ -16,13 +19,11 @@ use Rattle.roff_ahead.specs.Input.{item_taken}
 use Rattle.roff_source.specs.Tape.{Tape, Item, Ending, Ends, Ended, Failed, Stopped, front}
 use Rattle.roff_laws.proofs.Endings.{at_last_state, ended_or_not, step-ended, step-going}
 use Rattle.roff_laws.proofs.PerformedOrStopped.{PerformedOrStopped, Performed, StoppedAt, performed_or_stopped}
-use Rattle.roff_run.proofs.Readings.{ReadsOn, LimitStops, AheadTaken, ByteTaken, NoteTaken, HalfEnds, InputEnds, InputLeft, LineEnds, MessageTold, RunAborts, SourceFails, SourceStops, ReadsOn-reading_on, Behind, Behind-ahead_taken}
+use Rattle.roff_run.proofs.Readings.{ReadsOn, LimitStops, AheadTaken, ByteTaken, HasEnded, NoteTaken, HalfEnds, InputLeft, LineEnds, PhaseEnds, MessageTold, RunAborts, SourceFails, SourceStops, ReadsOn-reading_on, Behind, Behind-ahead_taken}
 
--- what is known of a run while it goes on: it has no last message yet, and where it is closing it met the end, or left its
--- input
+-- what is known of a run while it goes on: it has no last message yet
 pub record GoesOn (s : State) : Type 0 where
   pub quiet : s.last_message ≡ []
-  pub closing : s.is_closing ≡ true → HasMet Ended s.tape ⊎ (s.reading ≡ Exiting)
 
 -- what is known of a run as it ended, if it did
 abbrev TellsSo : Limits → Option Status → State → Type 0
@@ -41,14 +42,9 @@ IsTold-going l s going goes = subst (λ o. TellsSo l o s) (sym going) goes
 pub GoesOn-told : (l : Limits) (s : State) → s.ended ≡ None → IsTold l s → GoesOn s
 GoesOn-told l s going told = subst (λ o. TellsSo l o s) going told
 
--- either of two states, by a test
-IsTold-if : (l : Limits) (b : Bool) (s t : State) → (b ≡ true → IsTold l s) → (b ≡ false → IsTold l t) → IsTold l (if b then s else t)
-IsTold-if l true s t first second = first refl
-IsTold-if l false s t first second = second refl
-
 -- an event is performed, or the run ends at it
 IsTold-event : (l : Limits) (e : PageEvent) (es : List PageEvent) (s t : State) → s.ended ≡ None → GoesOn s → PerformedOrStopped l e es s t → IsTold l t
-IsTold-event l e es s t going goes (Performed performed) = IsTold-going l t going (record { quiet = goes.quiet; closing = goes.closing })
+IsTold-event l e es s t going goes (Performed performed) = IsTold-going l t going (record { quiet = goes.quiet })
 IsTold-event l e es s t going goes (StoppedAt limit) = inr refl
 
 -- a tape that answers an ending has no item left
@@ -56,41 +52,42 @@ HasMet-front : (items : List Item) (ends ending : Ending) → let rest : Tape = 
 HasMet-front [] ends ending is = record { items = refl; ends = cc }
 HasMet-front (x ∷ items) ends ending is = absurd (cc)
 
--- a run that isn't closing
-GoesOn-open : (s : State) → s.last_message ≡ [] → s.is_closing ≡ false → GoesOn s
-GoesOn-open s quiet is_open = record { quiet = quiet; closing = λ closing. absurd (cc) }
+-- a run goes on behind what was read
+IsTold-behind : (l : Limits) (most : ℕ) (s t : State) → Behind most s t → s.ended ≡ None → s.last_message ≡ [] → IsTold l t
+IsTold-behind l most s t read going quiet = IsTold-going l t (read.ended ∙ going) (record { quiet = read.last_message ∙ quiet })
 
--- a run that isn't closing goes on behind what was read
-IsTold-behind : (l : Limits) (most : ℕ) (s t : State) → Behind most s t → s.ended ≡ None → s.last_message ≡ [] → s.is_closing ≡ false → IsTold l t
-IsTold-behind l most s t read going quiet is_open =
-    IsTold-going l t (read.ended ∙ going) (GoesOn-open t (read.last_message ∙ quiet) (read.is_closing ∙ is_open))
+-- the source has ended, or is closed
+HasMet-HasEnded : (s : State) → HasEnded s → HasMet Ended s.tape ⊎ (s.is_closed ≡ true)
+HasMet-HasEnded s (inl closed) = inr closed
+HasMet-HasEnded s (inr ends) = inl (HasMet-front s.tape.items s.tape.ending Ended ends)
 
--- what was read of a run that isn't closing, or how it ended
-IsTold-read : (l : Limits) (s t : State) → ReadsOn l s t → s.ended ≡ None → s.last_message ≡ [] → s.is_closing ≡ false → IsTold l t
-IsTold-read l s t (LimitStops limit) going quiet is_open = inr refl
-IsTold-read l s t (AheadTaken item behind ahead charge is_made) going quiet is_open =
+-- a phase ends, and with the last one the run
+IsTold-phase_ended : (l : Limits) (phase : Phase) (s : State) → s.ended ≡ None → s.last_message ≡ [] → HasEnded s → IsTold l (phase_ended phase s)
+IsTold-phase_ended l Reading s going quiet over = IsTold-going l (phase_ended Reading s) going (record { quiet = quiet })
+IsTold-phase_ended l LastMacro s going quiet over = IsTold-going l (phase_ended LastMacro s) going (record { quiet = quiet })
+IsTold-phase_ended l Closing s going quiet over = (HasMet-HasEnded s over, quiet)
+
+-- what was read, or how the run ended
+IsTold-read : (l : Limits) (s t : State) → ReadsOn l s t → s.ended ≡ None → s.last_message ≡ [] → IsTold l t
+IsTold-read l s t (LimitStops limit) going quiet = inr refl
+IsTold-read l s t (AheadTaken item behind ahead charge is_made) going quiet =
     let taken : State = record s { input = item_taken item behind s.input } in
-    IsTold-behind l _ taken t (Behind-ahead_taken item taken) going quiet is_open
-IsTold-read l s t (ByteTaken b none gives charge is_made) going quiet is_open = IsTold-going l t going (GoesOn-open t quiet is_open)
-IsTold-read l s t (NoteTaken message gives) going quiet is_open = IsTold-going l t going (GoesOn-open t quiet is_open)
-IsTold-read l s t (HalfEnds first others half is_made) going quiet is_open = IsTold-going l t going (GoesOn-open t quiet is_open)
-IsTold-read l s t (InputEnds none half ends is_made) going quiet is_open =
-    IsTold-going l t going (record { quiet = quiet; closing = λ closing. inl (HasMet-front s.tape.items s.tape.ending Ended ends) })
-IsTold-read l s t (LineEnds first none is_made) going quiet is_open = IsTold-going l t going (GoesOn-open t quiet is_open)
-IsTold-read l s t (MessageTold told is_made) going quiet is_open = IsTold-going l t going (GoesOn-open t quiet is_open)
-IsTold-read l s t (RunAborts told) going quiet is_open = (told, refl)
-IsTold-read l s t (InputLeft leaves is_made) going quiet is_open =
-    IsTold-going l t going (record { quiet = quiet; closing = λ closing. inr (ap (λ (r : LineState). (end_taking (known (input_left s)) r (input_left s).input).reading) leaves) })
-IsTold-read l s t (SourceFails fails) going quiet is_open = (HasMet-front s.tape.items s.tape.ending Failed fails, refl)
-IsTold-read l s t (SourceStops limit stops) going quiet is_open = inl (HasMet-front s.tape.items s.tape.ending (Stopped limit) stops, quiet)
+    IsTold-behind l _ taken t (Behind-ahead_taken item taken) going quiet
+IsTold-read l s t (ByteTaken b none is_open gives charge is_made) going quiet = IsTold-going l t going (record { quiet = quiet })
+IsTold-read l s t (NoteTaken message is_open gives) going quiet = IsTold-going l t going (record { quiet = quiet })
+IsTold-read l s t (HalfEnds first others half is_made) going quiet = IsTold-going l t going (record { quiet = quiet })
+IsTold-read l s t (PhaseEnds none half over unfinished is_made) going quiet = IsTold-phase_ended l s.phase s going quiet over
+IsTold-read l s t (LineEnds unfinished none over is_made) going quiet = IsTold-going l t going (record { quiet = quiet })
+IsTold-read l s t (MessageTold told is_made) going quiet = IsTold-going l t going (record { quiet = quiet })
+IsTold-read l s t (RunAborts told) going quiet = (told, refl)
+IsTold-read l s t (InputLeft leaves is_made) going quiet = IsTold-going l t going (record { quiet = quiet })
+IsTold-read l s t (SourceFails is_open fails) going quiet = (HasMet-front s.tape.items s.tape.ending Failed fails, refl)
+IsTold-read l s t (SourceStops limit is_open stops) going quiet = inl (HasMet-front s.tape.items s.tape.ending (Stopped limit) stops, quiet)
 
 -- a step of a run that hasn't ended
 IsTold-step_with : (l : Limits) (es : List PageEvent) (s : State) → s.ended ≡ None → GoesOn s → IsTold l (step_with l es s)
 IsTold-step_with l (e ∷ es) s going goes = IsTold-event l e es s _ going goes (performed_or_stopped l e es s)
-IsTold-step_with l [] s going goes =
-    IsTold-if l s.is_closing _ _
-    (λ closing. (goes.closing closing, goes.quiet))
-    (λ is_open. IsTold-read l s _ (ReadsOn-reading_on l s) going goes.quiet is_open)
+IsTold-step_with l [] s going goes = IsTold-read l s _ (ReadsOn-reading_on l s) going goes.quiet
 
 -- a step
 pub IsTold-step : (l : Limits) (s : State) → IsTold l s → IsTold l (step l s)
@@ -105,12 +102,23 @@ IsTold-after : (l : Limits) (n : ℕ) (s : State) → IsTold l s → IsTold l (a
 IsTold-after l zero s told = told
 IsTold-after l (suc n) s told = IsTold-after l n (step l s) (IsTold-step l s told)
 
+-- registers are set that are given, or a limit refuses one
+IsTold-unless_refused : (l : Limits) (r : Option Limit) (s done : State) → IsTold l done → IsTold l (unless_refused l r s done)
+IsTold-unless_refused l None s done told = told
+IsTold-unless_refused l (Some limit) s done told = inr refl
+
+IsTold-with_registers : (l : Limits) (given : List (ℕ × Num)) (s : State) → s.ended ≡ None → GoesOn s → IsTold l (with_registers l given s)
+IsTold-with_registers l [] s going goes = IsTold-going l s going goes
+IsTold-with_registers l (first ∷ others) s going goes =
+    let behind : State = record s { registers = with_given first s.registers } in
+    IsTold-unless_refused l (first_passed l (names_counted behind.registers)) s _ (IsTold-with_registers l others behind going (record { quiet = goes.quiet }))
+
 -- of each run
-pub IsTold-run : (l : Limits) (tape : Tape) (n : ℕ) → IsTold l (after l n (initial tape))
-IsTold-run l tape n = IsTold-after l n (initial tape) (GoesOn-open (initial tape) refl refl)
+pub IsTold-run : (l : Limits) (start : Start) (tape : Tape) (n : ℕ) → IsTold l (after l n (initial l start tape))
+IsTold-run l start tape n = IsTold-after l n (initial l start tape) (IsTold-with_registers l start.registers.items (blank_state tape) refl (record { quiet = refl }))
 
 -- each status tells how the run ended
 pub each_status_tells : EachStatusTells
-each_status_tells l tape status ended =
-    let s : State = last_state l tape in
-    subst (λ o. TellsSo l o s) ended (at_last_state (IsTold l) l tape (IsTold-run l tape))
+each_status_tells l start tape status ended =
+    let s : State = last_state l start tape in
+    subst (λ o. TellsSo l o s) ended (at_last_state (IsTold l) l start tape (IsTold-run l start tape))

@@ -12,16 +12,20 @@ use Rattle.roff_escape.specs.declared.open_escape.Waiting.{Waiting}
 use Rattle.roff_escape.specs.declared.open_escape.Waiting.TheVariants.{Takes, Decides, Waits}
 use Rattle.roff_run.specs.Reading.Waiting.{waiting_in}
 use Rattle.roff_ahead.specs.Input.{Ahead, ByteAhead, FreeAhead, EndAhead, ReturnAhead, DoAhead, cost, item_taken, counting}
-use Rattle.roff_source.specs.Tape.{Answer, Gives, Ends, OneByte, OneNote, Ended, Failed, Stopped, front}
+use Rattle.roff_source.specs.Tape.{Answer, Gives, Ends, OneByte, OneNote, Ended, Failed, Stopped}
 use Rattle.roff_ahead.specs.Shown.{Sighted, SeesByte, SeesNothing, SeesNote, SeesEnding, seen_ahead}
 use Rattle.roff_escape.specs.OpenEscape.{OpenEscape}
 use Rattle.roff_laws.specs.Laws.{OnlyCuts}
-use Rattle.roff_run.specs.Reading.Ends.{due, line_ends_first}
+use Rattle.roff_run.specs.Reading.Ends.{due, is_unfinished}
 use Rattle.roff_run.specs.declared.line_state.Due.{Due}
 use Rattle.roff_run.specs.declared.line_state.Due.TheVariants.{Leaves, Tells as TellsText}
 use Rattle.roff_run.specs.declared.event.PageEvent.{PageEvent}
-use Rattle.roff_run.specs.Run.{read_waiting, State, performing, unless_refused, grown, made, moved, byte_taken, escape_ends, end_met, ahead_taken, taking_ahead, taking_byte, ending_input, answered, in_front_taken, front_seen, awaited_of_source, awaited, item_read, input_ended, message_told, input_left, reading_by, step_with, step}
-use Rattle.roff_run.specs.Run.Counts.{passes_bytes, refusal, first_passed}
+use Rattle.roff_run.specs.Run.{read_waiting, State, performing, unless_refused, grown, made, moved, byte_taken, escape_ends, ahead_taken, taking_ahead, taking_byte, ending_input, answered, in_front_taken, front_seen, awaited_of_source, awaited, item_read, input_ended, message_told, input_left, reading_by, step_with, step, known, phase_ended, source_answer, with_registers}
+use Rattle.roff_run.specs.Run.Counts.{passes_bytes, refusal, first_passed, names_counted}
+use Rattle.roff_num.specs.declared.num.Num.{Num}
+use Rattle.roff_run.specs.Starts.{with_given}
+use Rattle.roff_run.specs.declared.phase.Phase.{Phase}
+use Rattle.roff_run.specs.declared.phase.Phase.TheVariants.{Reading, LastMacro, Closing}
 use Rattle.roff_laws.proofs.Beginnings.{IsBeginning-same, IsBeginning-append, IsBeginning-trans}
 
 -- a state of the same history and messages
@@ -56,6 +60,14 @@ pub OnlyCuts-unless_refused : (l : Limits) (r : Option Limit) (s : State) {t : S
 OnlyCuts-unless_refused l None s done = done
 OnlyCuts-unless_refused l (Some limit) s done = OnlyCuts-same s _ refl refl
 
+-- registers are set that are given
+pub OnlyCuts-with_registers : (l : Limits) (given : List (ℕ × Num)) (s : State) → OnlyCuts s (with_registers l given s)
+OnlyCuts-with_registers l [] s = OnlyCuts-same s s refl refl
+OnlyCuts-with_registers l (first ∷ others) s =
+    let behind : State = record s { registers = with_given first s.registers } in
+    OnlyCuts-unless_refused l (first_passed l (names_counted behind.registers)) s
+    (OnlyCuts-trans (OnlyCuts-same s behind refl refl) (OnlyCuts-with_registers l others behind))
+
 -- an event is performed
 pub OnlyCuts-performing : (l : Limits) (e : PageEvent) (rest : List PageEvent) (s : State) → OnlyCuts s (performing l e rest s)
 OnlyCuts-performing l e rest s = OnlyCuts-unless_refused l (refusal l s.history e) s (OnlyCuts-event s _ e refl refl)
@@ -68,13 +80,15 @@ OnlyCuts-made l s done cuts = OnlyCuts-unless_refused l (first_passed l (grown d
 pub OnlyCuts-escape_ends : (s : State) → OnlyCuts s (escape_ends s)
 OnlyCuts-escape_ends s = OnlyCuts-message s _ _ refl refl
 
--- the end of the input is met
-pub OnlyCuts-end_met : (s : State) → OnlyCuts s (end_met s)
-OnlyCuts-end_met s = OnlyCuts-message s _ _ refl refl
+-- a phase ends
+pub OnlyCuts-phase_ended : (phase : Phase) (s : State) → OnlyCuts s (phase_ended phase s)
+OnlyCuts-phase_ended Reading s = OnlyCuts-message s _ _ refl refl
+OnlyCuts-phase_ended LastMacro s = OnlyCuts-message s _ _ refl refl
+OnlyCuts-phase_ended Closing s = OnlyCuts-same s _ refl refl
 
 -- with nothing half read
 pub OnlyCuts-input_ended : (first : Bool) (s : State) → OnlyCuts s (input_ended first s)
-OnlyCuts-input_ended false s = OnlyCuts-end_met s
+OnlyCuts-input_ended false s = OnlyCuts-phase_ended s.phase s
 OnlyCuts-input_ended true s = OnlyCuts-message s _ _ refl refl
 
 -- a message is told
@@ -82,8 +96,8 @@ pub OnlyCuts-message_told : (s : State) → OnlyCuts s (message_told s)
 OnlyCuts-message_told s = OnlyCuts-message s _ _ refl refl
 
 -- the input is left
-pub OnlyCuts-input_left : (s : State) → OnlyCuts s (end_met (input_left s))
-OnlyCuts-input_left s = OnlyCuts-message s _ _ refl refl
+pub OnlyCuts-input_left : (s : State) → OnlyCuts s (input_left s)
+OnlyCuts-input_left s = OnlyCuts-same s _ refl refl
 
 -- an item ahead was taken
 pub OnlyCuts-ahead_taken : (item : Ahead PageEvent) (s : State) → OnlyCuts s (ahead_taken item s)
@@ -120,7 +134,7 @@ OnlyCuts-taking_byte l b s =
 
 -- the end of the input
 pub OnlyCuts-ending_input : (l : Limits) (half : List OpenEscape) (s : State) → OnlyCuts s (ending_input l half s)
-OnlyCuts-ending_input l [] s = OnlyCuts-made l s _ (OnlyCuts-input_ended (line_ends_first s.reading) s)
+OnlyCuts-ending_input l [] s = OnlyCuts-made l s _ (OnlyCuts-input_ended (is_unfinished s.phase (known s) s.reading) s)
 OnlyCuts-ending_input l (first ∷ others) s = OnlyCuts-made l s _ (OnlyCuts-escape_ends s)
 
 -- the source answered
@@ -133,7 +147,7 @@ OnlyCuts-answered l (Ends (Stopped limit)) s = OnlyCuts-same s _ refl refl
 
 -- the item in front is taken
 pub OnlyCuts-in_front_taken : (l : Limits) (ahead : List (Ahead PageEvent)) (s : State) → OnlyCuts s (in_front_taken l ahead s)
-OnlyCuts-in_front_taken l [] s = OnlyCuts-answered l (front s.tape) s
+OnlyCuts-in_front_taken l [] s = OnlyCuts-answered l (source_answer s) s
 OnlyCuts-in_front_taken l (item ∷ behind) s = OnlyCuts-taking_ahead l item behind s
 
 -- something is seen in front, or nothing
@@ -155,7 +169,7 @@ OnlyCuts-awaited l (Some (SeesByte b)) s = OnlyCuts-front_seen l (Some b) s
 OnlyCuts-awaited l (Some SeesNothing) s = OnlyCuts-front_seen l None s
 OnlyCuts-awaited l (Some (SeesNote message)) s = OnlyCuts-front_seen l None s
 OnlyCuts-awaited l (Some (SeesEnding ending)) s = OnlyCuts-front_seen l None s
-OnlyCuts-awaited l None s = OnlyCuts-awaited_of_source l (front s.tape) s
+OnlyCuts-awaited l None s = OnlyCuts-awaited_of_source l (source_answer s) s
 
 -- by what is read does at the next item
 pub OnlyCuts-read_waiting : (l : Limits) (w : Waiting) (s : State) → OnlyCuts s (read_waiting l w s)
@@ -177,7 +191,7 @@ OnlyCuts-reading_by l (Some Leaves) s = OnlyCuts-made l s _ (OnlyCuts-input_left
 -- a step of a run that hasn't ended
 pub OnlyCuts-step_with : (l : Limits) (es : List PageEvent) (s : State) → OnlyCuts s (step_with l es s)
 OnlyCuts-step_with l (e ∷ rest) s = OnlyCuts-performing l e rest s
-OnlyCuts-step_with l [] s = OnlyCuts-if s.is_closing (OnlyCuts-same s _ refl refl) (OnlyCuts-reading_by l (due s.reading) s)
+OnlyCuts-step_with l [] s = OnlyCuts-reading_by l (due s.reading) s
 
 -- a step
 pub OnlyCuts-step : (l : Limits) (s : State) → OnlyCuts s (step l s)

@@ -22,16 +22,20 @@ use Rattle.roff_ahead.specs.Shown.{Sighted, SeesByte, SeesNothing, SeesNote, See
 use Rattle.roff_escape.specs.OpenEscape.{OpenEscape}
 use Rattle.roff_laws.specs.Laws.{OnlyCuts, over}
 use Rattle.roff_laws.specs.Limits.{AreWithin}
-use Rattle.roff_run.specs.Reading.Ends.{due, line_ends_first}
+use Rattle.roff_run.specs.Reading.Ends.{due, is_unfinished}
 use Rattle.roff_run.specs.declared.line_state.Due.{Due}
 use Rattle.roff_run.specs.declared.line_state.Due.TheVariants.{Leaves, Tells as TellsText}
 use Rattle.roff_run.specs.declared.event.PageEvent.{PageEvent}
-use Rattle.roff_run.specs.Run.{read_waiting, State, ending_with, unless_refused, stopped_by, performing, grown, made, escape_ends, taking_ahead, taking_byte, ending_input, answered, in_front_taken, front_seen, awaited_of_source, awaited, item_read, input_ended, reading_by, step_with, step, after}
-use Rattle.roff_run.specs.Run.Counts.{counts, first_passed, passes_bytes}
+use Rattle.roff_run.specs.Run.{read_waiting, State, ending_with, unless_refused, stopped_by, performing, grown, made, escape_ends, taking_ahead, taking_byte, ending_input, answered, in_front_taken, front_seen, awaited_of_source, awaited, item_read, input_ended, reading_by, step_with, step, after, known, phase_ended, with_registers}
+use Rattle.roff_run.specs.Run.Counts.{counts, first_passed, passes_bytes, names_counted}
+use Rattle.roff_num.specs.declared.num.Num.{Num}
+use Rattle.roff_run.specs.Starts.{with_given}
+use Rattle.roff_run.specs.declared.phase.Phase.{Phase}
+use Rattle.roff_run.specs.declared.phase.Phase.TheVariants.{Reading, LastMacro, Closing}
 use Rattle.roff_run.specs.declared.message.Message.TheVariants.{ReadFailed}
 use Rattle.roff_run.specs.declared.status.Status.{Status}
 use Rattle.roff_run.specs.declared.status.Status.TheVariants.{Device, Limit as Limited}
-use Rattle.roff_laws.proofs.StepsAppend.{OnlyCuts-same, OnlyCuts-event, OnlyCuts-trans, OnlyCuts-if, OnlyCuts-unless_refused, OnlyCuts-made, OnlyCuts-escape_ends, OnlyCuts-end_met, OnlyCuts-input_ended, OnlyCuts-message_told, OnlyCuts-input_left, ahead_done, OnlyCuts-ahead_done, byte_done, OnlyCuts-byte_done, OnlyCuts-answered, OnlyCuts-awaited_of_source, OnlyCuts-step}
+use Rattle.roff_laws.proofs.StepsAppend.{OnlyCuts-same, OnlyCuts-event, OnlyCuts-trans, OnlyCuts-if, OnlyCuts-unless_refused, OnlyCuts-made, OnlyCuts-escape_ends, OnlyCuts-phase_ended, OnlyCuts-with_registers, OnlyCuts-input_ended, OnlyCuts-message_told, OnlyCuts-input_left, ahead_done, OnlyCuts-ahead_done, byte_done, OnlyCuts-byte_done, OnlyCuts-answered, OnlyCuts-awaited_of_source, OnlyCuts-step}
 
 -- what passes a larger limit passes a smaller one
 abbrev pub IsMonotone : (Limits → Bool) → Type 0
@@ -119,6 +123,15 @@ module _ (Beside : Tape → Tape → Type 0) (IsCause : Status → Type 0) where
         (OnlyCuts-unless_refused large (first_passed large cs) (over tape s) appends)
         (Cut-unless_refused cs s t u tape beside appends goes_on)))
 
+    -- both set the registers that are given
+    pub Cut-with_registers : (given : List (ℕ × Num)) (s : State) (tape : Tape) → Beside s.tape tape → Cut (with_registers small given s) (with_registers large given (over tape s))
+    Cut-with_registers [] s tape beside = Same tape beside refl
+    Cut-with_registers (first ∷ others) s tape beside =
+        let behind : State = record s { registers = with_given first s.registers } in
+        Cut-unless_refused (names_counted behind.registers) s _ _ tape beside
+        (OnlyCuts-trans (OnlyCuts-same (over tape s) (over tape behind) refl refl) (OnlyCuts-with_registers large others (over tape behind)))
+        (Cut-with_registers others behind tape beside)
+
     -- both perform an event
     pub Cut-performing : (e : PageEvent) (rest : List PageEvent) (s : State) (tape : Tape) → Beside s.tape tape → Cut (performing small e rest s) (performing large e rest (over tape s))
     Cut-performing e rest s tape beside =
@@ -153,14 +166,20 @@ module _ (Beside : Tape → Tape → Type 0) (IsCause : Status → Type 0) where
         (OnlyCuts-made large (over tape s) _ appends)
         (Cut-made s (byte_done b s) _ tape (behind_front tape) beside beside_next refl appends)
 
+    -- a phase ends in both
+    pub Cut-phase_ended : (phase : Phase) (s : State) (tape : Tape) → Beside s.tape tape → Cut (made small s (phase_ended phase s)) (made large (over tape s) (phase_ended phase (over tape s)))
+    Cut-phase_ended Reading s tape beside = Cut-made s _ _ tape tape beside beside refl (OnlyCuts-phase_ended Reading (over tape s))
+    Cut-phase_ended LastMacro s tape beside = Cut-made s _ _ tape tape beside beside refl (OnlyCuts-phase_ended LastMacro (over tape s))
+    Cut-phase_ended Closing s tape beside = Cut-made s _ _ tape tape beside beside refl (OnlyCuts-phase_ended Closing (over tape s))
+
     -- both meet the end of the input, with nothing half read
     pub Cut-input_ended : (first : Bool) (s : State) (tape : Tape) → Beside s.tape tape → Cut (made small s (input_ended first s)) (made large (over tape s) (input_ended first (over tape s)))
-    Cut-input_ended false s tape beside = Cut-made s _ _ tape tape beside beside refl (OnlyCuts-end_met (over tape s))
+    Cut-input_ended false s tape beside = Cut-phase_ended s.phase s tape beside
     Cut-input_ended true s tape beside = Cut-made s _ _ tape tape beside beside refl (OnlyCuts-input_ended true (over tape s))
 
     -- both meet the end of the input
     pub Cut-ending_input : (half : List OpenEscape) (s : State) (tape : Tape) → Beside s.tape tape → Cut (ending_input small half s) (ending_input large half (over tape s))
-    Cut-ending_input [] s tape beside = Cut-input_ended (line_ends_first s.reading) s tape beside
+    Cut-ending_input [] s tape beside = Cut-input_ended (is_unfinished s.phase (known s) s.reading) s tape beside
     Cut-ending_input (first ∷ others) s tape beside = Cut-escape_ends s tape beside
 
     -- both sources give the same answer
@@ -189,10 +208,25 @@ module _ (Beside : Tape → Tape → Type 0) (IsCause : Status → Type 0) where
               subst (λ (b : Answer). Goal (front s.tape) b) (sym alike.0) (same_answer (front s.tape) alike.1)
         ]
 
+    -- both sources are asked, or neither
+    pub Cut-closed : (closed : Bool) (s whole : State) (a b : Answer) → Cut (answered small (Ends Ended) s) (answered large (Ends Ended) whole)
+        → Cut (answered small a s) (answered large b whole)
+        → Cut (answered small (if closed then Ends Ended else a) s) (answered large (if closed then Ends Ended else b) whole)
+    Cut-closed true s whole a b ended asked = ended
+    Cut-closed false s whole a b ended asked = asked
+
+    pub Cut-seen_closed : (closed : Bool) (s whole : State) (a b : Answer) → Cut (awaited_of_source small (Ends Ended) s) (awaited_of_source large (Ends Ended) whole)
+        → Cut (awaited_of_source small a s) (awaited_of_source large b whole)
+        → Cut (awaited_of_source small (if closed then Ends Ended else a) s) (awaited_of_source large (if closed then Ends Ended else b) whole)
+    Cut-seen_closed true s whole a b ended asked = ended
+    Cut-seen_closed false s whole a b ended asked = asked
+
     -- both take the item in front
     pub Cut-in_front_taken : (ahead : List (Ahead PageEvent)) (s : State) (tape : Tape) → Beside s.tape tape → Cut (in_front_taken small ahead s) (in_front_taken large ahead (over tape s))
     Cut-in_front_taken [] s tape beside =
-        Cut-front answered s tape beside refl (λ a. OnlyCuts-answered large a (over tape s)) (λ a. Cut-answered a s tape beside)
+        Cut-closed s.is_closed s (over tape s) (front s.tape) (front tape)
+        (Cut-ending_input s.input.escapes s tape beside)
+        (Cut-front answered s tape beside refl (λ a. OnlyCuts-answered large a (over tape s)) (λ a. Cut-answered a s tape beside))
     Cut-in_front_taken (item ∷ behind) s tape beside = Cut-taking_ahead item behind s tape beside
 
     -- both see the same in front, or nothing
@@ -215,7 +249,8 @@ module _ (Beside : Tape → Tape → Type 0) (IsCause : Status → Type 0) where
     Cut-awaited (Some (SeesNote message)) s tape beside = Cut-front_seen None s tape beside
     Cut-awaited (Some (SeesEnding ending)) s tape beside = Cut-front_seen None s tape beside
     Cut-awaited None s tape beside =
-        Cut-front awaited_of_source s tape beside refl (λ a. OnlyCuts-awaited_of_source large a (over tape s)) (λ a. Cut-awaited_of_source a s tape beside)
+        Cut-seen_closed s.is_closed s (over tape s) (front s.tape) (front tape) (Cut-front_seen None s tape beside)
+        (Cut-front awaited_of_source s tape beside refl (λ a. OnlyCuts-awaited_of_source large a (over tape s)) (λ a. Cut-awaited_of_source a s tape beside))
 
     -- what is read does the same at the next item in both
     pub Cut-read_waiting : (w : Waiting) (s : State) (tape : Tape) → Beside s.tape tape → Cut (read_waiting small w s) (read_waiting large w (over tape s))
@@ -237,7 +272,7 @@ module _ (Beside : Tape → Tape → Type 0) (IsCause : Status → Type 0) where
     -- both make a step, and haven't ended
     pub Cut-step_with : (es : List PageEvent) (s : State) (tape : Tape) → Beside s.tape tape → Cut (step_with small es s) (step_with large es (over tape s))
     Cut-step_with (e ∷ rest) s tape beside = Cut-performing e rest s tape beside
-    Cut-step_with [] s tape beside = Cut-if s.is_closing (Same tape beside refl) (Cut-reading_by (due s.reading) s tape beside)
+    Cut-step_with [] s tape beside = Cut-reading_by (due s.reading) s tape beside
 
     -- both make a step from the same state
     pub Cut-step_over : (s : State) (tape : Tape) → Beside s.tape tape → Cut (step small s) (step large (over tape s))

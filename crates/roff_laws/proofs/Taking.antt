@@ -1,25 +1,28 @@
 -- What a run takes of its tape is in front of what it leaves.
 --
 -- Each function f of the run has its lemma Takes-f here, with a line for each of its cases.
-use Rattle.std.proofs.Common.{◌≡◌, ℕ, ◌+◌, ◌≤◌, zero, suc, Bool, true, false, List, [], ◌∷◌, ◌++◌, length, Some, None, refl, ◌∙◌, sym, ap, append_assoc, length-append, add-zero, arith, take, ◌-◌}
+use Rattle.std.proofs.Common.{◌≡◌, ℕ, ◌+◌, ◌≤◌, zero, suc, Bool, true, false, List, [], ◌∷◌, ◌++◌, length, Option, Some, None, refl, ◌∙◌, sym, ap, append_assoc, length-append, add-zero, arith, take, ◌-◌}
 use Rattle.std.specs.Prelude.{if◌then◌else◌, ◌==◌}
 use Rattle.std.proofs.lemmas.List.{append-nil}
 use Rattle.std.proofs.lemmas.List.Sums.{sum_by-append}
 use Rattle.std.proofs.Math.Seq.{take-append_seam}
 use Rattle.roff_num.specs.declared.limits.Limits.{Limits}
+use Rattle.roff_num.specs.declared.limit.Limit.{Limit}
+use Rattle.roff_num.specs.declared.num.Num.{Num}
+use Rattle.roff_run.specs.Run.Counts.{first_passed, names_counted}
+use Rattle.roff_run.specs.Starts.{with_given}
 use Rattle.roff_run.specs.Within.{IsWithin}
 use Rattle.roff_run.specs.Reading.Items.{PageInput}
 use Rattle.roff_run.specs.declared.event.PageEvent.{PageEvent}
 use Rattle.roff_run.specs.Results.{last_state}
-use Rattle.roff_run.specs.Run.{State, initial, input_left, known, moved, step_with, step, after}
+use Rattle.roff_run.specs.Run.{State, blank_state, initial, moved, stopped_by, unless_refused, with_registers, step_with, step, after}
 use Rattle.roff_laws.specs.Taken.{bytes_of, newlines_in, line_of_last, Takes, EachItemIsTakenOnce, EachRunLeavesItsRest}
 use Rattle.roff_source.specs.Bytes.{newline}
 use Rattle.roff_ahead.specs.Input.{Ahead, counting, item_taken}
 use Rattle.roff_source.specs.Tape.{Tape, Item, Ending, OneByte, OneNote, Gives, front, behind_front}
 use Rattle.roff_laws.proofs.Endings.{at_last_state}
-use Rattle.roff_run.proofs.Keeping.{Keeps-end_taking}
 use Rattle.roff_laws.proofs.PerformedOrStopped.{PerformedOrStopped, Performed, StoppedAt, performed_or_stopped}
-use Rattle.roff_run.proofs.Readings.{ReadsOn, LimitStops, AheadTaken, ByteTaken, NoteTaken, HalfEnds, InputEnds, InputLeft, LineEnds, MessageTold, RunAborts, SourceFails, SourceStops, ReadsOn-reading_on, Behind, Behind-byte_taken, Behind-ahead_taken, Behind-escape_ends, Behind-line_ends, behind_note}
+use Rattle.roff_run.proofs.Readings.{ReadsOn, LimitStops, AheadTaken, ByteTaken, NoteTaken, HalfEnds, InputLeft, LineEnds, PhaseEnds, MessageTold, RunAborts, SourceFails, SourceStops, ReadsOn-reading_on, Behind, Behind-byte_taken, Behind-ahead_taken, Behind-escape_ends, Behind-line_ends, Passed-phase_ended, behind_note}
 use Rattle.roff_laws.proofs.RunsStayWithin.{no_limit_is_passed}
 
 -- the bytes of two lists of items
@@ -53,11 +56,6 @@ line_of_last-byte : (bytes : List ℕ) (b : ℕ) → line_of_last (bytes ++ b �
 line_of_last-byte bytes b =
     let all : length (bytes ++ b ∷ []) - 1 ≡ length bytes = rw length-append (omega arith) in
     ap (λ (front : List ℕ). newlines_in front + 1) (ap (λ (n : ℕ). take n (bytes ++ b ∷ [])) all ∙ take-append_seam bytes (b ∷ []))
-
--- either of two states, by a test
-Takes-if : (tape : Tape) (b : Bool) (s t : State) → Takes tape s → Takes tape t → Takes tape (if b then s else t)
-Takes-if tape true s t first second = first
-Takes-if tape false s t first second = second
 
 -- a state of the same tape and counts of the source, and of no smaller charge
 Takes-same : (tape : Tape) (s t : State) → t.tape ≡ s.tape → s.input.charge ≤ t.input.charge → t.input.newlines ≡ s.input.newlines
@@ -129,27 +127,24 @@ Takes-read : (tape : Tape) (l : Limits) (s t : State) → ReadsOn l s t → Take
 Takes-read tape l s t (LimitStops limit) takes = Takes-unread tape s t refl refl takes
 Takes-read tape l s t (AheadTaken item behind ahead charge is_made) takes =
     Takes-behind tape _ _ t (Behind-ahead_taken item (record s { input = item_taken item behind s.input })) (Takes-charged tape item behind s takes)
-Takes-read tape l s t (ByteTaken b none gives charge is_made) takes =
+Takes-read tape l s t (ByteTaken b none is_open gives charge is_made) takes =
     Takes-behind tape _ _ t (Behind-byte_taken b (moved (record s { input = counting b s.input }))) (Takes-byte tape b s gives takes)
-Takes-read tape l s t (NoteTaken message gives) takes = Takes-note tape message s gives takes
+Takes-read tape l s t (NoteTaken message is_open gives) takes = Takes-note tape message s gives takes
 Takes-read tape l s t (HalfEnds first others half is_made) takes = Takes-behind tape _ s t (Behind-escape_ends s first others half) takes
-Takes-read tape l s t (InputEnds none half ends is_made) takes =
-    let read = Keeps-end_taking (known s) s.reading s.input in
-    Takes-same tape s t refl (rw read.charge (omega arith)) read.newlines read.line takes
-Takes-read tape l s t (LineEnds first none is_made) takes = Takes-behind tape _ s t (Behind-line_ends s first none) takes
+Takes-read tape l s t (PhaseEnds none half ends over is_made) takes =
+    let passed = Passed-phase_ended s.phase s in
+    Takes-same tape s t passed.tape (rw passed.input.charge (omega arith)) passed.input.newlines passed.input.line takes
+Takes-read tape l s t (LineEnds unfinished none ends is_made) takes = Takes-behind tape _ s t (Behind-line_ends s) takes
 Takes-read tape l s t (MessageTold told is_made) takes = Takes-same tape s t refl (omega arith) refl refl takes
 Takes-read tape l s t (RunAborts told) takes = Takes-unread tape s t refl refl takes
-Takes-read tape l s t (InputLeft leaves is_made) takes =
-    let read = Keeps-end_taking (known (input_left s)) s.reading (input_left s).input in
-    Takes-same tape s t refl (rw read.charge (omega arith)) read.newlines read.line takes
-Takes-read tape l s t (SourceFails fails) takes = Takes-unread tape s t refl refl takes
-Takes-read tape l s t (SourceStops limit stops) takes = Takes-unread tape s t refl refl takes
+Takes-read tape l s t (InputLeft leaves is_made) takes = Takes-same tape s t refl (omega arith) refl refl takes
+Takes-read tape l s t (SourceFails is_open fails) takes = Takes-unread tape s t refl refl takes
+Takes-read tape l s t (SourceStops limit is_open stops) takes = Takes-unread tape s t refl refl takes
 
 -- a step of a run that hasn't ended
 Takes-step_with : (tape : Tape) (l : Limits) (es : List PageEvent) (s : State) → Takes tape s → Takes tape (step_with l es s)
 Takes-step_with tape l (e ∷ es) s takes = Takes-event tape l e es s _ (performed_or_stopped l e es s) takes
-Takes-step_with tape l [] s takes =
-    Takes-if tape s.is_closing _ _ (Takes-unread tape s _ refl refl takes) (Takes-read tape l s _ (ReadsOn-reading_on l s) takes)
+Takes-step_with tape l [] s takes = Takes-read tape l s _ (ReadsOn-reading_on l s) takes
 
 -- a step
 Takes-step : (tape : Tape) (l : Limits) (s : State) → Takes tape s → Takes tape (step l s)
@@ -164,16 +159,29 @@ Takes-after : (tape : Tape) (l : Limits) (n : ℕ) (s : State) → Takes tape s 
 Takes-after tape l zero s takes = takes
 Takes-after tape l (suc n) s takes = Takes-after tape l n (step l s) (Takes-step tape l s takes)
 
+-- nothing is taken where registers are set that are given
+Takes-unless_refused : (tape : Tape) (l : Limits) (r : Option Limit) (s done : State) → Takes tape s → Takes tape done → Takes tape (unless_refused l r s done)
+Takes-unless_refused tape l None s done takes takes_done = takes_done
+Takes-unless_refused tape l (Some limit) s done takes takes_done = Takes-unread tape s (stopped_by l limit s) refl refl takes
+
+Takes-with_registers : (tape : Tape) (l : Limits) (given : List (ℕ × Num)) (s : State) → Takes tape s → Takes tape (with_registers l given s)
+Takes-with_registers tape l [] s takes = takes
+Takes-with_registers tape l (first ∷ others) s takes =
+    let behind : State = record s { registers = with_given first s.registers } in
+    Takes-unless_refused tape l (first_passed l (names_counted behind.registers)) s _ takes
+    (Takes-with_registers tape l others behind (Takes-unread tape s behind refl refl takes))
+
 -- no step skips an item or takes one twice
 pub each_item_is_taken_once : EachItemIsTakenOnce
-each_item_is_taken_once l tape n =
-    Takes-after tape l n (initial tape) (record { taken = []; items = refl; ending = refl; charge = omega arith; newlines = refl; line = refl })
+each_item_is_taken_once l start tape n =
+    Takes-after tape l n (initial l start tape)
+    (Takes-with_registers tape l start.registers.items (blank_state tape) (record { taken = []; items = refl; ending = refl; charge = omega arith; newlines = refl; line = refl }))
 
 -- what a whole run takes, and its rest
 pub each_run_leaves_its_rest : EachRunLeavesItsRest
-each_run_leaves_its_rest l tape =
-    let takes : Takes tape (last_state l tape) = at_last_state (Takes tape) l tape (each_item_is_taken_once l tape) in
-    let is : IsWithin l (last_state l tape) = at_last_state (IsWithin l) l tape (no_limit_is_passed l tape) in record {
+each_run_leaves_its_rest l start tape =
+    let takes : Takes tape (last_state l start tape) = at_last_state (Takes tape) l start tape (each_item_is_taken_once l start tape) in
+    let is : IsWithin l (last_state l start tape) = at_last_state (IsWithin l) l start tape (no_limit_is_passed l start tape) in record {
       taken = takes.taken;
       items = takes.items;
       ending = takes.ending;

@@ -9,7 +9,7 @@ use Rattle.std.proofs.lemmas.List.Elements.{All-head, All-tail}
 use Rattle.std.proofs.lemmas.List.Sums.{sum_by-cons}
 use Rattle.roff_lines.specs.Glyphs.{glyph_text, glyph_blank}
 use Rattle.roff_lines.specs.Places.{tab_width}
-use Rattle.roff_lines.specs.Words.{blanks, has_open_word, is_empty, open_glyphs, words}
+use Rattle.roff_lines.specs.Words.{begun_gap, blanks, has_open_word, is_empty, line_glyphs, open_glyphs, words}
 use Rattle.roff_lines.specs.declared.glyph.Glyph.{Glyph}
 use Rattle.roff_lines.specs.declared.glyph.Glyph.TheVariants.{Blanks}
 use Rattle.roff_num.specs.declared.limit.Limit.TheVariants.{Line}
@@ -163,18 +163,18 @@ escape_ended-measures k reading i delimiter width is_deep half on measures =
 
 -- where it ends so, its end is the step
 item_read-ends : (l : Limits) (s : State) (delimiter : Option ℕ) (width : ℕ) (is_deep : Bool) (half : List OpenEscape)
-    → EndsText s
+    → EndsText s → s.is_closed ≡ false
     → s.input.escapes ≡ Width delimiter width is_deep ∷ half → item_read l s ≡ made l s (escape_ends s)
-item_read-ends l s delimiter width is_deep half (NewlineAhead rest ahead) measures =
+item_read-ends l s delimiter width is_deep half (NewlineAhead rest ahead) is_open measures =
     ap (λ (h : List OpenEscape). read_waiting l (waiting_above s.reading s.input.arguments.place h) s) measures
     ∙ ap (λ (items : List (Ahead PageEvent)). awaited l (seen_ahead items) s) ahead
     ∙ ap (λ (h : List OpenEscape). if is_ended_by h (Some newline) then made l s (escape_ends s) else in_front_taken l s.input.ahead s) measures
-item_read-ends l s delimiter width is_deep half (NewlineOfTheSource ahead gives) measures =
+item_read-ends l s delimiter width is_deep half (NewlineOfTheSource ahead gives) is_open measures =
     ap (λ (h : List OpenEscape). read_waiting l (waiting_above s.reading s.input.arguments.place h) s) measures
     ∙ ap (λ (items : List (Ahead PageEvent)). awaited l (seen_ahead items) s) ahead
     ∙ ap (λ (a : Answer). awaited_of_source l a s) gives
     ∙ ap (λ (h : List OpenEscape). if is_ended_by h (Some newline) then made l s (escape_ends s) else in_front_taken l s.input.ahead s) measures
-item_read-ends l s delimiter width is_deep half (EndOfTheSource ahead ends) measures =
+item_read-ends l s delimiter width is_deep half (EndOfTheSource ahead ends) is_open measures =
     ap (λ (h : List OpenEscape). read_waiting l (waiting_above s.reading s.input.arguments.place h) s) measures
     ∙ ap (λ (items : List (Ahead PageEvent)). awaited l (seen_ahead items) s) ahead
     ∙ ap (λ (a : Answer). awaited_of_source l a s) ends
@@ -192,7 +192,7 @@ widths_end_with_their_line l s delimiter width is_deep half ends takes reads mea
     ∙ taken_as-going_on (pushing (decimal width) (settled_input s.reading half s.input)) s.reading s
     ∙ ap (λ (c : ℕ). let t : State = record s { input = pushing (decimal width) (record (settled_input s.reading half s.input) { charge = c }) } in t) (omega arith)
     ∙ sym (with_width_ahead-arguments width half 0 s.input.ahead s on) in
-    step-TakesItems l s takes ∙ item_read-ends l s delimiter width is_deep half ends measures
+    step-TakesItems l s takes ∙ item_read-ends l s delimiter width is_deep half ends takes.is_open measures
     ∙ ap (made l s) is ∙ made-Fits l s read (Fits-IsWithin l read within_read)
 
 -- a width that grows by some bytes
@@ -328,12 +328,13 @@ measured_texts_of_the_source_read_as_digits l s d text tape may plain takes read
     width-reads l s (FromSource tape) d text may plain takes reads none nothing stands
 
 -- a gap counts once a word is open behind it
-gap-counts : (is_open is_first : Bool) (gap : ℕ)
-    → (if not is_first then gap else 0) ≡ (if is_open && not is_first then gap else 0) + (if is_open || is_first then 0 else gap)
-gap-counts true true gap = refl
-gap-counts true false gap = omega arith
-gap-counts false true gap = refl
-gap-counts false false gap = omega arith
+gap-counts : (is_open is_first : Bool) (gap begun : ℕ)
+    → (if not is_first then (if is_open then gap else begun) else 0)
+    ≡ (if is_open && not is_first then gap else 0) + (if is_open || is_first then 0 else begun)
+gap-counts true true gap begun = refl
+gap-counts true false gap begun = omega arith
+gap-counts false true gap begun = refl
+gap-counts false false gap begun = omega arith
 
 -- blanks behind other glyphs
 length-Blanks : (n : ℕ) (glyphs : List Glyph)
@@ -347,7 +348,7 @@ length-Blanks n glyphs =
 
 pub motions_are_as_long_as_their_columns : MotionsAreAsLongAsTheirColumns
 motions_are_as_long_as_their_columns h n =
-    omega (arith, gap-counts (has_open_word h) (is_empty (words h)) (blanks h), length-Blanks n (open_glyphs h))
+    omega (arith, gap-counts (has_open_word h) (is_empty (words h)) (blanks h) (begun_gap (blanks h) (line_glyphs h)), length-Blanks n (open_glyphs h))
 
 pub motions_count_in_the_line : MotionsCountInTheLine
 motions_count_in_the_line l h n =

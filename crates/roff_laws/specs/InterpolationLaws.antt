@@ -22,15 +22,15 @@ use Rattle.roff_run.specs.Reading.Escapes.{argument_named}
 use Rattle.roff_run.specs.Reading.Items.{PageInput}
 use Rattle.roff_run.specs.Registers.{Known, StepBy, changed_by, step_messages, text_of_register}
 use Rattle.roff_run.specs.declared.event.PageEvent.{PageEvent}
-use Rattle.roff_run.specs.Run.{State, known, answered, item_read, step, after}
+use Rattle.roff_run.specs.Run.{State, known, answered, item_read, step, after, source_answer}
 use Rattle.roff_run.specs.declared.line_state.LineState.{LineState}
 use Rattle.roff_run.specs.declared.line_state.LineState.TheVariants.{LineStart, Branch, Braced, Text as InText, Control, Name, Arguments as InArguments, Deciding, StringName, StringText, Skipping, Dropped, Telling, Told, Exiting, Calling, Defining}
 use Rattle.roff_run.specs.ItemsTaken.{TakesItems}
 
--- where nothing is ahead and nothing is half read, the unread input is the source's tape
+-- where nothing is ahead and nothing is half read, the unread input is the source's tape, or it has ended where it is closed
 abbrev pub UnreadInputIsTheTape : Type 0
 UnreadInputIsTheTape =
-    (l : Limits) (s : State) → s.input.ahead ≡ [] → s.input.escapes ≡ [] → item_read l s ≡ answered l (front s.tape) s
+    (l : Limits) (s : State) → s.input.ahead ≡ [] → s.input.escapes ≡ [] → item_read l s ≡ answered l (source_answer s) s
 
 -- and a step of a run that takes items is what the tape's front says
 abbrev pub StepsFollowTheTape : Type 0

@@ -6,6 +6,7 @@ use Rattle.roff_run.specs.declared.status.Status.TheVariants.{Device, Limit as L
 use Rattle.roff_num.specs.declared.limits.Limits.{Limits}
 use Rattle.roff_laws.specs.Limits.{AreWithin}
 use Rattle.roff_run.specs.Run.{State, initial, after, output, reported}
+use Rattle.roff_run.specs.declared.start.Start.{Start}
 use Rattle.roff_source.specs.Tape.{Tape, Item, Ending, Failed}
 use Rattle.roff_run.specs.Within.{IsWithin}
 
@@ -18,15 +19,15 @@ pub record OnlyCuts (cut whole : State) : Type 0 where
 -- limits only cut
 abbrev pub LimitsOnlyCut : Type 0
 LimitsOnlyCut =
-    (small large : Limits) → AreWithin small large → (tape : Tape) (n : ℕ) →
-    OnlyCuts (after small n (initial tape)) (after large n (initial tape))
+    (small large : Limits) → AreWithin small large → (start : Start) (tape : Tape) (n : ℕ) →
+    OnlyCuts (after small n (initial small start tape)) (after large n (initial large start tape))
 
 -- larger limits change nothing until a limit stops the run
 abbrev pub SameUntilALimit : Type 0
 SameUntilALimit =
-    (small large : Limits) → AreWithin small large → (tape : Tape) (n : ℕ) →
-    ((limit : Limit) → (after small n (initial tape)).ended ≢ Some (Limited limit)) →
-    after large n (initial tape) ≡ after small n (initial tape)
+    (small large : Limits) → AreWithin small large → (start : Start) (tape : Tape) (n : ℕ) →
+    ((limit : Limit) → (after small n (initial small start tape)).ended ≢ Some (Limited limit)) →
+    after large n (initial large start tape) ≡ after small n (initial small start tape)
 
 -- a source that fails behind these items
 abbrev pub failing_behind : List Item → Tape
@@ -39,8 +40,8 @@ going_on_behind items more ending = record { items = items ++ more; ending = end
 -- a source that fails only cuts
 abbrev pub FailingOnlyCuts : Type 0
 FailingOnlyCuts =
-    (l : Limits) (items more : List Item) (ending : Ending) (n : ℕ) →
-    OnlyCuts (after l n (initial (failing_behind items))) (after l n (initial (going_on_behind items more ending)))
+    (l : Limits) (start : Start) (items more : List Item) (ending : Ending) (n : ℕ) →
+    OnlyCuts (after l n (initial l start (failing_behind items))) (after l n (initial l start (going_on_behind items more ending)))
 
 -- the same state over another tape
 abbrev pub over : Tape → State → State
@@ -49,14 +50,14 @@ over tape s = record s { tape = tape }
 -- a source that goes on changes nothing but what is left to take, until the run meets the fault
 abbrev pub SameUntilTheFault : Type 0
 SameUntilTheFault =
-    (l : Limits) (items more : List Item) (ending : Ending) (n : ℕ) →
-    let cut : State = after l n (initial (failing_behind items)) in
-    let whole : State = after l n (initial (going_on_behind items more ending)) in
+    (l : Limits) (start : Start) (items more : List Item) (ending : Ending) (n : ℕ) →
+    let cut : State = after l n (initial l start (failing_behind items)) in
+    let whole : State = after l n (initial l start (going_on_behind items more ending)) in
     cut.ended ≢ Some Device → over cut.tape whole ≡ cut
 
 -- no run passes a limit
 abbrev pub NoLimitIsPassed : Type 0
-NoLimitIsPassed = (l : Limits) (tape : Tape) (n : ℕ) → IsWithin l (after l n (initial tape))
+NoLimitIsPassed = (l : Limits) (start : Start) (tape : Tape) (n : ℕ) → IsWithin l (after l n (initial l start tape))
 
 -- a run has gone on from one state to another: nothing that it wrote or reported was taken back
 pub record GoesOnTo (s t : State) : Type 0 where
@@ -66,4 +67,4 @@ pub record GoesOnTo (s t : State) : Type 0 where
 -- steps only append
 abbrev pub StepsOnlyAppend : Type 0
 StepsOnlyAppend =
-    (l : Limits) (tape : Tape) (n more : ℕ) → GoesOnTo (after l n (initial tape)) (after l (n + more) (initial tape))
+    (l : Limits) (start : Start) (tape : Tape) (n more : ℕ) → GoesOnTo (after l n (initial l start tape)) (after l (n + more) (initial l start tape))

@@ -11,6 +11,15 @@ pub mod Quoting
 pub mod MessageLaws
 pub mod CallLaws
 pub mod DefinitionLaws
+pub mod StringLaws
+pub mod TextLaws
+pub mod ElseLaws
+pub mod AskingLaws
+pub mod BranchLaws
+pub mod WordArguments
+pub mod WordCalls
+pub mod EndLaws
+pub mod EndedLaws
 pub mod ResultLaws
 pub mod Taken
 pub mod Statuses

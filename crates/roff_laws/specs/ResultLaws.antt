@@ -8,56 +8,57 @@ use Rattle.roff_laws.specs.Laws.{failing_behind, going_on_behind, GoesOnTo}
 use Rattle.roff_laws.specs.Limits.{AreWithin}
 use Rattle.roff_run.specs.Results.{last_state, output_of, messages_of, messages_on_the_way, status_of}
 use Rattle.roff_run.specs.Run.{State, Leads, initial}
+use Rattle.roff_run.specs.declared.start.Start.{Start}
 use Rattle.roff_source.specs.Tape.{Tape, Item, Ending}
 
 -- every run ends
 abbrev pub EveryRunEnds : Type 0
-EveryRunEnds = (l : Limits) (tape : Tape) → IsSome (status_of l tape)
+EveryRunEnds = (l : Limits) (start : Start) (tape : Tape) → IsSome (status_of l start tape)
 
 -- its steps lead to its last state
 abbrev pub StepsLeadToTheLastState : Type 0
-StepsLeadToTheLastState = (l : Limits) (tape : Tape) → Leads l (initial tape) (last_state l tape)
+StepsLeadToTheLastState = (l : Limits) (start : Start) (tape : Tape) → Leads l (initial l start tape) (last_state l start tape)
 
 -- and to no other one that has ended
 abbrev pub NoOtherStateIsLast : Type 0
 NoOtherStateIsLast =
-    (l : Limits) (tape : Tape) (s : State) → Leads l (initial tape) s → IsSome s.ended → s ≡ last_state l tape
+    (l : Limits) (start : Start) (tape : Tape) (s : State) → Leads l (initial l start tape) s → IsSome s.ended → s ≡ last_state l start tape
 
 -- one run gives a beginning of what another does: of its output, and, but for the message with which the one
 -- ends, of its messages
-pub record GivesABeginning (l : Limits) (tape : Tape) (large : Limits) (longer : Tape) : Type 0 where
-  pub text : IsBeginning (output_of l tape) (output_of large longer)
-  pub messages : IsBeginning (messages_on_the_way l tape) (messages_of large longer)
+pub record GivesABeginning (start : Start) (l : Limits) (tape : Tape) (large : Limits) (longer : Tape) : Type 0 where
+  pub text : IsBeginning (output_of l start tape) (output_of large start longer)
+  pub messages : IsBeginning (messages_on_the_way l start tape) (messages_of large start longer)
 
 -- two runs give the same
-pub record GiveTheSame (l : Limits) (tape : Tape) (large : Limits) (longer : Tape) : Type 0 where
-  pub text : output_of l tape ≡ output_of large longer
-  pub messages : messages_of l tape ≡ messages_of large longer
-  pub status : status_of l tape ≡ status_of large longer
+pub record GiveTheSame (start : Start) (l : Limits) (tape : Tape) (large : Limits) (longer : Tape) : Type 0 where
+  pub text : output_of l start tape ≡ output_of large start longer
+  pub messages : messages_of l start tape ≡ messages_of large start longer
+  pub status : status_of l start tape ≡ status_of large start longer
 
 -- a run gives a beginning of what it gives with larger limits
 abbrev pub LimitsCutResults : Type 0
-LimitsCutResults = (small large : Limits) → AreWithin small large → (tape : Tape) → GivesABeginning small tape large tape
+LimitsCutResults = (small large : Limits) → AreWithin small large → (start : Start) (tape : Tape) → GivesABeginning start small tape large tape
 
 -- and just the same if no limit stops it
 abbrev pub SameResultWithoutALimit : Type 0
 SameResultWithoutALimit =
-    (small large : Limits) → AreWithin small large → (tape : Tape) →
-    ((limit : Limit) → status_of small tape ≢ Some (Limited limit)) → GiveTheSame small tape large tape
+    (small large : Limits) → AreWithin small large → (start : Start) (tape : Tape) →
+    ((limit : Limit) → status_of small start tape ≢ Some (Limited limit)) → GiveTheSame start small tape large tape
 
 -- over a source that fails behind some items a run gives a beginning of what it gives over one that goes on there
 abbrev pub FailingCutsResults : Type 0
 FailingCutsResults =
-    (l : Limits) (items more : List Item) (ending : Ending) →
-    GivesABeginning l (failing_behind items) l (going_on_behind items more ending)
+    (l : Limits) (start : Start) (items more : List Item) (ending : Ending) →
+    GivesABeginning start l (failing_behind items) l (going_on_behind items more ending)
 
 -- and just the same if it ends before the fault
 abbrev pub SameResultBeforeTheFault : Type 0
 SameResultBeforeTheFault =
-    (l : Limits) (items more : List Item) (ending : Ending) →
-    status_of l (failing_behind items) ≢ Some Device →
-    GiveTheSame l (failing_behind items) l (going_on_behind items more ending)
+    (l : Limits) (start : Start) (items more : List Item) (ending : Ending) →
+    status_of l start (failing_behind items) ≢ Some Device →
+    GiveTheSame start l (failing_behind items) l (going_on_behind items more ending)
 
 -- what was written and reported in a state to which steps lead is a beginning of what the whole run gives
 abbrev pub EachStateIsABeginning : Type 0
-EachStateIsABeginning = (l : Limits) (tape : Tape) (s : State) → Leads l (initial tape) s → GoesOnTo s (last_state l tape)
+EachStateIsABeginning = (l : Limits) (start : Start) (tape : Tape) (s : State) → Leads l (initial l start tape) s → GoesOnTo s (last_state l start tape)

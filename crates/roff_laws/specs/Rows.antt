@@ -5,6 +5,9 @@ use Rattle.roff_num.specs.LimitValues.{default_limits}
 use Rattle.roff_num.specs.declared.limits.Limits.{Limits}
 use Rattle.roff_run.specs.Results.{last_state}
 use Rattle.roff_run.specs.Run.{State, output, reported}
+use Rattle.roff_num.specs.declared.num.Num.{Num}
+use Rattle.roff_run.specs.Starts.{nothing_given}
+use Rattle.roff_run.specs.declared.start.Start.{Start}
 use Rattle.roff_source.specs.Tape.{OneByte, Ending, Ended, Failed}
 
 -- what a run gave: the output, the messages, and the status that it ended with
@@ -17,11 +20,20 @@ pub record Result : Type 0 where
 abbrev pub gives : List ℕ → List ℕ → Status → Result
 gives text messages status = record { text = text; messages = messages; status = Some status }
 
--- what a run over a text gives
-abbrev pub result_of : Limits → List ℕ → Ending → Result
-result_of l text ending =
-    let s : State = last_state l (record { items = map OneByte text; ending = ending }) in
+-- what a run over a text gives that was given this
+abbrev pub result_from : Start → Limits → List ℕ → Ending → Result
+result_from start l text ending =
+    let s : State = last_state l start (record { items = map OneByte text; ending = ending }) in
     record { text = output s; messages = reported s; status = s.ended }
+
+-- and one that was given nothing
+abbrev pub result_of : Limits → List ℕ → Ending → Result
+result_of l text ending = result_from nothing_given l text ending
+
+-- with these registers, and this limit on them
+abbrev pub formatted_from : List (ℕ × Num) → ℕ → List ℕ → Result
+formatted_from registers names text =
+    result_from (record { registers = record { items = registers } }) (record default_limits { names = names }) text Ended
 
 -- with the limits as they are without an option
 abbrev pub formatted : List ℕ → Result

@@ -3,6 +3,7 @@ use Rattle.std.specs.Prelude.{◌≡◌, ℕ, ◌+◌, ◌-◌, ◌≤◌, List,
 use Rattle.roff_num.specs.declared.limits.Limits.{Limits}
 use Rattle.roff_run.specs.Results.{rest_of, charge_of}
 use Rattle.roff_run.specs.Run.{State, initial, after}
+use Rattle.roff_run.specs.declared.start.Start.{Start}
 use Rattle.roff_source.specs.Bytes.{newline}
 use Rattle.roff_source.specs.Tape.{Tape, Item, OneByte, OneNote}
 
@@ -32,17 +33,17 @@ pub record Takes (tape : Tape) (s : State) : Type 0 where
 
 -- no step skips an item or takes one twice
 abbrev pub EachItemIsTakenOnce : Type 0
-EachItemIsTakenOnce = (l : Limits) (tape : Tape) (n : ℕ) → Takes tape (after l n (initial tape))
+EachItemIsTakenOnce = (l : Limits) (start : Start) (tape : Tape) (n : ℕ) → Takes tape (after l n (initial l start tape))
 
 -- the items that a whole run takes and its rest are together the tape's; the bytes taken are charged, and the charge
 -- is no more than the limit says
-pub record LeavesItsRest (l : Limits) (tape : Tape) : Type 0 where
+pub record LeavesItsRest (l : Limits) (start : Start) (tape : Tape) : Type 0 where
   pub taken : List Item
-  pub items : tape.items ≡ taken ++ (rest_of l tape).items
-  pub ending : (rest_of l tape).ending ≡ tape.ending
-  pub charge : length (bytes_of taken) ≤ charge_of l tape
-  pub within : charge_of l tape ≤ l.bytes
+  pub items : tape.items ≡ taken ++ (rest_of l start tape).items
+  pub ending : (rest_of l start tape).ending ≡ tape.ending
+  pub charge : length (bytes_of taken) ≤ charge_of l start tape
+  pub within : charge_of l start tape ≤ l.bytes
 
 -- so it is with each run
 abbrev pub EachRunLeavesItsRest : Type 0
-EachRunLeavesItsRest = (l : Limits) (tape : Tape) → LeavesItsRest l tape
+EachRunLeavesItsRest = (l : Limits) (start : Start) (tape : Tape) → LeavesItsRest l start tape

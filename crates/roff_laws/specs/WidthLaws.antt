@@ -4,7 +4,7 @@ use Rattle.std.specs.Prelude.{◌≡◌, ℕ, ◌+◌, ◌*◌, Bool, true, fals
 use Rattle.roff_lines.specs.Events.{History}
 use Rattle.roff_lines.specs.Lines.{pending_length}
 use Rattle.roff_lines.specs.Places.{tab_width}
-use Rattle.roff_lines.specs.Words.{blanks, has_open_word, is_empty, words}
+use Rattle.roff_lines.specs.Words.{begun_gap, blanks, has_open_word, is_empty, line_glyphs, words}
 use Rattle.roff_lines.specs.declared.event.Event.TheVariants.{Print, Tab}
 use Rattle.roff_lines.specs.declared.glyph.Glyph.TheVariants.{Blanks}
 use Rattle.roff_num.specs.declared.limit.Limit.TheVariants.{Line}
@@ -13,7 +13,7 @@ use Rattle.roff_source.specs.Bytes.{newline, backslash, is_dropped}
 use Rattle.roff_escape.specs.OpenEscape.{OpenEscape, Width}
 use Rattle.roff_ahead.specs.Input.{Ahead, ByteAhead, pushing}
 use Rattle.roff_escape.specs.Measures.{byte_columns, most_width}
-use Rattle.roff_source.specs.Tape.{Tape, Gives, OneByte, Ends, Ended, front, items_then}
+use Rattle.roff_source.specs.Tape.{Tape, Gives, OneByte, Ends, Ended, items_then}
 use Rattle.roff_laws.specs.InterpolationLaws.{StandsForItself, reads_escapes, with_source_behind}
 use Rattle.roff_run.specs.ItemsTaken.{TakesItems}
 use Rattle.roff_run.specs.Within.{IsWithin}
@@ -21,7 +21,7 @@ use Rattle.roff_run.specs.Output.{PageHistory, text_of}
 use Rattle.roff_run.specs.Reading.{interrupted}
 use Rattle.roff_run.specs.declared.event.PageEvent.{PageEvent}
 use Rattle.roff_run.specs.declared.event.PageEvent.TheVariants.{Text}
-use Rattle.roff_run.specs.Run.{State, step, after}
+use Rattle.roff_run.specs.Run.{State, step, after, source_answer}
 use Rattle.roff_run.specs.Run.Counts.{refusal}
 use Rattle.roff_run.specs.declared.line_state.LineState.{LineState}
 use Rattle.roff_run.specs.declared.line_state.LineState.TheVariants.{StringText, Telling, Defining}
@@ -61,8 +61,8 @@ WidthsOfTheSourceReadAsDigits =
 -- what ends a text that is measured before its delimiter comes: a newline in front, or the end of the source
 pub data EndsText (s : State) : Type 0 where
   NewlineAhead : (rest : List (Ahead PageEvent)) → s.input.ahead ≡ ByteAhead newline ∷ rest → EndsText s
-  NewlineOfTheSource : s.input.ahead ≡ [] → front s.tape ≡ Gives (OneByte newline) → EndsText s
-  EndOfTheSource : s.input.ahead ≡ [] → front s.tape ≡ Ends Ended → EndsText s
+  NewlineOfTheSource : s.input.ahead ≡ [] → source_answer s ≡ Gives (OneByte newline) → EndsText s
+  EndOfTheSource : s.input.ahead ≡ [] → source_answer s ≡ Ends Ended → EndsText s
 
 -- there too the digits of the width so far are read, and what ended the text is still to come
 abbrev pub WidthsEndWithTheirLine : Type 0
@@ -112,7 +112,7 @@ MeasuredTextsOfTheSourceReadAsDigits =
 
 -- the gap before a word that begins here: none within a word, nor where the line begins
 abbrev pub gap_begun : History → ℕ
-gap_begun h = if has_open_word h || is_empty (words h) then 0 else blanks h
+gap_begun h = if has_open_word h || is_empty (words h) then 0 else begun_gap (blanks h) (line_glyphs h)
 
 -- a motion is a glyph of so many blanks: the pending line is so much longer behind it, and longer by the gap before it
 -- where it begins a word

@@ -2,6 +2,8 @@
 //! contracts of functions that do nothing.
 
 ghost use Rattle.roff_laws.specs.CallLaws.{BodiesAreCalled, BodiesAreCalledFromTheSource, UnknownNamesDoNothing, UnknownNamesOfTheSourceDoNothing};
+ghost use Rattle.roff_laws.specs.WordCalls.{BodiesGetTheArgumentsRead, BodiesOfTheSourceGetTheArgumentsRead};
+ghost use Rattle.roff_laws.specs.WordCalls.{BodiesGetWords, BodiesOfTheSourceGetWords};
 
 /// A line that calls a body, with arguments in quotes, leads to where the body stands in front of
 /// what stood behind the line, and behind it its end: so many steps lead there as the line has
@@ -18,4 +20,17 @@ pub fn called_bodies()
 pub fn unknown_names()
     ensures ahead { UnknownNamesDoNothing }
     ensures source { UnknownNamesOfTheSourceDoNothing }
+{}
+
+/// A body that a line calls gets the first nine of the arguments that the bytes behind the name are
+/// read as, in quotes or without, where each byte stands for itself.
+pub fn read_arguments()
+    ensures ahead { BodiesGetTheArgumentsRead }
+    ensures source { BodiesOfTheSourceGetTheArgumentsRead }
+{}
+
+/// Words with blanks between them are its arguments; a quote within a word is a byte like others.
+pub fn called_with_words()
+    ensures ahead { BodiesGetWords }
+    ensures source { BodiesOfTheSourceGetWords }
 {}

@@ -3,6 +3,8 @@
 ghost use Rattle.roff_laws.specs.InterpolationLaws.{UnreadInputIsTheTape, StepsFollowTheTape, EscapesReadAsTexts, EscapesOfTheSourceReadAsTexts, EscapesOfTextReadAsTexts, PushedBytesCostAsOthers, TextsCostTheirBytesAndOne};
 ghost use Rattle.roff_run.specs.ItemsTaken.{BytesAheadAreTaken, BytesOfTheSourceAreTaken};
 ghost use Rattle.roff_laws.specs.Quoting.{RequestsGetQuotedArguments};
+ghost use Rattle.roff_laws.specs.WordArguments.{RequestsGetWords, RequestsGetWordsAtTheLinesEnd};
+ghost use Rattle.roff_laws.specs.WordArguments.{WordsAtTheLinesEndReadBack, WordsReadBack};
 ghost use Rattle.roff_laws.specs.WidthLaws.{WidthsReadAsDigits, WidthsOfTheSourceReadAsDigits, MeasuredTextsReadAsDigits, MeasuredTextsOfTheSourceReadAsDigits, WidthsEndWithTheirLine};
 ghost use Rattle.roff_laws.specs.WidthLaws.{MotionsAreAsLongAsTheirColumns, MotionsCountInTheLine, TabsAreAsLongAsTheirColumns, TabsCountInTheLine};
 
@@ -42,6 +44,15 @@ pub fn costs()
 /// A request gets the arguments that are written in quotes, those that are kept.
 pub fn quoted_arguments()
     ensures { RequestsGetQuotedArguments }
+{}
+
+/// Arguments written as words, with blanks between them, are read as they were, and a request gets
+/// those of them that are kept. A quote within a word is a byte like others.
+pub fn word_arguments()
+    ensures read_back { WordsReadBack }
+    ensures read_back_at_the_end { WordsAtTheLinesEndReadBack }
+    ensures given { RequestsGetWords }
+    ensures given_at_the_end { RequestsGetWordsAtTheLinesEnd }
 {}
 
 /// Where a text that is measured ends, at its delimiter or with its line, the digits of its width,

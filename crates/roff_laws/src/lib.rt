@@ -4,7 +4,10 @@
 pub mod call_laws;
 pub mod condition_laws;
 pub mod definition_laws;
+pub mod end_laws;
 pub mod environment_laws;
 pub mod interpolation_laws;
 pub mod laws;
 pub mod register_laws;
+pub mod string_laws;
+pub mod text_laws;
