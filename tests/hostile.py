@@ -201,6 +201,30 @@ LONG.update({
     "lines_interrupted_in_each_environment": (b"", b"a\\c\n.ev 1\nb\\c\n.ev 2\nc\\c\n.ev\n.ev\n", b"", MEGABYTE),
     "rest_of_an_interrupted_line": (b"a\\c", rb"\w'", b"\nb\n", 10 * MEGABYTE),
 })
+LONG.update({
+    "last_macro": (b".de Z\n", b"A line of the last macro.\n", b"..\n.em Z\n", 10 * MEGABYTE),
+    "last_macro_past_the_stack": (b".de Z\n", b"A line of the last macro.\n", b"..\n.em Z\n", MEGABYTE // 2),
+    "last_macro_that_is_read": (b".de Z\n", b"A line of the last macro.\n", b"..\n.em Z\n", MEGABYTE // 4),
+    "last_macro_of_one_line": (b".de Z\n", b"a word ", b"\n..\n.em Z\n", MEGABYTE // 4),
+    "last_macro_that_calls_itself": (b".de Z\n.Z\n..\n.em Z\n", b"a line\n", b"", MEGABYTE),
+    "last_macro_that_calls_another": (b".de m\n.Z\n..\n.de Z\n.m\n..\n.em Z\n", b"a line\n", b"", MEGABYTE),
+    "last_macro_that_sets_itself": (b".de Z\nend\n.em Z\n..\n.em Z\n", b"a line\n", b"", MEGABYTE),
+    "last_macro_of_many_names": (b".de Z\n", NAMES_OF_STRINGS, b"..\n.em Z\n", 4 * len(NAMES_OF_STRINGS) + 20),
+    "last_macro_of_many_environments": (b".de Z\n", b"a\n.ev 1\n", b"..\n.em Z\n", MEGABYTE // 4),
+    "last_macro_of_many_results": (b".de Z\n", b".ie 0 x\n", b"..\n.em Z\n", MEGABYTE // 4),
+    "last_macro_of_blocks": (b".de Z\n", b".if 1 \\{\\\n", b"end\n..\n.em Z\n", MEGABYTE // 4),
+    "last_macro_that_exits": (b".de Z\nend\n.ex\n", b"never\n", b"..\n.em Z\na line\n", MEGABYTE // 4),
+    "last_macro_set_often": (b".de Z\nend\n..\n", b".em Z\n", b"a line\n", 6 * LINES),
+    "last_macro_set_to_many_names": (b".de Z\nend\n..\n", b".em Z\n.em Y\n.em\n", b"a line\n", MEGABYTE),
+    "last_macro_behind_a_skipped_block": (b".de Z\nend\n..\n.em Z\n.if 0 \\{\n", b"a line\n", b"", 10 * MEGABYTE),
+    "last_macro_behind_a_definition": (b".de Z\nend\n..\n.em Z\n.ig\n", b"a line\n", b"", 10 * MEGABYTE),
+    "last_macro_behind_an_interrupted_line": (b".nf\n.de Z\nend\n..\n.em Z\n", b"a\\c\n", b"", 12 * LINES),
+    "exit_within_blocks": (b"", b".if 1 \\{\\\n", b"a line\n.ex\nnever\n", 10 * LINES),
+    "exit_within_conditions": (b"a line\n", b".if 1 ", b".ex\nnever\n", 6 * LINES),
+    "exit_within_calls": (b".nr n 0 1\n.de m\n.if \\\\n+n>150 .ex\n.m\n..\n", b"a line\n", b".m\nnever\n", MEGABYTE),
+    "exit_within_strings": (b".nr n 0 1\n.ds s \\\\n+n.\\\\*s\n.ds t \\\\*u\n.ds u .ex\n", b"a line\n", b"\\*t\nnever\n", MEGABYTE),
+    "exit_before_a_long_input": (b"a line\n.ex\n", b"never\n", b"", 50 * MEGABYTE),
+})
 # Documents for which fewer bytes are allowed. A call costs many times what a byte of text does, and in these there is one
 # for each few bytes. Their time is bounded for each byte that is read, those of strings and macros too, and not by the
 # document's length.
@@ -238,6 +262,11 @@ STOPPED_BY = {
     "macros_of_macros": "bytes",
     "macro_that_redefines_itself_and_calls_itself": "depth",
     "names_of_many_macros": "names",
+    "last_macro": "store",
+    "last_macro_past_the_stack": "stack",
+    "last_macro_that_calls_itself": "depth",
+    "last_macro_that_calls_another": "depth",
+    "last_macro_of_many_names": "stack",
     "argument_of_a_call": "stack",
     "arguments_handed_on": "stack",
     "environments_left_past_the_limit": "environments",
@@ -270,6 +299,21 @@ BEGINS = {
     "lines_interrupted_behind_blanks": b" " * 249_999 + b"x\n",
     "lines_interrupted_in_each_environment": b"a" * 31_250 + b"\n",
     "rest_of_an_interrupted_line": b"ab\n",
+    "last_macro_that_is_read": b"A line of the last macro.",
+    "last_macro_that_sets_itself": b"a line a line ",
+    "last_macro_of_many_environments": b"a a a a ",
+    "last_macro_of_blocks": b"end\n",
+    "last_macro_that_exits": b"a line end\n",
+    "last_macro_set_often": b"a line end\n",
+    "last_macro_set_to_many_names": b"a line\n",
+    "last_macro_behind_a_skipped_block": b"end\n",
+    "last_macro_behind_a_definition": b"end\n",
+    "last_macro_behind_an_interrupted_line": b"a" * 599_000,
+    "exit_within_blocks": b"a line\n",
+    "exit_within_conditions": b"a line\n",
+    "exit_within_calls": b"a line a line ",
+    "exit_within_strings": b"a line a line ",
+    "exit_before_a_long_input": b"a line\n",
 }
 
 # Long documents with tables: what stands in front, what is repeated, what stands behind, the bytes of it all, the options,
@@ -393,6 +437,9 @@ AROUND = (
     b".ti +%s1\nd\\c%s\n%se\\c\\%s\n\\%sf\\h'|9n'",
     b".ls %s1\n.ls 1",
     b".ev %s\ng\\c\n.ev\n\\%s",
+    b".em %s",
+    b".em \\%s",
+    b".em m%s",
 )
 
 # What random documents are made of, how many there are of each kind, and the options with which each is formatted.
@@ -421,12 +468,17 @@ PIECES_OF_ENVIRONMENTS = (
     + [b"\n.ta 4n +4n 20n\n", b"\n.ta ", b"\n.nf\n", b"\n.fi\n", b"\n.br\n", b"\n.ll 30n\n", b"\n.in +1n\n", b"\n.tm \\n(.n\n"]
     + 2 * [b"\t", rb"\t", b"\\c\n", rb"\c", rb"\h'|9n'", b"  ", b"a word ", b".\n"]
 )
+PIECES_OF_ENDS = (
+    2 * [b"\n.em m\n", b"\n.em n\n", b"\n.em\n", b"\n.em "]
+    + [b"\n.de m\n", b"\n.de n\n", b"\n..\n", b"\n.m\n", b"\n.if 0 .ex\n", b"\n.el .ex\n", b"\n\\\\..\n", b"\\c\n", b"\n.ev 1\n", b"\n.ev\n"]
+)
 RANDOM = {
     "random": PIECES,
     "random_conditions": PIECES + 12 * PIECES_OF_CONDITIONS,
     "random_strings": PIECES + 20 * PIECES_OF_STRINGS,
     "random_macros": PIECES + 20 * PIECES_OF_MACROS + 5 * PIECES_OF_STRINGS,
     "random_environments": PIECES + 20 * PIECES_OF_ENVIRONMENTS + 2 * PIECES_OF_MACROS,
+    "random_ends": PIECES + 20 * PIECES_OF_ENDS + 5 * PIECES_OF_CONDITIONS,
 }
 RANDOM_DOCUMENTS = 100
 PIECES_OF_TABLES = (

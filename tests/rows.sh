@@ -6,7 +6,8 @@
 # NAME is a row or a folder of rows. A row is a document NAME.roff, with its output in NAME.txt, its
 # messages in NAME.messages, its exit status in NAME.status and the words of the command line in
 # NAME.args; where NAME.source says "fails", a folder is read behind it. What isn't there is usual: no
-# output, no messages, status 0, and the command nroff. The exit status is 1 if a row differs.
+# output, no messages, status 0, and the command nroff. Where the words name "-" the document is standard
+# input, and else it is the last file, but for that folder. The exit status is 1 if a row differs.
 
 top=$(CDPATH='' cd -P -- "$(dirname -- "$0")/.." && pwd -P) || exit 1
 program=$top/crates/roff/out/roff
@@ -33,12 +34,14 @@ run_row() {
     fi
     row=$1
     shift
+    case " $* " in
+        *" - "*) ;;
+        *) set -- "$@" "$row.roff" ;;
+    esac
     if [ -e "$row.source" ]; then
-        set -- "$@" "$row.roff" "$work"
-    else
-        set -- "$@" "$row.roff"
+        set -- "$@" "$work"
     fi
-    "$program" "$@" >"$work/txt" 2>"$work/messages"
+    "$program" "$@" <"$row.roff" >"$work/txt" 2>"$work/messages"
     echo $? >"$work/status"
     for ending in txt messages status; do
         wanted=$row.$ending

@@ -10,7 +10,8 @@ next one, and so must the messages without the one that tells of the limit; wher
 The same must hold where the source fails behind each of the document's bytes: there a folder, which can be opened but not
 read, follows a file with the bytes before. A document of `tbl` or `both` is also run with an output, and with messages,
 that take so many bytes and no more: they must have the first bytes of the row's, and the status is 2. Rows that have
-options are left out, and so are those that don't end with status 0. The exit status is 1 if something else comes out.
+other options than `-r` are left out, and so are those that don't end with status 0. The exit status is 1 if something
+else comes out.
 """
 import pathlib
 import resource
@@ -31,13 +32,14 @@ class Document:
 
     def __init__(self, path):
         self.path = path
-        self.words = beside(path, ".args", b"nroff").decode().split("\n")
-        self.command = self.words[0]
+        self.command, *options = beside(path, ".args", b"nroff").decode().split("\n")
+        self.registers = [option for option in options if option]
         self.wanted = beside(path, ".txt", b""), beside(path, ".messages", b"")
-        self.is_swept = not any(self.words[1:]) and beside(path, ".status", b"0").strip() == b"0"
+        are_registers = all(option.startswith("-r") and len(option) > 2 for option in self.registers)
+        self.is_swept = are_registers and beside(path, ".status", b"0").strip() == b"0"
 
     def run(self, *words, **more):
-        command = [PROGRAM, self.command, *words]
+        command = [PROGRAM, self.command, *self.registers, *words]
         return subprocess.run(command, stdin=subprocess.DEVNULL, timeout=60, **more)
 
 

@@ -1,8 +1,10 @@
 //! The program `roff`.
 #![tactic(auto)]
 
+use roff_tools::{StdWrite, main_with};
 use std::process::ExitCode;
 
 fn main(rt: HostRuntime) -> ExitCode {
-    roff_tools::main_with(&rt, rt.stdout(), rt.stderr())
+    let (stdout, stderr) = (StdWrite::new(rt.stdout()), StdWrite::new(rt.stderr()));
+    main_with(&rt, stdout, stderr).exit
 }

@@ -115,11 +115,11 @@ asked-next set_one of rows options i d name n default now next within set named 
     set ∙ (ap (set_if_asked set_one now limit) (number ∙ ap (λ id. option_and_then number_of (one_of id rows)) named)
     ∙ (ap (λ l. set_by set_one rows l limit) so_far ∙ sym (fold-take-more (set_by set_one rows) default of options i d within)))
 
--- the files that the parser lends
-pub lent-files : (lent : Option (Bor (List (Bor (List ℕ))))) (other : Bor (List (Bor (List ℕ)))) (found : Option (List Text)) → other.now ≡ []
+-- the texts that the parser lends
+pub lent-texts : (lent : Option (Bor (List (Bor (List ℕ))))) (other : Bor (List (Bor (List ℕ)))) (found : Option (List Text)) → other.now ≡ []
     → option_map (λ s. map (λ v. v.now) s.now) lent ≡ found → map (λ v. v.now) (unwrap_or lent other).now ≡ unwrap_or found []
-lent-files None other found empty is = rw (← is, empty) refl
-lent-files (Some s) other found empty is = rw (← is) refl
+lent-texts None other found empty is = rw (← is, empty) refl
+lent-texts (Some s) other found empty is = rw (← is) refl
 
 -- the command that was found, with its rows
 pub found-rows : (m : ArgMatches) (name : Text) (rows : List Row) → subcommand_name_of m ≡ Some name

@@ -1,3 +1,5 @@
+pub mod AskedRegisters
 pub mod CommandLine
 pub mod Commands
 pub mod OptionLaws
+pub mod PreparedWords

@@ -14,6 +14,7 @@ use Rattle.roff_num.specs.declared.limits.Limits.{Limits}
 use Rattle.roff_num.specs.Clauses.{default_limits, limit_name, limits_with, value_of}
 use Rattle.tbl_layout.specs.declared.limits.TblLimits.{TblLimits}
 use Rattle.tbl_layout.specs.TblLimits.{default_tbl_limits, tbl_limits_with, tbl_value_of}
+use Rattle.roff_command.specs.RegistersAsked.{registers_asked, told}
 use Rattle.roff_command.specs.declared.options.LimitOf.{LimitOf}
 use Rattle.roff_command.specs.declared.options.LimitOf.TheVariants.{Formatter, Tables}
 use Rattle.roff_command.specs.declared.request.Asked.{Asked}
@@ -49,6 +50,15 @@ default_of Tables limit = tbl_value_of default_tbl_limits limit
 abbrev pub limit_option : LimitOf → Limit → Rule
 limit_option of limit = number_option (limit_name limit) (default_of of limit)
 
+-- the option that sets a number register: its name, and an expression behind it; it may be repeated
+abbrev pub register_option : Rule
+register_option = record (new_rule (codes "register")) {
+  short = Some 114;
+  long = Some (codes "register");
+  value_names = 1;
+  action = Some Append;
+}
+
 -- the line length, in columns, within which tables are centred
 abbrev pub line_length_option : Rule
 line_length_option = number_option (codes "line-length") 65
@@ -67,14 +77,15 @@ command_named name = with_rule (new_app name) file_operand
 
 -- the command `nroff` formats text, `tbl` puts pictures for tables, and `both` does one behind the other
 unfoldable pub nroff_app : App
-nroff_app = fold with_rule (command_named (codes "nroff")) (map (limit_option Formatter) option_limits)
+nroff_app = fold with_rule (with_rule (command_named (codes "nroff")) register_option) (map (limit_option Formatter) option_limits)
 
 unfoldable pub tbl_app : App
 tbl_app = with_rule (fold with_rule (command_named (codes "tbl")) (map (limit_option Tables) tbl_limits)) line_length_option
 
 unfoldable pub both_app : App
 both_app =
-    let formatter = fold with_rule (command_named (codes "both")) (map (limit_option Formatter) option_limits) in
+    let named = with_rule (command_named (codes "both")) register_option in
+    let formatter = fold with_rule named (map (limit_option Formatter) option_limits) in
     with_rule (fold with_rule formatter (map (limit_option Tables) table_limits)) line_length_option
 
 -- the program `roff`: it has a version, and wants a command
@@ -146,9 +157,10 @@ EachOptionSetsItsLimit {L} value asked default =
 abbrev pub files_asked : List Row → List Text
 files_asked rows = unwrap_or (all_of (codes "FILE") rows) []
 
--- the request is for these files, and what the command's options ask for
+-- the request is for these files and registers, and what else the command's options ask for
 pub record Asks (name : Text) (rows : List Row) (request : Request) : Type 0 where
   pub files : map (λ file. file.now) request.files.items ≡ files_asked rows
+  pub registers : told request.registers ≡ registers_asked rows
   pub asked : Some request.asked ≡ asked_by name rows
 
 -- the request is for the command that the parser found, with its options and operands

@@ -1,10 +1,12 @@
 -- Worked command lines, without the program's name.
-use Rattle.std.specs.Prelude.{ℕ, List, ◌∷◌, codes, Option, Some, None, if◌then◌else◌, option_map}
+use Rattle.std.specs.Prelude.{ℕ, ℤ, List, ◌∷◌, codes, Option, Some, None, Result, if◌then◌else◌, option_map}
 use Rattle.clap.specs.Words.{Kinds, Text, fault_of, subcommand_of, takes}
 use Rattle.roff_num.specs.declared.limits.Limits.{Limits}
+use Rattle.roff_num.specs.declared.num.Num.{Num}
 use Rattle.roff_num.specs.Clauses.{default_limits}
 use Rattle.tbl_layout.specs.declared.limits.TblLimits.{TblLimits}
 use Rattle.roff_command.specs.CommandLine.{asked_by, files_asked, roff_app}
+use Rattle.roff_command.specs.RegistersAsked.{registers_asked}
 use Rattle.roff_command.specs.declared.request.Asked.{Asked}
 use Rattle.roff_command.specs.declared.request.Asked.TheVariants.{Nroff, Tbl, Both}
 
@@ -20,6 +22,16 @@ asked words =
     if takes roff_app all
     then option_map (λ p. record { files = files_asked p.1; asked = asked_by p.0 p.1 }) (subcommand_of roff_app all)
     else None
+
+-- the registers that the words ask for, where they are in order, or the first text that is bad
+abbrev pub registers : List Text → Option (Result (List (ℕ × Num)) Text)
+registers words =
+    let all = codes "roff" ∷ words in
+    if takes roff_app all then option_map (λ p. registers_asked p.1) (subcommand_of roff_app all) else None
+
+-- a register of this name, with this value
+abbrev pub valued : ℕ → ℤ → ℕ × Num
+valued name value = (name, record { 0 = value })
 
 -- `nroff` with these files and these limits
 abbrev pub formats : List Text → Limits → Option AskedOf

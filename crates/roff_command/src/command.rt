@@ -3,7 +3,8 @@
 ghost use Rattle.std.specs.Prelude.{◌≡◌, ℕ, IfOk, decimal, fold, map};
 ghost use Rattle.roff_command.specs.Clauses.{app_of, both_app, command_named, file_operand};
 ghost use Rattle.roff_command.specs.Clauses.{limit_option, line_length_option, nroff_app};
-ghost use Rattle.roff_command.specs.Clauses.{number_option, roff_app, rule_of, tbl_app, with_rule};
+ghost use Rattle.roff_command.specs.Clauses.{number_option, register_option, roff_app, rule_of};
+ghost use Rattle.roff_command.specs.Clauses.{tbl_app, with_rule};
 
 use crate::options::{FORMATTER_OPTIONS, LimitOption, TABLE_OPTIONS, TBL_OPTIONS, default_text};
 use crate::texts;
@@ -23,6 +24,9 @@ pub const BOTH: &str = "both";
 
 /// The operands.
 pub const FILE: &str = "FILE";
+
+/// The option that sets a number register.
+pub const REGISTER: &str = "register";
 
 /// The option of the line length.
 pub const LINE_LENGTH: &str = "line-length";
@@ -54,6 +58,7 @@ fn nroff_command<'a>(alloc: Global) -> Result<Command<'a>, AllocError>
     ensures { IfOk result (λ command. app_of command ≡ nroff_app) }
 {
     let command = command(alloc, NROFF, texts::NROFF, texts::NROFF_NOTES)?;
+    let command = command.arg(register_argument(alloc))?;
     with_options(alloc, command, &FORMATTER_OPTIONS)
 }
 
@@ -68,6 +73,7 @@ fn both_command<'a>(alloc: Global) -> Result<Command<'a>, AllocError>
     ensures { IfOk result (λ command. app_of command ≡ both_app) }
 {
     let command = command(alloc, BOTH, texts::BOTH, texts::BOTH_NOTES)?;
+    let command = command.arg(register_argument(alloc))?;
     let command = with_options(alloc, command, &FORMATTER_OPTIONS)?;
     with_options(alloc, command, &TABLE_OPTIONS)?.arg(line_length_argument(alloc))
 }
@@ -111,6 +117,17 @@ fn file_argument<'a>(alloc: Global) -> Arg<'a>
         .action(ArgAction::Append)
         .default_value(STANDARD_INPUT)
         .help(texts::FILE)
+}
+
+fn register_argument<'a>(alloc: Global) -> Arg<'a>
+    ensures { rule_of result ≡ register_option }
+{
+    Arg::new(alloc, REGISTER)
+        .short('r')
+        .long(REGISTER)
+        .value_name("aN")
+        .action(ArgAction::Append)
+        .help(texts::REGISTER)
 }
 
 fn limit_argument<'a>(alloc: Global, option: &'static LimitOption) -> Arg<'a>

@@ -1,13 +1,14 @@
 //! Facts about the definitions alone, as contracts of functions that do nothing.
 
-ghost use Rattle.std.specs.Prelude.{◌≡◌, [], ◌∷◌, codes};
+ghost use Rattle.std.specs.Prelude.{◌≡◌, [], ◌∷◌, Err, Ok, Some, codes, false, negsuc, pos};
 ghost use Rattle.roff_command.specs.Clauses.{ArgumentConflict, DisplayHelp, DisplayVersion};
 ghost use Rattle.roff_command.specs.Clauses.{EachOptionSetsItsLimit, InvalidValue};
 ghost use Rattle.roff_command.specs.Clauses.{MissingSubcommand, UnknownArgument, ValueValidation};
 ghost use Rattle.roff_command.specs.Clauses.{asked, default_limits, default_tbl_limits, fault};
 ghost use Rattle.roff_command.specs.Clauses.{formats, formats_tables, limited, limits_asked};
-ghost use Rattle.roff_command.specs.Clauses.{numbered, tables, tables_numbered, tbl_limits_asked};
-ghost use Rattle.roff_command.specs.Clauses.{tbl_value_of, value_of};
+ghost use Rattle.roff_command.specs.Clauses.{numbered, registers, tables, tables_numbered};
+ghost use Rattle.roff_command.specs.Clauses.{tbl_limits_asked, tbl_value_of, value_of, valued};
+ghost use Rattle.roff_command.specs.Clauses.{words_prepared};
 
 /// Each limit of the formatter has an option, which sets it alone; and so has each of tables.
 pub fn limit_options()
@@ -42,6 +43,22 @@ pub fn command_lines()
         (record default_tbl_limits { bytes = 7 }) 21 }
 {}
 
+/// The registers that command lines set.
+pub fn command_line_registers()
+    ensures none { registers (codes "nroff" ∷ []) ≡ Some (Ok []) }
+    ensures in_order { registers (codes "nroff" ∷ codes "-ra5" ∷ codes "-r" ∷ codes "b1i"
+        ∷ codes "--register=a-7" ∷ [])
+        ≡ Some (Ok (valued 97 (pos 5) ∷ valued 98 (pos 240) ∷ valued 97 (negsuc 6) ∷ [])) }
+    ensures bad { registers (codes "both" ∷ codes "-ra5" ∷ codes "-ra5x" ∷ codes "-rx" ∷ [])
+        ≡ Some (Err (codes "a5x")) }
+    ensures without_text { registers (codes "nroff" ∷ codes "--register=" ∷ [])
+        ≡ Some (Err []) }
+    ensures equals_sign { registers (words_prepared false (codes "nroff" ∷ codes "-r=5" ∷ []))
+        ≡ Some (Ok (valued 61 (pos 5) ∷ [])) }
+    ensures files { words_prepared false (codes "nroff" ∷ codes "--" ∷ codes "-r=5" ∷ [])
+        ≡ codes "nroff" ∷ codes "--" ∷ codes "-r=5" ∷ [] }
+{}
+
 /// The faults of command lines.
 pub fn command_line_faults()
     ensures no_command { fault [] ≡ MissingSubcommand ∷ [] }
@@ -58,5 +75,8 @@ pub fn command_line_faults()
     ensures twice { fault (codes "nroff" ∷ codes "--line=1" ∷ codes "--line=2" ∷ [])
         ≡ ArgumentConflict ∷ [] }
     ensures not_of_tables { fault (codes "tbl" ∷ codes "--depth=1" ∷ []) ≡ UnknownArgument ∷ [] }
+    ensures no_register { fault (codes "nroff" ∷ codes "-r" ∷ []) ≡ InvalidValue ∷ [] }
+    ensures no_register_of_tables { fault (codes "tbl" ∷ codes "-ra5" ∷ [])
+        ≡ UnknownArgument ∷ [] }
     ensures not_of_text { fault (codes "nroff" ∷ codes "--rows=1" ∷ []) ≡ UnknownArgument ∷ [] }
 {}

@@ -4,10 +4,14 @@
 mod command;
 pub mod laws;
 mod options;
+mod preparing;
+mod registers;
 mod request;
 mod texts;
 mod words;
 
 pub use command::STANDARD_INPUT;
+pub use preparing::prepare_words;
+pub use registers::{Registers, StartRegisters};
 pub use request::{Asked, Request};
 pub use words::parse_words;

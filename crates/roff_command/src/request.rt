@@ -1,5 +1,6 @@
 //! What a command line asks for.
 
+use crate::registers::Registers;
 use roff_num::Limits;
 use tbl_core::TblLimits;
 
@@ -23,4 +24,6 @@ pub struct Request<'a> {
     /// The files to be read, in their order. [`STANDARD_INPUT`](crate::STANDARD_INPUT) is among
     /// them where it is meant.
     pub files: Vec<&'a str>,
+    /// The number registers that are to be set before anything is read.
+    pub registers: Registers<'a>,
 }

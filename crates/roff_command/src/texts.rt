@@ -18,6 +18,9 @@ pub const BOTH: &str = "Format text with tables: tbl, and behind it nroff";
 /// What the operands are.
 pub const FILE: &str = "Files to be read; '-' is standard input";
 
+/// What the option `--register` sets.
+pub const REGISTER: &str = "Number register a, to the expression N; may be repeated";
+
 /// What the option `--bytes` bounds.
 pub const BYTES: &str = "Most bytes read";
 
@@ -95,8 +98,9 @@ pub const ROFF_NOTES: &str = help_end!(
 /// The end of the help of the command `nroff`.
 pub const NROFF_NOTES: &str = help_end!(
     formatter: "nroff fills lines with the words of its input, and obeys its control lines, which
-begin with a period or an apostrophe. Each N is a number from 0 to 1000000000; a
-run stops, with status 3, before it would pass one.
+begin with a period or an apostrophe. In -raN, N is an expression, which register
+a is set to before anything is read. Each other N is a number from 0 to 1000000000;
+a run stops, with status 3, before it would pass one.
 
 "
 );
@@ -113,9 +117,10 @@ limit.
 
 /// The end of the help of the command `both`.
 pub const BOTH_NOTES: &str = help_end!(
-    formatter: "both does what tbl and nroff do one behind the other, in one program. Each N is a
-number from 0 to 1000000000; a run stops, with status 3, before it would pass a
-limit.
+    formatter: "both does what tbl and nroff do one behind the other, in one program. In -raN, N
+is an expression, which register a is set to before anything is read. Each other N
+is a number from 0 to 1000000000; a run stops, with status 3, before it would pass
+a limit.
 
 "
 );

@@ -4,11 +4,15 @@ ghost use Rattle.std.specs.Prelude.{◌≡◌, true, None, IfErr, IfOk, IfSome, 
 ghost use Rattle.roff_command.specs.Clauses.{AsksFor, FailsBy, asked_by, asked_in, default_limits};
 ghost use Rattle.roff_command.specs.Clauses.{default_tbl_limits, fault_of, files_asked, found_of};
 ghost use Rattle.roff_command.specs.Clauses.{kind_of, limits_with, line_length_asked, roff_app};
-ghost use Rattle.roff_command.specs.Clauses.{rows_of, set_by, set_if_asked, subcommand_of};
-ghost use Rattle.roff_command.specs.Clauses.{subcommand_rows_of, takes, tbl_limits_with};
+ghost use Rattle.roff_command.specs.Clauses.{registers_asked, rows_of, set_by, set_if_asked};
+ghost use Rattle.roff_command.specs.Clauses.{subcommand_of, subcommand_rows_of, takes};
+ghost use Rattle.roff_command.specs.Clauses.{tbl_limits_with, told};
 
-use crate::command::{BOTH, DEFAULT_LINE_LENGTH, FILE, LINE_LENGTH, NROFF, TBL, roff_command};
+use crate::command::{
+    BOTH, DEFAULT_LINE_LENGTH, FILE, LINE_LENGTH, NROFF, REGISTER, TBL, roff_command,
+};
 use crate::options::{FORMATTER_OPTIONS, LimitOption, TABLE_OPTIONS, TBL_OPTIONS};
+use crate::registers::{Registers, read_registers};
 use crate::request::{Asked, Request};
 use clap::error::ErrorKind;
 use clap::{ArgMatches, Error};
@@ -53,6 +57,7 @@ fn request_of<'a>(
     Ok(Some(Request {
         asked,
         files: files_of(alloc, options)?,
+        registers: registers_of(options),
     }))
 }
 
@@ -86,6 +91,13 @@ fn files_of<'a>(alloc: Global, options: &ArgMatches<'a>) -> Result<Vec<&'a str>,
     let mut files = Vec::new(alloc);
     files.extend_from_slice(options.get_strs(FILE).unwrap_or(&[]))?;
     Ok(files)
+}
+
+/// What the options of registers ask for.
+fn registers_of<'a>(options: &ArgMatches<'a>) -> Registers<'a>
+    ensures { told result ≡ registers_asked (rows_of (found_of options.now)) }
+{
+    read_registers(options.get_strs(REGISTER).unwrap_or(&[]))
 }
 
 fn read_limits(matches: &ArgMatches<'_>, options: &[LimitOption]) -> Limits

@@ -3,6 +3,7 @@
 #![tactic(auto)]
 
 use std::alloc::{Allocator, Global};
+use std::cell::Cell;
 use std::convert::AsSlice;
 use std::env::FillError;
 use std::fs::{Metadata, OpenFile, OpenOptions};
@@ -18,6 +19,8 @@ pub struct Machine<'a, W> {
     pub words: &'a [W],
     /// The files that can be opened, by their names.
     pub files: &'a [(&'a str, &'a [u8])],
+    /// The names that can be opened, though every read behind them fails.
+    pub folders: &'a [&'a str],
     pub standard_input: Given<'a>,
     /// The most bytes that one read of a file gives.
     pub most: usize,
@@ -34,6 +37,12 @@ pub struct Given<'a> {
     pub most: usize,
     /// Whether reading fails where the bytes end.
     pub fails: bool,
+    /// The bytes that come behind an error, if one read alone fails.
+    pub behind: Option<&'a [u8]>,
+    /// Which error it is.
+    pub error: ErrorKind,
+    /// Counts the reads.
+    pub reads: Option<&'a Cell<u32>>,
 }
 
 impl<'a> Given<'a> {
@@ -44,20 +53,50 @@ impl<'a> Given<'a> {
             rest: bytes,
             most: usize::MAX,
             fails: false,
+            behind: None,
+            error: ErrorKind::Unsupported,
+            reads: None,
+        }
+    }
+
+    /// These bytes, and then an error at every read.
+    pub fn failing(bytes: &'a [u8]) -> Self {
+        Given {
+            fails: true,
+            ..Given::new(bytes)
+        }
+    }
+
+    /// These bytes, an error, and then others.
+    pub fn failing_once(bytes: &'a [u8], error: ErrorKind, behind: &'a [u8]) -> Self {
+        Given {
+            behind: Some(behind),
+            error,
+            ..Given::new(bytes)
         }
     }
 }
 
 impl Read for Given<'_> {
     fn read(&mut self, buf: &mut [u8]) -> io::Result<usize> {
+        if let Some(reads) = self.reads {
+            reads.set(reads.get().saturating_add(1));
+        }
         if self.nuls > 0 {
             let count = buf.len().min(self.nuls);
             buf[..count].fill(0);
             self.nuls -= count;
             return Ok(count);
         }
-        if self.rest.is_empty() && self.fails {
-            return Err(unsupported());
+        if self.rest.is_empty() {
+            if let Some(behind) = self.behind {
+                self.rest = behind;
+                self.behind = None;
+                return Err(io::Error::from(self.error));
+            }
+            if self.fails {
+                return Err(io::Error::from(self.error));
+            }
         }
         let count = buf.len().min(self.most).min(self.rest.len());
         buf[..count].copy_from_slice(&self.rest[..count]);
@@ -167,6 +206,9 @@ impl<'a, W> Files for Machine<'a, W> {
     type Dir = Given<'a>;
 
     fn open_file(&self, _how: &OpenOptions, path: &str) -> io::Result<Given<'a>> {
+        if self.folders.iter().any(|name| *name == path) {
+            return Ok(Given::failing(&[]));
+        }
         match self.files.iter().find(|file| file.0 == path) {
             Some(file) => Ok(Given {
                 most: self.most,
@@ -221,6 +263,10 @@ pub struct Paper {
     pub room: usize,
     /// The most bytes that one write takes.
     pub most: usize,
+    /// Behind how many bytes one write fails, and later ones don't.
+    pub fails_once_at: Option<usize>,
+    /// Which error that is.
+    pub error: ErrorKind,
     /// Whether a flush fails.
     pub flush_fails: bool,
 }
@@ -232,6 +278,8 @@ impl Paper {
             kept: Vec::new(alloc),
             room: usize::MAX,
             most: usize::MAX,
+            fails_once_at: None,
+            error: ErrorKind::StorageFull,
             flush_fails: false,
         }
     }
@@ -239,12 +287,17 @@ impl Paper {
 
 impl Write for Paper {
     fn write(&mut self, buf: &[u8]) -> io::Result<usize> {
+        let end = match self.fails_once_at {
+            Some(end) => end.min(self.room),
+            None => self.room,
+        };
         let count = buf
             .len()
             .min(self.most)
-            .min(self.room.saturating_sub(self.kept.len()));
+            .min(end.saturating_sub(self.kept.len()));
         if count == 0 && !buf.is_empty() {
-            return Err(io::Error::from(ErrorKind::StorageFull));
+            self.fails_once_at = None;
+            return Err(io::Error::from(self.error));
         }
         self.kept.extend_from_slice(&buf[..count])?;
         Ok(count)
@@ -252,7 +305,7 @@ impl Write for Paper {
 
     fn flush(&mut self) -> io::Result<()> {
         if self.flush_fails {
-            return Err(io::Error::from(ErrorKind::StorageFull));
+            return Err(io::Error::from(self.error));
         }
         Ok(())
     }

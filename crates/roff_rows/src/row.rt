@@ -2,7 +2,7 @@
 
 use anyhow::Result;
 use roff_machine::{Given, Machine, Paper};
-use roff_tools::main_with;
+use roff_tools::{StdWrite, main_with};
 use std::alloc::{AllocError, Global};
 use std::process::ExitCode;
 use std::rt::Files;
@@ -50,20 +50,21 @@ impl Row {
             alloc,
             words: self.words.as_slice(),
             files: &[],
+            folders: &["/"],
             standard_input: Given {
                 fails: self.fails,
                 ..Given::new(self.document.as_slice())
             },
             most: usize::MAX,
         };
-        let mut stdout = Paper::new(alloc);
-        let mut stderr = Paper::new(alloc);
-        let exit = main_with(&machine, &mut stdout, &mut stderr);
-        Ok(if stdout.kept != self.output {
+        let stdout = StdWrite::new(Paper::new(alloc));
+        let stderr = StdWrite::new(Paper::new(alloc));
+        let done = main_with(&machine, stdout, stderr);
+        Ok(if done.stdout.into_inner().kept != self.output {
             Some("output")
-        } else if stderr.kept != self.messages {
+        } else if done.stderr.into_inner().kept != self.messages {
             Some("messages")
-        } else if exit != ExitCode::from(self.status) {
+        } else if done.exit != ExitCode::from(self.status) {
             Some("status")
         } else {
             None

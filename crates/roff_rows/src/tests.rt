@@ -2,18 +2,21 @@
 
 mod command_lines;
 mod devices;
+mod failing_once;
 mod long_documents;
+mod registers;
+mod starts;
 mod table_commands;
 mod texts;
 
 use roff_machine::{Given, Machine, Paper};
-use roff_tools::main_with;
+use roff_tools::{StdWrite, main_with};
 use std::alloc::Global;
 use std::process::{Abort, ExitCode};
 use std::test::Fail;
 
 /// The files that a command line may name. Documents begin with a page of one line, and don't fill.
-static FILES: [(&str, &[u8]); 16] = [
+static FILES: [(&str, &[u8]); 18] = [
     ("one", b".pl 1\n.nf\none\n"),
     ("two", b".pl 1\n.nf\ntwo\n"),
     ("three", b".pl 1\n.nf\nthree\n"),
@@ -30,7 +33,12 @@ static FILES: [(&str, &[u8]); 16] = [
     ("mistaken", b".pl 1\n.nf\nab\n.ll x\ncd\n"),
     ("aborting", b".pl 1\n.nf\nab\n.ab no more\ncd\n"),
     ("leaving", b".pl 1\n.nf\nab\n.tm so far\n.ex\ncd\n"),
+    ("telling", b".pl 1\n.nf\n\\na \\nb\n"),
+    ("-r=5", b".pl 1\n.nf\nnamed like a register\n"),
 ];
+
+/// Names that can be opened and not read.
+static FOLDERS: [&str; 1] = ["folder"];
 
 static STANDARD_INPUT: &[u8] = b".pl 1\n.nf\nstandard input\n";
 
@@ -40,6 +48,7 @@ fn machine<'a>(alloc: Global, words: &'a [&'a str]) -> Machine<'a, &'a str> {
         alloc,
         words,
         files: &FILES,
+        folders: &FOLDERS,
         standard_input: Given::new(STANDARD_INPUT),
         most: usize::MAX,
     }
@@ -57,18 +66,19 @@ struct Expected<'a> {
 fn check(
     rt: &impl Abort,
     machine: &Machine<'_, &str>,
-    mut stdout: Paper,
-    mut stderr: Paper,
+    stdout: Paper,
+    stderr: Paper,
     expected: Expected<'_>,
 ) {
     let words = machine.words;
-    let exit = main_with(machine, &mut stdout, &mut stderr);
+    let done = main_with(machine, StdWrite::new(stdout), StdWrite::new(stderr));
+    let (stdout, stderr) = (done.stdout.into_inner(), done.stderr.into_inner());
     let out = str::from_utf8(&stdout.kept);
     let err = str::from_utf8(&stderr.kept);
     assert_eq!(rt; out, str::from_utf8(expected.out), "output of {words:?}");
     assert_eq!(rt; err, str::from_utf8(expected.err), "messages of {words:?}");
     assert_eq!(rt;
-        exit,
+        done.exit,
         ExitCode::from(expected.status),
         "status of {words:?}"
     );
@@ -81,17 +91,18 @@ fn words_that_are_no_text(rt: HostRuntime) -> Result<(), Fail> {
         alloc: rt.alloc(),
         words: words.as_slice(),
         files: &FILES,
+        folders: &FOLDERS,
         standard_input: Given::new(STANDARD_INPUT),
         most: usize::MAX,
     };
-    let mut stdout = Paper::new(rt.alloc());
-    let mut stderr = Paper::new(rt.alloc());
-    let exit = main_with(&machine, &mut stdout, &mut stderr);
-    assert!(rt; stdout.kept.is_empty());
+    let stdout = StdWrite::new(Paper::new(rt.alloc()));
+    let stderr = StdWrite::new(Paper::new(rt.alloc()));
+    let done = main_with(&machine, stdout, stderr);
+    assert!(rt; done.stdout.into_inner().kept.is_empty());
     assert_eq!(rt;
-        str::from_utf8(&stderr.kept),
+        str::from_utf8(&done.stderr.into_inner().kept),
         Ok("roff: an argument is not UTF-8 text\n")
     );
-    assert_eq!(rt; exit, ExitCode::from(1));
+    assert_eq!(rt; done.exit, ExitCode::from(1));
     Ok(())
 }

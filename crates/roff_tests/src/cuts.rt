@@ -215,5 +215,5 @@ fn pieces_until(
 /// Formats a row's document, whole or cut behind so many bytes.
 fn formatted(alloc: Global, row: &Row, cut: Option<usize>) -> Result<Formatted, AllocError> {
     let text = row.input.as_bytes();
-    format_in_memory(alloc, row.limits, Start {}, text, cut, AMPLE)
+    format_in_memory(alloc, row.limits, Start::default(), text, cut, AMPLE)
 }

@@ -79,7 +79,7 @@ fn failing_devices(rt: HostRuntime) -> Result<(), Fail> {
         let source = MemSource::new(row.input, row.source_fails_after);
         let mut out = MemSink::new(rt.alloc(), row.output_capacity)?;
         let mut err = MemSink::new(rt.alloc(), row.message_capacity)?;
-        let job = Job::Nroff(Limits::default(), Start {});
+        let job = Job::Nroff(Limits::default(), Start::default());
         let (status, _source) = run(rt.alloc(), job, source, &mut out, &mut err);
         assert_eq!(rt; out.kept(), row.output, "output where {name}");
         assert_eq!(rt; err.kept(), row.messages, "messages where {name}");

@@ -28,7 +28,14 @@ pub fn check(
     document: &str,
     expected: Expected<'_>,
 ) -> Result<(), Fail> {
-    let given = format_in_memory(alloc, limits, Start {}, document.as_bytes(), None, AMPLE)?;
+    let given = format_in_memory(
+        alloc,
+        limits,
+        Start::default(),
+        document.as_bytes(),
+        None,
+        AMPLE,
+    )?;
     let output = str::from_utf8(given.output.as_slice());
     let messages = str::from_utf8(given.messages.as_slice());
     assert_eq!(rt; output, Ok(expected.output), "output of {document:?}");

@@ -12,7 +12,7 @@ fn whole_text_in_exact_room(rt: HostRuntime) -> Result<(), Fail> {
         messages: 0,
     };
     let limits = Limits::default();
-    let formatted = format_in_memory(rt.alloc(), limits, Start {}, SPREAD, None, room)?;
+    let formatted = format_in_memory(rt.alloc(), limits, Start::default(), SPREAD, None, room)?;
     assert_eq!(rt;
         formatted.output.as_slice(),
         b"a   bb   ccc\ndddd eeeee\n".as_slice()

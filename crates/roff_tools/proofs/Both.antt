@@ -2,6 +2,7 @@
 use Rattle.std.proofs.Common.{ℕ, refl, subst}
 use Rattle.roff_num.specs.declared.limits.Limits.{Limits}
 use Rattle.roff_source.specs.Tape.{Tape}
+use Rattle.roff_run.specs.declared.start.Start.{Start}
 use Rattle.roff_run.specs.declared.status.Status.{Status}
 use Rattle.roff_engine.specs.Engine.Outcome.{Outcome, Runs, Seen}
 use Rattle.tbl_layout.specs.declared.limits.TblLimits.{TblLimits}
@@ -9,10 +10,10 @@ use Rattle.tbl_core.specs.Yields.{At, MayGive, at_start, yields}
 use Rattle.roff_tools.specs.Both.{RunsBoth, RunsOverTables}
 
 -- a run over what tables give
-module _ (l : Limits) (tables tables' : TblLimits) (line_length line_length' : ℕ) (at' : At) (status : Status) (old new : Tape → Type 0) (before now : Seen)
-    (runs : Runs l status (MayGive tables line_length at_start old) (MayGive tables' line_length' at' new) before now) where
+module _ (l : Limits) (start : Start) (tables tables' : TblLimits) (line_length line_length' : ℕ) (at' : At) (status : Status) (old new : Tape → Type 0) (before now : Seen)
+    (runs : Runs l start status (MayGive tables line_length at_start old) (MayGive tables' line_length' at' new) before now) where
   -- whatever may still come, the run is that over an input that might have come
-  over_input : (left : Tape) → new left → RunsOverTables l tables line_length status old before now
+  over_input : (left : Tape) → new left → RunsOverTables l start tables line_length status old before now
   over_input left may =
       let rest : Tape = yields tables' line_length' at' left in
       let given : MayGive tables' line_length' at' new rest = record { under = left; given = may; is = refl } in
@@ -20,10 +21,10 @@ module _ (l : Limits) (tables tables' : TblLimits) (line_length line_length' : �
         input = came.under;
         given = came.given;
         rest = rest;
-        outcome = subst (λ (u : Tape). Outcome l u rest status before now) came.is (runs.outcome rest given);
+        outcome = subst (λ (u : Tape). Outcome l start u rest status before now) came.is (runs.outcome rest given);
       }
 
-  pub Runs-RunsBoth : RunsBoth l tables line_length status old new before now
+  pub Runs-RunsBoth : RunsBoth l start tables line_length status old new before now
   Runs-RunsBoth = record {
     over = over_input;
     some = runs.took.some_given.under;

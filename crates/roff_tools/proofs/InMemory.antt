@@ -5,12 +5,12 @@ use Rattle.std.specs.Option.{option_to_list}
 use Rattle.roff_num.specs.Lists.{IsBeginning}
 use Rattle.roff_num.specs.declared.limits.Limits.{Limits}
 use Rattle.roff_engine.specs.Engine.Outcome.{Outcome}
-use Rattle.roff_engine.specs.declared.engine.Start.{Start}
+use Rattle.roff_run.specs.declared.start.Start.{Start}
 use Rattle.roff_engine.specs.Outcomes.{Gives, GivesAll, HadNoFault}
 use Rattle.roff_run.specs.Results.{output_of, messages_of, status_of}
 use Rattle.roff_run.specs.declared.status.Status.{Status}
-use Rattle.roff_pages.specs.Devices.{Seen, seen}
-use Rattle.roff_pages.specs.Sinks.{AppendsFront, Sunk}
+use Rattle.roff_sinks.specs.Devices.{Seen, seen}
+use Rattle.roff_sinks.specs.Sinks.{AppendsFront, Sunk}
 use Rattle.roff_engine.proofs.Outcomes.{each_outcome_gives}
 use Rattle.roff_source.specs.Tape.{Tape}
 use Rattle.roff_devices.specs.Memory.{kept_by, room_of}
@@ -36,33 +36,33 @@ RunsJob-told job status t t' left faults out out' err err' now tape_is out_is er
     subst (λ (e : Sunk). RunsJob job status (λ u. u ≡ t') (λ u. u ≡ left) (seen faults out' e) now) err_is to_out
 
 -- what a run in memory gives of the definition's over a tape
-pub record RunInMemory (l : Limits) (t : Tape) (room : Room) (f : Formatted) : Type 0 where
+pub record RunInMemory (l : Limits) (start : Start) (t : Tape) (room : Room) (f : Formatted) : Type 0 where
   pub out : WatchedSink
   pub err : WatchedSink
   pub left : Tape
   pub faults_before : ℕ
   pub faults : ℕ
-  pub gives : Gives l t left f.status (seen faults_before (nothing_told room.output) (nothing_told room.messages)) (seen faults (told_by out) (told_by err))
+  pub gives : Gives l start t left f.status (seen faults_before (nothing_told room.output) (nothing_told room.messages)) (seen faults (told_by out) (told_by err))
   pub output : f.output.items ≡ kept_by out.sink
   pub messages : f.messages.items ≡ kept_by err.sink
   pub out_sound : IsSound out
   pub err_sound : IsSound err
 
 -- the formatter ran
-pub formatter_ran : (l : Limits) (start : Start) (t : Tape) (room : Room) (f : Formatted) → RanInMemory (Nroff l start) t room f → RunInMemory l t room f
+pub formatter_ran : (l : Limits) (start : Start) (t : Tape) (room : Room) (f : Formatted) → RanInMemory (Nroff l start) t room f → RunInMemory l start t room f
 formatter_ran l start t room f ran =
     let runs = ran.runs in
     let rest : Tape = runs.took.some in
     let before = seen ran.faults_before (nothing_told room.output) (nothing_told room.messages) in
     let now = seen ran.faults (told_by ran.out) (told_by ran.err) in
     let over = runs.took.before rest runs.took.some_given in
-    let outcome = subst (λ (u : Tape). Outcome l u rest f.status before now) over (runs.outcome rest runs.took.some_given) in record {
+    let outcome = subst (λ (u : Tape). Outcome l start u rest f.status before now) over (runs.outcome rest runs.took.some_given) in record {
       out = ran.out;
       err = ran.err;
       left = rest;
       faults_before = ran.faults_before;
       faults = ran.faults;
-      gives = each_outcome_gives _ _ _ _ _ _ outcome;
+      gives = each_outcome_gives _ _ _ _ _ _ _ outcome;
       output = ran.output;
       messages = ran.messages;
       out_sound = ran.out_sound;
@@ -71,19 +71,19 @@ formatter_ran l start t room f ran =
 
 -- the formatter ran over what tables give
 pub both_ran : (l : Limits) (start : Start) (tables : TblLimits) (line_length : ℕ) (t : Tape) (room : Room) (f : Formatted)
-    → RanInMemory (Both l start tables line_length) t room f → RunInMemory l (yields tables line_length at_start t) room f
+    → RanInMemory (Both l start tables line_length) t room f → RunInMemory l start (yields tables line_length at_start t) room f
 both_ran l start tables line_length t room f ran =
     let runs = ran.runs in
     let over = runs.over runs.some runs.some_given in
     let before = seen ran.faults_before (nothing_told room.output) (nothing_told room.messages) in
     let now = seen ran.faults (told_by ran.out) (told_by ran.err) in
-    let outcome = subst (λ (u : Tape). Outcome l (yields tables line_length at_start u) over.rest f.status before now) over.given over.outcome in record {
+    let outcome = subst (λ (u : Tape). Outcome l start (yields tables line_length at_start u) over.rest f.status before now) over.given over.outcome in record {
       out = ran.out;
       err = ran.err;
       left = over.rest;
       faults_before = ran.faults_before;
       faults = ran.faults;
-      gives = each_outcome_gives _ _ _ _ _ _ outcome;
+      gives = each_outcome_gives _ _ _ _ _ _ _ outcome;
       output = ran.output;
       messages = ran.messages;
       out_sound = ran.out_sound;
@@ -130,7 +130,7 @@ IsGiven-first room w text given sound byte is =
 had_no_fault : (room : ℕ) (w : WatchedSink) → IsSound w → w.overflow ≡ None → HadNoFault (nothing_told room) (told_by w)
 had_no_fault room w sound none rises = let rose = rw (sound.faultless none) at rises in omega (arith, rose)
 
-module _ (l : Limits) (t : Tape) (room : Room) (f : Formatted) (run : RunInMemory l t room f) where
+module _ (l : Limits) (start : Start) (t : Tape) (room : Room) (f : Formatted) (run : RunInMemory l start t room f) where
   abbrev out_room : ℕ
   out_room = room.output
 
@@ -143,15 +143,15 @@ module _ (l : Limits) (t : Tape) (room : Room) (f : Formatted) (run : RunInMemor
   abbrev err : WatchedSink
   err = run.err
 
-  out_given : IsGiven out_room out (output_of l t)
+  out_given : IsGiven out_room out (output_of l start t)
   out_given = IsGiven-front out_room out _ run.gives.text
 
   -- a beginning of the text is kept
-  output_begins : IsBeginning (kept_by out.sink) (output_of l t)
+  output_begins : IsBeginning (kept_by out.sink) (output_of l start t)
   output_begins = IsGiven-kept out_room out _ out_given
 
   -- the messages have room, if the text has and there is room for all of them
-  messages_have_room : out.overflow ≡ None → length (messages_of l t) ≤ err_room → err.overflow ≡ None
+  messages_have_room : out.overflow ≡ None → length (messages_of l start t) ≤ err_room → err.overflow ≡ None
   messages_have_room none fits =
       elim (overflow_or_not err.overflow) [
         | inl err_none ↦ err_none
@@ -162,12 +162,12 @@ module _ (l : Limits) (t : Tape) (room : Room) (f : Formatted) (run : RunInMemor
       ]
 
   -- then the run gives all
-  all_given : out.overflow ≡ None → length (messages_of l t) ≤ err_room
-      → GivesAll l t run.left f.status (seen run.faults_before (nothing_told out_room) (nothing_told err_room)) (seen run.faults (told_by out) (told_by err))
+  all_given : out.overflow ≡ None → length (messages_of l start t) ≤ err_room
+      → GivesAll l start t run.left f.status (seen run.faults_before (nothing_told out_room) (nothing_told err_room)) (seen run.faults (told_by out) (told_by err))
   all_given none fits = run.gives.all (had_no_fault out_room out run.out_sound none) (had_no_fault err_room err run.err_sound (messages_have_room none fits))
 
   -- the text has room if there is room for all of it
-  output_has_room : length (output_of l t) ≤ out_room → out.overflow ≡ None
+  output_has_room : length (output_of l start t) ≤ out_room → out.overflow ≡ None
   output_has_room fits =
       elim (overflow_or_not out.overflow) [
         | inl none ↦ none
@@ -177,40 +177,40 @@ module _ (l : Limits) (t : Tape) (room : Room) (f : Formatted) (run : RunInMemor
       ]
 
   -- all of the text is kept
-  output_kept : out.overflow ≡ None → length (messages_of l t) ≤ err_room → kept_by out.sink ≡ output_of l t
+  output_kept : out.overflow ≡ None → length (messages_of l start t) ≤ err_room → kept_by out.sink ≡ output_of l start t
   output_kept none fits =
-      let told : room_of out.sink ∷ given_to out ≡ out_room ∷ output_of l t = (all_given none fits).text in
-      let given : given_to out ≡ output_of l t = cc in
+      let told : room_of out.sink ∷ given_to out ≡ out_room ∷ output_of l start t = (all_given none fits).text in
+      let given : given_to out ≡ output_of l start t = cc in
       kept-all out none ∙ given
 
   -- and all of the messages
-  messages_kept : out.overflow ≡ None → length (messages_of l t) ≤ err_room → kept_by err.sink ≡ messages_of l t
+  messages_kept : out.overflow ≡ None → length (messages_of l start t) ≤ err_room → kept_by err.sink ≡ messages_of l start t
   messages_kept none fits =
-      let told : room_of err.sink ∷ given_to err ≡ err_room ∷ messages_of l t = (all_given none fits).messages in
-      let given : given_to err ≡ messages_of l t = cc in
+      let told : room_of err.sink ∷ given_to err ≡ err_room ∷ messages_of l start t = (all_given none fits).messages in
+      let given : given_to err ≡ messages_of l start t = cc in
       kept-all err (messages_have_room none fits) ∙ given
 
   -- and the run ends as the definition's
-  status_given : out.overflow ≡ None → length (messages_of l t) ≤ err_room → Some f.status ≡ status_of l t
+  status_given : out.overflow ≡ None → length (messages_of l start t) ≤ err_room → Some f.status ≡ status_of l start t
   status_given none fits = sym (all_given none fits).ended
 
   -- the first bytes of the text are kept, whether it has room or not
-  output_first : length (messages_of l t) ≤ err_room → kept_by out.sink ≡ take out_room (output_of l t)
+  output_first : length (messages_of l start t) ≤ err_room → kept_by out.sink ≡ take out_room (output_of l start t)
   output_first fits =
       elim (overflow_or_not out.overflow) [
         | inl none ↦ first_of_all none
         | inr some ↦ IsGiven-first out_room out _ out_given run.out_sound some.0 some.1
       ]
     where
-      first_of_all : out.overflow ≡ None → kept_by out.sink ≡ take out_room (output_of l t)
+      first_of_all : out.overflow ≡ None → kept_by out.sink ≡ take out_room (output_of l start t)
       first_of_all none =
-          let told : room_of out.sink ∷ given_to out ≡ out_room ∷ output_of l t = (all_given none fits).text in
-          let given : given_to out ≡ output_of l t = cc in
+          let told : room_of out.sink ∷ given_to out ≡ out_room ∷ output_of l start t = (all_given none fits).text in
+          let given : given_to out ≡ output_of l start t = cc in
           let stays : room_of out.sink ≡ out_room = cc in
-          kept-first out run.out_sound ∙ ap (take (room_of out.sink)) given ∙ ap (λ n. take n (output_of l t)) stays
+          kept-first out run.out_sound ∙ ap (take (room_of out.sink)) given ∙ ap (λ n. take n (output_of l start t)) stays
 
   -- with room for all of it, the run gives the definition's result
-  pub whole_result : length (output_of l t) ≤ room.output → length (messages_of l t) ≤ room.messages → IsWholeResult l t f
+  pub whole_result : length (output_of l start t) ≤ room.output → length (messages_of l start t) ≤ room.messages → IsWholeResult l start t f
   whole_result output_fits messages_fit =
       let none = output_has_room output_fits in record {
         output = run.output ∙ output_kept none messages_fit;
@@ -219,9 +219,9 @@ module _ (l : Limits) (t : Tape) (room : Room) (f : Formatted) (run : RunInMemor
       }
 
   -- with room for the messages, as many of its first bytes as there is room for
-  pub first_bytes : length (messages_of l t) ≤ room.messages → f.output.items ≡ take room.output (output_of l t)
+  pub first_bytes : length (messages_of l start t) ≤ room.messages → f.output.items ≡ take room.output (output_of l start t)
   first_bytes fits = run.output ∙ output_first fits
 
   -- and in any case a beginning of it
-  pub begins : IsBeginning f.output.items (output_of l t)
+  pub begins : IsBeginning f.output.items (output_of l start t)
   begins = rw run.output output_begins

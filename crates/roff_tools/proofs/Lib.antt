@@ -2,3 +2,4 @@ pub mod Both
 pub mod InMemory
 pub mod Named
 pub mod RunOver
+mod Starting

@@ -1,6 +1,7 @@
 -- A run of the formatter over a source with the pictures of its tables.
 use Rattle.std.specs.Prelude.{ℕ}
 use Rattle.roff_num.specs.declared.limits.Limits.{Limits}
+use Rattle.roff_run.specs.declared.start.Start.{Start}
 use Rattle.roff_source.specs.Tape.{Tape}
 use Rattle.roff_run.specs.declared.status.Status.{Status}
 use Rattle.roff_engine.specs.Engine.Outcome.{Outcome, Seen}
@@ -8,15 +9,15 @@ use Rattle.tbl_layout.specs.declared.limits.TblLimits.{TblLimits}
 use Rattle.tbl_core.specs.Yields.{at_start, yields}
 
 -- the formatter ran over what is given, with pictures for its tables, for an input that might have come
-pub record RunsOverTables (l : Limits) (tables : TblLimits) (line_length : ℕ) (status : Status) (old : Tape → Type 0) (before now : Seen) : Type 0 where
+pub record RunsOverTables (l : Limits) (start : Start) (tables : TblLimits) (line_length : ℕ) (status : Status) (old : Tape → Type 0) (before now : Seen) : Type 0 where
   pub input : Tape
   pub given : old input
   pub rest : Tape
-  pub outcome : Outcome l (yields tables line_length at_start input) rest status before now
+  pub outcome : Outcome l start (yields tables line_length at_start input) rest status before now
 
 -- A run over a source that might give the tapes `old` and may now give the tapes `new`, of which there is one. Whatever may
 -- still come, the source might have given an input over which the run is the definition's.
-pub record RunsBoth (l : Limits) (tables : TblLimits) (line_length : ℕ) (status : Status) (old new : Tape → Type 0) (before now : Seen) : Type 0 where
-  pub over : (left : Tape) → new left → RunsOverTables l tables line_length status old before now
+pub record RunsBoth (l : Limits) (start : Start) (tables : TblLimits) (line_length : ℕ) (status : Status) (old new : Tape → Type 0) (before now : Seen) : Type 0 where
+  pub over : (left : Tape) → new left → RunsOverTables l start tables line_length status old before now
   pub some : Tape
   pub some_given : new some

@@ -3,16 +3,18 @@ pub use Rattle.std.specs.Process.{exit_status}
 pub use Rattle.clap.specs.Words.{fault_of, kind_of, subcommand_of, takes}
 pub use Rattle.roff_num.specs.Lists.{IsBeginning}
 pub use Rattle.roff_engine.specs.Engine.Outcome.{Runs}
-pub use Rattle.roff_pages.specs.Devices.{seen}
+pub use Rattle.roff_sinks.specs.Devices.{seen}
 pub use Rattle.tbl_run.specs.Outcome.{PutsTables}
 pub use Rattle.roff_run.specs.Results.{messages_of, output_of}
 pub use Rattle.roff_command.specs.CommandLine.{AreMistaken, AskForHelp, roff_app}
+pub use Rattle.roff_command.specs.RegistersAsked.{told}
 pub use Rattle.roff_tools.specs.Both.{RunsBoth}
-pub use Rattle.roff_tools.specs.Jobs.{RunsJob, job_of}
+pub use Rattle.roff_tools.specs.Jobs.{RunsJob, job_of, registers_given}
 pub use Rattle.roff_tools.specs.Exit.{exit_after, exit_flushed, exit_number}
 pub use Rattle.roff_tools.specs.InMemory.{IsWholeResult, RanInMemory}
 pub use Rattle.roff_devices.specs.Inputs.Part.{AreNamed, IsNamed}
+pub use Rattle.roff_devices.specs.Buffered.{given_to}
 pub use Rattle.roff_devices.specs.Memory.{tape_of_bytes}
-pub use Rattle.roff_tools.specs.Program.{PerformsAsked}
+pub use Rattle.roff_tools.specs.Program.{IsFinished, IsFlushed, IsPrepared, PerformsAsked, PerformsIfAsked, Starts}
 pub use Rattle.roff_tools.specs.RunOver.{Performs}
-pub use Rattle.roff_tools.specs.StartFault.{NamesFile, NamesOneOf}
+pub use Rattle.roff_tools.specs.StartFault.{NamesBad, NamesFile, NamesFirstRefused, NamesRegister}

@@ -1,9 +1,10 @@
 -- What a run in memory gives of the definition's result.
 use Rattle.std.specs.Prelude.{◌≡◌, ℕ, Some}
 use Rattle.roff_num.specs.declared.limits.Limits.{Limits}
+use Rattle.roff_run.specs.declared.start.Start.{Start}
 use Rattle.roff_run.specs.Results.{output_of, messages_of, status_of}
 use Rattle.roff_source.specs.Tape.{Tape}
-use Rattle.roff_pages.specs.Devices.{seen}
+use Rattle.roff_sinks.specs.Devices.{seen}
 use Rattle.roff_devices.specs.Memory.{kept_by}
 use Rattle.roff_devices.specs.WatchedSink.Telling.{IsSound, nothing_told, told_by}
 use Rattle.roff_devices.specs.declared.watched.WatchedSink.{WatchedSink}
@@ -13,10 +14,10 @@ use Rattle.roff_tools.specs.declared.in_memory.Room.{Room}
 use Rattle.roff_tools.specs.declared.job.Job.{Job}
 
 -- all of it: what the definition writes and reports, and its status
-pub record IsWholeResult (l : Limits) (t : Tape) (f : Formatted) : Type 0 where
-  pub output : f.output.items ≡ output_of l t
-  pub messages : f.messages.items ≡ messages_of l t
-  pub status : Some f.status ≡ status_of l t
+pub record IsWholeResult (l : Limits) (start : Start) (t : Tape) (f : Formatted) : Type 0 where
+  pub output : f.output.items ≡ output_of l start t
+  pub messages : f.messages.items ≡ messages_of l start t
+  pub status : Some f.status ≡ status_of l start t
 
 -- the job ran over a tape, to sinks that were given nothing before, and what they kept is what it gave
 pub record RanInMemory (job : Job) (t : Tape) (room : Room) (f : Formatted) : Type 0 where

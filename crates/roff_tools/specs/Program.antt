@@ -1,22 +1,79 @@
 -- What the program does.
-use Rattle.std.specs.Prelude.{ℕ, List, Option, Some, None}
-use Rattle.clap.specs.Words.{Row, Text}
-use Rattle.roff_pages.specs.Sinks.{Sunk}
-use Rattle.roff_command.specs.CommandLine.{asked_by, files_asked}
+use Rattle.std.specs.Prelude.{◌≡◌, ◌⊎◌, ℕ, false, true, List, Option, Some, None, Result, Ok, is_ok}
+use Rattle.clap.specs.Words.{Row, Text, fault_of, subcommand_of, takes}
+use Rattle.roff_num.specs.declared.num.Num.{Num}
+use Rattle.roff_source.specs.Tape.{Tape}
+use Rattle.roff_sinks.specs.Sinks.{Sunk}
+use Rattle.roff_sinks.specs.declared.sink.SinkFault.{SinkFault}
+use Rattle.roff_command.specs.CommandLine.{AreMistaken, AskForHelp, asked_by, files_asked, roff_app}
+use Rattle.roff_command.specs.Preparing.{words_prepared}
+use Rattle.roff_command.specs.RegistersAsked.{registers_asked}
 use Rattle.roff_command.specs.declared.request.Asked.{Asked}
+use Rattle.roff_devices.specs.Buffered.{Finishes}
+use Rattle.roff_tools.specs.Exit.{exit_flushed, exit_number}
+use Rattle.roff_tools.specs.Jobs.{job_of, registers_given}
 use Rattle.roff_tools.specs.RunOver.{Performs}
 use Rattle.roff_tools.specs.declared.exit.Exit.{Exit}
+use Rattle.roff_tools.specs.declared.exit.Exit.TheVariants.{Done, DeviceFailed, NotStarted}
 
--- a command ran over the files of these names as it was asked to, if one was asked for
-abbrev pub PerformsIfAsked : {F S : Type 0} → (List ℕ → F → Type 0) → (S → Type 0) → (F → Option (List ℕ)) → (S → Option (List ℕ))
-    → List (List ℕ) → Option Asked → Exit → Sunk → Sunk → Sunk → Sunk → Type 0
-PerformsIfAsked opens stands file standard names None exit out out' err err' = ⊥
-PerformsIfAsked opens stands file standard names (Some asked) exit out out' err err' =
-    Performs opens stands file standard names asked exit out out' err err'
+-- a command ran over the files of these names as it was asked to, with these registers set first, if one was asked for and
+-- no register is bad
+abbrev pub PerformsIfAsked : {F S : Type 0} → (List ℕ → F → Type 0) → (S → Type 0) → (F → Tape → Type 0) → (S → Tape → Type 0)
+    → List (List ℕ) → Result (List (ℕ × Num)) Text → Option Asked → Exit → Sunk → Sunk → Sunk → Sunk → Type 0
+PerformsIfAsked opens stands file standard names (Ok registers) (Some asked) exit out out' err err' =
+    Performs opens stands file standard names (job_of asked (registers_given registers)) exit out out' err err'
+PerformsIfAsked opens stands file standard names _ _ exit out out' err err' = ⊥
 
 -- the command that the words name ran over the files that they name, and as its options ask
-abbrev pub PerformsAsked : {F S : Type 0} → (List ℕ → F → Type 0) → (S → Type 0) → (F → Option (List ℕ)) → (S → Option (List ℕ))
+abbrev pub PerformsAsked : {F S : Type 0} → (List ℕ → F → Type 0) → (S → Type 0) → (F → Tape → Type 0) → (S → Tape → Type 0)
     → Option (Text × List Row) → Exit → Sunk → Sunk → Sunk → Sunk → Type 0
 PerformsAsked opens stands file standard None exit out out' err err' = ⊥
 PerformsAsked opens stands file standard (Some (name, rows)) exit out out' err err' =
-    PerformsIfAsked opens stands file standard (files_asked rows) (asked_by name rows) exit out out' err err'
+    PerformsIfAsked opens stands file standard (files_asked rows) (registers_asked rows) (asked_by name rows) exit out out' err err'
+
+-- What these words ask for was done. Where they are in order a command ran as they ask, or couldn't start. Help and the version go
+-- to the output alone, and a mistake ends so that nothing is on it.
+pub record Obeys {F S : Type 0} (opens : List ℕ → F → Type 0) (stands : S → Type 0) (file : F → Tape → Type 0) (standard : S → Tape → Type 0)
+    (words : List Text) (exit : Exit) (out out' err err' : Sunk) : Type 0 where
+  pub performs : takes roff_app words ≡ true → (exit ≡ NotStarted) ⊎
+      PerformsAsked opens stands file standard (subcommand_of roff_app words) exit out out' err err'
+  pub asked : AskForHelp (fault_of roff_app words) → (exit ≡ NotStarted) ⊎ (((exit ≡ Done) ⊎ (exit ≡ DeviceFailed)) × (err' ≡ err))
+  pub mistaken : AreMistaken (fault_of roff_app words) → exit ≡ NotStarted
+  pub unwritten : exit ≡ NotStarted → out' ≡ out
+
+-- these are words that may have been said, in the form that the parser reads
+pub record IsPrepared (says : List Text → Type 0) (prepared : List Text) : Type 0 where
+  pub words : List Text
+  pub said : says words
+  pub is : prepared ≡ words_prepared false words
+
+-- the words of the command line were obeyed
+pub record ObeysWords {F S : Type 0} (says : List Text → Type 0) (opens : List ℕ → F → Type 0) (stands : S → Type 0)
+    (file : F → Tape → Type 0) (standard : S → Tape → Type 0) (exit : Exit) (out out' err err' : Sunk) : Type 0 where
+  pub prepared : List Text
+  pub is : IsPrepared says prepared
+  pub obeys : Obeys opens stands file standard prepared exit out out' err err'
+
+-- they were, or they can't be had, and nothing is on the output
+abbrev pub Starts : {F S : Type 0} → (List Text → Type 0) → (List ℕ → F → Type 0) → (S → Type 0) → (F → Tape → Type 0) → (S → Tape → Type 0)
+    → Exit → Sunk → Sunk → Sunk → Sunk → Type 0
+Starts says opens stands file standard exit out out' err err' =
+    ObeysWords says opens stands file standard exit out out' err err' ⊎ ((exit ≡ NotStarted) × (out' ≡ out))
+
+-- They were, with an output that is buffered, and then it was flushed: the program ends as the run did, unless the flush
+-- failed. `given` is what was given to the buffer.
+pub record IsFlushed {F S : Type 0} (says : List Text → Type 0) (opens : List ℕ → F → Type 0) (stands : S → Type 0)
+    (file : F → Tape → Type 0) (standard : S → Tape → Type 0) (out err : Sunk) (exit : Exit) (out' err' : Sunk) : Type 0 where
+  pub before : Exit
+  pub given : Sunk
+  pub starts : Starts says opens stands file standard before out given err err'
+  pub flushed : Result (Unit {0}) SinkFault
+  pub finishes : Finishes given out' flushed
+  pub ends : exit ≡ exit_flushed before (is_ok flushed)
+
+-- the same of the whole program, by its exit status; without memory for the buffer nothing is on the output
+abbrev pub IsFinished : {F S : Type 0} → (List Text → Type 0) → (List ℕ → F → Type 0) → (S → Type 0) → (F → Tape → Type 0) → (S → Tape → Type 0)
+    → Sunk → Sunk → ℕ → Sunk → Sunk → Type 0
+IsFinished says opens stands file standard out err number out' err' =
+    ((exit : Exit) × IsFlushed says opens stands file standard out err exit out' err' × (number ≡ exit_number exit))
+    ⊎ ((number ≡ exit_number NotStarted) × (out' ≡ out))

@@ -1,16 +1,43 @@
--- Which file a fault of the start names.
-use Rattle.std.specs.Prelude.{◌≡◌, ℕ, List, Contains, string_bytes}
+-- What a fault of the start names.
+use Rattle.std.specs.Prelude.{◌≡◌, ℕ, List, ◌∷◌, ◌++◌, Result, Ok, Err, string_bytes}
+use Rattle.roff_num.specs.declared.num.Num.{Num}
+use Rattle.roff_devices.specs.Inputs.Part.{AreNamed}
+use Rattle.roff_devices.specs.declared.inputs.Part.{Part}
 use Rattle.roff_tools.specs.declared.fault.StartFault.{StartFault}
-use Rattle.roff_tools.specs.declared.fault.StartFault.TheVariants.{CannotOpen, NotText, OutOfMemory}
+use Rattle.roff_tools.specs.declared.fault.StartFault.TheVariants.{CannotOpen, BadRegister, NotText, OutOfMemory}
 
--- the file that cannot be opened is this one, or memory ran out
-abbrev pub NamesFile : List ℕ → StartFault → Type 0
-NamesFile name (CannotOpen s) = string_bytes s ≡ name
-NamesFile name NotText = ⊥
-NamesFile name OutOfMemory = Unit {0}
+-- the file that cannot be opened is this one, which was refused; or memory ran out
+abbrev pub NamesFile : (List ℕ → Type 0) → List ℕ → StartFault → Type 0
+NamesFile refuses name (CannotOpen s) = (string_bytes s ≡ name) × refuses name
+NamesFile refuses name (BadRegister s) = ⊥
+NamesFile refuses name NotText = ⊥
+NamesFile refuses name OutOfMemory = Unit {0}
 
--- the file that cannot be opened is one of these, or memory ran out
-abbrev pub NamesOneOf : List (List ℕ) → StartFault → Type 0
-NamesOneOf names (CannotOpen s) = Contains names (string_bytes s)
-NamesOneOf names NotText = ⊥
-NamesOneOf names OutOfMemory = Unit {0}
+-- this name was refused, and those in front of it stand for parts
+pub record IsFirstRefused {F S : Type 0} (opens : List ℕ → F → Type 0) (refuses : List ℕ → Type 0) (stands : S → Type 0)
+    (names : List (List ℕ)) (name : List ℕ) : Type 0 where
+  pub front : List (List ℕ)
+  pub back : List (List ℕ)
+  pub split : names ≡ front ++ name ∷ back
+  pub parts : List (Part F S)
+  pub opened : AreNamed opens stands front parts
+  pub refused : refuses name
+
+-- the file that cannot be opened is the first of these that was refused; or memory ran out
+abbrev pub NamesFirstRefused : {F S : Type 0} → (List ℕ → F → Type 0) → (List ℕ → Type 0) → (S → Type 0) → List (List ℕ) → StartFault → Type 0
+NamesFirstRefused opens refuses stands names (CannotOpen s) = IsFirstRefused opens refuses stands names (string_bytes s)
+NamesFirstRefused opens refuses stands names (BadRegister s) = ⊥
+NamesFirstRefused opens refuses stands names NotText = ⊥
+NamesFirstRefused opens refuses stands names OutOfMemory = Unit {0}
+
+-- the text that asks for no register is this one, or memory ran out
+abbrev pub NamesRegister : List ℕ → StartFault → Type 0
+NamesRegister text (CannotOpen s) = ⊥
+NamesRegister text (BadRegister s) = string_bytes s ≡ text
+NamesRegister text NotText = ⊥
+NamesRegister text OutOfMemory = Unit {0}
+
+-- a register is bad, or what is told is the fault of the files; where a register is bad no file is looked at
+abbrev pub NamesBad : Result (List (ℕ × Num)) (List ℕ) → (StartFault → Type 0) → StartFault → Type 0
+NamesBad (Ok registers) of_files fault = of_files fault
+NamesBad (Err text) of_files fault = NamesRegister text fault

@@ -9,6 +9,9 @@ pub enum StartFault {
     /// The file of this name, one of those on the command line, cannot be opened.
     #[error("cannot open {0}")]
     CannotOpen(String),
+    /// This text, on the command line, asks for no number register, or for one too many.
+    #[error("bad register: {0}")]
+    BadRegister(String),
     /// A word of the command line is not UTF-8 text.
     #[error("an argument is not UTF-8 text")]
     NotText,

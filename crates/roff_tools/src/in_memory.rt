@@ -48,17 +48,17 @@ pub fn format_in_memory(
 ) -> Result<Formatted, AllocError>
     // With room for all of it, the definition's result, and nothing else.
     ensures whole { let t = tape_of_bytes text.now fail_at in
-        length (output_of limits t) ≤ room.output → length (messages_of limits t) ≤ room.messages →
-        IfOk result (λ f. IsWholeResult limits t f) }
+        length (output_of limits start t) ≤ room.output → length (messages_of limits start t) ≤ room.messages →
+        IfOk result (λ f. IsWholeResult limits start t f) }
 
     // With room for the messages, as many of the definition's first bytes as there is room for.
     ensures output { let t = tape_of_bytes text.now fail_at in
-        length (messages_of limits t) ≤ room.messages →
-        IfOk result (λ f. f.output.items ≡ take room.output (output_of limits t)) }
+        length (messages_of limits start t) ≤ room.messages →
+        IfOk result (λ f. f.output.items ≡ take room.output (output_of limits start t)) }
 
     // In any case a beginning of what the definition writes.
     ensures beginning { IfOk result (λ f.
-        IsBeginning f.output.items (output_of limits (tape_of_bytes text.now fail_at))) }
+        IsBeginning f.output.items (output_of limits start (tape_of_bytes text.now fail_at))) }
 {
     run_in_memory(alloc, Job::Nroff(limits, start), text, fail_at, room)
 }
@@ -80,16 +80,16 @@ pub fn format_tables_in_memory(
 ) -> Result<Formatted, AllocError>
     // With room for all of it, the definition's result over what tables give, and nothing else.
     ensures whole { let t = yields tables.0 tables.1 at_start (tape_of_bytes text.now fail_at) in
-        length (output_of limits t) ≤ room.output → length (messages_of limits t) ≤ room.messages →
-        IfOk result (λ f. IsWholeResult limits t f) }
+        length (output_of limits start t) ≤ room.output → length (messages_of limits start t) ≤ room.messages →
+        IfOk result (λ f. IsWholeResult limits start t f) }
 
     // With room for the messages, as many of the definition's first bytes as there is room for.
     ensures output { let t = yields tables.0 tables.1 at_start (tape_of_bytes text.now fail_at) in
-        length (messages_of limits t) ≤ room.messages →
-        IfOk result (λ f. f.output.items ≡ take room.output (output_of limits t)) }
+        length (messages_of limits start t) ≤ room.messages →
+        IfOk result (λ f. f.output.items ≡ take room.output (output_of limits start t)) }
 
     // In any case a beginning of what the definition writes.
-    ensures beginning { IfOk result (λ f. IsBeginning f.output.items (output_of limits
+    ensures beginning { IfOk result (λ f. IsBeginning f.output.items (output_of limits start
         (yields tables.0 tables.1 at_start (tape_of_bytes text.now fail_at)))) }
 {
     let (table_limits, line_length) = tables;

@@ -5,14 +5,14 @@ ghost use Rattle.roff_tools.specs.Clauses.{PutsTables, Runs, RunsBoth, RunsJob, 
 
 use roff_engine::{Engine, Start, Status};
 use roff_num::Limits;
-use roff_pages::ByteSink;
 use roff_scan::ByteSource;
+use roff_sinks::ByteSink;
 use std::alloc::{AllocError, Global};
 use tbl_core::{TblLimits, TblSource};
 use tbl_run::put_tables;
 
 /// What to run. A line length is in columns; tables are centred within it.
-#[derive(Clone, Copy, Debug, PartialEq, Eq)]
+#[derive(Drop)]
 pub enum Job {
     /// The formatter.
     Nroff(Limits, Start),
@@ -65,7 +65,7 @@ fn run_nroff<S: ByteSource, O: ByteSink, E: ByteSink>(
     out: &mut O,
     err: &mut E,
 ) -> (Result<Status, AllocError>, S)
-    ensures runs { IfOk result.0 (λ status. Runs limits status
+    ensures runs { IfOk result.0 (λ status. Runs limits start status
         (S.gives source) (S.gives result.1)
         (seen (S.failures source) (O.sunk out.old) (E.sunk err.old))
         (seen (S.failures result.1) (O.sunk out.new) (E.sunk err.new))) }
@@ -117,7 +117,7 @@ fn run_both<S: ByteSource, O: ByteSink, E: ByteSink>(
     out: &mut O,
     err: &mut E,
 ) -> (Result<Status, AllocError>, S)
-    ensures runs { IfOk result.0 (λ status. RunsBoth engine limits line_length status
+    ensures runs { IfOk result.0 (λ status. RunsBoth engine.limits engine.start limits line_length status
         (S.gives source) (S.gives result.1)
         (seen (S.failures source) (O.sunk out.old) (E.sunk err.old))
         (seen (S.failures result.1) (O.sunk out.new) (E.sunk err.new))) }

@@ -1,52 +1,103 @@
 //! The program: it reads its words, opens its files, runs the job and tells how it went.
 
-ghost use Rattle.std.specs.Prelude.{◌≡◌, ◌≢◌, ◌≤◌, ◌⊎◌, true, is_ok, IfOk, IfErr, OnErr, map};
-ghost use Rattle.roff_tools.specs.Clauses.{AreMistaken, AreNamed, AskForHelp, Performs};
-ghost use Rattle.roff_tools.specs.Clauses.{IsNamed, NamesFile, NamesOneOf, PerformsAsked};
-ghost use Rattle.roff_tools.specs.Clauses.{exit_flushed, exit_status, fault_of, job_of, kind_of};
-ghost use Rattle.roff_tools.specs.Clauses.{roff_app, subcommand_of, takes};
+ghost use Rattle.std.specs.Prelude.{◌≡◌, ◌≢◌, ◌⊎◌, Some, true, is_ok, IfOk, IfErr, OnErr, map};
+ghost use Rattle.std.specs.Prelude.{string_bytes};
+ghost use Rattle.roff_tools.specs.Clauses.{AreMistaken, AreNamed, AskForHelp, IsFinished};
+ghost use Rattle.roff_tools.specs.Clauses.{IsFlushed, IsNamed, IsPrepared, NamesBad, NamesFile};
+ghost use Rattle.roff_tools.specs.Clauses.{NamesFirstRefused, NamesRegister, Performs};
+ghost use Rattle.roff_tools.specs.Clauses.{PerformsAsked, PerformsIfAsked, Starts};
+ghost use Rattle.roff_tools.specs.Clauses.{exit_flushed, exit_number, exit_status};
+ghost use Rattle.roff_tools.specs.Clauses.{fault_of, given_to, job_of, kind_of, roff_app};
+ghost use Rattle.roff_tools.specs.Clauses.{subcommand_of, takes, told};
 
 use crate::exit::Exit;
 use crate::fault::StartFault;
 use crate::text_sink::TextSink;
-use crate::{ByteSink, Job, ReadSource, SinkFault, Start, WriteSink, run};
+use crate::words::Words;
+use crate::{BlockWrite, ByteSink, Job, ReadSource, SinkFault, Start, WriteSink, run};
 use clap::error::ErrorKind;
-use roff_command::{Asked, Request, STANDARD_INPUT, parse_words};
-use roff_devices::{Inputs, Part, Readers};
+use roff_command::{Asked, Registers, Request, STANDARD_INPUT, parse_words, prepare_words};
+use roff_devices::{Buffered, Inputs, Part, Readers};
+use std::alloc::Global;
 use std::convert::AsStr;
 use std::fmt::Write as _;
-use std::io::{BufWriter, Write};
 use std::process::ExitCode;
-use std::rt::{Env, Files};
-use std::{env, io};
 
-/// Runs the program on the arguments, files and standard input of `rt`. What is written on
-/// `stdout` is buffered here, and what is written on `stderr` is not.
-pub fn main_with<R, O, E>(rt: &R, stdout: O, stderr: E) -> ExitCode
+/// How the program ended, and the writers that it was given.
+#[derive(Drop)]
+pub struct Finished<O, E> {
+    /// The exit status.
+    pub exit: ExitCode,
+    /// The writer of the output.
+    pub stdout: O,
+    /// The writer of the messages.
+    pub stderr: E,
+}
+
+/// Runs the program on the words, files and standard input of `rt`. What is written on `stdout` is
+/// buffered here, and what is written on `stderr` is not.
+pub fn main_with<R, O, E>(rt: &R, stdout: O, stderr: E) -> Finished<O, E>
 where
-    R: Env + Files + Input + AllocGlobal,
-    O: Write + Drop,
-    E: Write + Drop,
-    ensures { exit_status result ≤ 4 }
+    R: Words + Readers + AllocGlobal,
+    O: BlockWrite + Drop,
+    E: BlockWrite + Drop,
+    // What the words ask for was done, with the output through a buffer that was flushed at the
+    // end, however the run ended; and that is what the exit status tells.
+    ensures { IsFinished (R.says rt.now) (R.opens rt.now) (R.stands rt.now)
+        R.File.gives R.Standard.gives (O.sunk stdout) (E.sunk stderr)
+        (exit_status result.exit) (O.sunk result.stdout) (E.sunk result.stderr) }
 {
     let mut err = WriteSink::new(stderr);
-    let exit = match BufWriter::new(rt.alloc(), stdout) {
+    match Buffered::new(rt.alloc(), stdout) {
         Ok(buffered) => {
-            let mut out = WriteSink::new(buffered);
-            let exit = start(rt, &mut out, &mut err);
-            after_flush(exit, out.flush())
+            let (exit, stdout) = run_buffered(rt, buffered, &mut err);
+            ended_so(exit, stdout, err)
         }
-        Err(_) => report(&StartFault::OutOfMemory, &mut err),
-    };
-    ExitCode::from(exit.number())
+        Err(stdout) => {
+            let exit = report(&StartFault::OutOfMemory, &mut err);
+            ended_so(exit, stdout, err)
+        }
+    }
+}
+
+/// The program's end.
+fn ended_so<O, E: BlockWrite + Drop>(exit: Exit, stdout: O, err: WriteSink<E>) -> Finished<O, E>
+    ensures exit { exit_status result.exit ≡ exit_number exit }
+    ensures stdout { result.stdout ≡ stdout }
+    ensures stderr { E.sunk result.stderr ≡ err }
+{
+    Finished {
+        exit: ExitCode::from(exit.number()),
+        stdout,
+        stderr: err.into_inner(),
+    }
+}
+
+/// Does what the words of the command line ask for, and flushes the output behind it.
+fn run_buffered<R, O, E>(rt: &R, stdout: Buffered<O>, err: &mut E) -> (Exit, O)
+where
+    R: Words + Readers + AllocGlobal,
+    O: BlockWrite + Drop,
+    E: ByteSink,
+    ensures { IsFlushed (R.says rt.now) (R.opens rt.now) (R.stands rt.now)
+        R.File.gives R.Standard.gives (given_to O.sunk stdout) (E.sunk err.old)
+        result.0 (O.sunk result.1) (E.sunk err.new) }
+{
+    let mut out = WriteSink::new(stdout);
+    let exit = start(rt, &mut out, err);
+    let (stdout, flushed) = out.into_inner().finish();
+    (after_flush(exit, flushed), stdout)
 }
 
 /// Does what the words of the command line ask for.
 fn start<R, O, E>(rt: &R, out: &mut O, err: &mut E) -> Exit
 where
-    R: Env + Files + Input + AllocGlobal,
+    R: Words + Readers + AllocGlobal,
     O: ByteSink,
     E: ByteSink,
+    ensures { Starts (R.says rt.now) (R.opens rt.now) (R.stands rt.now)
+        R.File.gives R.Standard.gives result
+        (O.sunk out.old) (O.sunk out.new) (E.sunk err.old) (E.sunk err.new) }
 {
     match words_of(rt) {
         Ok(words) => obey(rt, words.as_slice(), out, err),
@@ -54,12 +105,12 @@ where
     }
 }
 
-fn words_of<R: Env + AllocGlobal>(rt: &R) -> Result<Vec<String>, StartFault> {
-    match env::args(rt) {
-        Ok(words) => Ok(words.collect(rt.alloc())?),
-        Err(error) if error.kind() == io::ErrorKind::OutOfMemory => Err(StartFault::OutOfMemory),
-        Err(_) => Err(StartFault::NotText),
-    }
+/// The words of the command line, in the form that the parser reads.
+fn words_of<R: Words + AllocGlobal>(rt: &R) -> Result<Vec<String>, StartFault>
+    ensures { IfOk result (λ words. IsPrepared (R.says rt.now) (map string_bytes words.items)) }
+{
+    let words = rt.words(rt.alloc())?;
+    Ok(prepare_words(rt.alloc(), words.as_slice())?)
 }
 
 /// Writes a fault's message. Where the write fails, there is no one to tell.
@@ -89,7 +140,7 @@ where
     E: ByteSink,
     // Where the words are in order a command runs as they ask, or can't start.
     ensures performs { takes roff_app (map S.text words.now) ≡ true → (result ≡ Exit.NotStarted) ⊎
-        PerformsAsked (R.opens rt.now) (R.stands rt.now) R.File.remaining R.Standard.remaining
+        PerformsAsked (R.opens rt.now) (R.stands rt.now) R.File.gives R.Standard.gives
         (subcommand_of roff_app (map S.text words.now)) result
         (O.sunk out.old) (O.sunk out.new) (E.sunk err.old) (E.sunk err.new) }
     // Help and the version go to the output alone, and nothing of a mistake does.
@@ -101,7 +152,7 @@ where
     ensures unwritten { result ≡ Exit.NotStarted → out.new ≡ out.old }
 {
     match parse_words(rt.alloc(), words) {
-        Ok(request) => match perform(rt, &request, out, err) {
+        Ok(request) => match perform(rt, request, out, err) {
             Ok(exit) => exit,
             Err(fault) => report(&fault, err),
         },
@@ -131,10 +182,55 @@ fn show<O: ByteSink, E: ByteSink>(shown: &clap::Error, out: &mut O, err: &mut E)
     }
 }
 
-/// Opens all files and then runs the command over them.
+/// Looks at the registers that are to be set, and then runs the command over its files.
 fn perform<R, O, E>(
     rt: &R,
-    request: &Request<'_>,
+    request: Request<'_>,
+    out: &mut O,
+    err: &mut E,
+) -> Result<Exit, StartFault>
+where
+    R: Readers + AllocGlobal,
+    O: ByteSink,
+    E: ByteSink,
+    ensures performs { IfOk result (λ exit. PerformsIfAsked (R.opens rt.now) (R.stands rt.now)
+        R.File.gives R.Standard.gives (map (λ name. name.now) request.entry.files.items)
+        (told request.entry.registers) (Some request.entry.asked) exit
+        (O.sunk out.old) (O.sunk out.new) (E.sunk err.old) (E.sunk err.new)) }
+    ensures fault { IfErr result (NamesBad (told request.entry.registers) (NamesFirstRefused
+        (R.opens rt.now) (R.refuses rt.now) (R.stands rt.now)
+        (map (λ name. name.now) request.entry.files.items))) }
+    ensures unwritten { OnErr result ((out.new ≡ out.old) × (err.new ≡ err.old)) }
+{
+    let Request {
+        asked,
+        files,
+        registers,
+    } = request;
+    match registers {
+        Registers::Set(registers) => {
+            let job = job_of(asked, Start { registers });
+            run_over(rt, files.as_slice(), job, out, err)
+        }
+        Registers::Bad(text) => Err(bad_register(rt.alloc(), text)),
+    }
+}
+
+/// The fault of a text that asks for no register.
+fn bad_register(alloc: Global, text: &str) -> StartFault
+    ensures { NamesRegister text.now result }
+{
+    match String::from_str(alloc, text) {
+        Ok(text) => StartFault::BadRegister(text),
+        Err(_) => StartFault::OutOfMemory,
+    }
+}
+
+/// Opens all files and then runs a job over them.
+fn run_over<R, O, E>(
+    rt: &R,
+    names: &[&str],
+    job: Job,
     out: &mut O,
     err: &mut E,
 ) -> Result<Exit, StartFault>
@@ -143,27 +239,28 @@ where
     O: ByteSink,
     E: ByteSink,
     ensures performs { IfOk result (λ exit. Performs (R.opens rt.now) (R.stands rt.now)
-        R.File.remaining R.Standard.remaining (map (λ name. name.now) request.now.files.items)
-        request.now.asked exit
+        R.File.gives R.Standard.gives (map (λ name. name.now) names.now) job exit
         (O.sunk out.old) (O.sunk out.new) (E.sunk err.old) (E.sunk err.new)) }
-    ensures fault { IfErr result (NamesOneOf (map (λ name. name.now) request.now.files.items)) }
+    ensures fault { IfErr result (NamesFirstRefused (R.opens rt.now) (R.refuses rt.now)
+        (R.stands rt.now) (map (λ name. name.now) names.now)) }
     ensures unwritten { OnErr result ((out.new ≡ out.old) × (err.new ≡ err.old)) }
 {
-    let inputs = open_all(rt, request.files.as_slice())?;
+    let inputs = open_all(rt, names)?;
     let source = ReadSource::new(rt.alloc(), inputs)?;
-    let (status, _source) = run(rt.alloc(), job_of(request.asked), source, out, err);
+    let (status, source) = run(rt.alloc(), job, source, out, err);
+    source.stays_counted();
     Ok(Exit::after(status?))
 }
 
-/// The job of a request.
-fn job_of(asked: Asked) -> Job
-    ensures { result ≡ job_of asked }
+/// The job that is asked for, with what the run is given at its start.
+fn job_of(asked: Asked, start: Start) -> Job
+    ensures { result ≡ job_of asked start }
 {
     match asked {
-        Asked::Nroff(limits) => Job::Nroff(limits, Start {}),
+        Asked::Nroff(limits) => Job::Nroff(limits, start),
         Asked::Tbl(limits, line_length) => Job::Tbl(limits, line_length),
         Asked::Both(limits, table_limits, line_length) => {
-            Job::Both(limits, Start {}, table_limits, line_length)
+            Job::Both(limits, start, table_limits, line_length)
         }
     }
 }
@@ -175,7 +272,9 @@ fn open_all<R: Readers + AllocGlobal>(
 ) -> Result<Inputs<R::File, R::Standard>, StartFault>
     ensures parts { IfOk result (AreNamed (R.opens rt.now) (R.stands rt.now)
         (map (λ name. name.now) names.now)) }
-    ensures fault { IfErr result (NamesOneOf (map (λ name. name.now) names.now)) }
+    // It names the first file that was refused: those in front of it were opened.
+    ensures fault { IfErr result (NamesFirstRefused (R.opens rt.now) (R.refuses rt.now)
+        (R.stands rt.now) (map (λ name. name.now) names.now)) }
 {
     let mut parts = Vec::new(rt.alloc());
     for name in names {
@@ -189,7 +288,7 @@ fn open_part<R: Readers + AllocGlobal>(
     name: &str,
 ) -> Result<Part<R::File, R::Standard>, StartFault>
     ensures part { IfOk result (IsNamed (R.opens rt.now) (R.stands rt.now) name.now) }
-    ensures fault { IfErr result (NamesFile name.now) }
+    ensures fault { IfErr result (NamesFile (R.refuses rt.now) name.now) }
 {
     if name == STANDARD_INPUT {
         return Ok(Part::Standard(rt.standard()));

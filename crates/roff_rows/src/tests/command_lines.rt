@@ -6,7 +6,7 @@ use std::alloc::Global;
 use std::process::Abort;
 
 /// The words of a command line, the exit status, the output and the messages.
-type Row = (&'static [&'static str], u8, &'static str, &'static str);
+pub type Row = (&'static [&'static str], u8, &'static str, &'static str);
 
 /// Which files are read.
 static FILE_ROWS: [Row; 27] = [
@@ -360,7 +360,8 @@ static MISTAKE_ROWS: [Row; 18] = [
     ),
 ];
 
-fn check_rows(rt: &impl Abort, alloc: Global, rows: &[Row]) {
+/// Runs each command line, and compares what it gave.
+pub fn check_rows(rt: &impl Abort, alloc: Global, rows: &[Row]) {
     for (words, status, out, err) in rows {
         let expected = Expected {
             status: *status,

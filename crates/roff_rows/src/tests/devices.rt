@@ -98,10 +98,7 @@ fn reader_that_fails(rt: HostRuntime) {
     let alloc = rt.alloc();
     let words = ["roff", "nroff", "one", "-", "two"];
     let machine = Machine {
-        standard_input: Given {
-            fails: true,
-            ..Given::new(b"ab\nc")
-        },
+        standard_input: Given::failing(b"ab\nc"),
         ..machine(alloc, words.as_slice())
     };
     let expected = Expected {
@@ -155,10 +152,7 @@ fn reader_that_fails_within_a_table(rt: HostRuntime) {
     for (command, given, out, err) in &CUT_TABLES {
         let words = ["roff", *command];
         let machine = Machine {
-            standard_input: Given {
-                fails: true,
-                ..Given::new(given.as_bytes())
-            },
+            standard_input: Given::failing(given.as_bytes()),
             ..machine(alloc, words.as_slice())
         };
         let expected = Expected {

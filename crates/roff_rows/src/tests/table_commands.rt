@@ -304,10 +304,7 @@ fn input_that_fails_before_a_table(rt: HostRuntime) {
     for (command, out, err) in &FAILING_INPUT {
         let words = ["roff", *command];
         let machine = Machine {
-            standard_input: Given {
-                fails: true,
-                ..Given::new(b".nf\na\n.TS x")
-            },
+            standard_input: Given::failing(b".nf\na\n.TS x"),
             ..machine_with_tables(alloc, words.as_slice())
         };
         let expected = Expected {

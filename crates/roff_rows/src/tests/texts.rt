@@ -38,6 +38,7 @@ Arguments:
   [FILE]...  Files to be read; '-' is standard input [default: -]
 
 Options:
+  -r, --register <aN>     Number register a, to the expression N; may be repeated
       --bytes <N>         Most bytes read [default: 50000000]
       --store <N>         Most bytes of strings and macros [default: 1048576]
       --stack <N>         Most inserted bytes not yet read [default: 262144]
@@ -52,8 +53,9 @@ Options:
   -h, --help              Print help
 
 nroff fills lines with the words of its input, and obeys its control lines, which
-begin with a period or an apostrophe. Each N is a number from 0 to 1000000000; a
-run stops, with status 3, before it would pass one.
+begin with a period or an apostrophe. In -raN, N is an expression, which register
+a is set to before anything is read. Each other N is a number from 0 to 1000000000;
+a run stops, with status 3, before it would pass one.
 
 Files are read one after another as one input; all are opened before the first
 is read. '-', or no file at all, is standard input. Text is written on standard
@@ -110,6 +112,7 @@ Arguments:
   [FILE]...  Files to be read; '-' is standard input [default: -]
 
 Options:
+  -r, --register <aN>     Number register a, to the expression N; may be repeated
       --bytes <N>         Most bytes read [default: 50000000]
       --store <N>         Most bytes of strings and macros [default: 1048576]
       --stack <N>         Most inserted bytes not yet read [default: 262144]
@@ -128,9 +131,10 @@ Options:
       --line-length <N>   Columns within which tables are centred [default: 65]
   -h, --help              Print help
 
-both does what tbl and nroff do one behind the other, in one program. Each N is a
-number from 0 to 1000000000; a run stops, with status 3, before it would pass a
-limit.
+both does what tbl and nroff do one behind the other, in one program. In -raN, N
+is an expression, which register a is set to before anything is read. Each other N
+is a number from 0 to 1000000000; a run stops, with status 3, before it would pass
+a limit.
 
 Files are read one after another as one input; all are opened before the first
 is read. '-', or no file at all, is standard input. Text is written on standard
@@ -327,6 +331,40 @@ pub const COLUMNS_TWICE: &str = "\
 error: the argument '--columns <N>' cannot be used multiple times
 
 Usage: roff both [OPTIONS] [FILE]...
+
+For more information, try '--help'.
+";
+
+pub const NO_REGISTER: &str = "\
+error: a value is required for '--register <aN>' but none was supplied
+
+For more information, try '--help'.
+";
+
+pub const NEGATIVE_REGISTER: &str = "\
+error: unexpected argument '-5' found
+
+  tip: to pass '-5' as a value, use '-- -5'
+
+Usage: roff nroff [OPTIONS] [FILE]...
+
+For more information, try '--help'.
+";
+
+pub const REGISTER_OF_TABLES: &str = "\
+error: unexpected argument '-r' found
+
+  tip: to pass '-r' as a value, use '-- -r'
+
+Usage: roff tbl [OPTIONS] [FILE]...
+
+For more information, try '--help'.
+";
+
+pub const EARLY_REGISTER: &str = "\
+error: unexpected argument '-r' found
+
+Usage: roff <COMMAND>
 
 For more information, try '--help'.
 ";

@@ -10,9 +10,11 @@ use Rattle.roff_command.proofs.command.both_command.Goals as goal
 pub returns : goal.returns
 unfolding both_app
 returns c =
-    let formatter = c.in_ok-command-2.ensures ∙ ap (λ (a : App). fold with_rule a (map (limit_option Formatter) option_limits)) c.in_ok-command.ensures in
+    let named = c.in_ok-command-2.ensures.shape (simple-global c.register_argument.result (ap (λ (r : Rule). r.is_simple) c.register_argument.ensures))
+    ∙ ap₂ with_rule c.in_ok-command.ensures c.register_argument.ensures in
+    let formatter = c.in_ok-command-3.ensures ∙ ap (λ (a : App). fold with_rule a (map (limit_option Formatter) option_limits)) named in
     let limits = c.in_ok-with_options.ensures ∙ ap (λ (a : App). fold with_rule a (map (limit_option Tables) table_limits)) formatter in
-    IfOk-weaker c.arg.result _ _
+    IfOk-weaker c.arg-2.result _ _
     (λ r adds. adds.shape (simple-global c.line_length_argument.result (ap (λ (r : Rule). r.is_simple) c.line_length_argument.ensures))
     ∙ ap₂ with_rule limits c.line_length_argument.ensures)
-    c.arg.ensures
+    c.arg-2.ensures

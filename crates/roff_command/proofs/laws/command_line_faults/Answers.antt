@@ -51,3 +51,11 @@ returns-clause-not_of_tables c = refl
 pub returns-clause-not_of_text : goal.returns-clause-not_of_text
 unfolding clap_on_literals roff_app nroff_app tbl_app both_app digits
 returns-clause-not_of_text c = refl
+
+pub returns-clause-no_register : goal.returns-clause-no_register
+unfolding clap_on_literals roff_app nroff_app tbl_app both_app digits
+returns-clause-no_register c = refl
+
+pub returns-clause-no_register_of_tables : goal.returns-clause-no_register_of_tables
+unfolding clap_on_literals roff_app nroff_app tbl_app both_app digits
+returns-clause-no_register_of_tables c = refl
