@@ -52,7 +52,7 @@ STAGES = {
         "roff_engine::formatter::Formatter::end_word",
         "roff_engine::formatter::Formatter::perform_text",
     ],
-    "writing": ["roff_pages", "roff_lines::line_bytes", "roff_lines::stretch"],
+    "writing": ["roff_sinks", "roff_lines::line_bytes", "roff_lines::stretch"],
     "store": ["roff_store"],
     "tables": ["tbl_layout", "tbl_table", "tbl_core", "tbl_run"],
 }
