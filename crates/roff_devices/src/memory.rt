@@ -46,6 +46,7 @@ impl<'a> MemSource<'a> {
 }
 
 impl ByteSource for MemSource<'_> {
+    ghost use Rattle.std.specs.Prelude.{refl};
     ghost use Rattle.roff_devices.specs.Memory.{faults_of_source, tape_of};
 
     ghost gives = { λ s t. t ≡ tape_of s };
@@ -87,6 +88,8 @@ impl ByteSource for MemSource<'_> {
     fn pass(&mut self, count: usize) {
         self.rest = self.rest.split_at(count).1;
     }
+
+    ghost some = { λ s. record { tape = tape_of s; given = refl } };
 }
 
 /// A sink that keeps the first bytes, up to its capacity, and then fails.

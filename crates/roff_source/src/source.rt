@@ -2,6 +2,7 @@
 
 ghost use Rattle.std.specs.Prelude.{◌≡◌, ℕ, ◌<◌, ◌≤◌, List, [], length, map, nat_lt, take, None, vec_len};
 ghost use Rattle.std.specs.Prelude.{IfOk, IfSome};
+ghost use Rattle.roff_source.specs.BlockRead.{SomeTape};
 ghost use Rattle.roff_source.specs.ReadSource.Endings.{is_fault, reach_ending};
 ghost use Rattle.roff_source.specs.Tape.{Tape, Answers, Took, Failed, Gives, Ends, OneByte, OneNote};
 ghost use Rattle.roff_source.specs.Tape.{answer_of};
@@ -79,6 +80,9 @@ pub trait ByteSource {
             (map OneByte (take count (ready self.old))) }
         ensures notes { notes self.new ≤ notes self.old }
         ensures failures { failures self.new ≡ failures self.old };
+
+    /// Each state may give some tape.
+    ghost some: { (s : Self) → SomeTape (gives s) };
 }
 
 /// How many bytes a [`ReadSource`] asks its reader for.
@@ -187,7 +191,7 @@ impl<R: BlockRead + Drop> ReadSource<R> {
 }
 
 impl<R: BlockRead + Drop> ByteSource for ReadSource<R> {
-    ghost use Rattle.roff_source.specs.ReadSource.Reach.{may_give, ready_of};
+    ghost use Rattle.roff_source.specs.ReadSource.Reach.{may_give, ready_of, some_read};
 
     ghost gives = { may_give R.gives };
 
@@ -234,4 +238,6 @@ impl<R: BlockRead + Drop> ByteSource for ReadSource<R> {
     fn pass(&mut self, count: usize) {
         self.next += count;
     }
+
+    ghost some = { some_read R.gives R.some };
 }

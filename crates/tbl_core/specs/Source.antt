@@ -1,10 +1,11 @@
 -- A source over a source, and what it may give.
-use Rattle.std.specs.Prelude.{◌≡◌, ℕ, Bool, true, List, [], if◌then◌else◌}
+use Rattle.std.specs.Prelude.{◌≡◌, ℕ, Bool, true, List, [], if◌then◌else◌, refl}
+use Rattle.roff_source.specs.BlockRead.{SomeTape}
 use Rattle.roff_source.specs.Tape.{Tape}
 use Rattle.tbl_core.specs.NotesLeft.{noted}
 use Rattle.tbl_core.specs.Passing.{passing}
 use Rattle.tbl_core.specs.Tables.{TablesState}
-use Rattle.tbl_core.specs.Yields.{At, MayGive, at_start}
+use Rattle.tbl_core.specs.Yields.{At, MayGive, at_start, yields}
 
 -- the inner source, how far tables have come over it, and whether it is known that nothing is pending
 pub record Sourced (S : Type 0) : Type 0 where
@@ -15,6 +16,14 @@ pub record Sourced (S : Type 0) : Type 0 where
 -- what may be given, by what the inner source may give
 abbrev pub source_gives : {S : Type 0} → (S → Tape → Type 0) → Sourced S → Tape → Type 0
 source_gives gives s = MayGive s.tables.limits s.tables.line_length s.tables.at (gives s.inner)
+
+-- there is such a tape, as there is one of the inner source
+pub some_given : {S : Type 0} (gives : S → Tape → Type 0) → ((s : S) → SomeTape (gives s)) → (s : Sourced S) → SomeTape (source_gives gives s)
+some_given gives some_of s =
+    let inner = some_of s.inner in record {
+      tape = yields s.tables.limits s.tables.line_length s.tables.at inner.tape;
+      given = record { under = inner.tape; given = inner.given; is = refl };
+    }
 
 -- the bytes that stand ready: of those of the inner source those known to pass, where nothing is pending
 abbrev pub source_ready : {S : Type 0} → (S → List ℕ) → Sourced S → List ℕ

@@ -278,7 +278,7 @@ impl<S: ByteSource> TblSource<S> {
 
 impl<S: ByteSource> ByteSource for TblSource<S> {
     ghost use Rattle.tbl_core.specs.NotesLeft.{notes_left};
-    ghost use Rattle.tbl_core.specs.Source.{source_gives, source_ready};
+    ghost use Rattle.tbl_core.specs.Source.{some_given, source_gives, source_ready};
 
     ghost gives = { source_gives S.gives };
 
@@ -311,6 +311,8 @@ impl<S: ByteSource> ByteSource for TblSource<S> {
         self.tables.pass(at_most(self.inner.buffered(), count));
         self.inner.pass(count);
     }
+
+    ghost some = { some_given S.gives S.some };
 }
 
 /// Whether it is a byte.

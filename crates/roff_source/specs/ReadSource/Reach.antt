@@ -1,6 +1,7 @@
 -- How far a source over a reader has come.
-use Rattle.std.specs.Prelude.{◌≡◌, ℕ, nat_lt, List, map, take, drop, Option, Some, None}
+use Rattle.std.specs.Prelude.{◌≡◌, ℕ, nat_lt, List, map, take, drop, Option, Some, None, refl}
 use Rattle.roff_source.specs.declared.source.ReadSource.{ReadSource}
+use Rattle.roff_source.specs.BlockRead.{SomeTape}
 pub use Rattle.roff_source.specs.ReadSource.Endings.{is_fault, reach_ending, ready_at}
 use Rattle.roff_source.specs.Tape.{Tape, OneByte, Ending, items_then, only}
 
@@ -35,6 +36,17 @@ MayGive left reads (Some ending) t = t ≡ only ending
 -- the same of the source
 abbrev pub may_give : {R : Type 0} → (R → Tape → Type 0) → ReadSource R → Tape → Type 0
 may_give reads s = MayGive (left_of_block s) (reads s.reader) (ending_given s)
+
+-- there is such a tape, as there is one of its reader
+some_then : (left : List ℕ) (reads : Tape → Type 0) (ending : Option Ending) → SomeTape reads → SomeTape (MayGive left reads ending)
+some_then left reads None rest = record {
+  tape = items_then (map OneByte left) rest.tape;
+  given = record { rest = rest.tape; given = rest.given; is = refl };
+}
+some_then left reads (Some ending) rest = record { tape = only ending; given = refl }
+
+pub some_read : {R : Type 0} (reads : R → Tape → Type 0) → ((r : R) → SomeTape (reads r)) → (s : ReadSource R) → SomeTape (may_give reads s)
+some_read reads some_of s = some_then (left_of_block s) (reads s.reader) (ending_given s) (some_of s.reader)
 
 -- how many faults the source answered
 abbrev pub faults_of : {R : Type 0} → ReadSource R → ℕ
