@@ -26,13 +26,14 @@ PutsWithin room text (Ok count) old new = PutsAll room text count old new
 PutsWithin room text (Err Output) old new = IsTooLong room text old new
 PutsWithin room text (Err Sink) old new = IsPutInPart room text old new
 
--- A line is put at once: all of it stands in the block then, and its bytes are counted. Or it isn't put, as the block has no
--- room for it, and is empty; or the sink failed.
+-- A line is put at once: all of it stands in the block then, and its bytes are counted. Or it isn't put, as it has more bytes
+-- than a block, which is empty; or the sink failed.
 pub record PutsAtOnce (old new : Sunk) (line : List ℕ) (result : ℕ) (block : List ℕ) : Type 0 where
   pub writes : 0 < result → Writes old new line
   pub counted : 0 < result → result ≡ length line
   pub within : result ≤ 8192
   pub few : length block ≤ 8192
   pub none : result ≡ 0 → block ≡ [] → new ≡ old
+  pub long : result ≡ 0 → block ≡ [] → 8192 < length line
   pub fails : result ≡ 0 → 0 < length block → Fails old new line
   pub held : 0 < length block → block ≡ line

@@ -131,6 +131,8 @@ pub(super) fn add_line(bytes: &mut Vec<u8>, line: Line<'_>, columns: u64, after:
     ensures count { 0 < result → result ≡ length bytes.new.items }
     ensures whole { 0 < result → bytes.new.items
         ≡ device_line columns (printed (finished_of line.entry)) ++ replicate after 10 }
+    ensures long { result ≡ 0 → 8192 < length
+        (device_line columns (printed (finished_of line.entry)) ++ replicate after 10) }
 {
     let mut to_come = LineBytes::behind_columns(line, columns, after);
     to_come.add_text(bytes, BLOCK);
@@ -151,6 +153,8 @@ fn add_rest(bytes: &mut Vec<u8>, rest: LineBytes<'_>) -> u64
     ensures few { length bytes.new.items ≤ 8192 }
     ensures count { 0 < result → result ≡ length bytes.new.items }
     ensures whole { 0 < result → bytes.new.items ≡ bytes.old.items ++ rest.entry }
+    ensures long { result ≡ 0 → 0 < length (bytes.old.items ++ rest.entry)
+        → 8192 < length (bytes.old.items ++ rest.entry) }
 {
     let mut to_come = rest;
     loop {
