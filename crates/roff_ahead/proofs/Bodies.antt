@@ -35,7 +35,7 @@ module _ {E : Type 0} (t : Texts) where
   bytes-with_bodies (ByteAhead b ∷ items) = omega (arith, bytes-with_bodies items)
   bytes-with_bodies (FreeAhead b ∷ items) = bytes-with_bodies items
   bytes-with_bodies (EndAhead ∷ items) = bytes-with_bodies items
-  bytes-with_bodies (ReturnAhead ∷ items) = bytes-with_bodies items
+  bytes-with_bodies (ReturnAhead back ∷ items) = bytes-with_bodies items
   bytes-with_bodies (DoAhead (Event event) ∷ items) = bytes-with_bodies items
   bytes-with_bodies (DoAhead (Body id) ∷ items) =
       omega (
@@ -52,7 +52,7 @@ module _ {E : Type 0} (t : Texts) where
   ends-with_bodies (ByteAhead b ∷ items) = ends-with_bodies items
   ends-with_bodies (FreeAhead b ∷ items) = ends-with_bodies items
   ends-with_bodies (EndAhead ∷ items) = ap (λ n. n + 1) (ends-with_bodies items)
-  ends-with_bodies (ReturnAhead ∷ items) = ap (λ n. n + 1) (ends-with_bodies items)
+  ends-with_bodies (ReturnAhead back ∷ items) = ap (λ n. n + 1) (ends-with_bodies items)
   ends-with_bodies (DoAhead (Event event) ∷ items) = ends-with_bodies items
   ends-with_bodies (DoAhead (Body id) ∷ items) =
       ends_ahead-bytes (lease_bytes (lease_of id.0 t)) (with_bodies t items) ∙ ends-with_bodies items
@@ -64,7 +64,7 @@ module _ {E : Type 0} (t : Texts) where
   events-with_bodies (ByteAhead b ∷ items) = events-with_bodies items
   events-with_bodies (FreeAhead b ∷ items) = events-with_bodies items
   events-with_bodies (EndAhead ∷ items) = events-with_bodies items
-  events-with_bodies (ReturnAhead ∷ items) = events-with_bodies items
+  events-with_bodies (ReturnAhead back ∷ items) = events-with_bodies items
   events-with_bodies (DoAhead (Event event) ∷ items) = omega (arith, events-with_bodies items)
   events-with_bodies (DoAhead (Body id) ∷ items) =
       omega (arith, events-with_bodies items, events_ahead-bytes (lease_bytes (lease_of id.0 t)) (with_bodies t items))
@@ -75,7 +75,7 @@ module _ {E : Type 0} (t : Texts) where
   frees-with_bodies (ByteAhead b ∷ items) = frees-with_bodies items
   frees-with_bodies (FreeAhead b ∷ items) = ap (λ n. n + 1) (frees-with_bodies items)
   frees-with_bodies (EndAhead ∷ items) = frees-with_bodies items
-  frees-with_bodies (ReturnAhead ∷ items) = frees-with_bodies items
+  frees-with_bodies (ReturnAhead back ∷ items) = frees-with_bodies items
   frees-with_bodies (DoAhead (Event event) ∷ items) = frees-with_bodies items
   frees-with_bodies (DoAhead (Body id) ∷ items) =
       frees_ahead-bytes (lease_bytes (lease_of id.0 t)) (with_bodies t items) ∙ frees-with_bodies items
@@ -91,7 +91,7 @@ module _ {E : Type 0} (t : Texts) where
   none-with_bodies (ByteAhead b ∷ items) give = refl
   none-with_bodies (FreeAhead b ∷ items) give = refl
   none-with_bodies (EndAhead ∷ items) give = refl
-  none-with_bodies (ReturnAhead ∷ items) give = refl
+  none-with_bodies (ReturnAhead back ∷ items) give = refl
   none-with_bodies (DoAhead (Event event) ∷ items) give = refl
   none-with_bodies (DoAhead (Body id) ∷ items) give =
       let gives : 0 < rest_of (lease_of id.0 t) = give 0 0 (omega arith) in
@@ -123,7 +123,7 @@ module _ {E : Type 0} where
   bodies_counted (ByteAhead b ∷ items) ended = bodies_counted items ended
   bodies_counted (FreeAhead b ∷ items) ended = omega (arith, bodies_counted items ended)
   bodies_counted (EndAhead ∷ items) ended = omega (arith, bodies_counted items ended)
-  bodies_counted (ReturnAhead ∷ items) ended = omega (arith, bodies_counted items ended)
+  bodies_counted (ReturnAhead back ∷ items) ended = omega (arith, bodies_counted items ended)
   bodies_counted (DoAhead (Event event) ∷ items) ended = omega (arith, bodies_counted items ended)
   bodies_counted (DoAhead (Body id) ∷ items) ended =
       let left = rw ended.0 at (bodies_counted items ended.1) in omega (arith, left)

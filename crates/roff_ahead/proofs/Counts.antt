@@ -57,7 +57,7 @@ module _ {E : Type 0} where
   returns-few (ByteAhead b ∷ items) = returns-few items
   returns-few (FreeAhead b ∷ items) = returns-few items
   returns-few (EndAhead ∷ items) = omega (arith, returns-few items)
-  returns-few (ReturnAhead ∷ items) = omega (arith, returns-few items)
+  returns-few (ReturnAhead back ∷ items) = omega (arith, returns-few items)
   returns-few (DoAhead event ∷ items) = returns-few items
 
   -- ends have no bytes
@@ -68,7 +68,7 @@ module _ {E : Type 0} where
   -- and no mark has any
   bytes_ahead-mark : (mark : Mark E) (items : List (Ahead E)) → bytes_ahead (items_of mark ++ items) ≡ bytes_ahead items
   bytes_ahead-mark (Ends more) items = bytes_ahead-ends more items
-  bytes_ahead-mark Return items = refl
+  bytes_ahead-mark (Return back) items = refl
   bytes_ahead-mark (Free b) items = refl
   bytes_ahead-mark (Do event) items = refl
 
@@ -102,7 +102,7 @@ module _ {E : Type 0} where
   marks-mark : (mark : Mark E) (items : List (Ahead E)) → marks items + 1 ≤ marks (items_of mark ++ items)
   unfolding marks
   marks-mark (Ends more) items = omega (arith, ends_ahead-ends more items, frees_ahead-ends more items, events_ahead-ends more items)
-  marks-mark Return items = omega arith
+  marks-mark (Return back) items = omega arith
   marks-mark (Free b) items = omega arith
   marks-mark (Do event) items = omega arith
 
@@ -121,6 +121,26 @@ module _ {E : Type 0} where
       → length pushed_texts ≤ ends_ahead (standing pushed_texts bytes) + events_ahead (standing pushed_texts bytes) + frees_ahead (standing pushed_texts bytes)
   unfolding marks
   length-pushed_texts pushed_texts bytes = marks-standing pushed_texts bytes
+
+  -- a mark stands for one event at the most
+  events_ahead-mark : (mark : Mark E) (items : List (Ahead E)) → events_ahead (items_of mark ++ items) ≤ events_ahead items + 1
+  events_ahead-mark (Ends more) items = omega (arith, events_ahead-ends more items)
+  events_ahead-mark (Return back) items = omega arith
+  events_ahead-mark (Free b) items = omega arith
+  events_ahead-mark (Do event) items = omega arith
+
+  -- so no more events stand ahead than slots are used
+  pub events_ahead-standing : (pushed_texts : List (MarkAt E)) (bytes : List ℕ) → events_ahead (standing pushed_texts bytes) ≤ length pushed_texts
+  events_ahead-standing [] bytes = omega arith
+  events_ahead-standing (slot ∷ pushed_texts) bytes =
+      let below = take slot.height bytes in
+      let above = reverse (drop slot.height bytes) in
+      omega (
+        arith,
+        events_ahead-standing pushed_texts below,
+        events_ahead-mark slot.mark (standing pushed_texts below),
+        events_ahead-bytes above (items_of slot.mark ++ standing pushed_texts below),
+      )
 
   -- ends in front are counted
   pub ends_ahead-more : (n : ℕ) (items : List (Ahead E)) → n ≤ ends_ahead (replicate n EndAhead ++ items)

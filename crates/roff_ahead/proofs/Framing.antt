@@ -71,9 +71,9 @@ module _ {E : Type 0} where
       }
 
   -- the end of a called body is put in front
-  pub IsSound-returning : (a : Inside E) → IsSound a → ends_ahead (kept_by a).ahead < a.pushed_texts.most_texts
-      → IsSound (record a { pushed_texts = record a.pushed_texts { ahead = ReturnAhead ∷ a.pushed_texts.ahead } })
-  IsSound-returning a sound few = record {
+  pub IsSound-returning : (back : ℕ) (a : Inside E) → IsSound a → ends_ahead (kept_by a).ahead < a.pushed_texts.most_texts
+      → IsSound (record a { pushed_texts = record a.pushed_texts { ahead = ReturnAhead back ∷ a.pushed_texts.ahead } })
+  IsSound-returning back a sound few = record {
     ended = sound.ended;
     give = sound.give;
     once = sound.once;
@@ -146,7 +146,7 @@ module _ {E : Type 0} where
     cost-with_bodies (ByteAhead b ∷ items) give = refl
     cost-with_bodies (FreeAhead b ∷ items) give = refl
     cost-with_bodies (EndAhead ∷ items) give = refl
-    cost-with_bodies (ReturnAhead ∷ items) give = refl
+    cost-with_bodies (ReturnAhead back ∷ items) give = refl
     cost-with_bodies (DoAhead (Event event) ∷ items) give = refl
     cost-with_bodies (DoAhead (Body id) ∷ items) give =
         let gives : 0 < rest_of (lease_of id.0 t) = give 0 0 (omega arith) in

@@ -1,5 +1,5 @@
 -- Bytes in front of what stands ahead.
-use Rattle.std.proofs.Common.{◌≡◌, ℕ, zero, suc, ◌+◌, ◌-◌, ◌≤◌, false, List, [], ◌∷◌, ◌++◌, length, map, take, drop, min, Some, refl, sym, ap, subst, ◌∙◌, arith, length-take}
+use Rattle.std.proofs.Common.{◌≡◌, ℕ, zero, suc, ◌-◌, ◌≤◌, false, List, [], ◌∷◌, ◌++◌, length, map, take, drop, min, Some, refl, sym, ap, subst, ◌∙◌, arith, length-take}
 use Rattle.std.proofs.lemmas.List.{length-map, take-append-le, take_min}
 use Rattle.std.proofs.Math.Seq.{drop-append_seam}
 use Rattle.roff_ahead.specs.InputAhead.Bodies.{with_bodies}
@@ -37,7 +37,7 @@ module _ {E : Type 0} where
   leading-parted (suc n) (ByteAhead b ∷ items) few = ap (λ (rest : List (Ahead E)). ByteAhead b ∷ rest) (leading-parted n items (omega (arith, few)))
   leading-parted (suc n) (FreeAhead b ∷ items) few = absurd (omega (arith, few))
   leading-parted (suc n) (EndAhead ∷ items) few = absurd (omega (arith, few))
-  leading-parted (suc n) (ReturnAhead ∷ items) few = absurd (omega (arith, few))
+  leading-parted (suc n) (ReturnAhead back ∷ items) few = absurd (omega (arith, few))
   leading-parted (suc n) (DoAhead event ∷ items) few = absurd (omega (arith, few))
 
   -- as many fewer stand in front behind some of them
@@ -48,7 +48,7 @@ module _ {E : Type 0} where
   leading-fewer (suc n) (ByteAhead b ∷ items) few = leading-fewer n items (omega (arith, few)) ∙ omega arith
   leading-fewer (suc n) (FreeAhead b ∷ items) few = absurd (omega (arith, few))
   leading-fewer (suc n) (EndAhead ∷ items) few = absurd (omega (arith, few))
-  leading-fewer (suc n) (ReturnAhead ∷ items) few = absurd (omega (arith, few))
+  leading-fewer (suc n) (ReturnAhead back ∷ items) few = absurd (omega (arith, few))
   leading-fewer (suc n) (DoAhead event ∷ items) few = absurd (omega (arith, few))
 
   -- bytes in front of items are those in front

@@ -42,8 +42,8 @@ with_bodies-same {E} t u (FreeAhead b ∷ items) same =
     ap (λ (rest : List (Ahead E)). FreeAhead b ∷ rest) (with_bodies-same t u items same)
 with_bodies-same {E} t u (EndAhead ∷ items) same =
     ap (λ (rest : List (Ahead E)). EndAhead ∷ rest) (with_bodies-same t u items same)
-with_bodies-same {E} t u (ReturnAhead ∷ items) same =
-    ap (λ (rest : List (Ahead E)). ReturnAhead ∷ rest) (with_bodies-same t u items same)
+with_bodies-same {E} t u (ReturnAhead back ∷ items) same =
+    ap (λ (rest : List (Ahead E)). ReturnAhead back ∷ rest) (with_bodies-same t u items same)
 with_bodies-same {E} t u (DoAhead (Event event) ∷ items) same =
     ap (λ (rest : List (Ahead E)). DoAhead event ∷ rest) (with_bodies-same t u items same)
 with_bodies-same {E} t u (DoAhead (Body id) ∷ items) same =

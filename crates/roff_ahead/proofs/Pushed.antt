@@ -83,7 +83,7 @@ module _ {E : Type 0} (a : Inside E) (sound : IsSound a) (name : List ℕ) (ende
   pub room-for-body : kept a.texts + length (body_of name a.texts) ≤ a.texts.cap_kept
   room-for-body = omega (arith, fits, bytes-with_bodies a.texts a.pushed_texts.ahead, sound.sum, sound.cap_kept)
 
-  pub room-for-mark : events_ahead a.pushed_texts.ahead < 4 * (a.pushed_texts.most_texts + 1)
+  pub room-for-mark : events_ahead a.pushed_texts.ahead < 8 * (a.pushed_texts.most_texts + 1) + 21
   room-for-mark =
       omega (
         arith,

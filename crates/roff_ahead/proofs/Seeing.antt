@@ -39,7 +39,7 @@ module _ {E : Type 0} (t : Texts) where
   seen-with_bodies (ByteAhead b ∷ items) give = refl
   seen-with_bodies (FreeAhead b ∷ items) give = refl
   seen-with_bodies (EndAhead ∷ items) give = seen-with_bodies items give
-  seen-with_bodies (ReturnAhead ∷ items) give = seen-with_bodies items give
+  seen-with_bodies (ReturnAhead back ∷ items) give = seen-with_bodies items give
   seen-with_bodies (DoAhead (Event event) ∷ items) give = refl
   seen-with_bodies (DoAhead (Body id) ∷ items) give =
       let gives : 0 < rest_of (lease_of id.0 t) = give 0 0 (omega arith) in
@@ -52,7 +52,7 @@ module _ {E : Type 0} (t : Texts) where
   first-gives (ByteAhead b ∷ items) id give is = cc
   first-gives (FreeAhead b ∷ items) id give is = cc
   first-gives (EndAhead ∷ items) id give is = first-gives items id give is
-  first-gives (ReturnAhead ∷ items) id give is = first-gives items id give is
+  first-gives (ReturnAhead back ∷ items) id give is = first-gives items id give is
   first-gives (DoAhead (Event event) ∷ items) id give is = cc
   first-gives (DoAhead (Body other) ∷ items) id give is =
       let same : id ≡ other = cc in subst (λ (n : LeaseId). Gives t n.0) (sym same) (give 0 0 (omega arith))
@@ -64,17 +64,17 @@ module _ {E : Type 0} where
   no-end-first (ByteAhead b ∷ items) is = cc
   no-end-first (FreeAhead b ∷ items) is = cc
   no-end-first (EndAhead ∷ items) is = no-end-first items is
-  no-end-first (ReturnAhead ∷ items) is = no-end-first items is
+  no-end-first (ReturnAhead back ∷ items) is = no-end-first items is
   no-end-first (DoAhead event ∷ items) is = cc
 
   -- and none is the end of a called body
-  pub no-return-first : (items : List (Ahead E)) → Some ReturnAhead ≡ first_but_ends items → ⊥
-  no-return-first [] is = cc
-  no-return-first (ByteAhead b ∷ items) is = cc
-  no-return-first (FreeAhead b ∷ items) is = cc
-  no-return-first (EndAhead ∷ items) is = no-return-first items is
-  no-return-first (ReturnAhead ∷ items) is = no-return-first items is
-  no-return-first (DoAhead event ∷ items) is = cc
+  pub no-return-first : (back : ℕ) (items : List (Ahead E)) → Some (ReturnAhead back) ≡ first_but_ends items → ⊥
+  no-return-first back [] is = cc
+  no-return-first back (ByteAhead b ∷ items) is = cc
+  no-return-first back (FreeAhead b ∷ items) is = cc
+  no-return-first back (EndAhead ∷ items) is = no-return-first back items is
+  no-return-first back (ReturnAhead other ∷ items) is = no-return-first back items is
+  no-return-first back (DoAhead event ∷ items) is = cc
 
   -- what frames show
   pub sees : (a : Inside E) (f : AheadAndTexts E) → IsSound a → kept_by a ≡ f → (item : Option (Ahead (EventOrBody E)))

@@ -32,7 +32,7 @@ module _ {E : Type 0} where
 
   some_mark : (mark : Mark E) (items : List (Ahead E)) → is_none_ahead (items_of mark ++ items) ≡ false
   some_mark (Ends more) items = refl
-  some_mark Return items = refl
+  some_mark (Return back) items = refl
   some_mark (Free b) items = refl
   some_mark (Do event) items = refl
 

@@ -4,6 +4,7 @@
 -- lines call, whose ends are told apart. Beside it the input has the arguments of these calls, what names stand for, whose
 -- bodies are pushed, and the texts that are being made of it.
 pub mod Calls
+pub mod Few
 pub mod Names
 use Rattle.std.specs.Prelude.{ℕ, ◌+◌, ◌*◌, Bool, true, false, List, [], ◌∷◌, ◌++◌, drop, length, map, Option, Some, None, if◌then◌else◌, ◌==◌, nat_le}
 use Rattle.roff_source.specs.Bytes.{newline}
@@ -22,8 +23,8 @@ pub data Ahead (E : Type 0) : Type 0 where
   FreeAhead : (b : ℕ) → Ahead E
   -- the end of a pushed text
   EndAhead : Ahead E
-  -- the end of a body that a line called
-  ReturnAhead : Ahead E
+  -- the end of a body that a line called, or that sprang: what is gone back to behind it, by a code; 0 is a line's beginning
+  ReturnAhead : (back : ℕ) → Ahead E
   -- an event that was put back
   DoAhead : (event : E) → Ahead E
 
@@ -80,7 +81,7 @@ bytes_ahead [] = 0
 bytes_ahead (ByteAhead b ∷ items) = bytes_ahead items + 1
 bytes_ahead (FreeAhead b ∷ items) = bytes_ahead items
 bytes_ahead (EndAhead ∷ items) = bytes_ahead items
-bytes_ahead (ReturnAhead ∷ items) = bytes_ahead items
+bytes_ahead (ReturnAhead back ∷ items) = bytes_ahead items
 bytes_ahead (DoAhead event ∷ items) = bytes_ahead items
 
 -- the bytes of pushed texts that stand in front, up to the first other item
@@ -89,7 +90,7 @@ leading [] = []
 leading (ByteAhead b ∷ items) = b ∷ leading items
 leading (FreeAhead b ∷ items) = []
 leading (EndAhead ∷ items) = []
-leading (ReturnAhead ∷ items) = []
+leading (ReturnAhead back ∷ items) = []
 leading (DoAhead event ∷ items) = []
 
 -- the pushed texts, and the bodies that lines called, that haven't ended
@@ -98,7 +99,7 @@ ends_ahead [] = 0
 ends_ahead (ByteAhead b ∷ items) = ends_ahead items
 ends_ahead (FreeAhead b ∷ items) = ends_ahead items
 ends_ahead (EndAhead ∷ items) = ends_ahead items + 1
-ends_ahead (ReturnAhead ∷ items) = ends_ahead items + 1
+ends_ahead (ReturnAhead back ∷ items) = ends_ahead items + 1
 ends_ahead (DoAhead event ∷ items) = ends_ahead items
 
 -- the bodies that lines called that haven't ended
@@ -107,7 +108,7 @@ returns_ahead [] = 0
 returns_ahead (ByteAhead b ∷ items) = returns_ahead items
 returns_ahead (FreeAhead b ∷ items) = returns_ahead items
 returns_ahead (EndAhead ∷ items) = returns_ahead items
-returns_ahead (ReturnAhead ∷ items) = returns_ahead items + 1
+returns_ahead (ReturnAhead back ∷ items) = returns_ahead items + 1
 returns_ahead (DoAhead event ∷ items) = returns_ahead items
 
 -- the events that were put back
@@ -116,7 +117,7 @@ events_ahead [] = 0
 events_ahead (ByteAhead b ∷ items) = events_ahead items
 events_ahead (FreeAhead b ∷ items) = events_ahead items
 events_ahead (EndAhead ∷ items) = events_ahead items
-events_ahead (ReturnAhead ∷ items) = events_ahead items
+events_ahead (ReturnAhead back ∷ items) = events_ahead items
 events_ahead (DoAhead event ∷ items) = events_ahead items + 1
 
 -- the bytes that stand in front again
@@ -125,12 +126,12 @@ frees_ahead [] = 0
 frees_ahead (ByteAhead b ∷ items) = frees_ahead items
 frees_ahead (FreeAhead b ∷ items) = frees_ahead items + 1
 frees_ahead (EndAhead ∷ items) = frees_ahead items
-frees_ahead (ReturnAhead ∷ items) = frees_ahead items
+frees_ahead (ReturnAhead back ∷ items) = frees_ahead items
 frees_ahead (DoAhead event ∷ items) = frees_ahead items
 
--- for so many events put back there is room, by the limit on the depth: three before each end, and three behind the last
+-- for so many events put back there is room, by the limit on the depth: five before each end, and five behind the last
 abbrev pub most_events : ℕ → ℕ
-most_events most_texts = 3 * (most_texts + 1)
+most_events most_texts = 5 * (most_texts + 1)
 
 -- for so many bytes that stand in front again there is room
 abbrev pub most_frees : ℕ
@@ -161,6 +162,10 @@ beginning_line i = record i { arguments = no_arguments; escapes = [] }
 abbrev pub putting_back : {E : Type 0} → E → Input E → Input E
 putting_back event i = record i { ahead = DoAhead event ∷ i.ahead }
 
+-- events are put back, the first in front
+abbrev pub putting_all_back : {E : Type 0} → List E → Input E → Input E
+putting_all_back events i = record i { ahead = map DoAhead events ++ i.ahead }
+
 -- bytes that were taken stand in front again
 abbrev pub freeing : {E : Type 0} → List ℕ → Input E → Input E
 freeing bytes i = record i { ahead = map FreeAhead bytes ++ i.ahead }
@@ -170,7 +175,7 @@ abbrev pub cost : {E : Type 0} → Ahead E → ℕ
 cost (ByteAhead b) = 1
 cost (FreeAhead b) = 0
 cost EndAhead = 1
-cost ReturnAhead = 1
+cost (ReturnAhead back) = 1
 cost (DoAhead event) = 1
 
 -- the front item, if there is one
@@ -184,7 +189,7 @@ first_but_ends [] = None
 first_but_ends (ByteAhead b ∷ items) = Some (ByteAhead b)
 first_but_ends (FreeAhead b ∷ items) = Some (FreeAhead b)
 first_but_ends (EndAhead ∷ items) = first_but_ends items
-first_but_ends (ReturnAhead ∷ items) = first_but_ends items
+first_but_ends (ReturnAhead back ∷ items) = first_but_ends items
 first_but_ends (DoAhead event ∷ items) = Some (DoAhead event)
 
 -- what the front item costs, if there is one
@@ -194,7 +199,7 @@ front_cost (item ∷ items) = cost item
 
 -- the calls that aren't over behind an item: the end of a called body is the end of its call
 abbrev pub calls_behind : {E : Type 0} → Ahead E → List (List (List ℕ)) → List (List (List ℕ))
-calls_behind ReturnAhead calls = drop 1 calls
+calls_behind (ReturnAhead back) calls = drop 1 calls
 calls_behind (_) calls = calls
 
 -- the results that were kept while fewer calls than so many weren't over
@@ -204,7 +209,7 @@ results_below calls (result ∷ others) = if nat_le calls result.1 then results_
 
 -- the results that are kept behind an item: those that were kept in a called body are dropped at its end
 abbrev pub results_behind : {E : Type 0} → Ahead E → List (List (List ℕ)) → List (Bool × ℕ) → List (Bool × ℕ)
-results_behind ReturnAhead calls results = results_below (length calls) results
+results_behind (ReturnAhead back) calls results = results_below (length calls) results
 results_behind (_) calls results = results
 
 -- all that stands ahead is dropped, and so are the calls of bodies and what was kept in them

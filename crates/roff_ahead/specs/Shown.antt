@@ -2,7 +2,7 @@
 use Rattle.std.specs.Prelude.{ℕ, ◌+◌, List, [], ◌∷◌, Option, Some, None}
 use Rattle.roff_num.specs.declared.limit.Limit.{Limit}
 use Rattle.roff_num.specs.declared.limits.Limits.{Limits}
-use Rattle.roff_ahead.specs.Input.{Ahead, ByteAhead, FreeAhead, EndAhead, ReturnAhead, DoAhead, depth}
+use Rattle.roff_ahead.specs.Input.{Ahead, ByteAhead, FreeAhead, EndAhead, ReturnAhead, DoAhead}
 use Rattle.roff_store.specs.Texts.{Texts}
 use Rattle.roff_source.specs.Tape.{Ending, Ended, Failed, Stopped}
 use Rattle.roff_ahead.specs.declared.item.Item.{Item}
@@ -28,8 +28,8 @@ pub data Shown (E : Type 0) : Type 0 where
   ShowsByte : (b : ℕ) → Shown E
   -- the end of a pushed text
   ShowsEnd : Shown E
-  -- the end of a body that a line called
-  ShowsReturn : Shown E
+  -- the end of a body that a line called, or that sprang, and what is gone back to behind it
+  ShowsReturn : (back : ℕ) → Shown E
   -- an event that was put back
   ShowsDo : (event : E) → Shown E
   -- a message of the source's
@@ -43,7 +43,7 @@ pub data Shown (E : Type 0) : Type 0 where
 abbrev pub shown : {E : Type 0} → Item E → Shown E
 shown (Byte b) = ShowsByte b
 shown End = ShowsEnd
-shown Return = ShowsReturn
+shown (Return back) = ShowsReturn back
 shown (Do event) = ShowsDo event
 shown (Note message) = ShowsNote message.items
 shown SourceEnd = ShowsEnding Ended
@@ -56,7 +56,7 @@ abbrev pub shown_ahead : {E : Type 0} → Ahead E → Shown E
 shown_ahead (ByteAhead b) = ShowsByte b
 shown_ahead (FreeAhead b) = ShowsByte b
 shown_ahead EndAhead = ShowsEnd
-shown_ahead ReturnAhead = ShowsReturn
+shown_ahead (ReturnAhead back) = ShowsReturn back
 shown_ahead (DoAhead event) = ShowsDo event
 
 -- what a call shows that looks ahead: the first byte behind any ends of texts
@@ -82,5 +82,5 @@ seen_ahead [] = None
 seen_ahead (ByteAhead b ∷ items) = Some (SeesByte b)
 seen_ahead (FreeAhead b ∷ items) = Some (SeesByte b)
 seen_ahead (EndAhead ∷ items) = seen_ahead items
-seen_ahead (ReturnAhead ∷ items) = seen_ahead items
+seen_ahead (ReturnAhead back ∷ items) = seen_ahead items
 seen_ahead (DoAhead event ∷ items) = Some SeesNothing

@@ -10,8 +10,9 @@ pub enum Item<E> {
     Byte(u8),
     /// The end of a pushed text.
     End,
-    /// The end of a body that a line called.
-    Return,
+    /// The end of a body that a line called, or that sprang: what is gone back to behind it, by a
+    /// code; 0 is a line's beginning.
+    Return(u8),
     /// An event that was put back.
     Do(E),
     /// A message of the source's.

@@ -1,8 +1,8 @@
 //! What stands ahead of the source: pushed texts, events put back, and bytes in front again.
 
-ghost use Rattle.std.specs.Prelude.{false, ◌≡◌, ◌+◌, ◌<◌, ◌≤◌, ◌^◌, [], ◌∷◌, ◌++◌, map, reverse};
+ghost use Rattle.std.specs.Prelude.{false, true, ◌≡◌, ◌+◌, ◌<◌, ◌≤◌, ◌^◌, [], ◌∷◌, ◌++◌, map, reverse};
 ghost use Rattle.std.specs.Prelude.{length, IfOk, option_map, vec_len, vec_capacity};
-ghost use Rattle.roff_ahead.specs.PushedTexts.Held.{most_marks};
+ghost use Rattle.roff_ahead.specs.PushedTexts.Held.{most_marks, most_used};
 ghost use Rattle.roff_ahead.specs.PushedTexts.Standing.{standing, items_of, item_of, is_byte_next};
 ghost use Rattle.roff_ahead.specs.PushedTexts.Standing.{IsStacked};
 ghost use Rattle.roff_ahead.specs.Input.{is_none_ahead, first, first_but_ends, ByteAhead, FreeAhead};
@@ -12,8 +12,11 @@ ghost use Rattle.roff_ahead.specs.Input.{events_ahead, frees_ahead, most_frees};
 use std::alloc::{AllocError, Global};
 use std::marker::Model;
 
-/// How many events may stand ahead before each end, and before none; bodies are among them.
-const EVENTS: usize = 4;
+/// How many marks there are for each end, and for none: those of events and of bodies.
+const MARKS: usize = 8;
+
+/// How many of them are used, with the end's own, before no more events are put back.
+const USED: usize = 7;
 
 /// How many bytes may stand in front again.
 const FREES: usize = 21;
@@ -30,8 +33,8 @@ pub(crate) enum PushedItem<E> {
     Free(u8),
     /// The end of a pushed text.
     End,
-    /// The end of a body that a line called.
-    Return,
+    /// The end of a body that a line called, or that sprang, and what is gone back to behind it.
+    Return(u8),
     /// An event that was put back.
     Do(E),
 }
@@ -41,8 +44,8 @@ pub(crate) enum PushedItem<E> {
 enum Mark<E> {
     /// The end of a text, and so many more ends.
     Ends(usize),
-    /// The end of a body that a line called.
-    Return,
+    /// The end of a body that a line called, or that sprang, and what is gone back to behind it.
+    Return(u8),
     /// A byte that stands in front again.
     Free(u8),
     /// An event that was put back.
@@ -94,7 +97,7 @@ impl<E: Copy> PushedTexts<E> {
             most_texts,
             pushed_texts: Vec::with_capacity(
                 alloc,
-                most_texts + EVENTS * (most_texts + 1) + FREES,
+                most_texts + MARKS * (most_texts + 1) + FREES + FREES,
             )?,
             bytes: Vec::with_capacity(alloc, most_bytes)?,
             ends: 0,
@@ -147,12 +150,16 @@ impl<E: Copy> PushedTexts<E> {
         self.ends += 1;
     }
 
-    /// Puts the end of a called body in front.
-    pub(crate) fn push_return(&mut self)
+    /// Puts the end of a called body in front, which leads back to what this code stands for.
+    pub(crate) fn push_return(&mut self, back: u8)
         requires { ends_ahead self.old.ahead < self.old.most_texts }
-        ensures { self.new ≡ record self.old { ahead = ReturnAhead ∷ self.old.ahead } }
+        ensures { self.new ≡ record self.old { ahead = ReturnAhead back ∷ self.old.ahead } }
     {
-        put_mark(&mut self.pushed_texts, self.bytes.as_slice(), Mark::Return);
+        put_mark(
+            &mut self.pushed_texts,
+            self.bytes.as_slice(),
+            Mark::Return(back),
+        );
         self.ends += 1;
     }
 
@@ -163,6 +170,16 @@ impl<E: Copy> PushedTexts<E> {
         ensures { self.new ≡ record self.old { ahead = ByteAhead byte ∷ self.old.ahead } }
     {
         self.bytes.push_reserved(byte);
+    }
+
+    /// Whether one event more can be put back, and still a body before each end.
+    pub fn has_room(&self) -> bool
+        ensures room { result ≡ true
+            → events_ahead self.now.ahead < most_used self.now.most_texts }
+        ensures full { result ≡ false → most_used self.now.most_texts
+            ≤ ends_ahead self.now.ahead + events_ahead self.now.ahead + frees_ahead self.now.ahead }
+    {
+        self.pushed_texts.len() < USED * (self.most_texts + 1) + FREES
     }
 
     /// Puts an event in front.
@@ -188,7 +205,7 @@ impl<E: Copy> PushedTexts<E> {
         match self.pushed_texts.as_slice().split_last() {
             Some((slot, _)) => Some(match slot.mark {
                 Mark::Ends(_) => PushedItem::End,
-                Mark::Return => PushedItem::Return,
+                Mark::Return(back) => PushedItem::Return(back),
                 Mark::Free(byte) => PushedItem::Free(byte),
                 Mark::Do(event) => PushedItem::Do(event),
             }),
@@ -205,7 +222,7 @@ impl<E: Copy> PushedTexts<E> {
             return PushedItem::Byte(self.bytes.take_last());
         }
         let front = take_mark(&mut self.pushed_texts, self.bytes.as_slice());
-        if matches!(front, PushedItem::End | PushedItem::Return) {
+        if matches!(front, PushedItem::End | PushedItem::Return(_)) {
             self.ends -= 1;
         }
         front
@@ -222,7 +239,7 @@ impl<E: Copy> PushedTexts<E> {
             }
             match slot.mark {
                 Mark::Ends(_) => pushed_texts = below,
-                Mark::Return => pushed_texts = below,
+                Mark::Return(_) => pushed_texts = below,
                 Mark::Free(byte) => return Some(PushedItem::Free(byte)),
                 Mark::Do(event) => return Some(PushedItem::Do(event)),
             }
@@ -262,7 +279,7 @@ fn take_mark<E>(pushed_texts: &mut Vec<MarkAt<E>>, bytes: &[u8]) -> PushedItem<E
 {
     let slot = pushed_texts.take_last();
     match slot.mark {
-        Mark::Return => PushedItem::Return,
+        Mark::Return(back) => PushedItem::Return(back),
         Mark::Free(byte) => PushedItem::Free(byte),
         Mark::Do(event) => PushedItem::Do(event),
         Mark::Ends(more) => {

@@ -80,6 +80,7 @@ impl Calls {
     }
 
     /// A call with these arguments is the innermost one now.
+    #[inline(always)]
     pub fn push(&mut self, arguments: ArgumentList<'_>)
         requires bytes { live_bytes self.old.calls + total_length (listed arguments)
             ≤ self.old.most_bytes }

@@ -1,26 +1,27 @@
 -- What the code does with an item that it took, as a step of the definition.
-use Rattle.std.proofs.Common.{◌≡◌, ◌⊎◌, ℕ, ◌+◌, ◌*◌, ◌-◌, Bool, true, false, List, [], ◌∷◌, ◌++◌, length, Option, Some, None, Result, Ok, Err, OnOk, inl, inr, refl, subst, sym, ap, append-nil, ◌∙◌}
-use Rattle.std.proofs.Math.Dec.{eqb-suc-zero}
-use Rattle.std.specs.Prelude.{not, ◌==◌}
+use Rattle.std.proofs.Common.{◌≡◌, ℕ, ◌+◌, ◌*◌, ◌-◌, List, [], ◌∷◌, ◌++◌, ◌≤◌, arith, length, Option, Some, None, Result, Ok, Err, OnOk, inl, inr, refl, subst, sym, ap, append-nil, ◌∙◌}
 use Rattle.roff_num.specs.declared.limit.Limit.{Limit}
 use Rattle.roff_num.specs.declared.limit.Limit.TheVariants.{Names, Stack, Depth, Store, Diversions, Conditions}
 use Rattle.roff_num.specs.declared.limits.Limits.{Limits}
-use Rattle.roff_escape.specs.OpenEscapes.{reading_ended}
 use Rattle.roff_ahead.specs.Input.{DoAhead, depth, result_count}
 use Rattle.roff_ahead.specs.Input.Names.{names_added, stored}
-use Rattle.roff_source.specs.Tape.{Tape, behind_front}
+use Rattle.roff_source.specs.Tape.{Tape}
 use Rattle.roff_scan.specs.Looking.{is_closed, looked_then}
 use Rattle.roff_scan.specs.declared.looked.Looked.{Looked}
 use Rattle.roff_scan.specs.declared.looked.Looked.TheVariants.{Nothing, Byte, Closed}
-use Rattle.roff_escape.specs.OpenEscape.{OpenEscape}
-use Rattle.roff_escape.specs.declared.open_escape.Surroundings.TheVariants.{Arguments as AboveArguments, Copy as AboveCopy}
 use Rattle.roff_engine.specs.declared.formatter.Formatter.{Formatter}
 use Rattle.roff_engine.specs.declared.halt.Halt.{Halt}
 use Rattle.roff_engine.specs.declared.halt.Halt.TheVariants.{Limit as Limited, Refused, Output, Messages}
 use Rattle.roff_engine.specs.declared.running.Running.{Running as Coded}
-use Rattle.roff_engine.specs.Engine.Outcome.{Beginning, Seen, IsLeftOf, IsRest, Reaches, OutcomeOf, seen}
-use Rattle.roff_engine.specs.Formatter.Performing.{AllPerformed, TakingDone, DoesTaking, Opens, Performs, PerformsOnly, acting, going, sinks}
-use Rattle.roff_engine.specs.Running.Turning.{DoesItem, Halts, IsAt, MayEnd, TookFrom, input_ends, line_told, line_turns, lines_left_in, state_at, turns_at, turns_of_run}
+use Rattle.roff_engine.specs.Engine.Outcome.{Beginning, Seen, IsLeftOf, Reaches, OutcomeOf, seen}
+use Rattle.roff_engine.specs.Formatter.Performing.{CameBehind, ComesTo, TakingDone, DoesTaking, Opens, PerformedOne, PerformsOne, acting, behind_event, going, sinks}
+use Rattle.roff_run.specs.Springs.{CountsLast}
+use Rattle.roff_engine.specs.Formatter.Sprung.{rest_left, sprung_last}
+use Rattle.roff_run.specs.TurnsToCome.{most_left}
+use Rattle.roff_engine.specs.Running.Springing.{GoesOn, HasRoom, IsBehind}
+use Rattle.roff_engine.specs.declared.sprung.Sprung.{Sprung}
+use Rattle.roff_num.specs.declared.short_name.ShortName.{ShortName}
+use Rattle.roff_engine.specs.Running.Turning.{DoesItem, Halts, TookFrom, line_told, line_turns, lines_left_in, state_at, turns_at, turns_of_run}
 use Rattle.roff_sinks.specs.Sinks.{Sunk}
 use Rattle.roff_requests.specs.Environments.Standing.{StandFor}
 use Rattle.roff_requests.specs.declared.environments.Environments.{Environments as EnvironmentsOf}
@@ -28,29 +29,25 @@ use Rattle.roff_run.specs.Output.{PageHistory}
 use Rattle.roff_reader.specs.Reader.State.{ReaderState}
 use Rattle.roff_reader.specs.Reader.Taken.{CameTo, IsReady}
 use Rattle.roff_run.specs.Reading.Items.{PageUnread}
-use Rattle.roff_run.specs.Reading.{escape_ended, interrupted}
-use Rattle.roff_run.specs.Reading.Beginnings.{at_start}
-use Rattle.roff_run.specs.Reading.Ends.{is_unfinished}
+use Rattle.roff_run.specs.Reading.{interrupted}
 use Rattle.roff_run.specs.Reading.Items.{PageInput, Taking, going_on}
-use Rattle.roff_run.specs.Reading.TextLines.{on_line}
-use Rattle.roff_run.specs.Reading.Found.{read_in}
 use Rattle.roff_run.specs.Reading.Units.{settling}
 use Rattle.roff_run.specs.Registers.{AllRegisters, Known}
-use Rattle.roff_run.specs.Run.{State, initial, ahead_taken, ending_as, escape_ends, input_ended, known, known_at, made, phase_ended, step, taken_as, unless_refused, grown}
+use Rattle.roff_run.specs.Run.{State, initial, ahead_taken, known_at, made, step, taken_as, unless_refused, grown}
 use Rattle.roff_run.specs.Run.Counts.{counts_in, first_passed}
 use Rattle.roff_run.specs.declared.event.PageEvent.{PageEvent}
 use Rattle.roff_run.specs.declared.line_state.LineState.{LineState}
 use Rattle.roff_run.specs.declared.line_state.LineState.TheVariants.{LineStart, Branch, Braced, Text as InText, Control, Name, Arguments as InArguments, Deciding, StringName, StringText, Skipping, Dropped, Telling, Told, Exiting, Calling, Defining}
 use Rattle.roff_run.specs.declared.phase.Phase.{Phase}
-use Rattle.roff_run.specs.declared.phase.Phase.TheVariants.{Closing}
 use Rattle.roff_run.specs.declared.status.Status.{Status}
-use Rattle.roff_run.specs.declared.status.Status.TheVariants.{Done}
 use Rattle.roff_run.proofs.InputCounts.{pushed-settling}
-use Rattle.roff_run.proofs.Keeping.{Keeps-escape_ended, Keeps-interrupted}
+use Rattle.roff_run.proofs.Keeping.{Keeps-interrupted}
 use Rattle.roff_run.proofs.Leads.{Leads-to}
 use Rattle.roff_run.specs.Environments.{interrupted_line}
-use Rattle.roff_run.specs.TurnsToCome.{begun, behind_all, lines_left, phases_left, turns_to_come, turns_within}
-use Rattle.roff_engine.proofs.TurnsLeft.{lines_left-stands}
+use Rattle.roff_run.specs.TurnsToCome.{begun, lines_left, phases_left, turns_to_come, turns_within}
+use Rattle.roff_engine.proofs.LinesLeft.{last_left}
+use Rattle.roff_engine.proofs.Springing.{last-none, sprung-last}
+use Rattle.roff_engine.proofs.TurnsLeft.{line_turns-more, lines_left-stands}
 
 -- a tape is what is left of itself behind a byte that was looked at
 pub IsLeftOf-looked_then : (looked : Looked) (tape : Tape) → IsLeftOf tape (looked_then looked tape)
@@ -77,9 +74,10 @@ module _ (l : Limits) (t : Beginning) (left : Tape) (line_before line : ℕ) (st
     (left_before : IsLeftOf left from.tape) (quiet_before : from.last_message ≡ []) (line_before_is : from.input.line ≡ line_before)
     (left_behind : IsLeftOf left done.tape) (quiet : done.last_message ≡ []) (line_is : done.input.line ≡ line) where
   -- what the code could not do of it halts the run
-  did_halt : (behind : PageHistory) (rest : List PageEvent) (halt : Halt) (es : EnvironmentsOf) → TakingDone l t start now from done behind rest (Err halt) es
+  did_halt : (events : List PageEvent) (h : PageHistory) (kept rest : List PageEvent) (halt : Halt) (es : EnvironmentsOf)
+      → TakingDone l t start now from done events h kept rest (Err halt) es
       → Halts l t left (line_told halt line_before line) halt start now
-  did_halt behind rest (Refused limit) es did = inl (record {
+  did_halt events h kept rest (Refused limit) es did = inl (record {
     state = from;
     reaches = did.reaches;
     goes_on = did.goes_on;
@@ -88,7 +86,7 @@ module _ (l : Limits) (t : Beginning) (left : Tape) (line_before line : ℕ) (st
     quiet = quiet_before;
     line_is = line_before_is;
   })
-  did_halt behind rest (Limited limit) es did = record {
+  did_halt events h kept rest (Limited limit) es did = record {
     state = acting done (did.next ∷ did.to_do) did.history;
     reaches = did.reaches;
     goes_on = refl;
@@ -97,7 +95,7 @@ module _ (l : Limits) (t : Beginning) (left : Tape) (line_before line : ℕ) (st
     quiet = quiet;
     line_is = line_is;
   }
-  did_halt behind rest Output es did = record {
+  did_halt events h kept rest Output es did = record {
     state = acting done (did.next ∷ did.to_do) did.history;
     stops = did.stops;
     messages = did.messages;
@@ -105,7 +103,7 @@ module _ (l : Limits) (t : Beginning) (left : Tape) (line_before line : ℕ) (st
     rest = left_behind;
     line_is = line_is;
   }
-  did_halt behind rest Messages es did = record {
+  did_halt events h kept rest Messages es did = record {
     is_device = refl;
     state = from;
     comes = did.comes;
@@ -133,17 +131,23 @@ IsTaking f does phase more run =
     (tape : Tape) (h : PageHistory) (messages : List ℕ)
     → does (state_at tape run h messages) ≡ taken_as (taken_of f run h) (ready_to_take tape run h messages phase more)
 
--- the run goes on at the state behind a taking
-IsAt-behind : (t : Beginning) (tape : Tape) (start now : Seen) (old new : Coded) (taken : Taking) (h behind : PageHistory) (messages : List ℕ) (phase : Phase) (more : List PageEvent)
+-- where nothing is put back no room is asked for
+no_room : (events : List PageEvent) (u : PageUnread) → events ≡ [] → HasRoom events u
+no_room events u none = λ some. omega (arith, some, ap (λ (es : List PageEvent). length es) none)
+
+-- the run stands behind the events of a taking, of which one may have sprung a macro
+IsBehind-taken : (t : Beginning) (tape : Tape) (start now : Seen) (old new : Coded) (taken : Taking) (h : PageHistory) (messages : List ℕ) (phase : Phase) (more : List PageEvent) (sprung : Option Sprung)
     → CameTo taken old.formatter.reader.registers new.formatter.reader old.unread new.unread
     → new.limits ≡ old.limits → new.phase ≡ phase → old.unread.limits ≡ old.limits → IsReady old.formatter.reader.registers old.unread
-    → AllPerformed old.limits t start now (taken_as taken (ready_to_take tape old h messages phase more)) behind [] new.formatter.environments
-    → IsAt t tape start now new
-IsAt-behind t tape start now old new taken h behind messages phase more became limits same kept ready performed = record {
-  history = behind;
+    → CameBehind old.limits t start now (taken_as taken (ready_to_take tape old h messages phase more)) (taken.effect.events ++ more) h new.formatter.reader.meaning.events [] sprung new.formatter.environments
+    → CountsLast (taken.effect.events ++ more)
+    → IsBehind t tape start now sprung new
+IsBehind-taken t tape start now old new taken h messages phase more sprung became limits same kept ready came counts = record {
+  room = no_room (rest_left sprung new.formatter.reader.meaning.events) new.unread (came.last counts);
+  history = came.history;
   messages = (taken_as taken (state_at tape old h messages)).messages;
-  reaches = rw (limits, became.input, became.reading, became.registers, same) performed.reaches;
-  stands = subst (λ (l : Limits). StandFor l behind new.formatter.environments) (sym limits) performed.stands;
+  reaches = rw (limits, became.input, became.reading, became.registers, same) came.reaches;
+  stands = subst (λ (l : Limits). StandFor l came.history new.formatter.environments) (sym limits) came.stands;
   ready = record {
     cap = rw (became.registers, became.input) ready.cap;
     within = rw (became.registers, became.input) became.within;
@@ -151,26 +155,28 @@ IsAt-behind t tape start now old new taken h behind messages phase more became l
   limits = rw (became.input, limits) kept;
 }
 
--- as many turns are to come of it as of that state
-turns-behind : (l : Limits) (tape : Tape) (old new : Coded) (taken : Taking) (h : PageHistory) (messages : List ℕ) (phase : Phase) (more : List PageEvent)
+-- no more turns are to come of it than of that state
+turns-behind : (l : Limits) (tape : Tape) (old new : Coded) (taken : Taking) (h behind : PageHistory) (messages : List ℕ) (phase : Phase) (more : List PageEvent)
     → CameTo taken old.formatter.reader.registers new.formatter.reader old.unread new.unread
-    → new.phase ≡ phase → old.unread.limits ≡ old.limits → StandFor l (behind_all (taken.effect.events ++ more) h) new.formatter.environments
-    → turns_of_run new ≡ turns_at old.limits.bytes (taken_as taken (ready_to_take tape old h messages phase more))
-turns-behind l tape old new taken h messages phase more became same kept stands =
+    → new.phase ≡ phase → old.unread.limits ≡ old.limits → StandFor l behind new.formatter.environments
+    → lines_left (interrupted_line behind) ≤ most_left (taken.effect.events ++ more) (lines_left (interrupted_line h))
+    → turns_of_run new ≤ turns_at old.limits.bytes (taken_as taken (ready_to_take tape old h messages phase more))
+turns-behind l tape old new taken h behind messages phase more became same kept stands few =
     let of : PageUnread → LineState → ℕ → Phase → ℕ = λ u r left p. 4 * (turns_to_come u + begun r) + line_turns r left + phases_left p in
-    let behind : PageUnread = record old.unread { input = taken.input } in
+    let there : PageUnread = record old.unread { input = taken.input } in
     let events : List PageEvent = taken.effect.events in
-    let left : ℕ = lines_left (interrupted_line (behind_all (events ++ more) h)) in
+    let left : ℕ = lines_left (interrupted_line behind) in
     let within : Limits → List PageEvent → ℕ = λ k es.
-    4 * (turns_within k.bytes taken.input + begun taken.reading) + line_turns taken.reading (lines_left (interrupted_line (behind_all (events ++ es) h))) + phases_left phase in
-    let first : turns_of_run new ≡ of behind taken.reading left phase =
+    4 * (turns_within k.bytes taken.input + begun taken.reading) + line_turns taken.reading (most_left (events ++ es) (lines_left (interrupted_line h))) + phases_left phase in
+    let first : turns_of_run new ≡ of there taken.reading left phase =
     ap (λ (u : PageUnread). of u new.formatter.reader.reading (lines_left_in new.formatter.environments) new.phase) became.input
-    ∙ ap (λ (r : LineState). of behind r (lines_left_in new.formatter.environments) new.phase) became.reading
-    ∙ ap (λ (n : ℕ). of behind taken.reading n new.phase) (lines_left-stands l (behind_all (events ++ more) h) new.formatter.environments stands)
-    ∙ ap (λ (p : Phase). of behind taken.reading left p) same in
+    ∙ ap (λ (r : LineState). of there r (lines_left_in new.formatter.environments) new.phase) became.reading
+    ∙ ap (λ (n : ℕ). of there taken.reading n new.phase) (lines_left-stands l behind new.formatter.environments stands)
+    ∙ ap (λ (p : Phase). of there taken.reading left p) same in
     let last : within old.unread.limits more ≡ within old.limits (more ++ []) =
     ap (λ (k : Limits). within k more) kept ∙ ap (λ (es : List PageEvent). within old.limits es) (sym (append-nil more)) in
-    first ∙ last
+    let lines = line_turns-more taken.reading left (most_left (events ++ more) (lines_left (interrupted_line h))) few in
+    omega (arith, first, last, lines)
 
 -- The code takes what the definition does.
 module _ (f : Known → Taking) (does : State → State) (phase : Phase) (more : List PageEvent) (line : ℕ) (old : Coded) (meant : IsTaking f does phase more old) where
@@ -178,9 +184,9 @@ module _ (f : Known → Taking) (does : State → State) (phase : Phase) (more :
   abbrev done : Tape → PageHistory → List ℕ → State
   done tape h messages = taken_as (taken_of f old h) (ready_to_take tape old h messages phase more)
 
-  -- the history behind what it means
-  abbrev behind_of : PageHistory → PageHistory
-  behind_of h = behind_all ((taken_of f old h).effect.events ++ more) h
+  -- the events that it means
+  abbrev events_of : PageHistory → List PageEvent
+  events_of h = (taken_of f old h).effect.events ++ more
 
   -- a step leads there
   opened : {t : Beginning} {tape : Tape} {start now : Seen} {from : State} → (took : TookFrom t tape start now line does from old)
@@ -189,17 +195,17 @@ module _ (f : Known → Taking) (does : State → State) (phase : Phase) (more :
       subst (λ (s : State). Opens old.limits from s took.history took.messages) (meant tape took.history took.messages) took.opens
 
   -- how far it came
-  did : {out_old err_old out_new err_new : Sunk} (formatter : Formatter) (unread : PageUnread) (r : Result (Unit {0}) Halt)
+  did : {out_old err_old out_new err_new : Sunk} (formatter : Formatter) (unread : PageUnread) (r : Result (Option Sprung) Halt)
       → DoesTaking f more old.formatter formatter old.unread unread (sinks out_old err_old) (sinks out_new err_new) r
       → (t : Beginning) (tape : Tape) (start : Seen) (failures : ℕ) (from : State)
       → (took : TookFrom t tape start (seen failures out_old err_old) line does from old)
-      → TakingDone old.limits t start (seen failures out_new err_new) from (done tape took.history took.messages) (behind_of took.history) [] r formatter.environments
+      → TakingDone old.limits t start (seen failures out_new err_new) from (done tape took.history took.messages) (events_of took.history) took.history formatter.reader.meaning.events [] r formatter.environments
   did {out_old} {err_old} {out_new} {err_new} formatter unread r takes t tape start failures from took =
       let h : PageHistory = took.history in
       let P : Limits → Type 0 = λ l. StandFor l h old.formatter.environments
       → Reaches l t start (seen failures out_old err_old) from
       → Opens l from (done tape h took.messages) h took.messages
-      → TakingDone l t start (seen failures out_new err_new) from (done tape h took.messages) (behind_of h) [] r formatter.environments in
+      → TakingDone l t start (seen failures out_new err_new) from (done tape h took.messages) (events_of h) h formatter.reader.meaning.events [] r formatter.environments in
       subst P took.limits
       (λ stands reaches opens. takes.does t start failures from (looked_then old.unread.looked tape) h took.messages phase (is_closed old.unread.looked) [] stands took.ready reaches opens)
       took.stands took.reaches (opened took)
@@ -219,63 +225,41 @@ module _ (f : Known → Taking) (does : State → State) (phase : Phase) (more :
         did_halt old.limits t tape line line_behind start _ from state
         (opened took).opens took.rest took.quiet took.line_is
         (IsLeftOf-looked_then old.unread.looked tape) refl (line_is (known_at took.history old.formatter.reader.registers.all old.unread.input))
-        (behind_of took.history) [] halt new.formatter.environments (did new.formatter new.unread (Err halt) takes t tape start failures from took) in
+        (events_of took.history) took.history new.formatter.reader.meaning.events [] halt new.formatter.environments (did new.formatter new.unread (Err halt) takes t tape start failures from took) in
         rw limits (ends t tape start halts);
     turns = λ t tape start from took. tt;
   }
 
--- what the code takes and does goes on behind it
-pub taking_acts : {out_old err_old out_new err_new : Sunk} (f : Known → Taking) (does : State → State) (phase : Phase) (more : List PageEvent) (line : ℕ) (old new : Coded) (failures : ℕ)
+-- what holds of a run that goes on holds of one with fewer turns to come
+no_more-turns : (r : Result (Unit {0}) Status) (now mid most : ℕ) → OnOk r (now ≤ mid) → mid ≤ most → OnOk r (now ≤ most)
+no_more-turns (Ok done) now mid most few more = omega (arith, few, more)
+no_more-turns (Err status) now mid most few more = tt
+
+-- what the code takes and does goes on behind it, and behind what that sprang
+pub taking_acts : {out_old err_old out_new err_new : Sunk} (f : Known → Taking) (does : State → State) (phase : Phase) (more : List PageEvent) (line : ℕ) (old mid new : Coded) (failures : ℕ)
+    (sprung : Option Sprung) (behind : Seen) (r : Result (Unit {0}) Status)
     → IsTaking f does phase more old
-    → new.limits ≡ old.limits → new.phase ≡ phase
-    → DoesTaking f more old.formatter new.formatter old.unread new.unread (sinks out_old err_old) (sinks out_new err_new) (Ok tt)
-    → DoesItem line does old new (seen failures out_old err_old) (seen failures out_new err_new) (Ok tt)
-taking_acts {out_old} {err_old} {out_new} {err_new} f does phase more line old new failures meant limits same takes = record {
-  limits = limits;
-  acts = λ t tape start from took.
-      IsAt-behind t tape start _ old new (taken_of f old took.history) took.history (behind_all ((taken_of f old took.history).effect.events ++ more) took.history) took.messages phase more
-      (takes.became old.limits took.history took.stands took.ready) limits same took.limits took.ready
-      (did f does phase more line old meant new.formatter new.unread (Ok tt) takes t tape start failures from took);
-  turns = λ t tape start from took.
-      let performed = did f does phase more line old meant new.formatter new.unread (Ok tt) takes t tape start failures from took in
-      subst (λ (s : State). turns_of_run new ≡ turns_at old.limits.bytes s) (sym (meant tape took.history took.messages))
-      (turns-behind old.limits tape old new (taken_of f old took.history) took.history took.messages phase more
-      (takes.became old.limits took.history took.stands took.ready) same took.limits performed.stands);
-}
-
--- what is left where a run may end: all, or its input was left
-rest_at_end : (looked : Looked) (tape : Tape) (s : State) → (looked ≡ Nothing) ⊎ (is_closed looked ≡ true) → s.tape ≡ looked_then looked tape
-    → s.is_closed ≡ is_closed looked → IsRest Done tape s
-rest_at_end looked tape s (inl none) is closed = inl (sym (is ∙ ap (λ (looked : Looked). looked_then looked tape) none))
-rest_at_end looked tape s (inr left) is closed = elim (IsLeftOf-looked_then looked tape) [
-  | inl all ↦ inl (all ∙ sym is)
-  | inr behind ↦ inr (closed ∙ left, behind ∙ sym (ap behind_front is))
-]
-
--- the last phase ends, and the run with it
-pub closed_acts : (line : ℕ) (old : Coded) (now : Seen) → MayEnd old → DoesItem line (phase_ended Closing) old old now now (Err Done)
-closed_acts line old now may_end = record {
-  limits = refl;
-  acts = λ t tape start from took.
-      let s : State = state_at tape old took.history took.messages in
-      let done : State = ending_as Done s in
-      let allowed : first_passed old.limits (grown done) ≡ None =
-      subst (λ (l : Limits). first_passed l (counts_in old.formatter.reader.registers.all old.unread.input) ≡ None) took.limits took.ready.within in
-      let there : step old.limits from ≡ done = took.opens.opens ∙ ap (λ (r : Option Limit). unless_refused old.limits r from done) allowed in
-      inl (record {
-        state = done;
-        reaches = record {
-          comes = Leads-to old.limits (initial old.limits t.start t.tape) from done took.reaches.comes there;
-          text = rw (← took.opens.wrote) took.reaches.text;
-          messages = rw (append-nil, ← took.opens.said) took.reaches.messages;
-          faults = took.reaches.faults;
-        };
-        ended = refl;
-        rest = rest_at_end old.unread.looked tape done may_end refl refl;
-        fault = λ wrong. cc;
-      });
-  turns = λ t tape start from took. tt;
-}
+    → mid.limits ≡ old.limits → mid.phase ≡ phase
+    → DoesTaking f more old.formatter mid.formatter old.unread mid.unread (sinks out_old err_old) (sinks out_new err_new) (Ok sprung)
+    → ((k : Known) → CountsLast ((f k).effect.events ++ more))
+    → GoesOn sprung mid new (seen failures out_new err_new) behind r
+    → DoesItem line does old new (seen failures out_old err_old) behind r
+taking_acts {out_old} {err_old} {out_new} {err_new} f does phase more line old mid new failures sprung behind r meant limits same takes counts goes =
+    let there : (t : Beginning) (tape : Tape) (start : Seen) (from : State) → TookFrom t tape start (seen failures out_old err_old) line does from old
+    → IsBehind t tape start (seen failures out_new err_new) sprung mid = λ t tape start from took.
+    IsBehind-taken t tape start _ old mid (taken_of f old took.history) took.history took.messages phase more sprung
+    (takes.became old.limits took.history took.stands took.ready) limits same took.limits took.ready
+    (did f does phase more line old meant mid.formatter mid.unread (Ok sprung) takes t tape start failures from took)
+    (counts (known_at took.history old.formatter.reader.registers.all old.unread.input)) in record {
+      limits = goes.limits ∙ limits;
+      acts = λ t tape start from took. goes.goes t tape start (there t tape start from took);
+      turns = λ t tape start from took.
+          let came = did f does phase more line old meant mid.formatter mid.unread (Ok sprung) takes t tape start failures from took in
+          subst (λ (s : State). OnOk r (turns_of_run new ≤ turns_at old.limits.bytes s)) (sym (meant tape took.history took.messages))
+          (no_more-turns r (turns_of_run new) (turns_of_run mid) _ (goes.turns t tape start (there t tape start from took))
+          (turns-behind old.limits tape old mid (taken_of f old took.history) took.history came.history took.messages phase more
+          (takes.became old.limits took.history took.stands took.ready) same took.limits came.stands came.few));
+    }
 
 -- two things are the same of the states that the run may be at
 abbrev pub DoTheSame : (does other : State → State) → Coded → Type 0
@@ -306,46 +290,9 @@ DoesItem-as does other line old new now behind r same acts = record {
   limits = acts.limits;
   acts = λ t tape start from took. acts.acts t tape start from (TookFrom-as does other line old t tape start now from same took);
   turns = λ t tape start from took.
-      subst (λ (s : State). OnOk r (turns_of_run new ≡ turns_at old.limits.bytes s)) (sym (same tape took.history took.messages took.stands))
+      subst (λ (s : State). OnOk r (turns_of_run new ≤ turns_at old.limits.bytes s)) (sym (same tape took.history took.messages took.stands))
       (acts.turns t tape start from (TookFrom-as does other line old t tape start now from same took));
 }
-
--- the line stays where a half read item ends with nothing half read
-line-nothing_ended : (k : Known) (reading : LineState) (i : PageInput) → i.escapes ≡ []
-    → (escape_ended k reading i).input.line ≡ i.line
-line-nothing_ended k LineStart i none = subst (λ (half : List OpenEscape). (read_in k LineStart i (reading_ended (at_start k) half)).input.line ≡ i.line) (sym none) refl
-line-nothing_ended k Branch i none = subst (λ (half : List OpenEscape). (read_in k Branch i (reading_ended (at_start k) half)).input.line ≡ i.line) (sym none) refl
-line-nothing_ended k Braced i none = subst (λ (half : List OpenEscape). (read_in k Braced i (reading_ended (at_start k) half)).input.line ≡ i.line) (sym none) refl
-line-nothing_ended k (InText line) i none = subst (λ (half : List OpenEscape). (read_in k (InText line) i (reading_ended (on_line k line) half)).input.line ≡ i.line) (sym none) refl
-line-nothing_ended k (Control breaks) i none = refl
-line-nothing_ended k (Name breaks byte) i none = refl
-line-nothing_ended k (InArguments breaks request) i none =
-    subst (λ (half : List OpenEscape). (read_in k (InArguments breaks request) i (reading_ended AboveArguments half)).input.line ≡ i.line) (sym none) refl
-line-nothing_ended k (Deciding keeping) i none =
-    subst (λ (half : List OpenEscape). (read_in k (Deciding keeping) i (reading_ended AboveArguments half)).input.line ≡ i.line) (sym none) refl
-line-nothing_ended k (StringName appends) i none =
-    subst (λ (half : List OpenEscape). (read_in k (StringName appends) i (reading_ended AboveArguments half)).input.line ≡ i.line) (sym none) refl
-line-nothing_ended k (Calling name) i none =
-    subst (λ (half : List OpenEscape). (read_in k (Calling name) i (reading_ended AboveArguments half)).input.line ≡ i.line) (sym none) refl
-line-nothing_ended k (StringText name appends is_front) i none =
-    subst (λ (half : List OpenEscape). (read_in k (StringText name appends is_front) i (reading_ended AboveCopy half)).input.line ≡ i.line) (sym none) refl
-line-nothing_ended k (Defining name appends end matched) i none =
-    subst (λ (half : List OpenEscape). (read_in k (Defining name appends end matched) i (reading_ended AboveCopy half)).input.line ≡ i.line) (sym none) refl
-line-nothing_ended k (Telling aborts is_front) i none =
-    subst (λ (half : List OpenEscape). (read_in k (Telling aborts is_front) i (reading_ended AboveCopy half)).input.line ≡ i.line) (sym none) refl
-line-nothing_ended k (Told aborts) i none = refl
-line-nothing_ended k Exiting i none = refl
-line-nothing_ended k (Skipping opened closed behind) i none = refl
-line-nothing_ended k Dropped i none = refl
-
--- the line stays where what is half read ends
-pub line-escape_ended : (k : Known) (reading : LineState) (i : PageInput) → (escape_ended k reading i).input.line ≡ i.line
-line-escape_ended k reading i =
-    let by : (half : List OpenEscape) → i.escapes ≡ half → (escape_ended k reading i).input.line ≡ i.line = λ half. elim half as (λ h. i.escapes ≡ h → (escape_ended k reading i).input.line ≡ i.line) [
-      | [] ↦ λ is. line-nothing_ended k reading i is
-      | first ∷ others ↦ λ is. (Keeps-escape_ended k reading i first others is).line
-    ] in
-    by i.escapes refl
 
 -- nothing that is counted grows where no quote follows the quote before
 counts_in-settling : (rs : AllRegisters) (i : PageInput) → counts_in rs (settling i) ≡ counts_in rs i
@@ -383,14 +330,33 @@ within-interrupted l rs reading i within = ap (first_passed l) (counts_in-interr
 abbrev pub event_taking : LineState → PageInput → Known → Taking
 event_taking reading i k = going_on (interrupted reading i) reading
 
+-- the answer of an event, as that of a step's
+abbrev pub last_of : Result (Option ShortName) Halt → Result (Option Sprung) Halt
+last_of (Ok name) = Ok (sprung_last name)
+last_of (Err halt) = Err halt
+
 -- what is performed of it, by the answer
-pub TakingDone-performed : (l : Limits) (t : Beginning) (start now : Seen) (from done : State) (behind : PageHistory) (rest : List PageEvent) (r : Result (Unit {0}) Halt) (es : EnvironmentsOf)
-    → Performs l t start now done behind rest r es → TakingDone l t start now from done behind rest r es
-TakingDone-performed l t start now from done behind rest (Ok u) es p = p
-TakingDone-performed l t start now from done behind rest (Err (Limited limit)) es p = p
-TakingDone-performed l t start now from done behind rest (Err Output) es p = p
-TakingDone-performed l t start now from done behind rest (Err Messages) es p = absurd p
-TakingDone-performed l t start now from done behind rest (Err (Refused limit)) es p = absurd p
+pub TakingDone-performed : (l : Limits) (t : Beginning) (start now : Seen) (from done : State) (e : PageEvent) (h : PageHistory) (kept rest : List PageEvent) (r : Result (Option ShortName) Halt) (es : EnvironmentsOf)
+    → PerformedOne l t start now done e (behind_event e h) rest r es → TakingDone l t start now from done (e ∷ []) h kept rest (last_of r) es
+TakingDone-performed l t start now from done e h kept rest (Ok name) es p = record {
+  history = behind_event e h;
+  reaches = subst (λ (there : State). Reaches l t start now there) (sprung-last name kept rest (acting done [] (behind_event e h))) p.reaches;
+  stands = p.stands;
+  few = last_left e [] h;
+  last = λ counts. last-none name kept;
+}
+TakingDone-performed l t start now from done e h kept rest (Err (Limited limit)) es p = p
+TakingDone-performed l t start now from done e h kept rest (Err Output) es p = p
+TakingDone-performed l t start now from done e h kept rest (Err Messages) es p = absurd p
+TakingDone-performed l t start now from done e h kept rest (Err (Refused limit)) es p = absurd p
+
+pub TakingDone-came : (l : Limits) (t : Beginning) (start now : Seen) (from done : State) (events : List PageEvent) (h : PageHistory) (kept rest : List PageEvent) (r : Result (Option Sprung) Halt) (es : EnvironmentsOf)
+    → ComesTo l t start now done events h kept rest r es → TakingDone l t start now from done events h kept rest r es
+TakingDone-came l t start now from done events h kept rest (Ok sprung) es p = p
+TakingDone-came l t start now from done events h kept rest (Err (Limited limit)) es p = p
+TakingDone-came l t start now from done events h kept rest (Err Output) es p = p
+TakingDone-came l t start now from done events h kept rest (Err Messages) es p = absurd p
+TakingDone-came l t start now from done events h kept rest (Err (Refused limit)) es p = absurd p
 
 -- a fact is one of an answer that goes on
 pub OnOk-fact : {A F : Type 0} (r : Result A F) (P : Type 0) → P → OnOk r P
@@ -398,12 +364,12 @@ OnOk-fact (Ok x) P fact = fact
 OnOk-fact (Err e) P fact = tt
 
 -- what is performed of an event that was put back is done of its taking
-pub event_does : (event : PageEvent) (old new : Formatter) (before behind : PageUnread) (out_old out_new err : Sunk) (r : Result (Unit {0}) Halt)
+pub event_does : (event : PageEvent) (old new : Formatter) (before behind : PageUnread) (out_old out_new err : Sunk) (r : Result (Option ShortName) Halt)
     → behind ≡ record before { input = interrupted old.reader.reading before.input }
-    → PerformsOnly (event ∷ []) old new out_old out_new r
-    → DoesTaking (event_taking old.reader.reading before.input) (event ∷ []) old new before behind (sinks out_old err) (sinks out_new err) r
+    → PerformsOne event old new out_old out_new r
+    → DoesTaking (event_taking old.reader.reading before.input) (event ∷ []) old new before behind (sinks out_old err) (sinks out_new err) (last_of r)
 event_does event old new before behind out_old out_new err r input performs = record {
-  became = λ l h stands ready. OnOk-fact r _ (record {
+  became = λ l h stands ready. OnOk-fact (last_of r) _ (record {
     input = input;
     reading = ap (λ (s : ReaderState). s.reading) performs.reader;
     registers = ap (λ (s : ReaderState). s.registers) performs.reader;
@@ -416,8 +382,8 @@ event_does event old new before behind out_old out_new err r input performs = re
       let allowed : first_passed before.limits (grown done) ≡ None =
       within-interrupted before.limits old.reader.registers.all old.reader.reading before.input ready.within in
       let step_is : step before.limits from ≡ done = opens.opens ∙ ap (λ (o : Option Limit). unless_refused before.limits o from done) allowed in
-      TakingDone-performed before.limits t0 start _ from done (event ∷ h) rest r new.environments
-      (performs.events_performed.performs before.limits t0 start failures err done h rest stands (record {
+      TakingDone-performed before.limits t0 start _ from done event h new.reader.meaning.events rest r new.environments
+      (performs.one before.limits t0 start failures err done h rest stands (record {
         comes = Leads-to before.limits (initial before.limits t0.start t0.tape) from done reaches.comes step_is;
         text = rw (← opens.wrote) reaches.text;
         messages = rw (append-nil (messages ++ []), append-nil messages, ← opens.said) reaches.messages;
@@ -434,31 +400,3 @@ event_meant event old tape h messages =
 -- the line stays where no quote follows
 pub line-interrupted : (reading : LineState) (i : PageInput) → (interrupted reading i).line ≡ i.line
 line-interrupted reading i = (Keeps-interrupted reading i).line
-
--- one of two, by whether something is half read
-by_half : {A : Type 0} (half : List OpenEscape) (none some : A) → not (length half == 0) ≡ true
-    → (elim half as (λ _. A) [ [] ↦ none | first ∷ others ↦ some ]) ≡ some
-by_half [] none some is = cc
-by_half (first ∷ others) none some is = refl
-
--- and by whether nothing is
-by_no_half : {A : Type 0} (half : List OpenEscape) (none some : A) → not (length half == 0) ≡ false
-    → (elim half as (λ _. A) [ [] ↦ none | first ∷ others ↦ some ]) ≡ none
-by_no_half [] none some is = refl
-by_no_half (first ∷ others) none some is = cc (eqb-suc-zero (length others))
-
--- at the input's end what is half read ends, if something is
-pub input_ends-escapes : (s : State) → not (length s.input.escapes == 0) ≡ true → input_ends s ≡ escape_ends s
-input_ends-escapes s is = by_half s.input.escapes (input_ended (is_unfinished s.phase (known s) s.reading) s) (escape_ends s) is
-
--- and else an unfinished line, or the phase
-pub input_ends-no_half : (s : State) (unfinished : Bool) → not (length s.input.escapes == 0) ≡ false
-    → is_unfinished s.phase (known s) s.reading ≡ unfinished
-    → input_ends s ≡ input_ended unfinished s
-input_ends-no_half s unfinished is ends =
-    by_no_half s.input.escapes (input_ended (is_unfinished s.phase (known s) s.reading) s) (escape_ends s) is ∙ ap (λ (b : Bool). input_ended b s) ends
-
--- something is half read, or nothing is
-pub some_half : (half : List OpenEscape) → not (length half == 0) ≡ true → half ≡ [] → ⊥
-some_half [] is none = cc
-some_half (first ∷ others) is none = cc

@@ -10,7 +10,6 @@ use Rattle.roff_scan.specs.declared.looked.Looked.TheVariants.{Nothing, Byte, Cl
 use Rattle.roff_scan.specs.Unread.{Asked, asks_to_take, asks_to_look, looking, looking_past, taking, taking_answer}
 use Rattle.roff_ahead.specs.Shown.{Shown, ShowsEnding, Sighted, SeesByte, SeesNothing, SeesEnding, shown_ahead, seen_ahead}
 use Rattle.roff_engine.specs.Engine.Outcome.{IsLeftOf}
-use Rattle.roff_engine.specs.Running.Turning.{AsksFirst}
 use Rattle.roff_run.specs.Reading.Items.{PageInput}
 use Rattle.roff_run.specs.Reading.Items.{PageUnread}
 use Rattle.roff_run.specs.Registers.{AllRegisters}
@@ -24,7 +23,6 @@ use Rattle.roff_run.proofs.InputCounts.{first_passed-taking, one_of}
 -- but for the item in front, and no count or turn to come is more.
 pub record Leaves (gave gives : Tape → Type 0) (u left : PageUnread) (taken : List Item) : Type 0 where
   pub before : (t : Tape) → gives t → gave (items_then taken t)
-  pub some : AsksFirst u ⊎ ((t : Tape) × gave t) → (t : Tape) × gives t
   pub rest : (t : Tape) → gives t → IsLeftOf t (looked_then u.looked (items_then taken t))
   pub limits : left.limits ≡ u.limits
   pub within : (rs : AllRegisters) → first_passed u.limits (counts_in rs u.input) ≡ None → first_passed u.limits (counts_in rs left.input) ≡ None
@@ -36,13 +34,6 @@ before-asked : (gave gives : Tape → Type 0) (asked : Bool) (a : Answer) → As
 before-asked gave gives true (Gives item) answers t may = answers.before t may
 before-asked gave gives true (Ends ending) answers t may = subst gave (sym (answers.final ending refl t may)) (answers.before t may)
 before-asked gave gives false a stays t may = stays.before t may
-
--- a source that was asked may give something, and so may one that stays, if it might before
-some-asked : {H : Type 0} (gave gives : Tape → Type 0) (asks asked : Bool) (a : Answer) → (asks ≡ true → asked ≡ true) → Asked gave gives asked a
-    → (H × (asks ≡ true)) ⊎ ((t : Tape) × gave t) → (t : Tape) × gives t
-some-asked gave gives asks true a asks_then answers known = (answers.some, answers.some_given)
-some-asked gave gives asks false a asks_then stays (inl is) = let wrong : false ≡ true = asks_then is.1 in cc
-some-asked gave gives asks false a asks_then stays (inr may) = (may.0, stays.after may.0 may.1)
 
 -- what is left behind a call, by whether a byte was looked at
 left_behind : (looked : Looked) (asked : Bool) (a : Answer) (before behind : Tape) → (asked ≡ true → looked ≡ Nothing) → Given a asked before behind
@@ -69,12 +60,6 @@ asked-to_look None (Byte b) asks = cc
 asked-to_look None (Closed kept) asks = cc
 asked-to_look (Some sight) looked asks = cc
 
--- one that is asked for the item in front is asked for what is seen
-asks-both : (ahead : List (Ahead PageEvent)) (i : PageInput) (looked : Looked) (v : PageUnread)
-    → let u : PageUnread = record v { input = record i { ahead = ahead }; looked = looked } in asks_to_take u ≡ true → asks_to_look u ≡ true
-asks-both [] i looked v asks = asks
-asks-both (item ∷ items) i looked v asks = cc
-
 -- no more turns are to come behind a call
 abbrev NoMoreTurns : PageUnread → Shown PageEvent × PageUnread → Type 0
 NoMoreTurns u call = turns_to_come call.1 ≤ turns_to_come u
@@ -84,7 +69,7 @@ turns-item : (item : Ahead PageEvent) (items : List (Ahead PageEvent)) (bytes : 
 turns-item (ByteAhead b) items bytes i = omega arith
 turns-item (FreeAhead b) items bytes i = omega arith
 turns-item EndAhead items bytes i = omega arith
-turns-item ReturnAhead items bytes i = omega arith
+turns-item (ReturnAhead back) items bytes i = omega arith
 turns-item (DoAhead event) items bytes i = omega arith
 
 turns-answer : (a : Answer) (u : PageUnread) → NoMoreTurns u (taking_answer a u)
@@ -104,7 +89,6 @@ pub Leaves-takes : (gave gives : Tape → Type 0) (u : PageUnread) (a : Answer) 
     → Leaves gave gives u (taking a u).1 (items_asked (asks_to_take u) a)
 Leaves-takes gave gives u a asked = record {
   before = before-asked gave gives (asks_to_take u) a asked;
-  some = some-asked gave gives (asks_to_take u) (asks_to_take u) a (λ is. is) asked;
   rest = λ t may.
       left_behind u.looked (asks_to_take u) a _ t (asked-to_take u.input.ahead u.input u.looked u) (Given-asked gave gives (asks_to_take u) a asked t may);
   limits = limits-taking a u;
@@ -118,7 +102,6 @@ pub Leaves-looks : (gave gives : Tape → Type 0) (u : PageUnread) (a : Answer) 
 Leaves-looks gave gives u a asked =
     let same = Looks-looking a u in record {
       before = before-asked gave gives (asks_to_look u) a asked;
-      some = some-asked gave gives (asks_to_take u) (asks_to_look u) a (asks-both u.input.ahead u.input u.looked u) asked;
       rest = λ t may.
           left_behind u.looked (asks_to_look u) a _ t (asked-to_look (seen_ahead u.input.ahead) u.looked) (Given-asked gave gives (asks_to_look u) a asked t may);
       limits = same.limits;
@@ -133,16 +116,10 @@ left-unasked (Byte b) t = inr refl
 left-unasked (Closed None) t = inl refl
 left-unasked (Closed (Some b)) t = inr refl
 
--- where something half read ends, whatever is seen, there is a tape
-some-decides : (gives : Tape → Type 0) (u : PageUnread) → is_ended_by u.input.escapes None ≡ true → AsksFirst u ⊎ ((t : Tape) × gives t) → (t : Tape) × gives t
-some-decides gives u decides (inl first) = let wrong : false ≡ true = rw first.0 at decides in cc
-some-decides gives u decides (inr known) = known
-
 -- no call: a condition decides, and nothing is taken or seen
 pub Leaves-deciding : (gives : Tape → Type 0) (u : PageUnread) → is_ended_by u.input.escapes None ≡ true → Leaves gives gives u u []
 Leaves-deciding gives u decides = record {
   before = λ t may. may;
-  some = some-decides gives u decides;
   rest = λ t may. left-unasked u.looked t;
   limits = refl;
   within = λ rs none. none;
@@ -174,7 +151,7 @@ no_ending_ahead : (item : Ahead PageEvent) (ending : Ending) → shown_ahead ite
 no_ending_ahead (ByteAhead b) ending is = cc
 no_ending_ahead (FreeAhead b) ending is = cc
 no_ending_ahead EndAhead ending is = cc
-no_ending_ahead ReturnAhead ending is = cc
+no_ending_ahead (ReturnAhead back) ending is = cc
 no_ending_ahead (DoAhead event) ending is = cc
 
 ends-byte : (b : ℕ) (u : PageUnread) (taken : List Item) → TakesEnding u taken (taking_answer (Gives (OneByte b)) u)
@@ -206,7 +183,7 @@ no_ending_seen [] ending is = cc
 no_ending_seen (ByteAhead b ∷ items) ending is = let same : SeesByte b ≡ SeesEnding ending = cc in cc
 no_ending_seen (FreeAhead b ∷ items) ending is = let same : SeesByte b ≡ SeesEnding ending = cc in cc
 no_ending_seen (EndAhead ∷ items) ending is = no_ending_seen items ending is
-no_ending_seen (ReturnAhead ∷ items) ending is = no_ending_seen items ending is
+no_ending_seen (ReturnAhead back ∷ items) ending is = no_ending_seen items ending is
 no_ending_seen (DoAhead event ∷ items) ending is = let same : SeesNothing ≡ SeesEnding ending = cc in cc
 
 ends-closed_look : (kept : Option ℕ) (ending : Ending) (sight : Sighted) → SeesEnding Ended ≡ sight → sight ≡ SeesEnding ending → EndsAt ending (Closed kept)

@@ -1,10 +1,12 @@
 -- What the end of a phase takes: the last macro is read, or the pending line is placed.
-use Rattle.std.proofs.Common.{◌≡◌, [], ◌++◌, Option, Result, Ok, append-nil, refl, subst, sym, ap, ◌∙◌}
+use Rattle.std.proofs.Common.{◌≡◌, [], ◌++◌, List, Option, None, Result, Ok, append-nil, arith, refl, subst, sym, ap, ◌∙◌}
 use Rattle.roff_num.specs.declared.limit.Limit.{Limit}
 use Rattle.roff_engine.specs.declared.formatter.Formatter.{Formatter}
 use Rattle.roff_engine.specs.declared.halt.Halt.{Halt}
-use Rattle.roff_engine.specs.Formatter.Performing.{DoesTaking, PerformsOnly, Sinks, going, sinks}
-use Rattle.roff_engine.proofs.Acting.{OnOk-fact, TakingDone-performed}
+use Rattle.roff_engine.specs.Formatter.Performing.{DoesTaking, PerformsAll, Sinks, TakingDone, going, sinks}
+use Rattle.roff_engine.specs.Engine.Outcome.{seen}
+use Rattle.roff_engine.specs.declared.sprung.Sprung.{Sprung}
+use Rattle.roff_engine.proofs.Acting.{OnOk-fact, TakingDone-came}
 use Rattle.roff_sinks.specs.Sinks.{Sunk}
 use Rattle.roff_reader.specs.Reader.State.{ReaderState}
 use Rattle.roff_reader.specs.Reader.Taken.{TakesAs}
@@ -13,7 +15,7 @@ use Rattle.roff_requests.specs.declared.environments.Environments.{Environments 
 use Rattle.roff_run.proofs.Leads.{Leads-to}
 use Rattle.roff_run.specs.Reading.Items.{PageInput, PageUnread, going_on, meaning_events}
 use Rattle.roff_run.specs.Run.{State, closing_events, initial, step, taken_as, unless_refused}
-use Rattle.roff_run.specs.TurnsToCome.{behind_all}
+use Rattle.roff_run.specs.declared.event.PageEvent.{PageEvent}
 use Rattle.roff_run.specs.declared.line_state.LineState.{LineState}
 use Rattle.roff_run.specs.declared.line_state.LineState.TheVariants.{LineStart}
 use Rattle.roff_run.specs.declared.step.Step.{Step}
@@ -21,13 +23,14 @@ use Rattle.roff_run.specs.declared.step.Step.{Step}
 -- the reader took what only reads on
 pub reads_on_taking : (j : PageInput) (next : LineState) (old : Formatter) (reader : ReaderState) (before behind : PageUnread) (told : Sinks) (m : Step)
     → TakesAs (λ k. going_on j next) old.environments old.reader reader before behind (Ok m)
-    → DoesTaking (λ k. going_on j next) [] old (record old { reader = reader }) before behind told told (Ok tt)
+    → DoesTaking (λ k. going_on j next) [] old (record old { reader = reader }) before behind told told (Ok None)
 reads_on_taking j next old reader before behind told m takes = record {
   became = λ l h stood ready. (takes.takes l h stood ready).became;
   does = λ t0 start failures from tape h messages phase closed rest stood ready reached opens.
       let took = takes.takes before.limits h stood ready in
       let s : State = taken_as (going_on j next) (going tape before.input old.reader.reading old.reader.registers.all h messages phase closed rest) in
       let goes : step before.limits from ≡ s = opens.opens ∙ ap (λ (r : Option Limit). unless_refused before.limits r from s) took.became.within in record {
+        history = h;
         reaches = record {
           comes = Leads-to before.limits (initial before.limits t0.start t0.tape) from s reached.comes goes;
           text = rw (← opens.wrote) reached.text;
@@ -35,12 +38,14 @@ reads_on_taking j next old reader before behind told m takes = record {
           faults = reached.faults;
         };
         stands = stood;
+        few = omega arith;
+        last = λ counts. refl;
       };
 }
 
 -- a line begins, and the pending line is placed
-pub closing_taking : (old mid new : Formatter) (u : PageUnread) (out_old out_new err : Sunk) (r : Result (Unit {0}) Halt)
-    → mid ≡ record old { reader = record old.reader { reading = LineStart } } → PerformsOnly closing_events mid new out_old out_new r
+pub closing_taking : (old mid new : Formatter) (u : PageUnread) (out_old out_new err : Sunk) (r : Result (Option Sprung) Halt)
+    → mid ≡ record old { reader = record old.reader { reading = LineStart } } → PerformsAll closing_events mid new out_old out_new r
     → DoesTaking (λ k. meaning_events u.input LineStart closing_events) [] old new u u (sinks out_old err) (sinks out_new err) r
 closing_taking old mid new u out_old out_new err r is performs =
     let reader : new.reader ≡ record old.reader { reading = LineStart } = performs.reader ∙ ap (λ (f : Formatter). f.reader) is in
@@ -55,12 +60,14 @@ closing_taking old mid new u out_old out_new err r is performs =
           let s : State =
           taken_as (meaning_events u.input LineStart closing_events) (going tape u.input old.reader.reading old.reader.registers.all h messages phase closed rest) in
           let goes : step u.limits from ≡ s = opens.opens ∙ ap (λ (r : Option Limit). unless_refused u.limits r from s) ready.within in
-          TakingDone-performed u.limits t0 start _ from s (behind_all closing_events h) rest r new.environments
-          (performs.events_performed.performs u.limits t0 start failures err s h rest
+          let kept : mid.reader.meaning.events ≡ new.reader.meaning.events = ap (λ (s : ReaderState). s.meaning.events) (sym performs.reader) in
+          subst (λ (kept : List PageEvent). TakingDone u.limits t0 start (seen failures out_new err) from s closing_events h kept rest r new.environments) kept
+          (TakingDone-came u.limits t0 start _ from s closing_events h mid.reader.meaning.events rest r new.environments
+          (performs.all u.limits t0 start failures err s h rest
           (subst (λ (es : EnvironmentsOf). StandFor u.limits h es) (sym environments) stood) (record {
             comes = Leads-to u.limits (initial u.limits t0.start t0.tape) from s reached.comes goes;
             text = rw (← opens.wrote) reached.text;
             messages = rw (append-nil (messages ++ []), append-nil messages, ← opens.said) reached.messages;
             faults = reached.faults;
-          }));
+          })));
     }

@@ -1,5 +1,5 @@
 -- What the code takes: the definition's step to what a taking means, what was done of it, and limits that refuse it.
-use Rattle.std.proofs.Common.{◌≡◌, ℕ, Bool, List, [], ◌++◌, None, Some, Result, Ok, Err, OnOk, ap, append-nil, refl, subst, sym, ◌∙◌}
+use Rattle.std.proofs.Common.{◌≡◌, ℕ, Bool, List, [], ◌++◌, Option, None, Some, Result, Ok, Err, OnOk, ap, append-nil, refl, subst, sym, ◌∙◌}
 use Rattle.roff_num.specs.declared.limit.Limit.{Limit}
 use Rattle.roff_num.specs.declared.limits.Limits.{Limits}
 use Rattle.roff_source.specs.Tape.{Tape}
@@ -11,7 +11,9 @@ use Rattle.roff_engine.specs.Formatter.Performing.{TakingDone, MeaningDone, Does
 use Rattle.roff_requests.specs.Environments.Standing.{StandFor}
 use Rattle.roff_requests.specs.declared.environments.Environments.{Environments as EnvironmentsOf}
 use Rattle.roff_run.specs.Output.{PageHistory}
+use Rattle.roff_reader.specs.Reader.State.{ReaderState}
 use Rattle.roff_reader.specs.Reader.Taken.{CameTo, IsReady, TakesAs}
+use Rattle.roff_engine.specs.declared.sprung.Sprung.{Sprung}
 use Rattle.roff_run.specs.Reading.Items.{PageUnread}
 use Rattle.roff_run.specs.Reading.Items.{PageInput, Taking}
 use Rattle.roff_run.specs.Registers.{AllRegisters, Known, changed_by_all}
@@ -21,18 +23,17 @@ use Rattle.roff_run.specs.Events.Steps.{events_of, messages_of}
 use Rattle.roff_run.specs.declared.event.PageEvent.{PageEvent}
 use Rattle.roff_run.specs.declared.step.Step.{Step}
 use Rattle.roff_run.specs.declared.message.Message.{Message}
-use Rattle.roff_run.specs.TurnsToCome.{behind_all}
 use Rattle.roff_run.specs.declared.phase.Phase.{Phase}
 use Rattle.roff_run.specs.declared.line_state.LineState.{LineState}
 
 -- what was done of a meaning was done of the taking
-did_does : (l : Limits) (t : Beginning) (before now : Seen) (from s : State) (behind : PageHistory) (rest : List PageEvent) (r : Result (Unit {0}) Halt) (es : EnvironmentsOf)
-    → MeaningDone l t before now from s behind rest r es → TakingDone l t before now from s behind rest r es
-did_does l t before now from s behind rest (Ok u) es d = d
-did_does l t before now from s behind rest (Err (Limited limit)) es d = d
-did_does l t before now from s behind rest (Err (Refused limit)) es d = absurd d
-did_does l t before now from s behind rest (Err Output) es d = d
-did_does l t before now from s behind rest (Err Messages) es d = d
+did_does : (l : Limits) (t : Beginning) (before now : Seen) (from s : State) (events : List PageEvent) (h : PageHistory) (kept rest : List PageEvent) (r : Result (Option Sprung) Halt) (es : EnvironmentsOf)
+    → MeaningDone l t before now from s events h kept rest r es → TakingDone l t before now from s events h kept rest r es
+did_does l t before now from s events h kept rest (Ok u) es d = d
+did_does l t before now from s events h kept rest (Err (Limited limit)) es d = d
+did_does l t before now from s events h kept rest (Err (Refused limit)) es d = absurd d
+did_does l t before now from s events h kept rest (Err Output) es d = d
+did_does l t before now from s events h kept rest (Err Messages) es d = d
 
 -- what holds of a success anyway
 on_ok : {T E P : Type 0} (r : Result T E) → P → OnOk r P
@@ -79,37 +80,39 @@ refused_taking t more old new before behind told limit takes = record {
 module _ (t : Known → Taking) (old mid : Formatter) (before behind : PageUnread) (m : Step) (takes : TakesAs t old.environments old.reader mid.reader before behind (Ok m)) (same : mid.environments ≡ old.environments)
     (line : ℕ) (is_line : line ≡ behind.input.line) where
   -- where something was done of that, it became what it becomes
-  became_taken : (new : Formatter) (r : Result (Unit {0}) Halt) → new.reader ≡ mid.reader
+  became_taken : (new : Formatter) (r : Result (Option Sprung) Halt) → new.reader ≡ mid.reader
       → (l : Limits) (h : PageHistory) → StandFor l h old.environments → IsReady old.reader.registers before
       → OnOk r (CameTo (t (known_at h old.reader.registers.all before.input)) old.reader.registers new.reader before behind)
   became_taken new r kept l h stood ready = on_ok r (rw kept (takes.takes l h stood ready).became)
 
   -- what it means was done, as far as it was done
-  done_taken : (new : Formatter) (told_old told_new : Sinks) (r : Result (Unit {0}) Halt) → DoesMeaning line (messages_of mid.reader.meaning.message m) (events_of mid.reader.meaning.events m) mid new told_old told_new r
+  done_taken : (new : Formatter) (told_old told_new : Sinks) (r : Result (Option Sprung) Halt) → DoesMeaning line (messages_of mid.reader.meaning.message m) (events_of mid.reader.meaning.events m) mid new told_old told_new r
       → (t0 : Beginning) (start : Seen) (failures : ℕ) (from : State) (tape : Tape) (h : PageHistory) (messages : List ℕ) (phase : Phase) (is_closed : Bool) (to_do : List PageEvent)
       → StandFor before.limits h old.environments → IsReady old.reader.registers before
       → Reaches before.limits t0 start (seen failures told_old.out told_old.err) from
       → let state : State = taken_as (t (known_at h old.reader.registers.all before.input)) (going tape before.input old.reader.reading old.reader.registers.all h messages phase is_closed to_do) in
-      Opens before.limits from state h messages → MeaningDone before.limits t0 start (seen failures told_new.out told_new.err) from state (behind_all (t (known_at h old.reader.registers.all before.input)).effect.events h) to_do r new.environments
+      Opens before.limits from state h messages → MeaningDone before.limits t0 start (seen failures told_new.out told_new.err) from state (t (known_at h old.reader.registers.all before.input)).effect.events h mid.reader.meaning.events to_do r new.environments
   done_taken new told_old told_new r done t0 start failures from tape h messages phase is_closed to_do stood ready reached opens =
       let k = known_at h old.reader.registers.all before.input in
       let took = takes.takes before.limits h stood ready in
       let state : State = taken_as (t k) (going tape before.input old.reader.reading old.reader.registers.all h messages phase is_closed to_do) in
-      subst (λ (es : List PageEvent). MeaningDone before.limits t0 start (seen failures told_new.out told_new.err) from state (behind_all es h) to_do r new.environments) took.events
+      subst (λ (es : List PageEvent). MeaningDone before.limits t0 start (seen failures told_new.out told_new.err) from state es h mid.reader.meaning.events to_do r new.environments) took.events
       (done.does before.limits t0 start failures from _ h to_do (subst (λ (es : EnvironmentsOf). StandFor before.limits h es) (sym same) stood) reached
       (means_taken before.limits from tape before.input old.reader.reading old.reader.registers.all h messages phase is_closed to_do (t k) opens
       line _ _ took.became.within (is_line ∙ ap (λ (u : PageUnread). u.input.line) took.became.input) took.messages took.events))
 
   -- it was done, and nothing more was to be done
-  pub taking_done : (new : Formatter) (told_old told_new : Sinks) (r : Result (Unit {0}) Halt) → DoesMeaning line (messages_of mid.reader.meaning.message m) (events_of mid.reader.meaning.events m) mid new told_old told_new r
+  pub taking_done : (new : Formatter) (told_old told_new : Sinks) (r : Result (Option Sprung) Halt) → DoesMeaning line (messages_of mid.reader.meaning.message m) (events_of mid.reader.meaning.events m) mid new told_old told_new r
       → DoesTaking t [] old new before behind told_old told_new r
   taking_done new told_old told_new r done = record {
     became = became_taken new r done.reader;
     does = λ t0 start failures from tape h messages phase is_closed rest stood ready reached opens.
         let k = known_at h old.reader.registers.all before.input in
         let state : State = taken_as (t k) (going tape before.input old.reader.reading old.reader.registers.all h messages phase is_closed rest) in
-        subst (λ (es : List PageEvent). TakingDone before.limits t0 start (seen failures told_new.out told_new.err) from state (behind_all es h) rest r new.environments)
+        let kept : mid.reader.meaning.events ≡ new.reader.meaning.events = ap (λ (reader : ReaderState). reader.meaning.events) (sym done.reader) in
+        subst (λ (es : List PageEvent). TakingDone before.limits t0 start (seen failures told_new.out told_new.err) from state es h new.reader.meaning.events rest r new.environments)
         (sym (append-nil (t k).effect.events))
-        (did_does before.limits t0 start _ from _ _ rest r new.environments
-        (done_taken new told_old told_new r done t0 start failures from tape h messages phase is_closed rest stood ready reached opens));
+        (subst (λ (kept : List PageEvent). TakingDone before.limits t0 start (seen failures told_new.out told_new.err) from state (t k).effect.events h kept rest r new.environments) kept
+        (did_does before.limits t0 start _ from _ (t k).effect.events h mid.reader.meaning.events rest r new.environments
+        (done_taken new told_old told_new r done t0 start failures from tape h messages phase is_closed rest stood ready reached opens)));
   }

@@ -68,7 +68,6 @@ IsTape tape t = t ≡ tape
 Leaves-nothing : (tape : Tape) (u : PageUnread) → Leaves (IsTape tape) (IsTape tape) u u []
 Leaves-nothing tape u = record {
   before = λ t may. may;
-  some = λ known. (tape, refl);
   rest = λ t may. IsLeftOf-looked_then u.looked t;
   limits = refl;
   within = λ rs none. none;

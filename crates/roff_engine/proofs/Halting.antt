@@ -84,7 +84,7 @@ module _ (l : Limits) (t : Beginning) (left : Tape) (line : ℕ) (before : Seen)
               (record { source = stops.source; out = ap (λ (s : Sunk). s.failures) stops.out; err = ap (λ (s : Sunk). s.failures) stops.err });
         };
         ended = refl;
-        rest = rest_told limit left last stops.rest;
+        rest = inl (stops.rest ∙ sym stops.unread);
         fault = λ wrong. cc;
       }
 
@@ -105,7 +105,7 @@ module _ (l : Limits) (t : Beginning) (left : Tape) (line : ℕ) (before : Seen)
             (between _ _ _ [] piece (Appends-nothing old.contents) told.written)));
         fault = subst (λ (s : Sunk). CountsFault s.failures new.failures) stops.err told.fault;
         output_stays = ap (λ (s : Sunk). s.failures) stops.out;
-        rest = subst (λ (s : State). IsLeftOf left s.tape) (sym stops.stops) stops.rest;
+        rest = stops.rest;
       }
 
   -- so a run ends that a limit stopped, where that was reported

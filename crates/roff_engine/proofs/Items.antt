@@ -14,7 +14,7 @@ use Rattle.roff_run.specs.declared.status.Status.TheVariants.{Device, Limit as L
 use Rattle.roff_run.specs.Messages.{message_line}
 use Rattle.roff_reader.specs.Reader.Taken.{IsReady}
 use Rattle.roff_run.specs.Reading.Items.{PageUnread}
-use Rattle.roff_run.specs.Reading.Calls.{behind_return}
+use Rattle.roff_run.specs.Reading.Returns.{behind_return}
 use Rattle.roff_run.specs.Registers.Capped.{Capped}
 use Rattle.roff_run.specs.Run.{State, ending_as, ending_with, initial, made, output, reported, step, stopped_by, unless_refused}
 use Rattle.roff_run.specs.Run.Counts.{counts_in, first_passed}
@@ -42,10 +42,10 @@ Reaches-failures l t start old failures out err s more reached = record {
 abbrev pub moved : Coded → PageUnread → Coded
 moved run left = record run { unread = left }
 
--- the same where the end of a body was taken that a line called
-abbrev pub returned : Coded → PageUnread → Coded
-returned run left = record (moved run left) {
-  formatter = record run.formatter { reader = record run.formatter.reader { reading = behind_return run.formatter.reader.reading } };
+-- the same where the end of a body was taken, with the number of what it leads back to
+abbrev pub returned : ℕ → Coded → PageUnread → Coded
+returned back run left = record (moved run left) {
+  formatter = record run.formatter { reader = record run.formatter.reader { reading = behind_return back run.formatter.reader.reading } };
 }
 
 -- behind a call that raises no count, no count is above its limit
@@ -115,11 +115,11 @@ module _ {gave gives : Tape → Type 0} {old : Coded} {left : PageUnread} {taken
         limits = leaves.limits ∙ at.limits;
       }
 
-  -- the end of a body that a line called is only taken, and a line may begin behind it
-  pub return_passed : step old.limits from ≡ made old.limits from (record behind { reading = behind_return behind.reading })
-      → IsAt t tape start (seen failures out err) (returned old left)
-  return_passed goes =
-      let done : State = record behind { reading = behind_return behind.reading } in
+  -- the end of a body is only taken, and what it leads back to goes on behind it
+  pub return_passed : (back : ℕ) → step old.limits from ≡ made old.limits from (record behind { reading = behind_return back behind.reading })
+      → IsAt t tape start (seen failures out err) (returned back old left)
+  return_passed back goes =
+      let done : State = record behind { reading = behind_return back behind.reading } in
       let there : step old.limits from ≡ done = goes ∙ ap (λ r. unless_refused old.limits r from done) allowed in record {
         history = at.history;
         messages = at.messages;

@@ -1,8 +1,12 @@
 pub mod Performed
+pub mod LinesLeft
+pub mod Springing
 pub mod DoesTakings
 pub mod Halting
 pub mod TurnsLeft
 pub mod Acting
+pub mod GoingOn
+pub mod Ending
 pub mod Closing
 pub mod Calls
 pub mod Items

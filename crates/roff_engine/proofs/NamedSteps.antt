@@ -1,5 +1,14 @@
 -- Steps that have names of their own: what they mean doesn't depend on what is kept.
-use Rattle.std.proofs.Common.{◌≡◌, List, [], Option, refl}
+use Rattle.std.proofs.Common.{◌≡◌, ℕ, Bool, true, false, List, [], ◌∷◌, ◌++◌, Option, refl}
+use Rattle.std.specs.Prelude.{◌==◌, if◌then◌else◌}
+use Rattle.roff_lines.specs.declared.event.Event.TheVariants.{Print, Tab as PageTab}
+use Rattle.roff_lines.specs.declared.glyph.Glyph.TheVariants.{Blanks}
+use Rattle.roff_run.specs.Environments.{PageHistory}
+use Rattle.roff_run.specs.Events.Lines.{print_event}
+use Rattle.roff_run.specs.Reading.TextLines.{leading_glyph}
+use Rattle.roff_run.specs.declared.event.PageEvent.TheVariants.{Text}
+use Rattle.roff_engine.specs.Formatter.Performing.{Flows}
+use Rattle.roff_engine.specs.Formatter.Sprung.{quiet_events}
 use Rattle.roff_run.specs.Events.Steps.{events_of, messages_of}
 use Rattle.roff_run.specs.declared.event.PageEvent.{PageEvent}
 use Rattle.roff_run.specs.declared.message.Message.{Message}
@@ -27,3 +36,32 @@ named-events Break kept named = refl
 named-events LineEnd kept named = refl
 named-events BlankLine kept named = refl
 named-events Meaning kept named = absurd (named refl)
+
+-- the events of one that springs nothing
+pub quiet-events : (step : Step) → (step ≡ LineEnd → ⊥) → quiet_events step ≡ events_of [] step
+quiet-events Nothing others = refl
+quiet-events (Glyph b leading) others = refl
+quiet-events (Tab leading) others = refl
+quiet-events Gap others = refl
+quiet-events Break others = refl
+quiet-events LineEnd others = absurd (others refl)
+quiet-events BlankLine others = refl
+quiet-events Meaning others = refl
+
+-- before which nothing comes
+flows-leading : (leading : ℕ) (e : PageEvent) (h : PageHistory) → ((g : PageHistory) → Flows (e ∷ []) g) → Flows (leading_glyph leading ++ e ∷ []) h
+flows-leading leading e h flows = by_test (leading == 0)
+  where
+    by_test : (b : Bool) → Flows ((if b then [] else Text (Print (Blanks leading)) ∷ []) ++ e ∷ []) h
+    by_test true = flows h
+    by_test false = (refl, refl, flows (Text (Print (Blanks leading)) ∷ h))
+
+pub quiet-flows : (step : Step) (h : PageHistory) → Flows (quiet_events step) h
+quiet-flows Nothing h = tt
+quiet-flows (Glyph b leading) h = flows-leading leading (print_event b) h (λ g. (refl, refl, tt))
+quiet-flows (Tab leading) h = flows-leading leading (Text PageTab) h (λ g. (refl, refl, tt))
+quiet-flows Gap h = (refl, refl, (refl, refl, tt))
+quiet-flows Break h = (refl, refl, (refl, refl, tt))
+quiet-flows LineEnd h = tt
+quiet-flows BlankLine h = (refl, refl, (refl, refl, (refl, refl, tt)))
+quiet-flows Meaning h = tt

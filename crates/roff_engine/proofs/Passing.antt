@@ -1,9 +1,7 @@
 -- Runs that go past bytes: the run of the definition leads on, and the code is at its place behind them.
-use Rattle.std.proofs.Common.{◌≡◌, ℕ, ◌≤◌, Bool, true, false, List, [], ◌∷◌, ◌++◌, sym, ap, subst, arith}
-use Rattle.std.specs.Prelude.{◌&&◌, map}
+use Rattle.std.proofs.Common.{◌≡◌, ℕ, ◌≤◌, List, [], ◌∷◌, ◌++◌, sym, subst, arith}
 use Rattle.std.specs.Io.KnownBytes.{Appends}
 use Rattle.std.specs.List.{AllByRecursion}
-use Rattle.roff_ahead.specs.Input.{Ahead, ByteAhead, is_none_ahead}
 use Rattle.roff_source.specs.Tape.{Tape, items_then}
 use Rattle.roff_requests.specs.Environments.Standing.{StandFor}
 use Rattle.roff_run.specs.Output.{PageHistory, written}
@@ -11,7 +9,6 @@ use Rattle.roff_reader.specs.Reader.Taken.{IsReady}
 use Rattle.roff_run.specs.Reading.Items.{PageUnread}
 use Rattle.roff_run.specs.Run.{Leads, initial}
 use Rattle.roff_run.specs.declared.start.Start.{Start}
-use Rattle.roff_run.specs.declared.event.PageEvent.{PageEvent}
 use Rattle.roff_engine.specs.declared.formatter.Formatter.{Formatter}
 use Rattle.roff_engine.specs.declared.running.Running.{Running as Coded}
 use Rattle.roff_engine.specs.Engine.Outcome.{Beginning, Seen}
@@ -44,13 +41,6 @@ IsAt-leads whole before behind start now old f u h at leads nothing stands ready
   limits = limits;
 }
 
--- where bytes are ahead, the source isn't asked
-pub not_asked : (bytes : List ℕ) (b : ℕ) (items ahead : List (Ahead PageEvent)) (none : Bool) → ahead ≡ map ByteAhead (b ∷ bytes) ++ items
-    → (is_none_ahead ahead && none) ≡ true → ⊥
-not_asked bytes b items ahead none front asks =
-    let asks_not : (is_none_ahead ahead && none) ≡ false = ap (λ (xs : List (Ahead PageEvent)). is_none_ahead xs && none) front in
-    cc
-
 -- past bytes, where fewer notes may come
 pub goes_past_fewer : (gave gives : Tape → Type 0) (noted kept notes : ℕ) (old new : Coded) (now behind : Seen) → notes ≤ kept
     → GoesPast gave gives noted kept old new now behind → GoesPast gave gives noted notes old new now behind
@@ -58,7 +48,6 @@ goes_past_fewer gave gives noted kept notes old new now behind less past = recor
   limits = past.limits;
   taken = past.taken;
   before = past.before;
-  some = past.some;
   past = past.past;
   turns = let turns = past.turns in omega (arith, turns, less);
 }
@@ -69,7 +58,6 @@ pub come-past : {given : Start} {first gave gives : Tape → Type 0} (noted note
 come-past {given} {first} noted notes start now behind old new come goes = record {
   taken = come.taken ++ goes.taken;
   before = λ t may. subst first (sym (items_then-append come.taken goes.taken t)) (come.before (items_then goes.taken t) (goes.before t may));
-  some = goes.some come.some;
   at = λ t may.
       let tape : Tape = items_then goes.taken t in
       subst (λ (whole : Tape). IsAt (record { start = given; tape = whole }) t start behind new) (sym (items_then-append come.taken goes.taken t))

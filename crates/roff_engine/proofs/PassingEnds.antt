@@ -1,5 +1,5 @@
 -- A run that goes past the end of a text ahead, or of a call.
-use Rattle.std.proofs.Common.{◌≡◌, ℕ, suc, zero, ◌+◌, ◌<◌, ◌≤◌, ◌&&◌, Bool, true, false, List, [], ◌∷◌, Option, None, inl, inr, refl, sym, ap, subst, ◌∙◌, arith}
+use Rattle.std.proofs.Common.{◌≡◌, ℕ, suc, zero, ◌+◌, ◌<◌, ◌≤◌, Bool, true, false, List, [], ◌∷◌, Option, None, refl, sym, ap, subst, ◌∙◌, arith}
 use Rattle.std.specs.Prelude.{if◌then◌else◌, nat_lt}
 use Rattle.std.proofs.lemmas.Bool.{le-ltb}
 use Rattle.roff_num.specs.declared.limit.Limit.{Limit}
@@ -13,12 +13,12 @@ use Rattle.roff_run.specs.Reading.Waiting.{line_waits, waiting_above, waiting_in
 use Rattle.roff_ahead.specs.Input.{Ahead, EndAhead, ReturnAhead, is_none_ahead, item_taken}
 use Rattle.roff_source.specs.Tape.{Tape}
 use Rattle.roff_scan.proofs.Asking.{takes_ahead}
-use Rattle.roff_scan.specs.Looking.{is_nothing}
 use Rattle.roff_scan.specs.Unread.{IsWithin, taking_first}
 use Rattle.roff_ahead.specs.Shown.{ShowsEnd, ShowsRefusal}
 use Rattle.roff_scan.specs.Unread.Calls.{PassesEnd, PassesReturn, Takes}
 use Rattle.roff_run.specs.Reading.Items.{PageUnread}
-use Rattle.roff_run.specs.Reading.Calls.{behind_return}
+use Rattle.roff_run.specs.Reading.Returns.{behind_return}
+use Rattle.roff_run.proofs.Readings.{begun-behind_return}
 use Rattle.roff_run.specs.Reading.Ends.{due}
 use Rattle.roff_run.specs.Reading.Items.{PageInput}
 use Rattle.roff_run.specs.Registers.{AllRegisters}
@@ -27,38 +27,16 @@ use Rattle.roff_run.specs.Run.Counts.{counts_in, first_passed}
 use Rattle.roff_run.specs.TurnsToCome.{begun, free_ahead, turns_to_come, turns_within}
 use Rattle.roff_run.specs.declared.event.PageEvent.{PageEvent}
 use Rattle.roff_run.specs.declared.line_state.LineState.{LineState}
-use Rattle.roff_run.specs.declared.line_state.LineState.TheVariants.{Arguments as InArguments, Branch, Braced, Calling, Control, Deciding, Defining, Dropped, Exiting}
-use Rattle.roff_run.specs.declared.line_state.LineState.TheVariants.{LineStart, Name as NameOf, Skipping, StringName, StringText, Telling, Text as InText, Told}
 use Rattle.roff_run.proofs.InputCounts.{IsWithin-allowed, first_passed-few_names}
 use Rattle.roff_run.proofs.ItemsTaken.{step-reads}
 use Rattle.roff_reader.proofs.TakesAs.{few_names}
 use Rattle.roff_engine.specs.declared.formatter.Formatter.{Formatter}
 use Rattle.roff_engine.specs.declared.running.Running.{Running as Coded}
 use Rattle.roff_engine.specs.Engine.Outcome.{Beginning, Seen}
-use Rattle.roff_engine.specs.Running.Turning.{GoesFurther, HasTape, IsAt, state_at, turns_left}
+use Rattle.roff_engine.specs.Running.Turning.{GoesFurther, IsAt, state_at, turns_left}
 use Rattle.roff_engine.proofs.Passing.{IsAt-leads}
 use Rattle.roff_engine.proofs.TurnsLeft.{turns_of_run-fewer}
 use Rattle.roff_engine.proofs.PassingOn.{goes_further_none, goes_past_none}
-
--- behind the end of a call no more turns are to come for what is read
-begun-return : (r : LineState) → begun (behind_return r) ≤ begun r
-begun-return LineStart = omega arith
-begun-return Branch = omega arith
-begun-return Braced = omega arith
-begun-return (InText line) = omega arith
-begun-return (Control breaks) = omega arith
-begun-return (NameOf breaks first) = omega arith
-begun-return (InArguments breaks request) = omega arith
-begun-return (Deciding keeps) = omega arith
-begun-return (StringName appends) = omega arith
-begun-return (StringText name appends is_front) = omega arith
-begun-return (Calling name) = omega arith
-begun-return (Defining name appends end matched) = omega arith
-begun-return (Skipping opened closed behind) = omega arith
-begun-return Dropped = omega arith
-begun-return (Telling aborts is_front) = omega arith
-begun-return (Told aborts) = omega arith
-begun-return Exiting = omega arith
 
 -- An item in front that is an end is taken in a step, and this is read on behind it: fewer turns are to come, and none for what is
 -- read then.
@@ -78,10 +56,10 @@ end_of_text = record {
   fewer = λ most i behind front allowed. omega (arith, allowed, ap free_ahead front);
 }
 
-end_of_call : IsEnd ReturnAhead behind_return
+end_of_call : IsEnd (ReturnAhead 0) (λ reading. behind_return 0 reading)
 end_of_call = record {
   taken = λ l s behind. refl;
-  begun_behind = begun-return;
+  begun_behind = λ reading. omega (arith, begun-behind_return 0 reading);
   fewer = λ most i behind front allowed. omega (arith, allowed, ap free_ahead front);
 }
 
@@ -94,12 +72,12 @@ module _ (item : Ahead PageEvent) (reads_on : LineState → LineState) (ends : I
   over = record old.formatter { reader = record old.formatter.reader { reading = reads_on old.formatter.reader.reading } }
 
   -- it is taken in a step
-  step-end : (l : Limits) (s : State) → s.ended ≡ None → s.to_do ≡ [] → due s.reading ≡ None → s.input.ahead ≡ item ∷ behind → waiting_in s.reading s.input ≡ TakesAny → s.input.charge < l.bytes
+  step-end : (l : Limits) (s : State) → s.ended ≡ None → s.to_do ≡ [] → s.sprung ≡ None → due s.reading ≡ None → s.input.ahead ≡ item ∷ behind → waiting_in s.reading s.input ≡ TakesAny → s.input.charge < l.bytes
       → first_passed l (counts_in s.registers (item_taken item behind s.input)) ≡ None
       → step l s ≡ record s { input = item_taken item behind s.input; reading = reads_on s.reading }
-  step-end l s going idle none_due in_front any few fits =
+  step-end l s going idle unsprung none_due in_front any few fits =
       let there : State = record s { input = item_taken item behind s.input; reading = reads_on s.reading } in
-      step-reads l s going idle none_due
+      step-reads l s going idle unsprung none_due
       ∙ ap (λ (w : Waiting). read_waiting l w s) any
       ∙ ap (λ (items : List (Ahead PageEvent)). in_front_taken l items s) in_front
       ∙ ends.taken l s behind
@@ -120,20 +98,11 @@ module _ (item : Ahead PageEvent) (reads_on : LineState → LineState) (ends : I
       first_passed-few_names l rs i (few_names old.formatter.reader.registers old.unread at.ready) ∙ IsWithin-allowed there inside in
       let leads : Leads l s t = record {
         steps = suc zero;
-        there = step-end l s refl refl none_due front takes allowed fits;
+        there = step-end l s refl refl refl none_due front takes allowed fits;
       } in
       subst (λ (u : PageUnread). IsAt whole tape start now (record old { formatter = over; unread = u })) (sym is)
       (IsAt-leads whole tape tape start now old over there at.history at
       (subst (λ (k : Limits). Leads k s t) at.limits leads) refl at.stands (record { cap = at.ready.cap; within = fits }) at.limits)
-
-  -- the source isn't asked where it stands in front
-  HasTape-end : (gave : Tape → Type 0) → HasTape old gave → HasTape (record old { formatter = over; unread = after }) gave
-  HasTape-end gave known = elim known [
-    | inl asks ↦
-        let not_asked : false ≡ true = sym (ap (λ (items : List (Ahead PageEvent)). is_none_ahead items && is_nothing old.unread.looked) front) ∙ asks.0.1 in
-        absurd (cc)
-    | inr given ↦ inr given
-  ]
 
   -- fewer turns are to come
   fewer-end : turns_left (record old { formatter = over; unread = after }) < turns_left old
@@ -148,7 +117,6 @@ module _ (item : Ahead PageEvent) (reads_on : LineState → LineState) (ends : I
       limits = refl;
       taken = [];
       before = λ t given. given;
-      some = HasTape-end gave;
       past = λ t tape start given at. IsAt-end t tape start now at;
       turns = (let behind = turns_of_run-fewer old (record old { formatter = over; unread = after }) fewer-end refl in omega (arith, behind));
     };
@@ -185,14 +153,14 @@ pub goes_further_returned : (old new : Coded) (is_passed : Bool) → due old.for
     → (is_passed ≡ true → PassesReturn old.unread new.unread) → (is_passed ≡ true → IsWithin new.unread)
     → (is_passed ≡ true
     → new ≡ record old {
-      formatter = record old.formatter { reader = record old.formatter.reader { reading = behind_return old.formatter.reader.reading } };
+      formatter = record old.formatter { reader = record old.formatter.reader { reading = behind_return 0 old.formatter.reader.reading } };
       unread = new.unread;
     })
     → (is_passed ≡ false → new ≡ old) → (gave : Tape → Type 0) (notes : ℕ) (now : Seen) → GoesFurther is_passed gave gave notes notes old new now now
 goes_further_returned old new true none_due takes none passed within is kept gave notes now =
     let p = passed refl in
     subst (λ (run : Coded). GoesFurther true gave gave notes notes old run now now) (sym (is refl))
-    (goes_further_end ReturnAhead behind_return end_of_call old new.unread p.behind none_due p.in_front
+    (goes_further_end (ReturnAhead 0) (λ reading. behind_return 0 reading) end_of_call old new.unread p.behind none_due p.in_front
     (ap (λ (half : List OpenEscape). waiting_above old.formatter.reader.reading old.unread.input.arguments.place half) none ∙ takes old.unread.input.arguments.place)
     (omega (arith, p.within)) p.input (within refl) gave notes now)
 goes_further_returned old new false none_due takes none passed within is kept gave notes now =

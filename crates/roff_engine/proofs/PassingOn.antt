@@ -28,7 +28,6 @@ goes_past_both gave mid gives noted kept notes old between new now halfway behin
   limits = second.limits ∙ first.limits;
   taken = first.taken ++ second.taken;
   before = λ t given. subst gave (sym (items_then-append first.taken second.taken t)) (first.before (items_then second.taken t) (second.before t given));
-  some = λ known. second.some (first.some known);
   past = λ t tape start given at.
       second.past t tape start given (first.past t (items_then second.taken tape) start (second.before tape given)
       (subst (λ (whole : Tape). IsAt t whole start now old) (items_then-append first.taken second.taken tape) at));
@@ -41,7 +40,6 @@ goes_past_none gave notes old now = record {
   limits = refl;
   taken = [];
   before = λ t given. given;
-  some = λ known. known;
   past = λ t tape start given at. at;
   turns = omega arith;
 }

@@ -10,7 +10,8 @@ use Rattle.roff_lines.specs.declared.env.Env.{Env}
 use Rattle.roff_lines.specs.declared.event.Event.{Event}
 use Rattle.roff_lines.specs.Env.Stands.{StandsBehind}
 use Rattle.roff_lines.specs.Lines.{Finished, finished, pending_length}
-use Rattle.roff_run.specs.Environments.{environments}
+use Rattle.roff_run.specs.Environments.{environments, trap_behind}
+use Rattle.roff_run.specs.declared.event.InputTrap.{InputTrap}
 use Rattle.roff_requests.specs.Environments.Standing.{StandFor}
 use Rattle.roff_requests.specs.declared.environments.Environments.{Environments as EnvironmentsOf}
 use Rattle.roff_run.specs.declared.environment_number.EnvironmentNumber.{EnvironmentNumber}
@@ -18,13 +19,16 @@ use Rattle.roff_engine.specs.declared.formatter.Formatter.{Formatter}
 use Rattle.roff_engine.specs.declared.halt.Halt.{Halt}
 use Rattle.roff_engine.specs.declared.halt.Halt.TheVariants.{Limit as Limited, Refused, Output, Messages}
 use Rattle.roff_engine.specs.Engine.Outcome.{Beginning, Seen, AppendsBetween, NoSinkFault, Reaches, seen}
-use Rattle.roff_engine.specs.Formatter.Performing.{StoppedAt, FailedAt, LostAt, Performs, PerformsOnly, Means, MeaningDone, DoesMeaning, acting, sinks}
+use Rattle.roff_engine.specs.Formatter.Performing.{StoppedAt, FailedAt, LostAt, ComesTo, Flows, PerformedOne, Performs, PerformsAll, PerformsOnly, Means, MeaningDone, DoesMeaning, acting, sinks}
 use Rattle.roff_run.specs.Messages.{message_lines}
 use Rattle.roff_run.specs.declared.message.Message.{Message}
 use Rattle.roff_run.specs.Output.{PageHistory, text_of, finished_bytes, written_by}
 use Rattle.roff_run.specs.declared.event.PageEvent.{PageEvent}
 use Rattle.roff_run.specs.declared.event.PageEvent.TheVariants.{Text, Space, Environment}
-use Rattle.roff_run.specs.Run.{State, initial, step, unless_refused}
+use Rattle.roff_run.specs.Run.{State, initial, performed, performing, sprung_at, step, unless_refused}
+use Rattle.roff_run.specs.Springs.{next, springs}
+use Rattle.roff_num.specs.declared.short_name.ShortName.{ShortName}
+use Rattle.roff_engine.specs.declared.sprung.Sprung.{Sprung}
 use Rattle.roff_run.specs.TurnsToCome.{behind_all}
 use Rattle.roff_run.specs.Run.Counts.{refusal}
 use Rattle.roff_sinks.specs.Sinks.{Sunk, Writes, AppendsFront, Fails, Puts}
@@ -51,33 +55,46 @@ pub faults_of_err : (before : Seen) (failures : ℕ) (out old new : Sunk) → ne
     → NoSinkFault before (seen failures out old) → NoSinkFault before (seen failures out new)
 faults_of_err before failures out old new same faults = record { source = faults.source; out = faults.out; err = same ∙ faults.err }
 
--- one event in front of others, at a state of a run
+-- A step at an event in front of others, at a state of a run: in it this happens, the event or what comes before it, and these are
+-- left.
 module _ (l : Limits) (t : Beginning) (before : Seen) (failures : ℕ) (err : Sunk) (s : State) (h : PageHistory) (e : PageEvent) (rest : List PageEvent) (old : Sunk)
-    (reached : Reaches l t before (seen failures old err) (acting s (e ∷ rest) h)) where
-  -- an event that no limit refuses is performed by one step
-  step-event : refusal l h e ≡ None → step l (acting s (e ∷ rest) h) ≡ acting s rest (e ∷ h)
-  step-event allowed = ap (λ r. unless_refused l r (acting s (e ∷ rest) h) (acting s rest (e ∷ h))) allowed
+    (reached : Reaches l t before (seen failures old err) (acting s (e ∷ rest) h)) (happens : PageEvent) (left : List PageEvent)
+    (steps : step l (acting s (e ∷ rest) h)
+    ≡ unless_refused l (refusal l h happens) (acting s (e ∷ rest) h) (performed happens left (acting s (e ∷ rest) h))) where
+  -- one that no limit refuses is performed by the step
+  step-event : (sprung : Option ShortName) → springs h happens ≡ sprung → refusal l h happens ≡ None
+      → step l (acting s (e ∷ rest) h) ≡ sprung_at sprung left (acting s (e ∷ rest) (happens ∷ h))
+  step-event sprung is allowed =
+      steps ∙ ap (λ r. unless_refused l r (acting s (e ∷ rest) h) (performed happens left (acting s (e ∷ rest) h))) allowed
+      ∙ ap (λ (o : Option ShortName). sprung_at o left (acting s (e ∷ rest) (happens ∷ h))) is
 
   -- it is performed, and what it writes is written
-  pub event_performed : (new : Sunk) → refusal l h e ≡ None → Writes old new (written_by h e)
-      → Reaches l t before (seen failures new err) (acting s rest (e ∷ h))
-  event_performed new allowed writes = record {
-    comes = Leads-to l (initial l t.start t.tape) _ _ reached.comes (step-event allowed);
+  pub event_performed : (sprung : Option ShortName) → springs h happens ≡ sprung → (new : Sunk) → refusal l h happens ≡ None → Writes old new (written_by h happens)
+      → Reaches l t before (seen failures new err) (sprung_at sprung left (acting s [] (happens ∷ h)))
+  event_performed None is new allowed writes = record {
+    comes = Leads-to l (initial l t.start t.tape) _ _ reached.comes (step-event None is allowed);
+    text = Appends-append _ _ _ _ _ reached.text writes.written;
+    messages = reached.messages;
+    faults = faults_of_out before failures err old new writes.failures reached.faults;
+  }
+  event_performed (Some name) is new allowed writes = record {
+    comes = Leads-to l (initial l t.start t.tape) _ _ reached.comes (step-event (Some name) is allowed);
     text = Appends-append _ _ _ _ _ reached.text writes.written;
     messages = reached.messages;
     faults = faults_of_out before failures err old new writes.failures reached.faults;
   }
 
   -- or the output fails
-  pub event_failed : (new : Sunk) → refusal l h e ≡ None → Fails old new (written_by h e) → FailedAt l t before (seen failures new err) s
-  event_failed new allowed fails = record {
+  pub event_failed : springs h happens ≡ None → (new : Sunk) → refusal l h happens ≡ None → Fails old new (written_by h happens)
+      → FailedAt l t before (seen failures new err) s
+  event_failed is new allowed fails = record {
     next = e;
     to_do = rest;
     history = h;
     stops = record {
       comes = reached.comes;
       goes_on = refl;
-      text = rw (step-event allowed) (between _ _ _ _ _ reached.text fails.written);
+      text = rw (step-event None is allowed) (between _ _ _ _ _ reached.text fails.written);
       fault = rw (sym reached.faults.out) fails.fault;
     };
     messages = reached.messages;
@@ -85,25 +102,36 @@ module _ (l : Limits) (t : Beginning) (before : Seen) (failures : ℕ) (err : Su
   }
 
   -- or a limit refuses it
-  pub event_stopped : (limit : Limit) → refusal l h e ≡ Some limit → StoppedAt l t before (seen failures old err) s limit
+  pub event_stopped : (limit : Limit) → refusal l h happens ≡ Some limit → StoppedAt l t before (seen failures old err) s limit
   event_stopped limit refused = record {
     next = e;
     to_do = rest;
     history = h;
     reaches = reached;
-    stops = ap (λ r. unless_refused l r (acting s (e ∷ rest) h) (acting s rest (e ∷ h))) refused;
+    stops = steps ∙ ap (λ r. unless_refused l r (acting s (e ∷ rest) h) (performed happens left (acting s (e ∷ rest) h))) refused;
   }
+
+-- the step at an event before which nothing comes
+pub steps_alone : (l : Limits) (s : State) (h : PageHistory) (e : PageEvent) (rest : List PageEvent) → next h e ≡ None
+    → step l (acting s (e ∷ rest) h) ≡ unless_refused l (refusal l h e) (acting s (e ∷ rest) h) (performed e rest (acting s (e ∷ rest) h))
+steps_alone l s h e rest none = ap (λ (own : Option PageEvent). performing l own e rest (acting s (e ∷ rest) h)) none
+
+-- and at one before which this comes
+pub steps_own : (l : Limits) (s : State) (h : PageHistory) (e own : PageEvent) (rest : List PageEvent) → next h e ≡ Some own
+    → step l (acting s (e ∷ rest) h) ≡ unless_refused l (refusal l h own) (acting s (e ∷ rest) h) (performed own (e ∷ rest) (acting s (e ∷ rest) h))
+steps_own l s h e own rest some = ap (λ (first : Option PageEvent). performing l first e rest (acting s (e ∷ rest) h)) some
 
 -- the environments of the code, where the lines of the one in force became these
 abbrev pub with_lines : EnvironmentsOf → Env → EnvironmentsOf
 with_lines es lines = record es { in_force = record es.in_force { lines = lines } }
 
--- where those lines stand for their history with one event more, the environments do
-pub lines_behind : (e : Event) (es : EnvironmentsOf) (lines : Env) → StandsBehind es.in_force.lines e lines
+-- where those lines stand for their history with one event more, that counts for no input-line trap, the environments do
+pub lines_behind : (e : Event) (es : EnvironmentsOf) (lines : Env) → ((trap : Option InputTrap) → trap_behind e trap ≡ trap)
+    → StandsBehind es.in_force.lines e lines
     → (l : Limits) (h : PageHistory) → StandFor l h es → StandFor l (Text e ∷ h) (with_lines es lines)
-lines_behind e es lines behind l h stood = record {
+lines_behind e es lines stays behind l h stood = record {
   number = stood.number;
-  in_force = record { lines = behind l.line (text_of h) stood.in_force.lines; untold = stood.in_force.untold };
+  in_force = record { lines = behind l.line (text_of h) stood.in_force.lines; untold = stood.in_force.untold; input_trap = stood.in_force.input_trap ∙ sym (stays (environments h).in_force.input_trap) };
   next = stood.next;
   last = stood.last;
   left = stood.left;
@@ -111,7 +139,7 @@ lines_behind e es lines behind l h stood = record {
 }
 
 -- an event of the text behind which the environments stand is refused by no limit
-text_allowed : (l : Limits) (h : PageHistory) (e : Event) (es : EnvironmentsOf) → StandFor l (Text e ∷ h) es → refusal l h (Text e) ≡ None
+pub text_allowed : (l : Limits) (h : PageHistory) (e : Event) (es : EnvironmentsOf) → StandFor l (Text e ∷ h) es → refusal l h (Text e) ≡ None
 text_allowed l h e es stands = rw (le-ltb l.line (pending_length (e ∷ text_of h)) stands.in_force.lines.within) refl
 
 -- one behind which the pending line would be too long is refused
@@ -128,20 +156,20 @@ pub switch_refused : (l : Limits) (h : PageHistory) (number : EnvironmentNumber)
     → refusal l h (Environment number) ≡ Some EnvironmentsLimit
 switch_refused l h number more = rw (lt-ltb l.environments (length (environments h).left + 1) more) refl
 
--- one event that no limit refuses, as what it writes was put
+-- one event that no limit refuses, before which nothing comes, and which springs nothing, as what it writes was put
 event_performs : (l : Limits) (t : Beginning) (before : Seen) (failures : ℕ) (err : Sunk) (s : State) (h : PageHistory) (e : PageEvent) (rest : List PageEvent) (es : EnvironmentsOf) (old new : Sunk) (r : Result (Unit {0}) Halt)
-    → refusal l h e ≡ None → StandFor l (e ∷ h) es → Puts old new (written_by h e) r → IsOkUnless r Output
+    → Flows (e ∷ []) h → refusal l h e ≡ None → StandFor l (e ∷ h) es → Puts old new (written_by h e) r → IsOkUnless r Output
     → Reaches l t before (seen failures old err) (acting s (e ∷ rest) h)
     → Performs l t before (seen failures new err) s (e ∷ h) rest r es
-event_performs l t before failures err s h e rest es old new (Ok u) allowed stands puts halt reached = record {
-  reaches = event_performed l t before failures err s h e rest old reached new allowed puts.ok;
+event_performs l t before failures err s h e rest es old new (Ok u) flows allowed stands puts halt reached = record {
+  reaches = event_performed l t before failures err s h e rest old reached e rest (steps_alone l s h e rest flows.0) None flows.1 new allowed puts.ok;
   stands = stands;
 }
-event_performs l t before failures err s h e rest es old new (Err Output) allowed stands puts halt reached =
-    event_failed l t before failures err s h e rest old reached new allowed puts.err
-event_performs l t before failures err s h e rest es old new (Err Messages) allowed stands puts halt reached = cc
-event_performs l t before failures err s h e rest es old new (Err (Limited limit)) allowed stands puts halt reached = cc
-event_performs l t before failures err s h e rest es old new (Err (Refused limit)) allowed stands puts halt reached = cc
+event_performs l t before failures err s h e rest es old new (Err Output) flows allowed stands puts halt reached =
+    event_failed l t before failures err s h e rest old reached e rest (steps_alone l s h e rest flows.0) flows.1 new allowed puts.err
+event_performs l t before failures err s h e rest es old new (Err Messages) flows allowed stands puts halt reached = cc
+event_performs l t before failures err s h e rest es old new (Err (Limited limit)) flows allowed stands puts halt reached = cc
+event_performs l t before failures err s h e rest es old new (Err (Refused limit)) flows allowed stands puts halt reached = cc
 
 -- one that changes the environments alone, as what it writes was put
 event_performs_only : (e : PageEvent) (old new : Formatter) (told_old told_new : Sunk) (r : Result (Unit {0}) Halt)
@@ -152,8 +180,8 @@ event_performs_only : (e : PageEvent) (old new : Formatter) (told_old told_new :
     → PerformsOnly (e ∷ []) old new told_old told_new r
 event_performs_only e old new told_old told_new r allowed stands reader puts halt = record {
   events_performed = record {
-    performs = λ l t before failures err s h rest stood reached.
-        event_performs l t before failures err s h e rest new.environments told_old told_new r (allowed l h stood) (stands l h stood) (puts l h stood) halt reached;
+    performs = λ l t before failures err s h rest stood flows reached.
+        event_performs l t before failures err s h e rest new.environments told_old told_new r flows (allowed l h stood) (stands l h stood) (puts l h stood) halt reached;
   };
   reader = reader;
 }
@@ -225,13 +253,13 @@ module _ (l : Limits) (t : Beginning) (before : Seen) (failures : ℕ) (out old 
   }
 
 -- what was performed of what an item means was done of it
-pub does_events : (l : Limits) (t : Beginning) (before now : Seen) (from s : State) (behind : PageHistory) (rest : List PageEvent) (r : Result (Unit {0}) Halt) (es : EnvironmentsOf)
-    → Performs l t before now s behind rest r es → MeaningDone l t before now from s behind rest r es
-does_events l t before now from s behind rest (Ok u) es p = p
-does_events l t before now from s behind rest (Err (Limited limit)) es p = p
-does_events l t before now from s behind rest (Err (Refused limit)) es p = p
-does_events l t before now from s behind rest (Err Output) es p = p
-does_events l t before now from s behind rest (Err Messages) es p = absurd p
+pub does_events : (l : Limits) (t : Beginning) (before now : Seen) (from s : State) (events : List PageEvent) (h : PageHistory) (kept rest : List PageEvent) (r : Result (Option Sprung) Halt) (es : EnvironmentsOf)
+    → ComesTo l t before now s events h kept rest r es → MeaningDone l t before now from s events h kept rest r es
+does_events l t before now from s events h kept rest (Ok sprung) es p = p
+does_events l t before now from s events h kept rest (Err (Limited limit)) es p = p
+does_events l t before now from s events h kept rest (Err (Refused limit)) es p = p
+does_events l t before now from s events h kept rest (Err Output) es p = p
+does_events l t before now from s events h kept rest (Err Messages) es p = absurd p
 
 -- where the code halted, what would have been left to do makes no difference
 pub performs_halted : (l : Limits) (t : Beginning) (before now : Seen) (s : State) (behind other : PageHistory) (rest left : List PageEvent) (halt : Halt) (es others : EnvironmentsOf)
@@ -241,13 +269,27 @@ performs_halted l t before now s behind other rest left (Refused limit) es other
 performs_halted l t before now s behind other rest left Output es others p = p
 performs_halted l t before now s behind other rest left Messages es others p = p
 
--- nor does it for what an item means
-pub does_halted : (l : Limits) (t : Beginning) (before now : Seen) (from s : State) (behind other : PageHistory) (rest left : List PageEvent) (halt : Halt) (es others : EnvironmentsOf)
-    → MeaningDone l t before now from s behind rest (Err halt) es → MeaningDone l t before now from s other left (Err halt) others
-does_halted l t before now from s behind other rest left (Limited limit) es others p = p
-does_halted l t before now from s behind other rest left (Refused limit) es others p = p
-does_halted l t before now from s behind other rest left Output es others p = p
-does_halted l t before now from s behind other rest left Messages es others p = p
+-- nor for one event, or up to one that springs something
+pub one_halted : (l : Limits) (t : Beginning) (before now : Seen) (s : State) (e : PageEvent) (behind other : PageHistory) (rest left : List PageEvent) (halt : Halt) (es others : EnvironmentsOf)
+    → Performs l t before now s behind rest (Err halt) es → PerformedOne l t before now s e other left (Err halt) others
+one_halted l t before now s e behind other rest left (Limited limit) es others p = p
+one_halted l t before now s e behind other rest left (Refused limit) es others p = p
+one_halted l t before now s e behind other rest left Output es others p = p
+one_halted l t before now s e behind other rest left Messages es others p = p
+
+pub comes_halted : (l : Limits) (t : Beginning) (before now : Seen) (s : State) (behind : PageHistory) (rest : List PageEvent) (events : List PageEvent) (h : PageHistory) (kept left : List PageEvent) (halt : Halt) (es others : EnvironmentsOf)
+    → Performs l t before now s behind rest (Err halt) es → ComesTo l t before now s events h kept left (Err halt) others
+comes_halted l t before now s behind rest events h kept left (Limited limit) es others p = p
+comes_halted l t before now s behind rest events h kept left (Refused limit) es others p = p
+comes_halted l t before now s behind rest events h kept left Output es others p = p
+comes_halted l t before now s behind rest events h kept left Messages es others p = p
+
+pub comes_one_halted : (l : Limits) (t : Beginning) (before now : Seen) (s : State) (e : PageEvent) (behind : PageHistory) (rest : List PageEvent) (events : List PageEvent) (h : PageHistory) (kept left : List PageEvent) (halt : Halt) (es others : EnvironmentsOf)
+    → PerformedOne l t before now s e behind rest (Err halt) es → ComesTo l t before now s events h kept left (Err halt) others
+comes_one_halted l t before now s e behind rest events h kept left (Limited limit) es others p = p
+comes_one_halted l t before now s e behind rest events h kept left (Refused limit) es others p = p
+comes_one_halted l t before now s e behind rest events h kept left Output es others p = p
+comes_one_halted l t before now s e behind rest events h kept left Messages es others p = p
 
 -- an event and others behind it, of which the first was performed
 pub performs_both : (first : PageEvent) (others : List PageEvent) (old mid new : Formatter) (told told_mid told_new : Sunk) (r : Result (Unit {0}) Halt)
@@ -255,9 +297,9 @@ pub performs_both : (first : PageEvent) (others : List PageEvent) (old mid new :
     → PerformsOnly (first ∷ others) old new told told_new r
 performs_both first others old mid new told told_mid told_new r one more = record {
   events_performed = record {
-    performs = λ l t before failures err s h rest stood reached.
-        let now = one.events_performed.performs l t before failures err s h (others ++ rest) stood reached in
-        more.events_performed.performs l t before failures err s (first ∷ h) rest now.stands now.reaches;
+    performs = λ l t before failures err s h rest stood flows reached.
+        let now = one.events_performed.performs l t before failures err s h (others ++ rest) stood (flows.0, flows.1, tt) reached in
+        more.events_performed.performs l t before failures err s (first ∷ h) rest now.stands flows.2 now.reaches;
   };
   reader = more.reader ∙ one.reader;
 }
@@ -267,21 +309,21 @@ pub performs_first_halted : (first : PageEvent) (others : List PageEvent) (old n
     → PerformsOnly (first ∷ []) old new told told_new (Err halt) → PerformsOnly (first ∷ others) old new told told_new (Err halt)
 performs_first_halted first others old new told told_new halt one = record {
   events_performed = record {
-    performs = λ l t before failures err s h rest stood reached.
+    performs = λ l t before failures err s h rest stood flows reached.
         performs_halted l t before _ s (first ∷ h) (behind_all others (first ∷ h)) (others ++ rest) rest halt _ _
-        (one.events_performed.performs l t before failures err s h (others ++ rest) stood reached);
+        (one.events_performed.performs l t before failures err s h (others ++ rest) stood (flows.0, flows.1, tt) reached);
   };
   reader = one.reader;
 }
 
 -- What an item means was done: its messages were told, and then its events were performed, as far as that went.
-pub told_then_performed : (line : ℕ) (messages : List Message) (events : List PageEvent) (old new : Formatter) (out out_new err err_new : Sunk) (r : Result (Unit {0}) Halt)
-    → Puts {F = Halt} err err_new (message_lines line messages) (Ok tt) → PerformsOnly events old new out out_new r
+pub told_then_performed : (line : ℕ) (messages : List Message) (events : List PageEvent) (old new : Formatter) (out out_new err err_new : Sunk) (r : Result (Option Sprung) Halt)
+    → Puts {F = Halt} err err_new (message_lines line messages) (Ok tt) → PerformsAll events old new out out_new r
     → DoesMeaning line messages events old new (sinks out err) (sinks out_new err_new) r
 told_then_performed line messages events old new out out_new err err_new r puts performed = record {
   does = λ l t before failures from s h rest stood reached means.
-      does_events l t before _ from s (behind_all events h) rest r _
-      (performed.events_performed.performs l t before failures err_new s h rest stood
+      does_events l t before _ from s events h old.reader.meaning.events rest r _
+      (performed.all l t before failures err_new s h rest stood
       (messages_told l t before failures out err err_new from s h line messages events rest reached means puts.ok));
   reader = performed.reader;
 }
@@ -300,7 +342,7 @@ not_told line messages events f out err err_new halt puts is_messages = record {
 pub performs_nothing : (f : Formatter) (out : Sunk) → PerformsOnly [] f f out out (Ok tt)
 performs_nothing f out = record {
   events_performed = record {
-    performs = λ l t before failures err s h rest stood reached. record { reaches = reached; stands = stood };
+    performs = λ l t before failures err s h rest stood flows reached. record { reaches = reached; stands = stood };
   };
   reader = refl;
 }

@@ -1,29 +1,27 @@
 -- Registers that are given to a run are set one after another, or one is refused.
-use Rattle.std.proofs.Common.{arith, ◌≡◌, ◌≤◌, ℕ, Bool, true, false, List, [], ◌∷◌, length, Some, None, Result, Ok, Err, inl, inr, refl, sym, ap, subst, ◌∙◌}
+use Rattle.std.proofs.Common.{arith, ◌≡◌, ℕ, Bool, true, false, List, [], ◌∷◌, length, Some, None, Result, Ok, Err, refl, sym, ap, subst, ◌∙◌}
 use Rattle.std.specs.Prelude.{nat_lt, if◌then◌else◌}
 use Rattle.roff_num.specs.declared.limit.Limit.{Limit}
 use Rattle.roff_num.specs.declared.limit.Limit.TheVariants.{Names}
 use Rattle.roff_num.specs.declared.limits.Limits.{Limits}
 use Rattle.roff_num.specs.declared.num.Num.{Num}
-use Rattle.roff_ahead.specs.Shown.{Sighted}
-use Rattle.roff_engine.specs.Engine.Outcome.{Beginning, OutcomeOf, Runs, Seen, seen}
+use Rattle.roff_engine.specs.Engine.Outcome.{Outcome, Seen}
 use Rattle.roff_engine.specs.Running.Starting.{Begins, HasRoom, IsRefused, SetsSome, with_capped}
-use Rattle.roff_engine.specs.Running.Turning.{AsksFirst, Halts, state_at}
-use Rattle.roff_engine.specs.declared.halt.Halt.TheVariants.{Refused}
+use Rattle.roff_engine.specs.Running.Turning.{StartStops, state_at}
 use Rattle.roff_engine.specs.declared.running.Running.{Running as Coded}
-use Rattle.roff_engine.proofs.Waiting.{input_look, leaves_look, taken}
-use Rattle.roff_sinks.specs.Sinks.{Sunk}
 use Rattle.roff_reader.proofs.TakesAs.{few_names}
 use Rattle.roff_run.proofs.InputCounts.{first_passed-few_names}
-use Rattle.roff_run.specs.Reading.Items.{PageInput, PageUnread}
+use Rattle.roff_run.specs.Reading.Items.{PageInput}
 use Rattle.roff_run.specs.Registers.{AllRegisters, Change, changed_by}
 use Rattle.roff_run.specs.Registers.Capped.{Capped, admitted, after as behind_change, is_past_cap, with_change}
 use Rattle.roff_run.specs.Run.{State, initial, stopped_by, unless_refused, with_registers}
 use Rattle.roff_run.specs.Starts.{given_change}
 use Rattle.roff_run.specs.declared.start.Start.{Start}
 use Rattle.roff_run.specs.declared.status.Status.{Status}
-use Rattle.roff_scan.specs.Unread.Calls.{Looks}
-use Rattle.roff_source.specs.Tape.{Tape, items_then}
+use Rattle.roff_scan.specs.Looking.{looked_then}
+use Rattle.roff_scan.specs.declared.looked.Looked.{Looked}
+use Rattle.roff_scan.specs.declared.looked.Looked.TheVariants.{Nothing}
+use Rattle.roff_source.specs.Tape.{Tape}
 
 -- what asking for a change answers, by whether more names than may would have a register behind it
 abbrev answer_of : Bool → Result (Unit {0}) Limit
@@ -131,43 +129,32 @@ pub Begins-all : (old new : Coded) (given rest : List (ℕ × Num)) → length r
 Begins-all old new given [] none far = record { some = far.some; goes_on = far.goes_on }
 Begins-all old new given (next ∷ rest) none far = absurd (omega (arith, none))
 
--- a limit refused one: the source was looked at once, and that was reported
-pub refused_at_start : {gave gives : Tape → Type 0} {left : PageUnread} {sight : Sighted} (old : Coded) (call : Looks gave gives old.unread left sight)
-    (given : Start) (limit : Limit) (status : Status) (failed failures : ℕ) (out err told : Sunk) (line : ℕ)
-    → failed ≤ failures → AsksFirst old.unread → ((tape : Tape) → initial old.limits given tape ≡ stopped_by old.limits limit (state_at tape old [] []))
-    → line ≡ left.input.line
-    → ((t : Beginning) (tape : Tape) (start : Seen) → Halts old.limits t tape line (Refused limit) start (seen failures out err) → OutcomeOf old.limits t tape status start (seen failures out told))
-    → Runs old.limits given status gave gives (seen failed out err) (seen failures out told)
-refused_at_start {gave} {gives} old call given limit status failed failures out err told line more asks stops line_is halts =
-    let leaves = leaves_look old call in
-    let some = leaves.some (inl asks) in
-    record {
-      taken = taken old call;
-      took = record { before = leaves.before; some = some.0; some_given = some.1 };
-      outcome = λ tape may.
-          let whole : Tape = items_then (taken old call) tape in
-          halts (record { start = given; tape = whole }) tape (seen failed out err) (inr (record {
-            state = state_at whole old [] [];
-            stops = stops whole;
-            history = refl;
-            messages = refl;
-            source = more;
-            out = refl;
-            err = refl;
-            rest = leaves.rest tape may;
-            line_is = sym (line_is ∙ ap (λ (i : PageInput). i.line) (input_look old call));
-          }));
-    }
+-- a limit refused one, where nothing of the source was looked at: nothing happened yet
+pub stops_at_start : (run : Coded) (given : Start) (tape : Tape) (limit : Limit) (line : ℕ) (now : Seen) → run.unread.looked ≡ Nothing
+    → initial run.limits given tape ≡ stopped_by run.limits limit (state_at tape run [] []) → line ≡ run.unread.input.line
+    → StartStops run.limits (record { start = given; tape = tape }) tape line limit now now
+stops_at_start run given tape limit line now unread stops line_is = record {
+  state = state_at tape run [] [];
+  stops = stops;
+  history = refl;
+  messages = refl;
+  source = omega arith;
+  out = refl;
+  err = refl;
+  rest = refl;
+  unread = ap (λ (looked : Looked). looked_then looked tape) unread;
+  line_is = sym line_is;
+}
 
 -- a run in which one was refused ends so
-pub begin_refused : (gave gives : Tape → Type 0) (old mid : Coded) (given : Start) (limit : Limit) (status : Status) (now behind : Seen)
-    → IsRefused old mid given.registers.items limit → HasRoom old → AsksFirst old.unread
-    → ((tape : Tape) → initial old.limits given tape ≡ with_registers old.limits given.registers.items (state_at tape old [] []))
-    → (AsksFirst mid.unread → ((tape : Tape) → initial mid.limits given tape ≡ stopped_by mid.limits limit (state_at tape mid [] [])) → Runs mid.limits given status gave gives now behind)
-    → Runs old.limits given status gave gives now behind
-begin_refused gave gives old mid given limit status now behind refused had asks is runs =
+pub begin_refused : (old mid : Coded) (given : Start) (tape : Tape) (limit : Limit) (status : Status) (now behind : Seen)
+    → IsRefused old mid given.registers.items limit → HasRoom old → old.unread.looked ≡ Nothing
+    → initial old.limits given tape ≡ with_registers old.limits given.registers.items (state_at tape old [] [])
+    → (mid.unread.looked ≡ Nothing → initial mid.limits given tape ≡ stopped_by mid.limits limit (state_at tape mid [] []) → Outcome mid.limits given tape tape status now behind)
+    → Outcome old.limits given tape tape status now behind
+begin_refused old mid given tape limit status now behind refused had unread is ends =
     let same : mid.limits ≡ old.limits = ap (λ (run : Coded). run.limits) refused.some.sets in
-    let unread : mid.unread ≡ old.unread = ap (λ (run : Coded). run.unread) refused.some.sets in
-    subst (λ (l : Limits). Runs l given status gave gives now behind) same
-    (runs (subst AsksFirst (sym unread) asks)
-    (λ tape. subst (λ (l : Limits). initial l given tape ≡ stopped_by l limit (state_at tape mid [] [])) (sym same) (is tape ∙ refused.stops had tape)))
+    let looked : mid.unread.looked ≡ old.unread.looked = ap (λ (run : Coded). run.unread.looked) refused.some.sets in
+    subst (λ (l : Limits). Outcome l given tape tape status now behind) same
+    (ends (looked ∙ unread)
+    (subst (λ (l : Limits). initial l given tape ≡ stopped_by l limit (state_at tape mid [] [])) (sym same) (is ∙ refused.stops had tape)))

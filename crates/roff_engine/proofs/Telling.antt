@@ -1,5 +1,5 @@
 -- Bytes of a text line that stand in front are told: the run has come behind them.
-use Rattle.std.proofs.Common.{◌≡◌, ℕ, zero, suc, ◌+◌, ◌<◌, ◌≤◌, true, List, [], ◌∷◌, ◌++◌, length, length-take, take, take-take, None, inl, inr, refl, sym, ap, subst, ◌∙◌, arith}
+use Rattle.std.proofs.Common.{◌≡◌, ℕ, zero, suc, ◌+◌, ◌<◌, ◌≤◌, true, List, [], ◌∷◌, length, length-take, take, take-take, None, refl, sym, ap, subst, ◌∙◌, arith}
 use Rattle.std.specs.Prelude.{map, min, take_while}
 use Rattle.std.proofs.lemmas.Bool.Decides.{nat_tests}
 use Rattle.std.proofs.lemmas.List.Folds.{length-prefix_len}
@@ -11,9 +11,9 @@ use Rattle.roff_lines.specs.declared.env.Env.{Env}
 use Rattle.roff_num.specs.declared.limits.Limits.{Limits}
 use Rattle.roff_source.proofs.PlainBytes.{take_while-plain}
 use Rattle.roff_source.specs.Bytes.{is_text_byte}
-use Rattle.roff_ahead.specs.Input.{Ahead, ByteAhead, bytes_taken, lines_taken}
+use Rattle.roff_ahead.specs.Input.{Ahead, bytes_taken, lines_taken}
 use Rattle.roff_source.specs.Tape.{Tape, OneByte, items_then}
-use Rattle.roff_scan.specs.Looking.{is_closed, is_nothing, looked_then}
+use Rattle.roff_scan.specs.Looking.{is_closed, looked_then}
 use Rattle.roff_scan.specs.declared.looked.Looked.{Looked}
 use Rattle.roff_scan.specs.Unread.Calls.{OfSource, OfTexts, PassesFront, front_bytes}
 use Rattle.roff_run.specs.Environments.{Environments, environments, text_of}
@@ -42,9 +42,9 @@ use Rattle.roff_engine.specs.declared.running.Running.{Running as Coded}
 use Rattle.roff_engine.specs.Engine.Outcome.{Beginning, Seen, seen}
 use Rattle.roff_engine.specs.Formatter.Performing.{going}
 use Rattle.roff_engine.specs.Formatter.Telling.{TellsFront}
-use Rattle.roff_engine.specs.Running.Turning.{GoesPast, HasTape, IsAt, line_turns, lines_left_in, state_at, turns_of_run}
+use Rattle.roff_engine.specs.Running.Turning.{GoesPast, IsAt, line_turns, lines_left_in, state_at, turns_of_run}
 use Rattle.roff_sinks.specs.Sinks.{Sunk}
-use Rattle.roff_engine.proofs.Passing.{IsAt-leads, all_by, goes_past_fewer, not_asked}
+use Rattle.roff_engine.proofs.Passing.{IsAt-leads, all_by, goes_past_fewer}
 use Rattle.roff_engine.proofs.Performed.{with_lines}
 use Rattle.roff_engine.proofs.TurnsLeft.{turns_of_run-no_more}
 use Rattle.roff_run.specs.Reading.Items.{Taking}
@@ -58,7 +58,7 @@ stand-with_text : (l : Limits) (text : History) (es : Environments) (coded : Env
     → StandBy l (with_text text es) (with_lines coded lines)
 stand-with_text l text es coded lines stood stands = record {
   number = stood.number;
-  in_force = record { lines = stands; untold = stood.in_force.untold };
+  in_force = record { lines = stands; untold = stood.in_force.untold; input_trap = stood.in_force.input_trap };
   next = stood.next;
   last = stood.last;
   left = stood.left;
@@ -122,15 +122,6 @@ tells_of_all front near most count old new is told =
       quiet = λ l h stood. subst (λ (bytes : List ℕ). QuietlyTold l.line bytes (text_of h)) same (told.quiet l h stood);
       stands = λ l h stood. subst (λ (bytes : List ℕ). StandFor l (page_told bytes h) new.environments) same (told.stands l h stood);
     }
-
--- behind bytes ahead there is a tape of the source, if there was one
-has_tape : (gives : Tape → Type 0) (old : Coded) (bytes : List ℕ) (items : List (Ahead PageEvent)) → old.unread.input.ahead ≡ map ByteAhead bytes ++ items
-    → HasTape old gives → HasTape (record old { unread = record old.unread { input = bytes_taken bytes items old.unread.input } }) gives
-has_tape gives old [] items front known = known
-has_tape gives old (b ∷ bytes) items front known = elim known [
-  | inl asks ↦ absurd (not_asked bytes b items old.unread.input.ahead (is_nothing old.unread.looked) front asks.0.1)
-  | inr given ↦ inr given
-]
 
 -- where a line begins a byte doesn't leave it so
 unended-printed : (reading : LineState) → ((b : ℕ) → is_text_byte b ≡ true → Prints reading b)
@@ -246,7 +237,6 @@ module _ (old : Coded) (f : Formatter) (front : List ℕ) (count : ℕ) (told : 
         limits = refl;
         taken = map OneByte bytes;
         before = passes.in_front;
-        some = λ known. inr passes.some;
         past = λ t tape start may at.
             IsAt-from (FromSource tape) t tape (items_then (map OneByte bytes) tape) start now input (ap is_closed passes.looked) passes.ahead (is tape) passes.within
             (ap (λ (looked : Looked). looked_then looked (items_then (map OneByte bytes) tape)) passes.looked)
@@ -258,12 +248,10 @@ module _ (old : Coded) (f : Formatter) (front : List ℕ) (count : ℕ) (told : 
       let input : PageInput = bytes_taken bytes items old.unread.input in
       let is : input ≡ counted (FromAhead items) bytes old.unread.input = sym (counted-bytes_taken items bytes old.unread.input passes.in_front) in
       let few : turns_of_run (behind input) ≤ turns_of_run old = turns-told (FromAhead items) input passes.in_front is in
-      let given : HasTape old gave → HasTape old gives = λ known. elim known [ inl asks ↦ inl asks | inr tape ↦ inr (tape.0, passes.stays.after tape.0 tape.1) ] in
       subst (λ (v : PageUnread). GoesPast gave gives notes notes old (record old { formatter = formatter_behind; unread = v }) now now) (sym passes.input) (record {
         limits = refl;
         taken = [];
         before = passes.stays.before;
-        some = λ known. has_tape gives old bytes items passes.in_front (given known);
         past = λ t tape start may at. IsAt-from (FromAhead items) t tape tape start now input tt passes.in_front is passes.within refl refl at;
         turns = omega (arith, few);
       })

@@ -1,10 +1,10 @@
 -- Bytes that were read at once and changed only what is read: the run has come behind them.
-use Rattle.std.proofs.Common.{◌≡◌, ℕ, ◌+◌, ◌≤◌, List, [], ◌∷◌, ◌++◌, ◌&&◌, length, None, inl, inr, refl, sym, ap, subst, ◌∙◌, arith}
+use Rattle.std.proofs.Common.{◌≡◌, ℕ, ◌+◌, ◌≤◌, List, [], ◌∷◌, length, None, refl, sym, ap, subst, ◌∙◌, arith}
 use Rattle.std.specs.Prelude.{map}
 use Rattle.roff_num.specs.declared.limits.Limits.{Limits}
-use Rattle.roff_ahead.specs.Input.{Ahead, ByteAhead, is_none_ahead}
+use Rattle.roff_ahead.specs.Input.{Ahead}
 use Rattle.roff_source.specs.Tape.{Tape, OneByte, items_then}
-use Rattle.roff_scan.specs.Looking.{is_closed, is_nothing, looked_then}
+use Rattle.roff_scan.specs.Looking.{is_closed, looked_then}
 use Rattle.roff_scan.specs.declared.looked.Looked.{Looked}
 use Rattle.roff_scan.specs.declared.looked.Looked.TheVariants.{Nothing}
 use Rattle.roff_scan.specs.Unread.{Stays, input_refusal}
@@ -12,7 +12,6 @@ use Rattle.roff_scan.specs.Unread.Calls.{OfSource, OfTexts, PassesFront, PassesS
 use Rattle.roff_reader.specs.Reader.State.{MeaningKept, ReaderState}
 use Rattle.roff_reader.specs.Reader.Taken.{IsReady}
 use Rattle.roff_run.specs.Reading.Items.{PageUnread}
-use Rattle.roff_run.specs.Reading.Ends.{due}
 use Rattle.roff_run.specs.Reading.Items.{PageInput}
 use Rattle.roff_run.specs.Registers.{AllRegisters, Known}
 use Rattle.roff_run.specs.Registers.Capped.{Capped}
@@ -31,9 +30,9 @@ use Rattle.roff_reader.proofs.TakesAs.{few_names}
 use Rattle.roff_reader.proofs.TurnedRuns.{FitsAt, Turned-none, after-Turned, counted-bytes_taken, input-passed, stage_input, stage_input-counted, turns_left-turned}
 use Rattle.roff_engine.specs.declared.running.Running.{Running as Coded}
 use Rattle.roff_engine.specs.Engine.Outcome.{Beginning, Seen, seen}
-use Rattle.roff_engine.specs.Running.Turning.{GoesPast, HasTape, IsAt, line_turns, lines_left_in, state_at, turns_left, turns_of_run}
+use Rattle.roff_engine.specs.Running.Turning.{GoesPast, IsAt, line_turns, lines_left_in, state_at, turns_left, turns_of_run}
 use Rattle.roff_sinks.specs.Sinks.{Sunk}
-use Rattle.roff_engine.proofs.Passing.{IsAt-leads, goes_past_fewer, not_asked}
+use Rattle.roff_engine.proofs.Passing.{IsAt-leads, goes_past_fewer}
 use Rattle.roff_engine.proofs.TurnsLeft.{turns_of_run-fewer, turns_of_run-no_more}
 
 -- the code where this is read
@@ -73,7 +72,7 @@ IsAt-turned whole t taken start now old reading input from bytes is_open read as
     subst (λ (j : PageInput). first_passed l (counts_in rs j) ≡ None) (sym read.leads) fits in
     let stands : run_at s i.names p from bytes i ≡ s = is-run_at s from bytes p refl refl refl refl read.ahead asked in
     let comes : after l (length bytes) (run_at s i.names p from bytes i) ≡ run_at s i.names q from [] (behind_bytes from bytes i) =
-    after-Turned l s i.names from p q bytes i (record { going = refl; is_open = is_open; idle = refl }) read.turned read.charged before behind in
+    after-Turned l s i.names from p q bytes i (record { going = refl; is_open = is_open; idle = refl; unsprung = refl }) read.turned read.charged before behind in
     let is : run_at s i.names q from [] (behind_bytes from bytes i) ≡ there =
     ap (λ (j : PageInput). record s { tape = tape_at from [] s.tape; input = j; reading = reading }) read.leads
     ∙ ap (λ (tape : Tape). record s { tape = tape; input = input; reading = reading }) left in
@@ -122,7 +121,6 @@ past-source gave gives notes now old reading input bytes read none in_front some
       limits = refl;
       taken = map OneByte bytes;
       before = in_front;
-      some = λ known. inr some;
       past = λ t tape start may at.
           IsAt-turned t tape (items_then (map OneByte bytes) tape) start now old reading input (FromSource tape) bytes (ap is_closed none) (read tape)
           (ap (λ (looked : Looked). looked_then looked (items_then (map OneByte bytes) tape)) none)
@@ -130,42 +128,16 @@ past-source gave gives notes now old reading input bytes read none in_front some
       turns = omega (arith, few);
     }
 
--- where bytes ahead were read there is a tape, if there was one
-has_tape : (gave gives : Tape → Type 0) (old : Coded) (reading : LineState) (input : PageInput) (rest : List (Ahead PageEvent)) (bytes : List ℕ)
-    → Stays gave gives → old.unread.input.ahead ≡ map ByteAhead bytes ++ rest → input.ahead ≡ rest
-    → Turned old.unread.input.names (stage_of old.formatter.reader.reading old.unread.input) bytes (stage_of reading input)
-    → HasTape old gave → HasTape (reads old reading input) gives
-has_tape gave gives old reading input rest [] stays front left turned known =
-    let same : stage_of old.formatter.reader.reading old.unread.input ≡ stage_of reading input = Turned-none _ _ _ [] refl turned in
-    let half : old.unread.input.escapes ≡ input.escapes = ap (λ (p : Stage). p.escapes) same in
-    let read : old.formatter.reader.reading ≡ reading = ap (λ (p : Stage). p.reading) same in
-    elim known [
-      | inl asks ↦ inl (
-        (
-          sym half ∙ asks.0.0,
-          ap (λ (items : List (Ahead PageEvent)). is_none_ahead items && is_nothing old.unread.looked) (left ∙ sym front) ∙ asks.0.1,
-        ),
-        subst (λ (r : LineState). due r ≡ None) read asks.1,
-      )
-      | inr given ↦ inr (given.0, stays.after given.0 given.1)
-    ]
-has_tape gave gives old reading input rest (b ∷ bytes) stays front left turned known = elim known [
-  | inl asks ↦ absurd (not_asked bytes b rest old.unread.input.ahead (is_nothing old.unread.looked) front asks.0.1)
-  | inr given ↦ inr (given.0, stays.after given.0 given.1)
-]
-
 -- the run goes past bytes ahead
 past-texts : (gave gives : Tape → Type 0) (notes : ℕ) (now : Seen) (old : Coded) (reading : LineState) (input : PageInput) (rest : List (Ahead PageEvent)) (bytes : List ℕ)
     → ReadFrom (FromAhead rest) bytes old reading input → Stays gave gives
     → GoesPast gave gives notes notes old (reads old reading input) now now
 past-texts gave gives notes now old reading input rest bytes read stays =
     let few : turns_of_run (reads old reading input) ≤ turns_of_run old = turns-reads old reading input (FromAhead rest) bytes read in
-    let left : input.ahead ≡ rest = sym (ap (λ (j : PageInput). j.ahead) read.leads) in
     record {
       limits = refl;
       taken = [];
       before = stays.before;
-      some = has_tape gave gives old reading input rest bytes stays read.ahead left read.turned;
       past = λ t tape start may at. IsAt-turned t tape tape start now old reading input (FromAhead rest) bytes tt read refl refl at;
       turns = omega (arith, few);
     }

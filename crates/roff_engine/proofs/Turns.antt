@@ -1,5 +1,5 @@
 -- Turns of a run of the code: a call of the unread input, and what is done with what it shows.
-use Rattle.std.proofs.Common.{◌≡◌, ◌⊎◌, inl, inr, ℕ, ◌+◌, ◌<◌, ◌≤◌, List, [], ◌∷◌, Result, Ok, Err, OnOk, refl, sym, ap, subst, ◌∙◌, arith}
+use Rattle.std.proofs.Common.{◌≡◌, inl, ℕ, ◌+◌, ◌<◌, ◌≤◌, List, [], ◌∷◌, Result, Ok, Err, OnOk, refl, sym, ap, subst, ◌∙◌, arith}
 use Rattle.std.specs.Prelude.{IsOkUnless}
 use Rattle.roff_num.specs.declared.limit.Limit.{Limit}
 use Rattle.roff_num.specs.declared.limits.Limits.{Limits}
@@ -27,7 +27,7 @@ use Rattle.roff_run.specs.TurnsToCome.{begun, turns_to_come, turns_within}
 use Rattle.roff_engine.specs.declared.halt.Halt.TheVariants.{Refused}
 use Rattle.roff_engine.specs.declared.running.Running.{Running as Coded}
 use Rattle.roff_engine.specs.Engine.Outcome.{Beginning, Seen, OutcomeOf, seen}
-use Rattle.roff_engine.specs.Running.Turning.{DoesItem, AsksFirst, Continues, Halts, HasTape, IsAt, MayEnd, MayGoOn, StepDoes, TookFrom, TurnsBy, input_ends, state_at, turns_at, turns_of_run, turns_with}
+use Rattle.roff_engine.specs.Running.Turning.{DoesItem, Continues, Halts, IsAt, MayEnd, MayGoOn, StepDoes, TookFrom, TurnsBy, input_ends, state_at, turns_at, turns_of_run, turns_with}
 use Rattle.roff_sinks.specs.Sinks.{Sunk, Puts}
 use Rattle.roff_engine.proofs.Calls.{EndsThere, EndsThere-takes, Leaves, Leaves-takes}
 use Rattle.roff_engine.proofs.Items.{end_passed, moved, return_passed, returned, note_told, refused, source_failed, source_stopped, took}
@@ -66,11 +66,6 @@ leaves_fewer doing old left r fewer = λ tape h ms stood.
     let less = fewer (state_at tape (moved old left) h ms) refl refl in
     on_ok r (turns_at-fewer old.unread.limits.bytes old (doing (state_at tape (moved old left) h ms)) less.0 less.1)
 
--- the source is asked, or there is a tape
-pub asks_or_given : (run : Coded) (gave : Tape → Type 0) → HasTape run gave → AsksFirst run.unread ⊎ ((tape : Tape) × gave tape)
-asks_or_given run gave (inl first) = inl first.0
-asks_or_given run gave (inr given) = inr given
-
 -- a call took these items of the source, and left this
 module _ {gave gives : Tape → Type 0} {old : Coded} {left : PageUnread} {taken : List Item} (leaves : Leaves gave gives old.unread left taken)
     (does : State → State) (noted notes : ℕ) where
@@ -84,7 +79,6 @@ module _ {gave gives : Tape → Type 0} {old : Coded} {left : PageUnread} {taken
     limits = limits;
     taken = taken;
     before = leaves.before;
-    some = λ known. leaves.some (asks_or_given old gave known);
     turns = λ t tape start may at goes. (each t tape start may at goes).0;
     falls = λ t tape start may at goes. (each t tape start may at goes).1;
   }
@@ -98,9 +92,8 @@ module _ {gave gives : Tape → Type 0} {old : Coded} {left : PageUnread} {taken
   fewer_behind doing line new now after (Ok done) less fewer limits acts t tape start from took =
       let s : State = doing (state_at tape (moved old left) took.history took.messages) in
       let few : turns_at old.unread.limits.bytes s < turns_of_run old = fewer tape took.history took.messages took.stands in
-      let is : turns_of_run new ≡ turns_at old.unread.limits.bytes s =
-      acts.turns t tape start from took ∙ ap (λ (l : Limits). turns_at l.bytes s) (sym limits) in
-      let behind : turns_of_run new < turns_of_run old = subst (λ (n : ℕ). n < turns_of_run old) (sym is) few in
+      let is : turns_at old.limits.bytes s ≡ turns_at old.unread.limits.bytes s = ap (λ (l : Limits). turns_at l.bytes s) (sym limits) in
+      let behind : turns_of_run new < turns_of_run old = omega (arith, acts.turns t tape start from took, is, few) in
       omega (arith, less, behind)
   fewer_behind doing line new now after (Err status) less fewer limits acts t tape start from took = tt
 
@@ -211,13 +204,13 @@ module _ {gave gives : Tape → Type 0} {left : PageUnread} (old : Coded) (faile
         (let behind = turns_of_run-fewer old (moved old left) (omega (arith, falls_front old call tt)) refl in omega (arith, less, behind)),
       ))
 
-  -- the end of a body that a line called
-  pub front_return : Takes gave gives old.unread left ShowsReturn
-      → FrontTurn gave gives noted notes old (returned old left) (seen failed out err) (seen failures out err) (Ok tt)
-  front_return call =
-      turned (leaves_front old call) _ noted notes (returned old left) (seen failed out err) (seen failures out err) (Ok tt) refl (λ t tape start may at goes. (
-        return_passed (leaves_front old call) failed failures out err more t tape start may at (goes ∙ shown_front old call at.limits tape may at.history at.messages),
-        (let behind = turns_of_run-fewer old (returned old left) (omega (arith, falls_front old call tt, begun-behind_return old.formatter.reader.reading)) refl in
+  -- the end of a body
+  pub front_return : (back : ℕ) → Takes gave gives old.unread left (ShowsReturn back)
+      → FrontTurn gave gives noted notes old (returned back old left) (seen failed out err) (seen failures out err) (Ok tt)
+  front_return back call =
+      turned (leaves_front old call) _ noted notes (returned back old left) (seen failed out err) (seen failures out err) (Ok tt) refl (λ t tape start may at goes. (
+        return_passed (leaves_front old call) failed failures out err more t tape start may at back (goes ∙ shown_front old call at.limits tape may at.history at.messages),
+        (let behind = turns_of_run-fewer old (returned back old left) (omega (arith, falls_front old call tt, begun-behind_return back old.formatter.reader.reading)) refl in
             omega (arith, less, behind)),
       ))
 

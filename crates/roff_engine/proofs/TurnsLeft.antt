@@ -6,14 +6,15 @@ use Rattle.roff_escape.specs.OpenEscape.{OpenEscape}
 use Rattle.roff_source.specs.Tape.{Tape}
 use Rattle.roff_engine.specs.declared.running.Running.{Running as Coded}
 use Rattle.roff_engine.specs.Running.Turning.{input_ends, line_turns, lines_left_in, state_at, turns_at, turns_left, turns_of_run}
-use Rattle.roff_laws.proofs.Endings.{left_behind, lines_left-few}
+use Rattle.roff_run.specs.TurnsToCome.{most_left}
+use Rattle.roff_run.proofs.LinesLeft.{left_behind, left-few}
 use Rattle.roff_requests.specs.Environments.Standing.{StandFor}
 use Rattle.roff_requests.specs.declared.environments.Environments.{Environments as EnvironmentsOf}
 use Rattle.roff_run.specs.Environments.{PageHistory, interrupted_line, line_left, environments, text_of}
 use Rattle.roff_lines.specs.Events.{is_interrupted}
 use Rattle.roff_run.specs.Reading.Ends.{is_unfinished}
 use Rattle.roff_run.specs.Run.{State, closing_events, escape_ends, input_ended, known, phase_ended}
-use Rattle.roff_run.specs.TurnsToCome.{begun, behind_all, lines_left, phases_left, turns_within, unended}
+use Rattle.roff_run.specs.TurnsToCome.{begun, lines_left, phases_left, turns_within, unended}
 use Rattle.roff_run.specs.declared.line_state.LineState.{LineState}
 use Rattle.roff_run.specs.declared.line_state.LineState.TheVariants.{LineStart, Branch, Braced, Text as InText, Control, Name, Arguments as InArguments, Deciding, StringName, StringText, Skipping, Dropped, Telling, Told, Exiting, Calling, Defining}
 use Rattle.roff_run.specs.declared.line_state.TextLine.{TextLine}
@@ -74,6 +75,26 @@ line_turns-least (Telling aborts is_front) left = omega arith
 line_turns-least (Told aborts) left = omega arith
 line_turns-least Exiting left = omega arith
 
+-- where fewer lines are left, no more
+pub line_turns-more : (reading : LineState) (left more : ℕ) → left ≤ more → line_turns reading left ≤ line_turns reading more
+line_turns-more LineStart left more few = few
+line_turns-more Branch left more few = omega arith
+line_turns-more Braced left more few = few
+line_turns-more (InText line) left more few = omega arith
+line_turns-more (Control breaks) left more few = omega arith
+line_turns-more (Name breaks first) left more few = omega arith
+line_turns-more (InArguments breaks request) left more few = omega arith
+line_turns-more (Deciding keeping) left more few = omega arith
+line_turns-more (StringName appends) left more few = omega arith
+line_turns-more (StringText name appends is_front) left more few = omega arith
+line_turns-more (Calling name) left more few = omega arith
+line_turns-more (Defining name appends end matched) left more few = omega arith
+line_turns-more (Skipping opened closed behind) left more few = omega arith
+line_turns-more Dropped left more few = omega arith
+line_turns-more (Telling aborts is_front) left more few = omega arith
+line_turns-more (Told aborts) left more few = omega arith
+line_turns-more Exiting left more few = omega arith
+
 -- less than a turn counts
 pub line_turns-less : (reading : LineState) (left : ℕ) → left ≤ 1 → line_turns reading left ≤ 3
 line_turns-less reading left few = omega (arith, line_turns-few reading left few, unended-few reading)
@@ -97,8 +118,8 @@ turns_at-run tape run h messages l stood =
 pub turns_at-fewer : (bytes : ℕ) (run : Coded) (s : State) → turns_within bytes s.input + begun s.reading < turns_left run → s.phase ≡ run.phase
     → turns_at bytes s < turns_of_run run
 turns_at-fewer bytes run s fewer same =
-    let left : ℕ = lines_left (interrupted_line (behind_all s.to_do s.history)) in
-    let few : line_turns s.reading left ≤ 3 = line_turns-less s.reading left (lines_left-few (interrupted_line (behind_all s.to_do s.history))) in
+    let left : ℕ = most_left s.to_do (lines_left (interrupted_line s.history)) in
+    let few : line_turns s.reading left ≤ 3 = line_turns-less s.reading left (left-few s.to_do s.history) in
     let phases : phases_left s.phase ≡ phases_left run.phase = ap phases_left same in
     omega (arith, fewer, few, phases)
 
@@ -129,9 +150,9 @@ line_ends-fewer bytes s reading (Within same fewer) none unfinished =
     let keeps = Keeps-end_taking (known s) reading s.input in
     let from : State = record s { reading = reading } in
     let behind : State = input_ended true from in
-    let left : ℕ = lines_left (interrupted_line (behind_all behind.to_do s.history)) in
-    let few = line_turns-few behind.reading left (lines_left-few (interrupted_line (behind_all behind.to_do s.history))) in
-    let least = line_turns-least reading (lines_left (interrupted_line (behind_all s.to_do s.history))) in
+    let left : ℕ = most_left behind.to_do (lines_left (interrupted_line s.history)) in
+    let few = line_turns-few behind.reading left (left-few behind.to_do s.history) in
+    let least = line_turns-least reading (most_left s.to_do (lines_left (interrupted_line s.history))) in
     omega (arith, fewer, few, least, keeps.charge, keeps.free)
 
 -- a phase ends that isn't the last
@@ -139,11 +160,11 @@ phase_ends-fewer : (bytes : ℕ) (phase : Phase) (s : State) → s.phase ≡ pha
 phase_ends-fewer bytes Reading s is others =
     let keeps = Keeps-last_called s.registers.last_macro s.input in
     let phases : phases_left s.phase ≡ 5 = ap phases_left is in
-    let few = lines_left-few (interrupted_line (behind_all s.to_do s.history)) in
+    let few = left-few s.to_do s.history in
     omega (arith, few, keeps.charge, keeps.free, keeps.escapes, phases)
 phase_ends-fewer bytes LastMacro s is others =
     let phases : phases_left s.phase ≡ 3 = ap phases_left is in
-    let few = lines_left-few (interrupted_line (behind_all (closing_events ++ s.to_do) s.history)) in
+    let few = left-few (closing_events ++ s.to_do) s.history in
     omega (arith, few, phases)
 phase_ends-fewer bytes Closing s is others = absurd (others refl)
 
@@ -158,8 +179,8 @@ pub escape_ends-fewer : (bytes : ℕ) (s : State) → 1 ≤ length s.input.escap
 escape_ends-fewer bytes s some =
     let fewer = turns_within-escape_ended bytes (known s) s.reading s.input some in
     let behind : State = escape_ends s in
-    let left : ℕ = lines_left (interrupted_line (behind_all behind.to_do s.history)) in
-    let few : line_turns behind.reading left ≤ 3 = line_turns-less behind.reading left (lines_left-few (interrupted_line (behind_all behind.to_do s.history))) in
+    let left : ℕ = most_left behind.to_do (lines_left (interrupted_line s.history)) in
+    let few : line_turns behind.reading left ≤ 3 = line_turns-less behind.reading left (left-few behind.to_do s.history) in
     omega (arith, fewer, few)
 
 -- the end of the input is met where the run goes on: fewer turns are to come

@@ -1,6 +1,6 @@
 -- A turn in which what is half read waits for a byte: what is seen, and what is done with it.
 use Rattle.roff_escape.specs.OpenEscape.{OpenEscape}
-use Rattle.std.proofs.Common.{◌≡◌, ℕ, ◌<◌, ◌≤◌, Bool, true, false, List, ◌++◌, length, Option, Some, None, Result, Err, inr, refl, sym, ap, subst, ◌∙◌, arith, append_assoc, ◌∷◌, []}
+use Rattle.std.proofs.Common.{◌≡◌, ℕ, ◌<◌, ◌≤◌, Bool, true, false, List, ◌++◌, length, Option, Some, None, Result, Err, refl, sym, ap, subst, ◌∙◌, arith, append_assoc, ◌∷◌, []}
 use Rattle.std.specs.Prelude.{IsOkUnless, if◌then◌else◌}
 use Rattle.roff_num.specs.declared.limit.Limit.{Limit}
 use Rattle.roff_num.specs.declared.limits.Limits.{Limits}
@@ -33,7 +33,7 @@ use Rattle.roff_engine.specs.Running.Turning.{DoesItem, IsAt, StepDoes, TurnsBy,
 use Rattle.roff_sinks.specs.Sinks.{Sunk, Puts}
 use Rattle.roff_engine.proofs.Calls.{EndsThere, EndsThere-looks, Leaves, Leaves-looks, Leaves-deciding}
 use Rattle.roff_engine.proofs.Items.{looked_at, moved, note_told, source_failed, source_stopped}
-use Rattle.roff_engine.proofs.Turns.{LeavesFewer, acted, asks_or_given, falls_front, leaves_fewer, leaves_front, on_ok, on_ok-then, shown_front, turned, turns_of}
+use Rattle.roff_engine.proofs.Turns.{LeavesFewer, acted, falls_front, leaves_fewer, leaves_front, on_ok, on_ok-then, shown_front, turned, turns_of}
 use Rattle.roff_run.proofs.InFront.{Given, WasAsked, WasNot, Given-asked, IsNoNote, Looks-looking, items_asked, over_unread, over_unread-looking, front_step, seen as seen_step, sighted_step}
 use Rattle.roff_run.proofs.TurnsToCome.{turns_within-byte, turns_within-escape_ended}
 use Rattle.roff_run.proofs.Waiting.{ended-deciding, length-is_ended_by, undecided}
@@ -171,7 +171,6 @@ turn_as does other noted notes old new now behind r same turn = record {
   limits = turn.limits;
   taken = turn.taken;
   before = turn.before;
-  some = turn.some;
   turns = λ t tape start may at goes. turn.turns t tape start may at (goes ∙ same (items_then turn.taken tape) at.history at.messages);
   falls = λ t tape start may at goes. turn.falls t tape start may at (goes ∙ same (items_then turn.taken tape) at.history at.messages);
 }
@@ -243,7 +242,6 @@ module _ {gave mid gives : Tape → Type 0} {left : PageUnread} {sight : Sighted
     limits = turn.limits;
     taken = both;
     before = λ tape may. subst gave (sym (items_then-append (taken old call) turn.taken tape)) ((leaves_look old call).before (items_then turn.taken tape) (turn.before tape may));
-    some = λ known. turn.some (inr ((leaves_look old call).some (asks_or_given old gave known)));
     turns = λ t tape start may at goes.
         let behind = stands_behind t tape start may (at, goes) in turn.turns t tape start may behind.0 behind.1;
     falls = λ t tape start may at goes.
@@ -290,8 +288,8 @@ awaited_byte l limits i s b goes_on (FreeAhead c ∷ items) looked a tape behind
     front_seen-taken l b c from goes_on (ShowsByte c) refl (shows_byte _ _ _ _ _ b shows)
 awaited_byte l limits i s b goes_on (EndAhead ∷ items) looked a tape behind given shows =
     let wrong : ShowsEnd ≡ ShowsByte b = shows_byte _ _ _ _ _ b shows in cc
-awaited_byte l limits i s b goes_on (ReturnAhead ∷ items) looked a tape behind given shows =
-    let wrong : ShowsReturn ≡ ShowsByte b = shows_byte _ _ _ _ _ b shows in cc
+awaited_byte l limits i s b goes_on (ReturnAhead back ∷ items) looked a tape behind given shows =
+    let wrong : ShowsReturn back ≡ ShowsByte b = shows_byte _ _ _ _ _ b shows in cc
 awaited_byte l limits i s b goes_on (DoAhead event ∷ items) looked a tape behind given shows =
     let wrong : ShowsDo event ≡ ShowsByte b = shows_byte _ _ _ _ _ b shows in cc
 

@@ -1,11 +1,11 @@
 -- A whole run of the code, turn by turn: each turn is a step of the definition.
-use Rattle.std.proofs.Common.{◌≡◌, ℕ, ◌<◌, false, List, [], ◌++◌, Option, Some, None, Result, Ok, Err, inl, inr, refl, sym, ap, subst, ◌∙◌, arith}
-use Rattle.std.specs.Prelude.{nat_lt}
+use Rattle.std.proofs.Common.{◌≡◌, ℕ, ◌<◌, true, false, List, [], ◌++◌, Option, None, Result, Ok, Err, refl, sym, ap, subst, ◌∙◌, arith}
+use Rattle.std.specs.Prelude.{IsSome, nat_lt}
 use Rattle.std.proofs.lemmas.Bool.{le-ltb}
 use Rattle.roff_num.specs.declared.limits.Limits.{Limits}
+use Rattle.roff_source.specs.BlockRead.{SomeTape}
 use Rattle.roff_source.specs.Tape.{Tape, items_then}
 use Rattle.roff_scan.specs.Looking.{is_closed, looked_then}
-use Rattle.roff_scan.specs.Unread.{asks_to_take}
 use Rattle.roff_run.specs.declared.status.Status.{Status}
 use Rattle.roff_requests.specs.Environments.Standing.{StandFor}
 use Rattle.roff_run.specs.Output.{PageHistory}
@@ -25,7 +25,7 @@ use Rattle.roff_run.specs.declared.line_state.Due.{Due}
 use Rattle.roff_engine.specs.declared.running.Running.{Running as Coded}
 use Rattle.roff_engine.specs.Engine.Outcome.{Seen, Outcome, Runs, seen}
 use Rattle.roff_engine.specs.Formatter.Performing.{going}
-use Rattle.roff_engine.specs.Running.Turning.{AsksFirst, HasCome, HasTape, IsAt, IsFresh, DoesDue, TurnsBy, state_at, turns_with}
+use Rattle.roff_engine.specs.Running.Turning.{HasCome, IsAt, IsFresh, DoesDue, TurnsBy, state_at, turns_with}
 use Rattle.roff_engine.specs.Running.Starting.{Begins, HasRoom}
 use Rattle.roff_sinks.proofs.Appending.{Appends-nothing}
 use Rattle.roff_engine.proofs.Waiting.{items_then-append}
@@ -39,7 +39,6 @@ step_turn does gave gives noted notes old new now behind r is turn = record {
   limits = turn.limits;
   taken = turn.taken;
   before = turn.before;
-  some = turn.some;
   turns = λ t tape start may at goes. turn.turns t tape start may at (is (items_then turn.taken tape) at.history at.messages);
   falls = λ t tape start may at goes. turn.falls t tape start may at (is (items_then turn.taken tape) at.history at.messages);
 }
@@ -80,19 +79,24 @@ blank-fresh tape run first fresh =
     ∙ ap (λ (r : ReaderState). at (first_unread l) r run.phase) fresh.reader
     ∙ ap (λ (p : Phase). at (first_unread l) (fresh_reader l.names) p) first
 
--- it asks its source first
-pub AsksFirst-fresh : (run : Coded) → IsFresh run.limits run.formatter run.unread → AsksFirst run.unread
-AsksFirst-fresh run fresh = (ap (λ (u : PageUnread). u.input.escapes) fresh.unread, ap (λ (u : PageUnread). asks_to_take u) fresh.unread)
-
-pub HasTape-fresh : (run : Coded) (gives : Tape → Type 0) → IsFresh run.limits run.formatter run.unread → HasTape run gives
-HasTape-fresh run gives fresh = inl (AsksFirst-fresh run fresh, ap (λ (r : ReaderState). due r.reading) fresh.reader)
-
 -- the definition begins as a run of the code that stands at its blank state
 pub initial-fresh : (run : Coded) (given : Start) → run.phase ≡ Reading → IsFresh run.limits run.formatter run.unread
     → (tape : Tape) → initial run.limits given tape ≡ with_registers run.limits given.registers.items (state_at tape run [] [])
 initial-fresh run given first fresh tape = ap (with_registers run.limits given.registers.items) (sym (blank-fresh tape run first fresh))
 
--- registers were given to a run, and it has come to its first turn
+-- registers were given to a run: it stands where the definition begins
+begun : (old new : Coded) (given : Start) → old.phase ≡ Reading → IsFresh old.limits old.formatter old.unread → Begins old new given.registers.items
+    → (tape : Tape) → initial old.limits given tape ≡ state_at tape new [] []
+begun old new given first fresh begins tape = initial-fresh old given first fresh tape ∙ begins.goes_on (HasRoom-fresh old fresh) tape
+
+-- so no limit refused one of them
+pub not_refused : (old new : Coded) (given : Start) → old.phase ≡ Reading → IsFresh old.limits old.formatter old.unread → Begins old new given.registers.items
+    → (tape : Tape) → IsSome (initial old.limits given tape).ended → ⊥
+not_refused old new given first fresh begins tape refused =
+    let wrong : false ≡ true = subst (λ (s : State). IsSome s.ended) (begun old new given first fresh begins tape) refused in
+    cc
+
+-- and it has come to its first turn
 pub started : (old new : Coded) (given : Start) (failures : ℕ) (out err : Sunk) (gives : Tape → Type 0) → old.phase ≡ Reading
     → StandFor old.limits [] old.formatter.environments → IsFresh old.limits old.formatter old.unread
     → Begins old new given.registers.items → HasCome given gives gives (seen failures out err) (seen failures out err) new
@@ -104,9 +108,8 @@ started old new given failures out err gives first stands fresh begins =
     record {
       taken = [];
       before = λ tape may. may;
-      some = subst (λ (run : Coded). HasTape run gives) (sym begins.some.sets) (HasTape-fresh old gives fresh);
       at = λ tape may.
-          let is : initial old.limits given tape ≡ state_at tape new [] [] = initial-fresh old given first fresh tape ∙ begins.goes_on had tape in
+          let is : initial old.limits given tape ≡ state_at tape new [] [] = begun old new given first fresh begins tape in
           record {
             history = [];
             messages = [];
@@ -124,6 +127,15 @@ started old new given failures out err gives first stands fresh begins =
           };
     }
 
+-- a run that has ended before its first turn, whatever its source would give, left all of that
+pub ends_unread : (l : Limits) (given : Start) (status : Status) (gives : Tape → Type 0) (now behind : Seen) → SomeTape gives
+    → ((tape : Tape) → Outcome l given tape tape status now behind) → Runs l given status gives gives now behind
+ends_unread l given status gives now behind may ends = record {
+  taken = [];
+  took = record { before = λ t given. given; some = may.tape; some_given = may.given };
+  outcome = λ left given. ends left;
+}
+
 -- behind another turn
 module _ {given : Start} {first old new : Tape → Type 0} (noted notes : ℕ) (start now behind : Seen) (run run_behind : Coded) (come : HasCome given first old start now run) where
   -- it goes on
@@ -131,7 +143,6 @@ module _ {given : Start} {first old new : Tape → Type 0} (noted notes : ℕ) (
   goes_on turn = record {
     taken = come.taken ++ turn.taken;
     before = λ t may. subst first (sym (items_then-append come.taken turn.taken t)) (come.before (items_then turn.taken t) (turn.before t may));
-    some = inr (turn.some come.some);
     at = λ t may.
         let tape : Tape = items_then turn.taken t in
         subst (λ (whole : Tape). IsAt (record { start = given; tape = whole }) t start behind run_behind) (sym (items_then-append come.taken turn.taken t))
@@ -139,53 +150,30 @@ module _ {given : Start} {first old new : Tape → Type 0} (noted notes : ℕ) (
   }
 
   -- and fewer turns are to come
-  pub fewer_to_come : TurnsBy (step run.limits) old new noted notes run run_behind now behind (Ok tt)
+  pub fewer_to_come : SomeTape new → TurnsBy (step run.limits) old new noted notes run run_behind now behind (Ok tt)
       → turns_with run_behind notes < turns_with run noted
-  fewer_to_come turn =
-      let some = turn.some come.some in
-      let tape : Tape = items_then turn.taken some.0 in
-      turn.falls (record { start = given; tape = items_then come.taken tape }) some.0 start some.1 (come.at tape (turn.before some.0 some.1)) refl
+  fewer_to_come may turn =
+      let tape : Tape = items_then turn.taken may.tape in
+      turn.falls (record { start = given; tape = items_then come.taken tape }) may.tape start may.given (come.at tape (turn.before may.tape may.given)) refl
 
   -- or it has ended
-  pub has_ended : (l : Limits) (status : Status) → run.limits ≡ l → TurnsBy (step run.limits) old new noted notes run run_behind now behind (Err status)
+  pub has_ended : (l : Limits) (status : Status) → run.limits ≡ l → SomeTape new → TurnsBy (step run.limits) old new noted notes run run_behind now behind (Err status)
       → Runs l given status first new start behind
-  has_ended l status limits turn =
-      let some = turn.some come.some in record {
-        taken = come.taken ++ turn.taken;
-        took = record {
-          before = λ t may. subst first (sym (items_then-append come.taken turn.taken t)) (come.before (items_then turn.taken t) (turn.before t may));
-          some = some.0;
-          some_given = some.1;
-        };
-        outcome = λ t may.
-            let tape : Tape = items_then turn.taken t in
-            let whole : Tape = items_then come.taken tape in
-            let own : Outcome run_behind.limits given whole t status start behind =
-            turn.turns (record { start = given; tape = whole }) t start may (come.at tape (turn.before t may)) refl in
-            subst (λ (whole : Tape). Outcome l given whole t status start behind) (sym (items_then-append come.taken turn.taken t))
-            (subst (λ (k : Limits). Outcome k given whole t status start behind) (turn.limits ∙ limits) own);
-      }
-
--- where something is due there is a tape, if the run asks its source next or there is one
-tape_where_due : (run : Coded) (gives : Tape → Type 0) (what : Due) → due run.formatter.reader.reading ≡ Some what → HasTape run gives → (tape : Tape) × gives tape
-tape_where_due run gives what is (inl first) = let wrong : None ≡ Some what = sym first.1 ∙ is in absurd (cc)
-tape_where_due run gives what is (inr given) = given
-
--- where nothing was due the run stays
-due_done_tape : (run run_behind : Coded) (gives : Tape → Type 0) (what : Option Due) → due run.formatter.reader.reading ≡ what
-    → (due run.formatter.reader.reading ≡ None → run_behind ≡ run) → HasTape run gives → HasTape run_behind gives
-due_done_tape run run_behind gives None is idle has = subst (λ (r : Coded). HasTape r gives) (sym (idle is)) has
-due_done_tape run run_behind gives (Some what) is idle has = inr (tape_where_due run gives what is has)
-
--- a run that has ended doesn't go on
-ends_or_goes_on : (r : Result (Unit {0}) Status) (status : Status) → r ≡ Err status → r ≡ Ok tt → ⊥
-ends_or_goes_on r status ends goes = cc
-
--- a run that ended did what was due
-ended_tape : (run : Coded) (gives : Tape → Type 0) (status : Status) (r : Result (Unit {0}) Status) (what : Option Due) → r ≡ Err status
-    → due run.formatter.reader.reading ≡ what → (due run.formatter.reader.reading ≡ None → r ≡ Ok tt) → HasTape run gives → (tape : Tape) × gives tape
-ended_tape run gives status r None ends is idle has = absurd (ends_or_goes_on r status ends (idle is))
-ended_tape run gives status r (Some what) ends is idle has = tape_where_due run gives what is has
+  has_ended l status limits may turn = record {
+    taken = come.taken ++ turn.taken;
+    took = record {
+      before = λ t given. subst first (sym (items_then-append come.taken turn.taken t)) (come.before (items_then turn.taken t) (turn.before t given));
+      some = may.tape;
+      some_given = may.given;
+    };
+    outcome = λ t may.
+        let tape : Tape = items_then turn.taken t in
+        let whole : Tape = items_then come.taken tape in
+        let own : Outcome run_behind.limits given whole t status start behind =
+        turn.turns (record { start = given; tape = whole }) t start may (come.at tape (turn.before t may)) refl in
+        subst (λ (whole : Tape). Outcome l given whole t status start behind) (sym (items_then-append come.taken turn.taken t))
+        (subst (λ (k : Limits). Outcome k given whole t status start behind) (turn.limits ∙ limits) own);
+  }
 
 -- behind what is due
 module _ {given : Start} {first gives : Tape → Type 0} (start now behind : Seen) (run run_behind : Coded) (come : HasCome given first gives start now run) where
@@ -194,18 +182,16 @@ module _ {given : Start} {first gives : Tape → Type 0} (start now behind : See
   due_done does_due = record {
     taken = come.taken;
     before = come.before;
-    some = due_done_tape run run_behind gives (due run.formatter.reader.reading) refl (λ none. (does_due.idle none).1) come.some;
     at = λ t may. does_due.does_due (record { start = given; tape = items_then come.taken t }) t start (come.at t may);
   }
 
   -- or it has ended
-  pub due_done_end : (l : Limits) (status : Status) → run.limits ≡ l → DoesDue run run_behind now behind (Err status) → Runs l given status first gives start behind
-  due_done_end l status limits does_due =
-      let some = ended_tape run gives status (Err status) (due run.formatter.reader.reading) refl refl (λ none. (does_due.idle none).0) come.some in record {
-        taken = come.taken;
-        took = record { before = come.before; some = some.0; some_given = some.1 };
-        outcome = λ t may.
-            let whole : Tape = items_then come.taken t in
-            subst (λ (k : Limits). Outcome k given whole t status start behind) (does_due.limits ∙ limits)
-            (does_due.does_due (record { start = given; tape = whole }) t start (come.at t may));
-      }
+  pub due_done_end : (l : Limits) (status : Status) → run.limits ≡ l → SomeTape gives → DoesDue run run_behind now behind (Err status) → Runs l given status first gives start behind
+  due_done_end l status limits may does_due = record {
+    taken = come.taken;
+    took = record { before = come.before; some = may.tape; some_given = may.given };
+    outcome = λ t may.
+        let whole : Tape = items_then come.taken t in
+        subst (λ (k : Limits). Outcome k given whole t status start behind) (does_due.limits ∙ limits)
+        (does_due.does_due (record { start = given; tape = whole }) t start (come.at t may));
+  }

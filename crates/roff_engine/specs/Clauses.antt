@@ -1,12 +1,13 @@
 -- The words of the clauses in `src/`, each with the file that it stands in.
 pub use Rattle.roff_engine.specs.Engine.Outcome.{Beginning, Outcome, OutcomeOf, Seen, seen, Runs}
-pub use Rattle.roff_engine.specs.Formatter.Performing.{DoesMeaning, DoesTaking, PerformsEvents, PerformsOnly, sinks}
+pub use Rattle.roff_engine.specs.Formatter.Performing.{DoesMeaning, DoesTaking, EndsOpenWord, EndsWordFirst, PerformsAll, PerformsEvents, PerformsOne, PerformsOnly, sinks}
+pub use Rattle.roff_engine.specs.Formatter.Sprung.{none_sprung, quiet_events}
 pub use Rattle.roff_run.specs.Messages.{message_line, message_lines, text_told, told_line}
 pub use Rattle.roff_run.specs.Output.{finished_bytes}
 pub use Rattle.roff_run.specs.Run.{closing_events}
 pub use Rattle.roff_reader.specs.Reader.State.{fresh_reader}
 pub use Rattle.roff_run.specs.Reading.{escape_ended, interrupted, taking}
-pub use Rattle.roff_run.specs.Reading.Calls.{behind_return}
+pub use Rattle.roff_run.specs.Reading.Returns.{behind_return}
 pub use Rattle.roff_run.specs.Reading.Ends.{due, end_taking}
 pub use Rattle.roff_run.specs.Reading.Waiting.{waiting_in}
 pub use Rattle.roff_run.specs.declared.line_state.Due.TheVariants.{Tells}

@@ -1,3 +1,4 @@
 -- What the code of the formatter does, as the definition has it.
+pub mod Sprung
 pub mod Performing
 pub mod Telling

@@ -1,3 +1,4 @@
 -- A run of the code under way.
 pub mod Turning
 pub mod Starting
+pub mod Springing

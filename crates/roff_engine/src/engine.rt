@@ -1,7 +1,8 @@
 //! The engine: a whole run, from a source to its sinks.
 
-ghost use Rattle.std.specs.Prelude.{◌≡◌, [], IfOk};
-ghost use Rattle.roff_engine.specs.Clauses.{StandFor, Limits, Runs, seen, IsFresh};
+ghost use Rattle.std.specs.Prelude.{◌≡◌, [], IfOk, IsSome};
+ghost use Rattle.roff_engine.specs.Clauses.{StandFor, Limits, Runs, Tape, seen, IsFresh};
+ghost use Rattle.roff_run.specs.Run.{initial};
 
 use crate::formatter::Formatter;
 use crate::running::Running;
@@ -61,9 +62,12 @@ impl Engine {
     ) -> Status
         // The source gave items. Whatever it may still give, the run over these items and then that
         // is the definition's: it ended so, or a sink failed in one of its steps.
-        ensures { Runs self.limits self.start result (S.gives source.old) (S.gives source.new)
+        ensures runs { Runs self.limits self.start result (S.gives source.old) (S.gives source.new)
             (seen (S.failures source.old) (O.sunk out.old) (E.sunk err.old))
             (seen (S.failures source.new) (O.sunk out.new) (E.sunk err.new)) }
+        // Where a limit refuses what is given to the run, nothing is read.
+        ensures unread { (tape : Tape) → IsSome (initial self.limits self.start tape).ended
+            → source.new ≡ source.old }
     {
         let Engine {
             limits,
@@ -77,7 +81,7 @@ impl Engine {
             formatter,
             unread,
         };
-        if let Err(status) = running.begin(&start, source, err) {
+        if let Err(status) = running.begin(&start, err) {
             return status;
         }
         loop {

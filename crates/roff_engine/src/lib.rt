@@ -8,6 +8,7 @@ mod halt;
 pub mod laws;
 mod report;
 mod running;
+mod sprung;
 
 pub use engine::Engine;
 pub use roff_run::{Start, Status, TooManyRegisters};

@@ -11,10 +11,12 @@ mod ending;
 mod fronts;
 mod passing;
 mod settling;
+mod springing;
 mod starting;
 
 use crate::formatter::Formatter;
 use crate::halt::Halt;
+use crate::sprung::Sprung;
 use roff_num::Limits;
 use roff_run::{PageEvent, Phase, Status};
 use roff_scan::{ByteSource, Item, Note, Sight, Unread, Waiting};
@@ -231,8 +233,8 @@ impl Running {
         match self.unread.take(source) {
             Item::Byte(byte) => self.take(byte, line, out, err),
             Item::End => Ok(()),
-            Item::Return => {
-                self.formatter.reader.end_call();
+            Item::Return(back) => {
+                self.formatter.reader.end_call(back);
                 Ok(())
             }
             Item::Do(event) => self.perform(event, line, out, err),
@@ -259,7 +261,7 @@ impl Running {
     {
         let line = self.unread.line();
         match self.formatter.take(byte, &mut self.unread, out, err) {
-            Ok(()) => Ok(()),
+            Ok(sprung) => self.go_on(sprung, err),
             Err(halt) => Err(self.halted(halt, line_before, line, err)),
         }
     }
@@ -279,7 +281,7 @@ impl Running {
         let line = self.unread.line();
         self.formatter.reader.interrupt(&mut self.unread);
         match self.formatter.perform_event(event, out) {
-            Ok(()) => Ok(()),
+            Ok(name) => self.go_on(Sprung::last(name), err),
             Err(halt) => Err(self.halted(halt, line_before, line, err)),
         }
     }

@@ -3,7 +3,7 @@
 ghost use Rattle.std.specs.Prelude.{◌≡◌, ℕ, [], IfOk};
 ghost use Rattle.roff_lines.specs.Clauses.{Count, Interrupt, Resume, Set, History, settings_after};
 ghost use Rattle.roff_lines.specs.Clauses.{last_width, input_place, is_interrupted};
-ghost use Rattle.roff_lines.specs.Clauses.{has_line_glyph};
+ghost use Rattle.roff_lines.specs.Clauses.{has_line_glyph, has_open_word};
 
 mod finishing;
 mod text;
@@ -119,6 +119,15 @@ impl Env {
             → Stands line_cap h self.now → result ≡ has_line_glyph h }
     {
         self.has_glyph
+    }
+
+    /// Whether a word is open.
+    pub fn has_open_word(&self) -> bool
+        ensures kept { result ≡ self.now.is_open }
+        ensures open { (line_cap : ℕ) (h : History)
+            → Stands line_cap h self.now → result ≡ has_open_word h }
+    {
+        self.is_open
     }
 
     /// Whether the next text line goes on with the last one, which was interrupted.

@@ -22,7 +22,8 @@ use Rattle.roff_run.specs.declared.step.Step.TheVariants.{Nothing}
 use Rattle.roff_run.specs.declared.line_state.LineState.TheVariants.{Calling}
 use Rattle.roff_num.specs.declared.short_name.ShortName.{ShortName}
 use Rattle.roff_reader.proofs.Strings.{other}
-use Rattle.roff_reader.proofs.TakesAs.{TakesAs-as, TakesAs-changed, TakesAs-meant, TakesAs-not_changed, TakesAs-settled}
+use Rattle.roff_reader.proofs.TakesAs.{TakesAs-as, TakesAs-settled}
+use Rattle.roff_reader.proofs.LinesTaken.{TakesAs-changed, TakesAs-meant, TakesAs-not_changed}
 
 -- behind the name of a body anything but a unit is no byte of an argument
 pub call_found-no_unit : (k : Known) (i : PageInput) (name : ShortName) (found : Found) → ((unit : CopyUnit) → found ≡ OneUnit unit → ⊥)

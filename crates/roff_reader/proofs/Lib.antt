@@ -3,6 +3,7 @@ pub mod Strings
 pub mod DefinitionEnds
 pub mod EndedDefinitions
 pub mod TakesAs
+pub mod LinesTaken
 pub mod Placed
 pub mod Obeying
 pub mod Deciding
@@ -26,3 +27,4 @@ pub mod TakenRuns
 pub mod ControlFronts
 pub mod LineEnds
 pub mod WaitingAlone
+pub mod FewBehind

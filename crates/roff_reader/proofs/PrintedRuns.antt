@@ -28,7 +28,9 @@ use Rattle.roff_run.specs.Reading.Items.{PageInput, Taking, meaning_events}
 use Rattle.roff_run.specs.Registers.{AllRegisters}
 use Rattle.roff_run.specs.declared.event.PageEvent.{PageEvent}
 use Rattle.roff_run.specs.declared.event.PageEvent.TheVariants.{Text}
-use Rattle.roff_run.specs.Run.{State, Leads, byte_taken, known_at, made, step, taken_as, unless_refused}
+use Rattle.roff_run.specs.Run.{State, Leads, byte_taken, known_at, made, performed, performing, sprung_at, step, taken_as, unless_refused}
+use Rattle.roff_run.specs.Springs.{next, springs}
+use Rattle.roff_num.specs.declared.short_name.ShortName.{ShortName}
 use Rattle.roff_run.specs.Run.Counts.{counts_in, first_passed, refusal}
 use Rattle.roff_run.specs.TurnsToCome.{turns_within}
 use Rattle.roff_run.specs.Telling.{Prints, byte_events, byte_told, page_told}
@@ -89,6 +91,7 @@ module _ (l : Limits) (reading : LineState) (rs : AllRegisters) (messages : List
     reading = reading;
     registers = rs;
     to_do = to_do;
+    sprung = None;
     history = h;
     messages = messages;
     phase = phase;
@@ -97,11 +100,14 @@ module _ (l : Limits) (reading : LineState) (rs : AllRegisters) (messages : List
     last_message = [];
   }
 
-  -- a step at an event that no limit refuses
-  step-event : (tape : Tape) (input : PageInput) (h : PageHistory) (e : PageEvent) (rest : List PageEvent) → refusal l h e ≡ None
-      → step l (told_at tape input h (e ∷ rest)) ≡ told_at tape input (e ∷ h) rest
-  step-event tape input h e rest may =
-      ap (λ (r : Option Limit). unless_refused l r (told_at tape input h (e ∷ rest)) (told_at tape input (e ∷ h) rest)) may
+  -- a step at an event that no limit refuses, before which nothing comes, and which springs nothing
+  step-event : (tape : Tape) (input : PageInput) (h : PageHistory) (e : PageEvent) (rest : List PageEvent) → next h e ≡ None → springs h e ≡ None
+      → refusal l h e ≡ None → step l (told_at tape input h (e ∷ rest)) ≡ told_at tape input (e ∷ h) rest
+  step-event tape input h e rest none unsprung may =
+      let before : State = told_at tape input h (e ∷ rest) in
+      ap (λ (own : Option PageEvent). performing l own e rest before) none
+      ∙ ap (λ (r : Option Limit). unless_refused l r before (performed e rest before)) may
+      ∙ ap (λ (sprung : Option ShortName). sprung_at sprung rest (record before { history = e ∷ h })) unsprung
 
   -- the steps at the events of a byte
   leads-events : (is_blank : Bool) (b : ℕ) (tape : Tape) (input : PageInput) (h : PageHistory)
@@ -110,12 +116,12 @@ module _ (l : Limits) (reading : LineState) (rs : AllRegisters) (messages : List
       (told_at tape input (if is_blank then Text (Gap 1) ∷ Text WordEnd ∷ h else Text (Print (Printed b)) ∷ h) [])
   leads-events true b tape input h within = record {
     steps = 2;
-    there = ap (step l) (step-event tape input h (Text WordEnd) (Text (Gap 1) ∷ []) (allowed l h WordEnd within))
-        ∙ step-event tape input (Text WordEnd ∷ h) (Text (Gap 1)) [] (allowed l (Text WordEnd ∷ h) (Gap 1) within);
+    there = ap (step l) (step-event tape input h (Text WordEnd) (Text (Gap 1) ∷ []) refl refl (allowed l h WordEnd within))
+        ∙ step-event tape input (Text WordEnd ∷ h) (Text (Gap 1)) [] refl refl (allowed l (Text WordEnd ∷ h) (Gap 1) within);
   }
   leads-events false b tape input h within = record {
     steps = 1;
-    there = step-event tape input h (Text (Print (Printed b))) [] (allowed l h (Print (Printed b)) within);
+    there = step-event tape input h (Text (Print (Printed b))) [] refl refl (allowed l h (Print (Printed b)) within);
   }
 
   -- what a byte means is to be done
@@ -160,10 +166,10 @@ module _ (l : Limits) (reading : LineState) (rs : AllRegisters) (messages : List
   taken-from : (from : Origin) (tape : Tape) (b : ℕ) (bytes : List ℕ) (i : PageInput) (h : PageHistory) → IsOpenFor from closed → due reading ≡ None → i.escapes ≡ [] → i.charge + 1 ≤ l.bytes
       → step l (told_from from (b ∷ bytes) tape i h) ≡ made l (told_from from (b ∷ bytes) tape i h) (byte_taken b (told_from from bytes tape (behind_byte from b i) h))
   taken-from (FromAhead rest) tape b bytes i h is_open none_due none_half few =
-      byte_ahead_is_taken l (told_from (FromAhead rest) (b ∷ bytes) tape i h) b (map ByteAhead bytes ++ rest) refl refl none_due refl (ap (λ (half : List OpenEscape). is_ended_by half (Some b)) none_half) (omega (arith, few))
+      byte_ahead_is_taken l (told_from (FromAhead rest) (b ∷ bytes) tape i h) b (map ByteAhead bytes ++ rest) refl refl refl none_due refl (ap (λ (half : List OpenEscape). is_ended_by half (Some b)) none_half) (omega (arith, few))
   taken-from (FromSource behind) tape b bytes i h is_open none_due none_half few =
       bytes_of_the_source_are_taken l (told_from (FromSource behind) (b ∷ bytes) tape i h) b
-      (record { going = refl; is_open = is_open; idle = refl; none_due = none_due }) refl refl (ap (λ (half : List OpenEscape). is_ended_by half (Some b)) none_half) (omega (arith, few))
+      (record { going = refl; is_open = is_open; idle = refl; unsprung = refl; none_due = none_due }) refl refl (ap (λ (half : List OpenEscape). is_ended_by half (Some b)) none_half) (omega (arith, few))
 
   -- the steps at such bytes, wherever they come from
   pub leads-told : (from : Origin) (tape : Tape) (bytes : List ℕ) (i : PageInput) (h : PageHistory) → IsOpenFor from closed → due reading ≡ None → i.escapes ≡ [] → Fits from bytes i

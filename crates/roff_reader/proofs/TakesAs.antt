@@ -1,25 +1,19 @@
 -- What the code of the reader takes, piece by piece, as the definition takes it.
-use Rattle.std.proofs.Common.{◌≡◌, ℕ, ◌≤◌, Bool, true, false, cond, List, [], ◌∷◌, ◌++◌, length, Option, Some, None, Result, Ok, Err, refl, sym, subst, ap, ◌∙◌, arith}
-use Rattle.std.specs.Option.{option_to_list}
-use Rattle.std.specs.Prelude.{nat_lt, ◌&&◌, drop, is_some, if◌then◌else◌, ◌==◌}
+use Rattle.std.proofs.Common.{◌≡◌, ℕ, ◌≤◌, Bool, true, false, cond, List, [], ◌∷◌, length, Option, Some, None, Result, Ok, Err, refl, sym, subst, ap, ◌∙◌, arith}
+use Rattle.std.specs.Prelude.{nat_lt, ◌&&◌, drop, is_some, if◌then◌else◌}
 use Rattle.roff_num.specs.declared.limits.Limits.{Limits}
-use Rattle.roff_run.specs.Environments.{interrupted_line}
-use Rattle.roff_run.specs.Events.Lines.{line_events}
 use Rattle.roff_run.specs.Events.Steps.{events_of, messages_of}
 use Rattle.roff_requests.specs.Environments.Standing.{StandFor}
 use Rattle.roff_requests.specs.declared.environments.Environments.{Environments as EnvironmentsOf}
 use Rattle.roff_num.specs.declared.limit.Limit.{Limit}
 use Rattle.roff_num.specs.declared.limit.Limit.TheVariants.{Names}
 use Rattle.roff_num.specs.Ranges.{is_in_range}
-use Rattle.roff_source.specs.Bytes.{blank, is_dropped, newline}
 use Rattle.roff_escape.specs.OpenEscape.{OpenEscape, texts_held}
 use Rattle.roff_escape.specs.OpenEscapes.{Reads, byte_read, reading_ended}
 use Rattle.roff_ahead.specs.Input.{choosing, pushing, with_escapes}
 use Rattle.roff_ahead.specs.Input.Calls.{without_last}
-use Rattle.roff_scan.specs.Unread.{EndsDecided, changing, input_refusal, reading, unless_passed}
-use Rattle.roff_escape.specs.declared.open_escape.CopyUnit.{CopyUnit}
+use Rattle.roff_scan.specs.Unread.{changing, input_refusal, reading, unless_passed}
 use Rattle.roff_escape.specs.declared.open_escape.Found.{Found}
-use Rattle.roff_escape.specs.declared.open_escape.Found.TheVariants.{GoesOn, Unit as OneUnit, Holds, Escape, Asks, Motion, Measures, Tells, Decides}
 use Rattle.roff_escape.specs.declared.open_escape.Surroundings.{Surroundings}
 use Rattle.roff_escape.proofs.TextsHeld.{texts_held-byte_read, texts_held-reading_ended}
 use Rattle.roff_store.proofs.Entries.{length-with_entry}
@@ -31,41 +25,24 @@ use Rattle.roff_run.specs.Output.{PageHistory}
 use Rattle.roff_reader.specs.Reader.State.{ReaderState}
 use Rattle.roff_reader.specs.Reader.Taken.{IsReady, Takes, TakesAs, Took}
 use Rattle.roff_run.specs.Reading.Items.{PageUnread}
-use Rattle.roff_run.specs.Reading.{escape_ended, interrupted, undropped_taking, taking}
-use Rattle.roff_run.specs.Reading.Branches.{branch_of}
-use Rattle.roff_run.specs.Reading.Found.{found_in, place_in}
-use Rattle.roff_escape.specs.declared.open_escape.Decision.TheVariants.{Is}
-use Rattle.roff_escape.specs.declared.open_escape.Surroundings.TheVariants.{Arguments as AboveArguments}
-use Rattle.roff_run.specs.Reading.Arguments.{arguments_found}
-use Rattle.roff_run.specs.Reading.Beginnings.{beginning_text, escape_begun, first_escape, first_taking, going_on_told, line_begun, line_begun_as}
+use Rattle.roff_run.specs.Reading.{interrupted}
 use Rattle.roff_run.specs.Reading.ControlLines.{line_taking}
-use Rattle.roff_run.specs.Reading.Ends.{end_taking, last_line_ended}
 use Rattle.roff_run.specs.Reading.Escapes.{interpolating}
-use Rattle.roff_run.specs.Reading.Items.{PageInput, Taking, behind_events, going_on}
-use Rattle.roff_run.specs.Reading.Messages.{message_found}
-use Rattle.roff_run.specs.Reading.Strings.{string_line_ended}
-use Rattle.roff_run.specs.Reading.Units.{no_unit_found, settling}
+use Rattle.roff_run.specs.Reading.Items.{PageInput, Taking, going_on}
+use Rattle.roff_run.specs.Reading.Units.{settling}
 use Rattle.roff_run.specs.Registers.{AllRegisters, Known, changed_by_all, is_page, is_read_only, known_behind, step_changes, step_messages, stepped_page, text_of_register}
 use Rattle.roff_run.specs.Registers.Capped.{Capped}
 use Rattle.roff_requests.specs.Registers.Coded.{known_of}
-use Rattle.roff_run.specs.declared.event.PageEvent.{PageEvent}
 use Rattle.roff_run.specs.Requests.{row_of}
 use Rattle.roff_run.specs.Run.{known_at}
 use Rattle.roff_run.specs.Run.Counts.{counts_in, first_passed}
-use Rattle.roff_run.specs.declared.message.Message.{Message}
 use Rattle.roff_run.specs.declared.step.Step.{Step}
 use Rattle.roff_run.specs.declared.step.Step.TheVariants.{Nothing}
-use Rattle.roff_run.specs.Requests.{saying}
 use Rattle.roff_reader.specs.Reader.State.{MeaningKept}
 use Rattle.roff_run.specs.declared.line_state.LineState.{LineState}
-use Rattle.roff_run.specs.declared.line_state.LineState.TheVariants.{StringName, StringText, LineStart, Branch, Braced, Text as InText, Control, Name, Arguments as InArguments, Deciding, Skipping, Dropped, Telling, Told, Exiting, Calling, Defining}
-use Rattle.roff_num.specs.declared.short_name.ShortName.{ShortName}
-use Rattle.roff_run.specs.declared.line_state.TextLine.{TextLine}
-use Rattle.roff_run.specs.declared.line_state.TextStep.{TextStep}
 use Rattle.roff_requests.specs.declared.registers.Facts.{Facts}
 use Rattle.roff_run.specs.declared.request.LineReading.{LineReading}
 use Rattle.roff_run.specs.declared.request.Request.{Request}
-use Rattle.roff_run.specs.TextLine.Stepping.{step_at}
 use Rattle.roff_reader.specs.ControlFronts.{half_begun}
 use Rattle.roff_run.proofs.InputCounts.{NoMore, NoMore-interrupted, NoMore-same, NoMore-settling, first_passed-few_names, first_passed-no_more, one_of}
 
@@ -312,90 +289,9 @@ TakesAs-interrupted es old u behind came = record {
   };
 }
 
--- This is read on, and some messages and events are meant.
-pub TakesAs-said : (t : Known → Taking) (behind : LineState) (messages : List Message) (events : List PageEvent) (es : EnvironmentsOf) (old new : ReaderState) (u : PageUnread) (m : Step)
-    → ((k : Known) → t k ≡ record { input = u.input; reading = behind; effect = saying messages events })
-    → new ≡ record old { reading = behind; meaning = new.meaning }
-    → messages_of new.meaning.message m ≡ messages → events_of new.meaning.events m ≡ events → TakesAs t es old new u u (Ok m)
-TakesAs-said t behind messages events es old new u m as_defined came says means = record {
-  takes = λ l h stands ready.
-      subst (λ (taking : Taking). Took taking old.registers new u u m) (sym (as_defined (known_at h old.registers.all u.input)))
-      (record {
-        became = record {
-          input = refl;
-          reading = ap (λ (s : ReaderState). s.reading) came;
-          registers = ap (λ (s : ReaderState). s.registers) came;
-          within = ready.within;
-        };
-        messages = says;
-        events = means;
-      });
-}
-
 -- what is kept stays where only this is read on
 pub keeps-meaning : (behind : LineState) (old new : ReaderState) → new ≡ record old { reading = behind } → new ≡ record old { reading = behind; meaning = new.meaning }
 keeps-meaning behind old new came = came ∙ ap (λ (m : MeaningKept). record old { reading = behind; meaning = m }) (sym (ap (λ (s : ReaderState). s.meaning) came))
-
--- this is read on, and nothing is meant
-pub TakesAs-meant : (t : Known → Taking) (behind : LineState) (es : EnvironmentsOf) (old new : ReaderState) (u : PageUnread) (m : Step)
-    → ((k : Known) → t k ≡ going_on u.input behind) → new ≡ record old { reading = behind } → m ≡ Nothing
-    → TakesAs t es old new u u (Ok m)
-TakesAs-meant t behind es old new u m as_defined came none =
-    TakesAs-said t behind [] [] es old new u m as_defined (keeps-meaning behind old new came)
-    (ap (messages_of new.meaning.message) none) (ap (events_of new.meaning.events) none)
-
--- a step of a text line
-pub TakesAs-stepped : (t : PageInput → Taking) (step : TextStep) (es : EnvironmentsOf) (old new : ReaderState) (u : PageUnread) (m : Step)
-    → ((i : PageInput) → step_at i step ≡ t i) → new ≡ record old { reading = step.reading; meaning = new.meaning }
-    → messages_of new.meaning.message m ≡ option_to_list step.message → events_of new.meaning.events m ≡ line_events step.events
-    → TakesAs (λ k. t u.input) es old new u u (Ok m)
-TakesAs-stepped t step es old new u m as_defined came says means =
-    TakesAs-said (λ k. t u.input) step.reading (option_to_list step.message) (line_events step.events) es old new u m
-    (λ k. sym (as_defined u.input)) came says means
-
--- the input changes, and this is read on
-pub TakesAs-changed : (i : PageInput) (place : LineState) (es : EnvironmentsOf) (old new : ReaderState) (before behind : PageUnread) (m : Step) (done : Unit {0})
-    → (Ok done, behind) ≡ changing i before → new ≡ record old { reading = place } → m ≡ Nothing
-    → TakesAs (λ k. going_on i place) es old new before behind (Ok m)
-TakesAs-changed i place es old new before behind m done changes came none = record {
-  takes = λ l h stands ready.
-      let passed = passed_none (input_refusal before.limits i) i before behind done changes in
-      record {
-        became = record {
-          input = passed.0;
-          reading = ap (λ (s : ReaderState). s.reading) came;
-          registers = ap (λ (s : ReaderState). s.registers) came;
-          within = first_passed-few_names before.limits old.registers.all i (few_names old.registers before ready) ∙ passed.1;
-        };
-        messages = ap (messages_of new.meaning.message) none;
-        events = ap (events_of new.meaning.events) none;
-      };
-}
-
--- the input changes so that no more is counted, and this is read on
-pub TakesAs-gone_on : (i : PageInput) (place : LineState) (es : EnvironmentsOf) (old new : ReaderState) (before behind : PageUnread) → NoMore i before.input
-    → behind ≡ record before { input = i } → new ≡ record old { reading = place } → TakesAs (λ k. going_on i place) es old new before behind (Ok Nothing)
-TakesAs-gone_on i place es old new before behind less is came = record {
-  takes = λ l h stands ready. record {
-    became = record {
-      input = is;
-      reading = ap (λ (s : ReaderState). s.reading) came;
-      registers = ap (λ (s : ReaderState). s.registers) came;
-      within = first_passed-no_more before.limits old.registers.all i before.input less ready.within;
-    };
-    messages = refl;
-    events = refl;
-  };
-}
-
--- or a limit refuses the change
-pub TakesAs-not_changed : (i : PageInput) (place : LineState) (es : EnvironmentsOf) (old new : ReaderState) (before behind : PageUnread) (limit : Limit)
-    → (Err limit, behind) ≡ changing i before → TakesAs (λ k. going_on i place) es old new before behind (Err limit)
-TakesAs-not_changed i place es old new before behind limit changes = record {
-  takes = λ l h stands ready.
-      let refused = passed_one (input_refusal before.limits i) i before behind limit changes in
-      first_passed-few_names before.limits old.registers.all i (few_names old.registers before ready) ∙ refused;
-}
 
 -- what asks something of the run, from the answer that the environments give
 pub TakesAs-asked : {A : Type 0} (t : Known → A → Taking) (asked : Known → A) (answer : A) (es : EnvironmentsOf) (old new : ReaderState)
@@ -438,224 +334,3 @@ module _ (found_at : Known → PageInput → Found → Taking) (place : Known �
       before behind result answers
       (TakesAs-read found_at (reading_ended answer half) es old new before mid behind found result reads
       (texts_held-reading_ended answer half) takes)
-
--- a step that begins a text line, by the interrupted line that the environments have
-pub TakesAs-begun : (t : PageInput → TextLine → Taking) (step : TextStep) (interrupted : Option TextLine) (line : TextLine)
-    (es : EnvironmentsOf) (old new : ReaderState) (u : PageUnread) (m : Step)
-    → ((l : Limits) (h : PageHistory) → StandFor l h es → interrupted ≡ interrupted_line h) → line ≡ line_begun_as interrupted
-    → ((i : PageInput) → step_at i step ≡ t i line) → new ≡ record old { reading = step.reading; meaning = new.meaning }
-    → messages_of new.meaning.message m ≡ option_to_list step.message → events_of new.meaning.events m ≡ going_on_told interrupted ++ line_events step.events
-    → TakesAs (λ k. beginning_text k (t u.input)) es old new u u (Ok m)
-TakesAs-begun t step interrupted line es old new u m asked begun steps came says means =
-    let at : Option TextLine → Taking = λ l. behind_events (going_on_told l) (t u.input (line_begun_as l)) in
-    TakesAs-asked (λ k l. at l) (λ k. k.interrupted) interrupted es old new u u (Ok m) (λ l h rs i stands. asked l h stands)
-    (record {
-      takes = λ l h stands ready.
-          subst (λ (taking : Taking). Took (behind_events (going_on_told interrupted) taking) old.registers new u u m)
-          (steps u.input ∙ ap (t u.input) begun)
-          (record {
-            became = record {
-              input = refl;
-              reading = ap (λ (s : ReaderState). s.reading) came;
-              registers = ap (λ (s : ReaderState). s.registers) came;
-              within = ready.within;
-            };
-            messages = says;
-            events = means;
-          });
-    })
-
--- where a branch begins, or its rest behind its brace, a byte without a meaning of its own there begins a line
-pub first_taking-any : (k : Known) (i : PageInput) (at : LineState) (b : ℕ) → (at ≡ Branch → (b == blank) ≡ false)
-    → (at ≡ Braced → ((b == blank) ≡ false) × ((b == newline) ≡ false)) → line_begun k i b ≡ first_taking k i at b
-first_taking-any k i LineStart b in_branch in_brace = refl
-first_taking-any k i Branch b in_branch in_brace =
-    ap (λ (c : Bool). if c then going_on i Branch else line_begun k i b) (sym (in_branch refl))
-first_taking-any k i Braced b in_branch in_brace =
-    ap (λ (c : Bool). if c then going_on i LineStart else line_begun k i b) (sym (in_brace refl).1)
-    ∙ ap (λ (c : Bool). if c then going_on i Braced else (if b == newline then going_on i LineStart else line_begun k i b)) (sym (in_brace refl).0)
-first_taking-any k i (InText line) b in_branch in_brace = refl
-first_taking-any k i (Control breaks) b in_branch in_brace = refl
-first_taking-any k i (Name breaks first) b in_branch in_brace = refl
-first_taking-any k i (InArguments breaks request) b in_branch in_brace = refl
-first_taking-any k i (Deciding keeps) b in_branch in_brace = refl
-first_taking-any k i (Skipping opened closed behind) b in_branch in_brace = refl
-first_taking-any k i (StringName appends) b in_branch in_brace = refl
-first_taking-any k i (StringText name appends is_front) b in_branch in_brace = refl
-first_taking-any k i (Calling name) b in_branch in_brace = refl
-first_taking-any k i (Defining name appends end matched) b in_branch in_brace = refl
-first_taking-any k i (Telling aborts is_front) b in_branch in_brace = refl
-first_taking-any k i (Told aborts) b in_branch in_brace = refl
-first_taking-any k i Exiting b in_branch in_brace = refl
-first_taking-any k i Dropped b in_branch in_brace = refl
-
--- behind a backslash and a newline a line begins, but in a branch
-pub first_escape-newline : (k : Known) (i : PageInput) (at : LineState) → (at ≡ Branch → ⊥) → going_on i LineStart ≡ first_escape k i at newline
-first_escape-newline k i Branch none = absurd (none refl)
-first_escape-newline k i LineStart none = refl
-first_escape-newline k i Braced none = refl
-first_escape-newline k i (InText line) none = refl
-first_escape-newline k i (Control breaks) none = refl
-first_escape-newline k i (Name breaks first) none = refl
-first_escape-newline k i (InArguments breaks request) none = refl
-first_escape-newline k i (Deciding keeps) none = refl
-first_escape-newline k i (Skipping opened closed behind) none = refl
-first_escape-newline k i (StringName appends) none = refl
-first_escape-newline k i (StringText name appends is_front) none = refl
-first_escape-newline k i (Calling name) none = refl
-first_escape-newline k i (Defining name appends end matched) none = refl
-first_escape-newline k i (Telling aborts is_front) none = refl
-first_escape-newline k i (Told aborts) none = refl
-first_escape-newline k i Exiting none = refl
-first_escape-newline k i Dropped none = refl
-
--- and so it is with an escape
-pub first_escape-any : (k : Known) (i : PageInput) (at : LineState) (b : ℕ) → (at ≡ Branch → (b == 123) ≡ false) → (b == newline) ≡ false
-    → escape_begun k i b ≡ first_escape k i at b
-first_escape-any k i LineStart b in_branch no_newline = ap (λ (c : Bool). if c then going_on i LineStart else escape_begun k i b) (sym no_newline)
-first_escape-any k i Branch b in_branch no_newline =
-    ap (λ (c : Bool). if c then going_on i Branch else escape_begun k i b) (sym no_newline)
-    ∙ ap (λ (c : Bool). if c then going_on i Braced else if b == newline then going_on i Branch else escape_begun k i b) (sym (in_branch refl))
-first_escape-any k i Braced b in_branch no_newline = ap (λ (c : Bool). if c then going_on i LineStart else escape_begun k i b) (sym no_newline)
-first_escape-any k i (InText line) b in_branch no_newline = ap (λ (c : Bool). if c then going_on i LineStart else escape_begun k i b) (sym no_newline)
-first_escape-any k i (Control breaks) b in_branch no_newline = ap (λ (c : Bool). if c then going_on i LineStart else escape_begun k i b) (sym no_newline)
-first_escape-any k i (Name breaks first) b in_branch no_newline = ap (λ (c : Bool). if c then going_on i LineStart else escape_begun k i b) (sym no_newline)
-first_escape-any k i (InArguments breaks request) b in_branch no_newline = ap (λ (c : Bool). if c then going_on i LineStart else escape_begun k i b) (sym no_newline)
-first_escape-any k i (Deciding keeps) b in_branch no_newline = ap (λ (c : Bool). if c then going_on i LineStart else escape_begun k i b) (sym no_newline)
-first_escape-any k i (Skipping opened closed behind) b in_branch no_newline = ap (λ (c : Bool). if c then going_on i LineStart else escape_begun k i b) (sym no_newline)
-first_escape-any k i (StringName appends) b in_branch no_newline = ap (λ (c : Bool). if c then going_on i LineStart else escape_begun k i b) (sym no_newline)
-first_escape-any k i (StringText name appends is_front) b in_branch no_newline = ap (λ (c : Bool). if c then going_on i LineStart else escape_begun k i b) (sym no_newline)
-first_escape-any k i (Calling name) b in_branch no_newline = ap (λ (c : Bool). if c then going_on i LineStart else escape_begun k i b) (sym no_newline)
-first_escape-any k i (Defining name appends end matched) b in_branch no_newline = ap (λ (c : Bool). if c then going_on i LineStart else escape_begun k i b) (sym no_newline)
-first_escape-any k i (Telling aborts is_front) b in_branch no_newline = ap (λ (c : Bool). if c then going_on i LineStart else escape_begun k i b) (sym no_newline)
-first_escape-any k i (Told aborts) b in_branch no_newline = ap (λ (c : Bool). if c then going_on i LineStart else escape_begun k i b) (sym no_newline)
-first_escape-any k i Exiting b in_branch no_newline = ap (λ (c : Bool). if c then going_on i LineStart else escape_begun k i b) (sym no_newline)
-first_escape-any k i Dropped b in_branch no_newline = ap (λ (c : Bool). if c then going_on i LineStart else escape_begun k i b) (sym no_newline)
-
--- by whether a byte is dropped
-pub taking-of : (k : Known) (r : LineState) (i : PageInput) (b : ℕ) (c : Bool) → c ≡ is_dropped b
-    → (if c then going_on (interrupted r i) r else undropped_taking k r i b) ≡ taking k r i b
-taking-of k r i b c is = ap (λ (dropped : Bool). if dropped then going_on (interrupted r i) r else undropped_taking k r i b) is
-
--- a byte that isn't dropped
-pub TakesAs-undropped : (b : ℕ) (es : EnvironmentsOf) (old new : ReaderState) (before behind : PageUnread) (result : Result Step Limit) → false ≡ is_dropped b
-    → TakesAs (λ k. undropped_taking k old.reading before.input b) es old new before behind result
-    → TakesAs (λ k. taking k old.reading before.input b) es old new before behind result
-TakesAs-undropped b es old new before behind result is takes =
-    TakesAs-as (λ k. undropped_taking k old.reading before.input b) (λ k. taking k old.reading before.input b) es old new before behind result
-    (λ k. taking-of k old.reading before.input b false is) takes
-
--- within a line the end of the input is a newline, where no interrupted line ends with it, but of a definition
-pub end_taking-newline : (k : Known) (r : LineState) (i : PageInput) → (r ≡ LineStart → ⊥) → (r ≡ Dropped → ⊥) → (r ≡ Exiting → ⊥)
-    → (r ≡ Braced → ⊥) → ((breaks : Bool) → r ≡ Control breaks → ⊥) → ((appends : Bool) → r ≡ StringName appends → ⊥)
-    → ((name : Option ShortName) (appends is_front : Bool) → r ≡ StringText name appends is_front → ⊥)
-    → ((opened closed : ℕ) (behind : Bool) → r ≡ Skipping opened closed behind → ⊥)
-    → ((name : Option ShortName) (appends : Bool) (end : Option ShortName) (matched : Option ℕ) → r ≡ Defining name appends end matched → ⊥)
-    → ((keeps : Bool) → r ≡ Deciding keeps → ⊥) → ((aborts : Bool) → r ≡ Told aborts → ⊥)
-    → undropped_taking k r i newline ≡ end_taking k r i
-end_taking-newline k LineStart i begun dropped left braced control named strings skips defines decides told = absurd (begun refl)
-end_taking-newline k Branch i begun dropped left braced control named strings skips defines decides told = refl
-end_taking-newline k Braced i begun dropped left braced control named strings skips defines decides told = absurd (braced refl)
-end_taking-newline k (InText line) i begun dropped left braced control named strings skips defines decides told = refl
-end_taking-newline k (Control breaks) i begun dropped left braced control named strings skips defines decides told =
-    absurd (control breaks refl)
-end_taking-newline k (Name breaks first) i begun dropped left braced control named strings skips defines decides told = refl
-end_taking-newline k (InArguments breaks request) i begun dropped left braced control named strings skips defines decides told = refl
-end_taking-newline k (Deciding keeps) i begun dropped left braced control named strings skips defines decides told = absurd (decides keeps refl)
-end_taking-newline k (Skipping opened closed behind) i begun dropped left braced control named strings skips defines decides told =
-    absurd (skips opened closed behind refl)
-end_taking-newline k (StringName appends) i begun dropped left braced control named strings skips defines decides told =
-    absurd (named appends refl)
-end_taking-newline k (StringText name appends is_front) i begun dropped left braced control named strings skips defines decides told =
-    absurd (strings name appends is_front refl)
-end_taking-newline k (Calling name) i begun dropped left braced control named strings skips defines decides told = refl
-end_taking-newline k (Defining name appends end matched) i begun dropped left braced control named strings skips defines decides told =
-    absurd (defines name appends end matched refl)
-end_taking-newline k (Telling aborts is_front) i begun dropped left braced control named strings skips defines decides told = refl
-end_taking-newline k (Told aborts) i begun dropped left braced control named strings skips defines decides told = absurd (told aborts refl)
-end_taking-newline k Exiting i begun dropped left braced control named strings skips defines decides told = absurd (left refl)
-end_taking-newline k Dropped i begun dropped left braced control named strings skips defines decides told = absurd (dropped refl)
-
--- a string's line leaves the line's beginning
-pub string_line_ended-going : (i : PageInput) (appends : Bool) (name : Option (Option ShortName))
-    → string_line_ended i appends name ≡ going_on (string_line_ended i appends name).input LineStart
-string_line_ended-going i appends None = refl
-string_line_ended-going i appends (Some name) = refl
-
--- a line ends, and then an interrupted one
-pub TakesAs-last_line : (t : Taking) (es : EnvironmentsOf) (old mid new : ReaderState)
-    (before behind : PageUnread) (ends m : Step)
-    → t ≡ going_on t.input LineStart → TakesAs (λ k. t) es old mid before behind (Ok ends)
-    → ((u : PageUnread) → TakesAs (λ k. last_line_ended k u.input) es mid new u u (Ok m))
-    → TakesAs (λ k. last_line_ended k t.input) es old new before behind (Ok m)
-TakesAs-last_line t es old mid new before behind ends m goes_on line interrupted =
-    let i : PageInput = t.input in
-    let first : TakesAs (λ k. going_on i LineStart) es old mid before behind (Ok ends) =
-    subst (λ (taking : Taking). TakesAs (λ k. taking) es old mid before behind (Ok ends)) goes_on line in
-    record {
-      takes = λ l h stands ready.
-          let one : Took (going_on i LineStart) old.registers mid before behind ends = first.takes l h stands ready in
-          let there : PageUnread = record before { input = i } in
-          let two : TakesAs (λ k. last_line_ended k i) es mid new there there (Ok m) = interrupted there in
-          let registers : mid.registers ≡ old.registers = one.became.registers in
-          let at_mid : IsReady mid.registers there =
-          subst (λ (r : Capped). IsReady r there) (sym registers) (record { cap = ready.cap; within = one.became.within }) in
-          let taken = two.takes l h stands at_mid in
-          record {
-            became = record {
-              input = one.became.input;
-              reading = taken.became.reading;
-              registers = taken.became.registers ∙ registers;
-              within = one.became.within;
-            };
-            messages = taken.messages;
-            events = taken.events;
-          };
-    }
-
--- or a limit refuses the first
-pub TakesAs-no_last_line : (t : Taking) (es : EnvironmentsOf) (old new : ReaderState) (before behind : PageUnread) (limit : Limit)
-    → t ≡ going_on t.input LineStart → TakesAs (λ k. t) es old new before behind (Err limit)
-    → TakesAs (λ k. last_line_ended k t.input) es old new before behind (Err limit)
-TakesAs-no_last_line t es old new before behind limit goes_on refused =
-    let i : PageInput = t.input in
-    let first : TakesAs (λ k. going_on i LineStart) es old new before behind (Err limit) =
-    subst (λ (taking : Taking). TakesAs (λ k. taking) es old new before behind (Err limit)) goes_on refused in
-    record { takes = λ l h stands ready. first.takes l h stands ready }
-
--- behind a request's name anything but a unit is no byte of an argument
-pub arguments_found-no_unit : (k : Known) (i : PageInput) (breaks : Bool) (request : Request) (found : Found) → ((unit : CopyUnit) → found ≡ OneUnit unit → ⊥)
-    → ((b : ℕ) → found ≡ Escape b → ⊥) → no_unit_found k (settling i) (InArguments breaks request) found ≡ arguments_found k i breaks request found
-arguments_found-no_unit k i breaks request (OneUnit unit) no_unit no_escape = absurd (no_unit unit refl)
-arguments_found-no_unit k i breaks request (Escape b) no_unit no_escape = absurd (no_escape b refl)
-arguments_found-no_unit k i breaks request GoesOn no_unit no_escape = refl
-arguments_found-no_unit k i breaks request (Holds unit) no_unit no_escape = refl
-arguments_found-no_unit k i breaks request (Asks purpose name) no_unit no_escape = refl
-arguments_found-no_unit k i breaks request (Motion columns remark) no_unit no_escape = refl
-arguments_found-no_unit k i breaks request (Measures width) no_unit no_escape = refl
-arguments_found-no_unit k i breaks request (Tells remark) no_unit no_escape = refl
-arguments_found-no_unit k i breaks request (Decides decision freed) no_unit no_escape = refl
-
--- of a message's text anything but a unit is none
-pub message_found-no_unit : (k : Known) (i : PageInput) (aborts is_front : Bool) (found : Found) → ((unit : CopyUnit) → found ≡ OneUnit unit → ⊥)
-    → ((b : ℕ) → found ≡ Escape b → ⊥) → no_unit_found k i (Telling aborts is_front) found ≡ message_found k i aborts is_front found
-message_found-no_unit k i aborts is_front (OneUnit unit) no_unit no_escape = absurd (no_unit unit refl)
-message_found-no_unit k i aborts is_front (Escape b) no_unit no_escape = absurd (no_escape b refl)
-message_found-no_unit k i aborts is_front GoesOn no_unit no_escape = refl
-message_found-no_unit k i aborts is_front (Holds unit) no_unit no_escape = refl
-message_found-no_unit k i aborts is_front (Asks purpose name) no_unit no_escape = refl
-message_found-no_unit k i aborts is_front (Motion columns remark) no_unit no_escape = refl
-message_found-no_unit k i aborts is_front (Measures width) no_unit no_escape = refl
-message_found-no_unit k i aborts is_front (Tells remark) no_unit no_escape = refl
-message_found-no_unit k i aborts is_front (Decides decision freed) no_unit no_escape = refl
-
--- a condition that is read and asks nothing more decides
-pub TakesAs-decided : (so : Bool) (es : EnvironmentsOf) (old new : ReaderState) (before behind : PageUnread) → old.reading ≡ Deciding false
-    → EndsDecided (Some so) before behind → new ≡ record old { reading = branch_of so }
-    → TakesAs (λ k. escape_ended k old.reading before.input) es old new before behind (Ok Nothing)
-TakesAs-decided so es old new before behind deciding ends came =
-    let found : Found = Decides (Is so) None in
-    TakesAs-ended_at (λ k i f. found_in k i old.reading f) (λ k. place_in k old.reading) AboveArguments es
-    (λ l h rs i stands. ap (place_in (known_at h rs i)) (sym deciding)) old new before behind behind found (Ok Nothing) (ends AboveArguments)
-    (TakesAs-where (λ k r. found_in k behind.input r found) (Deciding false) es old new behind behind (Ok Nothing) deciding
-    (TakesAs-meant (λ k. found_in k behind.input (Deciding false) found) (branch_of so) es old new behind Nothing (λ k. refl) came refl))

@@ -27,7 +27,8 @@ use Rattle.roff_requests.specs.declared.environments.Environments.{Environments 
 use Rattle.roff_reader.specs.Reader.State.{ReaderState}
 use Rattle.roff_reader.specs.Reader.Taken.{TakesAs}
 use Rattle.roff_reader.proofs.Placed.{kept-placed}
-use Rattle.roff_reader.proofs.TakesAs.{TakesAs-as, TakesAs-asked, TakesAs-said, keeps-meaning}
+use Rattle.roff_reader.proofs.TakesAs.{TakesAs-as, TakesAs-asked, keeps-meaning}
+use Rattle.roff_reader.proofs.LinesTaken.{TakesAs-said}
 
 -- where it isn't so that something is half read, nothing is
 pub none_half : (half : List OpenEscape) → not (length half == 0) ≡ false → half ≡ []

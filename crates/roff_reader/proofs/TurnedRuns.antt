@@ -39,6 +39,7 @@ pub record IsGoing (from : Origin) (s : State) : Type 0 where
   pub going : s.ended ≡ None
   pub is_open : IsOpenFor from s.is_closed
   pub idle : s.to_do ≡ []
+  pub unsprung : s.sprung ≡ None
 
 -- behind a byte that stood ahead no more is counted than in front of it, but for the bytes of texts in the making
 NoMore-ahead : (names : Named Entry) (p q : Stage) (rest : List (Ahead PageEvent)) (b : ℕ) (bytes : List ℕ) (i : PageInput) → held_at q ≤ held_at p + 1
@@ -122,7 +123,7 @@ step-turned l s names (FromAhead rest) p q b bytes i on none_due stays few turns
     let taken : State = run_at s names p from bytes (behind_byte from b i) in
     let there : PageInput = record (behind_byte from b i) { ahead = ahead_at from bytes } in
     let done : State = run_at s names q from bytes (behind_byte from b i) in
-    byte_ahead_is_taken l before b (map ByteAhead bytes ++ rest) on.going on.idle none_due
+    byte_ahead_is_taken l before b (map ByteAhead bytes ++ rest) on.going on.idle on.unsprung none_due
     refl stays (omega (arith, few))
     ∙ ap (λ (t : Taking). made l before (taken_as t taken)) (turns (known taken) there)
     ∙ ap (made l before) (taken_as-going_on (input_at names q there) q.reading taken)
@@ -133,7 +134,7 @@ step-turned l s names (FromSource tape) p q b bytes i on none_due stays few turn
     let taken : State = run_at s names p from bytes (behind_byte from b i) in
     let there : PageInput = record (behind_byte from b i) { ahead = ahead_at from bytes } in
     let done : State = run_at s names q from bytes (behind_byte from b i) in
-    bytes_of_the_source_are_taken l before b (record { going = on.going; is_open = on.is_open; idle = on.idle; none_due = none_due })
+    bytes_of_the_source_are_taken l before b (record { going = on.going; is_open = on.is_open; idle = on.idle; unsprung = on.unsprung; none_due = none_due })
     refl refl stays (omega (arith, few))
     ∙ ap (λ (t : Taking). made l before (taken_as t taken)) (turns (known taken) there)
     ∙ ap (made l before) (taken_as-going_on (input_at names q there) q.reading taken)

@@ -10,7 +10,8 @@ pub use Rattle.roff_run.specs.Reading.{Passes, escape_ended, interrupted, undrop
 pub use Rattle.roff_run.specs.Reading.Arguments.{arguments_found, calling_all, line_ended, unit_found, arguments_ended}
 pub use Rattle.roff_run.specs.Reading.Beginnings.{beginning_found, first_escape, first_taking, going_on_told, line_begun, first_name, at_start}
 pub use Rattle.roff_run.specs.Reading.Branches.{condition_found, decided, is_so, condition_begun}
-pub use Rattle.roff_run.specs.Reading.Calls.{call_found, call_unit, called_last, last_called, behind_return}
+pub use Rattle.roff_run.specs.Reading.Calls.{call_found, call_unit, called_last, last_called}
+pub use Rattle.roff_run.specs.Reading.Returns.{behind_return}
 pub use Rattle.roff_run.specs.Reading.ControlLines.{behind_name, line_taking, name_ended_taking}
 pub use Rattle.roff_run.specs.Reading.DefinedLines.{behind_definition, definition_found, definition_line}
 pub use Rattle.roff_run.specs.Reading.Definitions.{lines_begun, definition_begun, definition_cut, definition_grown}

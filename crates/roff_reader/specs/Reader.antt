@@ -2,4 +2,5 @@
 pub mod State
 pub mod Taken
 pub mod Stages
+pub mod Springs
 pub mod Runs

@@ -3,6 +3,7 @@
 ghost use Rattle.std.specs.Prelude.{◌≡◌, ◌≤◌, None, IfSome, slice_get};
 ghost use Rattle.roff_run.specs.Events.Lines.{line_events};
 ghost use Rattle.roff_run.specs.Requests.Effects.{behind_break};
+ghost use Rattle.roff_run.specs.Springs.{AreFewBehind};
 ghost use Rattle.roff_requests.specs.Events.{request_events, stops_set};
 ghost use Rattle.roff_reader.specs.Reader.State.{nothing_kept, resumed_if};
 
@@ -94,7 +95,15 @@ impl Meaning {
         self.message
     }
 
+    /// Behind each event that may spring a macro stand few: a fact, and nothing that is done.
+    pub(crate) fn few_behind(&self)
+        ensures { AreFewBehind self.now.events }
+    {
+        self.requested.few_behind();
+    }
+
     /// The event at an index, if there are so many: 35 at most.
+    #[inline(always)]
     pub(crate) fn event(&self, index: usize) -> Option<PageEvent>
         ensures at { result ≡ slice_get self.now.events index }
         ensures few { IfSome result (λ event. index ≤ 34) }

@@ -11,6 +11,7 @@ ghost use Rattle.roff_run.specs.Registers.Capped.{admitted, after};
 ghost use Rattle.roff_run.specs.Starts.{given_change};
 ghost use Rattle.roff_run.specs.declared.phase.Phase.{Phase};
 ghost use Rattle.roff_reader.specs.Clauses.{behind_return};
+ghost use Rattle.roff_run.specs.Springs.{AreFewBehind};
 
 mod ahead;
 mod arguments;
@@ -160,12 +161,13 @@ impl Reader {
         self.reading = LineState::LineStart;
     }
 
-    /// The end of a body that a line called: a line begins, unless a control line is being read.
-    pub fn end_call(&mut self)
+    /// The end of a body, with the number of what it leads back to: that is read on, unless a control
+    /// line is being read.
+    pub fn end_call(&mut self, back: u8)
         ensures { self.new
-            ≡ record self.old { reading = behind_return self.old.reading } }
+            ≡ record self.old { reading = behind_return back self.old.reading } }
     {
-        self.reading = self.reading.behind_return();
+        self.reading = self.reading.behind_return(back);
     }
 
     /// Something that isn't a byte of the line stands in front: no quote follows the quote before
@@ -183,11 +185,19 @@ impl Reader {
     }
 
     /// The event at an index of the meaning that is kept, if there are so many: 35 at most.
+    #[inline(always)]
     pub fn event(&self, index: usize) -> Option<PageEvent>
         ensures at { result ≡ slice_get self.now.meaning.events index }
         ensures few { IfSome result (λ event. index ≤ 34) }
     {
         self.meaning.event(index)
+    }
+
+    /// Behind each event that may spring a macro stand few: a fact, and nothing that is done.
+    pub fn few_behind(&self)
+        ensures { AreFewBehind self.now.meaning.events }
+    {
+        self.meaning.few_behind();
     }
 
     /// Its message, on the line of the last byte taken, if it has one.

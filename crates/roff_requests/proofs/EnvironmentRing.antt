@@ -1,10 +1,11 @@
 -- The code's ring of environments, behind each call.
-use Rattle.std.proofs.Common.{◌≡◌, ◌∙◌, ℕ, Bool, List, ◌∷◌, refl, sym, ap, subst}
+use Rattle.std.proofs.Common.{◌≡◌, ◌∙◌, ℕ, Bool, List, ◌∷◌, Option, refl, sym, ap, subst}
 use Rattle.roff_lines.specs.Env.Stands.{StandsBehind}
 use Rattle.roff_lines.specs.Env.Kept.{Kept as KeptLines}
-use Rattle.roff_lines.specs.declared.event.Event.TheVariants.{Interrupt as IsInterrupted}
+use Rattle.roff_lines.specs.declared.event.Event.TheVariants.{Count, Interrupt as IsInterrupted}
 use Rattle.roff_run.specs.declared.environment_number.EnvironmentNumber.{EnvironmentNumber}
-use Rattle.roff_run.specs.Environments.{Environments, gone_back, is_same, switched_to, turned_to, turned_unless, with_interruption}
+use Rattle.roff_run.specs.declared.event.InputTrap.{InputTrap}
+use Rattle.roff_run.specs.Environments.{Environments, counted_down, gone_back, is_same, switched_to, turned_to, turned_unless, with_event, with_input_trap, with_interruption}
 use Rattle.roff_requests.specs.Environments.Kept.{KeptNumbers}
 use Rattle.roff_requests.specs.Environments.Standing.{Becomes, StandBy}
 use Rattle.roff_requests.specs.declared.environments.Environments.{Environments as EnvironmentsOf}
@@ -69,13 +70,50 @@ Becomes-gone_back number old new kept opened cap there = record {
 
 -- the line of the one in force is interrupted
 pub Becomes-interrupted : (untold : ℕ) (old new : EnvironmentsOf) (lines : KeptLines) → StandsBehind old.in_force.lines IsInterrupted lines
-    → new ≡ record old { in_force = record { lines = lines; untold = untold } } → Becomes (with_interruption untold) old new
+    → new ≡ record old { in_force = record old.in_force { lines = lines; untold = untold } } → Becomes (with_interruption untold) old new
 Becomes-interrupted untold old new lines behind is = record {
   becomes = λ l es stands.
       subst (λ (coded : EnvironmentsOf). StandBy l (with_interruption untold es) coded) (sym is)
       (record {
         number = stands.number;
-        in_force = record { lines = behind l.line es.in_force.text stands.in_force.lines; untold = refl };
+        in_force = record { lines = behind l.line es.in_force.text stands.in_force.lines; untold = refl; input_trap = stands.in_force.input_trap };
+        next = stands.next;
+        last = stands.last;
+        left = stands.left;
+        cap = stands.cap;
+      });
+}
+
+-- the one in force has this input-line trap
+pub Becomes-trapped : (trap : Option InputTrap) (old new : EnvironmentsOf) → new ≡ record old { in_force = record old.in_force { input_trap = trap } }
+    → Becomes (with_input_trap trap) old new
+Becomes-trapped trap old new is = record {
+  becomes = λ l es stands.
+      subst (λ (coded : EnvironmentsOf). StandBy l (with_input_trap trap es) coded) (sym is)
+      (record {
+        number = stands.number;
+        in_force = record { lines = stands.in_force.lines; untold = stands.in_force.untold; input_trap = refl };
+        next = stands.next;
+        last = stands.last;
+        left = stands.left;
+        cap = stands.cap;
+      });
+}
+
+-- a text line of it counts, and so does its trap
+pub Becomes-counted : (old new : EnvironmentsOf) (lines : KeptLines) (trap : Option InputTrap) → StandsBehind old.in_force.lines Count lines
+    → trap ≡ counted_down old.in_force.input_trap → new ≡ record old { in_force = record old.in_force { lines = lines; input_trap = trap } }
+    → Becomes (with_event Count) old new
+Becomes-counted old new lines trap behind counted is = record {
+  becomes = λ l es stands.
+      subst (λ (coded : EnvironmentsOf). StandBy l (with_event Count es) coded) (sym is)
+      (record {
+        number = stands.number;
+        in_force = record {
+          lines = behind l.line es.in_force.text stands.in_force.lines;
+          untold = stands.in_force.untold;
+          input_trap = counted ∙ ap counted_down stands.in_force.input_trap;
+        };
         next = stands.next;
         last = stands.last;
         left = stands.left;

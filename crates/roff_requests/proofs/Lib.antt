@@ -3,3 +3,4 @@ pub mod TabStops
 pub mod RegisterTables
 pub mod Numbering
 pub mod EventsAt
+pub mod FewBehind

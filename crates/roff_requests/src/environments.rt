@@ -1,27 +1,33 @@
 //! The three environments: the one in force, and the others (manual, section 17).
 
 ghost use Rattle.std.specs.Prelude.{◌≡◌, ◌+◌, ◌<◌, ◌↔◌, [], ◌∷◌, length, not, IfOk, IsErr};
-ghost use Rattle.std.specs.Prelude.{IsOkUnless, MatchOption, OnOk};
+ghost use Rattle.std.specs.Prelude.{IsOkUnless, MatchOption, OnOk, Some};
 ghost use Rattle.roff_lines.specs.Words.{is_empty};
 ghost use Rattle.roff_run.specs.Environments.{PageHistory, environments, fresh_environment};
 ghost use Rattle.roff_run.specs.Environments.{gone_back, interrupted_line, switched_to, turned};
-ghost use Rattle.roff_run.specs.Environments.{turned_to, turned_unless, with_interruption};
+ghost use Rattle.roff_lines.specs.declared.event.Event.TheVariants.{Count};
+ghost use Rattle.roff_run.specs.Environments.{turned_to, turned_unless, with_event, with_input_trap};
+ghost use Rattle.roff_run.specs.Environments.{counted_down, trap_reached, with_interruption};
+ghost use Rattle.roff_run.specs.Springs.{springs};
+ghost use Rattle.roff_run.specs.declared.event.PageEvent.TheVariants.{Text};
 ghost use Rattle.roff_num.specs.declared.limits.Limits.{Limits as LimitsOf};
 
 use roff_lines::Env;
-use roff_num::{Limit, Limits};
-use roff_run::{EnvironmentNumber, TextLine};
+use roff_num::{Limit, Limits, ShortName};
+use roff_run::{EnvironmentNumber, InputTrap, TextLine};
 use std::alloc::{AllocError, Global};
 use std::marker::Model;
 use std::mem;
 
-/// An environment, and what isn't told yet of its interrupted line.
+/// An environment, what isn't told yet of its interrupted line, and its input-line trap.
 #[derive(Drop)]
 pub struct Environment {
     /// Its settings, its pending line and its open word.
     pub lines: Env,
     /// The leading blanks of its interrupted line.
     pub untold: u32,
+    /// The macro that springs behind some text lines, if one does.
+    pub input_trap: Option<InputTrap>,
 }
 
 /// The numbers of the environments that were left for others and aren't gone back to, up to a limit.
@@ -69,6 +75,7 @@ impl Environment {
         Ok(Environment {
             lines: Env::new(alloc, line_cap)?,
             untold: 0,
+            input_trap: None,
         })
     }
 }
@@ -166,6 +173,47 @@ impl Environments {
     {
         self.in_force.lines.interrupt();
         self.in_force.untold = untold;
+    }
+
+    /// The one in force has this input-line trap from now on, or none.
+    pub fn set_input_trap(&mut self, trap: Option<InputTrap>)
+        ensures { Becomes (with_input_trap trap) self.old self.new }
+    {
+        self.in_force.input_trap = trap;
+    }
+
+    /// A text line of the one in force was read, and counts. Returns the macro that it springs, if
+    /// it is the last line that the input-line trap waits for.
+    #[inline(always)]
+    pub fn count(&mut self) -> Option<ShortName>
+        ensures counted { Becomes (with_event Count) self.old self.new }
+        ensures reached { (l : LimitsOf) (h : PageHistory) → StandFor l h self.old
+            → result ≡ springs h (Text Count) }
+    {
+        self.in_force.lines.count();
+        match self.in_force.input_trap {
+            None => None,
+            Some(trap) => self.count_down(trap),
+        }
+    }
+
+    /// The trap of the one in force, which is this one, waits for a line less.
+    #[cold]
+    fn count_down(&mut self, trap: InputTrap) -> Option<ShortName>
+        ensures change { self.new ≡ record self.old {
+          in_force = record self.old.in_force { input_trap = counted_down (Some trap) };
+        } }
+        ensures reached { result ≡ trap_reached (Some trap) }
+    {
+        if trap.lines > 1 {
+            self.in_force.input_trap = Some(InputTrap {
+                lines: trap.lines - 1,
+                name: trap.name,
+            });
+            return None;
+        }
+        self.in_force.input_trap = None;
+        Some(trap.name)
     }
 
     /// Leaves the one in force for another.

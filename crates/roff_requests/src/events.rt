@@ -5,6 +5,7 @@ ghost use Rattle.roff_requests.specs.Events.{request_events, stop_at, stops_set}
 ghost use Rattle.roff_lines.specs.declared.event.Event.TheVariants.{Break};
 ghost use Rattle.roff_run.specs.declared.event.PageEvent.TheVariants.{Text};
 ghost use Rattle.roff_run.specs.Requests.Effects.{behind_break};
+ghost use Rattle.roff_run.specs.Springs.{AreFewBehind};
 
 use arrayvec::ArrayVec;
 use roff_lines::{Event, Param};
@@ -75,7 +76,15 @@ impl RequestedEvents {
         self.stops = stops;
     }
 
+    /// Behind each of them that may spring a macro stand few: a fact, and nothing that is done.
+    pub fn few_behind(&self)
+        ensures { AreFewBehind self.now.items }
+    {
+        let _ = &self.breaks;
+    }
+
     /// The event at an index, if there are so many: 35 at most.
+    #[inline(always)]
     pub fn at(&self, index: usize) -> Option<PageEvent>
         ensures at { result ≡ slice_get self.now.items index }
         ensures few { IfSome result (λ event. index ≤ 34) }

@@ -11,6 +11,7 @@ mod lengths;
 mod naming;
 mod numbering;
 mod spacing;
+mod springing;
 mod switching;
 mod tabs;
 
@@ -64,6 +65,7 @@ fn does(request: Request, known: RequestFacts, given: Given<'_>) -> Response
         Request::If => Response::nothing(),
         Request::Ignore => Response::nothing(),
         Request::Indent => lengths::indent(known, given.first),
+        Request::InputTrap => springing::input_trap(given.first, given.second),
         Request::LineLength => lengths::line_length(known, given.first),
         Request::LineSpacing => spacing::line_spacing(known, given.first),
         Request::NoAdjust => Response::setting(Param::Adjusting(false)),

@@ -13,7 +13,7 @@ use Rattle.roff_scan.specs.Unread.{Unread, taking, taking_ahead, taking_answer, 
 use Rattle.roff_ahead.specs.Shown.{Shown, ShowsByte, ShowsEnd, ShowsReturn, ShowsDo, ShowsNote, ShowsEnding, ShowsRefusal, shown_ahead, Sighted, SeesByte, SeesNothing, SeesNote, SeesEnding, seen_ahead}
 use Rattle.roff_run.proofs.InputCounts.{one_of}
 use Rattle.roff_run.specs.Reading.{interrupted}
-use Rattle.roff_run.specs.Reading.Calls.{behind_return}
+use Rattle.roff_run.specs.Reading.Returns.{behind_return}
 use Rattle.roff_run.specs.Reading.Items.{PageInput}
 use Rattle.roff_run.specs.Requests.{PageEvent}
 use Rattle.roff_run.specs.Run.{front_seen, State, made, byte_taken, ending_input, ending_with, ending_as, stopped_by, in_front_taken, answered, ahead_taken, escape_ends, awaited, awaited_of_source}
@@ -30,7 +30,7 @@ ending_step l (Stopped limit) from = ending_as (Limited limit) from
 abbrev pub shown_step : Limits → Shown PageEvent → State → State → State
 shown_step l (ShowsByte b) from behind = made l from (byte_taken b behind)
 shown_step l ShowsEnd from behind = made l from behind
-shown_step l ShowsReturn from behind = made l from (record behind { reading = behind_return behind.reading })
+shown_step l (ShowsReturn back) from behind = made l from (record behind { reading = behind_return back behind.reading })
 shown_step l (ShowsDo e) from behind = made l from (record behind { input = interrupted behind.reading behind.input; to_do = e ∷ [] })
 shown_step l (ShowsNote message) from behind = record behind { messages = behind.messages ++ message }
 shown_step l (ShowsEnding ending) from behind = ending_step l ending from
@@ -93,7 +93,7 @@ module _ (l limits : Limits) (i : PageInput) (tape : Tape) (s : State) (cap : li
   allowed_shown looked (ByteAhead b) behind = refl
   allowed_shown looked (FreeAhead b) behind = refl
   allowed_shown looked EndAhead behind = refl
-  allowed_shown looked ReturnAhead behind = refl
+  allowed_shown looked (ReturnAhead back) behind = refl
   allowed_shown looked (DoAhead e) behind = refl
 
   -- an item ahead
@@ -167,7 +167,7 @@ limits-taking a u = limits-taking_of u.input.ahead a u.input u.looked u.limits
 abbrev pub IsEnding : Shown PageEvent → Type 0
 IsEnding (ShowsByte b) = ⊥
 IsEnding ShowsEnd = ⊥
-IsEnding ShowsReturn = ⊥
+IsEnding (ShowsReturn back) = ⊥
 IsEnding (ShowsDo event) = ⊥
 IsEnding (ShowsNote message) = ⊥
 IsEnding (ShowsEnding ending) = Unit {0}
@@ -177,7 +177,7 @@ no_ending_ahead : (item : Ahead PageEvent) → IsEnding (shown_ahead item) → �
 no_ending_ahead (ByteAhead b) is = is
 no_ending_ahead (FreeAhead b) is = is
 no_ending_ahead EndAhead is = is
-no_ending_ahead ReturnAhead is = is
+no_ending_ahead (ReturnAhead back) is = is
 no_ending_ahead (DoAhead event) is = is
 
 -- what a call leaves that shows an ending
@@ -232,7 +232,7 @@ seen-ahead [] = tt
 seen-ahead (ByteAhead b ∷ items) = tt
 seen-ahead (FreeAhead b ∷ items) = tt
 seen-ahead (EndAhead ∷ items) = seen-ahead items
-seen-ahead (ReturnAhead ∷ items) = seen-ahead items
+seen-ahead (ReturnAhead back ∷ items) = seen-ahead items
 seen-ahead (DoAhead event ∷ items) = tt
 
 -- what a look shows and leaves, where a step leads to this state

@@ -83,14 +83,14 @@ bytes_behind : (item : Ahead PageEvent) (items : List (Ahead PageEvent)) → byt
 bytes_behind (ByteAhead b) items = omega arith
 bytes_behind (FreeAhead b) items = omega arith
 bytes_behind EndAhead items = omega arith
-bytes_behind ReturnAhead items = omega arith
+bytes_behind (ReturnAhead back) items = omega arith
 bytes_behind (DoAhead event) items = omega arith
 
 ends_behind : (item : Ahead PageEvent) (items : List (Ahead PageEvent)) → ends_ahead items ≤ ends_ahead (item ∷ items)
 ends_behind (ByteAhead b) items = omega arith
 ends_behind (FreeAhead b) items = omega arith
 ends_behind EndAhead items = omega arith
-ends_behind ReturnAhead items = omega arith
+ends_behind (ReturnAhead back) items = omega arith
 ends_behind (DoAhead event) items = omega arith
 
 -- a call that is over has no arguments more
@@ -102,7 +102,7 @@ calls_behind-fewer : (item : Ahead PageEvent) (calls : List (List (List ℕ))) �
 calls_behind-fewer (ByteAhead b) calls = omega arith
 calls_behind-fewer (FreeAhead b) calls = omega arith
 calls_behind-fewer EndAhead calls = omega arith
-calls_behind-fewer ReturnAhead calls = live_bytes-drop calls
+calls_behind-fewer (ReturnAhead back) calls = live_bytes-drop calls
 calls_behind-fewer (DoAhead event) calls = omega arith
 
 -- nor have results that were kept in it been kept
@@ -117,7 +117,7 @@ results_behind-fewer : (item : Ahead PageEvent) (calls : List (List (List ℕ)))
 results_behind-fewer (ByteAhead b) calls kept = omega arith
 results_behind-fewer (FreeAhead b) calls kept = omega arith
 results_behind-fewer EndAhead calls kept = omega arith
-results_behind-fewer ReturnAhead calls kept = results_below-fewer (length calls) kept
+results_behind-fewer (ReturnAhead back) calls kept = results_below-fewer (length calls) kept
 results_behind-fewer (DoAhead event) calls kept = omega arith
 
 pub NoMore-item_taken : (item : Ahead PageEvent) (items : List (Ahead PageEvent)) (i : PageInput) → i.ahead ≡ item ∷ items → NoMore (item_taken item items i) i

@@ -59,6 +59,7 @@ going s reading from bytes arguments half charge line = record s {
   input = input_of s from bytes arguments half charge line;
   reading = reading;
   to_do = [];
+  sprung = None;
   is_closed = false;
   ended = None;
 }
@@ -87,21 +88,21 @@ taking_ahead-within l b behind s within =
     ap (λ (c : Bool). if c then stopped_by l Bytes s else done) (le-ltb l.bytes (s.input.charge + 1) (omega arith))
 
 -- a step of a run that takes items
-pub step-reads : (l : Limits) (s : State) → s.ended ≡ None → s.to_do ≡ [] → due s.reading ≡ None → step l s ≡ item_read l s
-step-reads l s going idle none_due = rw (going, idle, none_due) refl
+pub step-reads : (l : Limits) (s : State) → s.ended ≡ None → s.to_do ≡ [] → s.sprung ≡ None → due s.reading ≡ None → step l s ≡ item_read l s
+step-reads l s going idle unsprung none_due = rw (going, idle, unsprung, none_due) refl
 
 pub step-TakesItems : (l : Limits) (s : State) → TakesItems s → step l s ≡ item_read l s
-step-TakesItems l s on = step-reads l s on.going on.idle on.none_due
+step-TakesItems l s on = step-reads l s on.going on.idle on.unsprung on.none_due
 
 -- a byte ahead is taken, whether the source is closed or not
-pub byte_ahead_is_taken : (l : Limits) (s : State) (b : ℕ) (behind : List (Ahead PageEvent)) → s.ended ≡ None → s.to_do ≡ [] → due s.reading ≡ None
+pub byte_ahead_is_taken : (l : Limits) (s : State) (b : ℕ) (behind : List (Ahead PageEvent)) → s.ended ≡ None → s.to_do ≡ [] → s.sprung ≡ None → due s.reading ≡ None
     → s.input.ahead ≡ ByteAhead b ∷ behind → is_ended_by s.input.escapes (Some b) ≡ false → s.input.charge < l.bytes
     → step l s ≡ made l s (byte_taken b (record s { input = item_taken (ByteAhead b) behind s.input }))
-byte_ahead_is_taken l s b behind going idle none_due ahead is within =
-    step-reads l s going idle none_due ∙ item_read-byte l b behind s ahead is ∙ taking_ahead-within l b behind s within
+byte_ahead_is_taken l s b behind going idle unsprung none_due ahead is within =
+    step-reads l s going idle unsprung none_due ∙ item_read-byte l b behind s ahead is ∙ taking_ahead-within l b behind s within
 
 pub bytes_ahead_are_taken : BytesAheadAreTaken
-bytes_ahead_are_taken l s b behind on ahead is within = byte_ahead_is_taken l s b behind on.going on.idle on.none_due ahead is within
+bytes_ahead_are_taken l s b behind on ahead is within = byte_ahead_is_taken l s b behind on.going on.idle on.unsprung on.none_due ahead is within
 
 -- a byte of the source is taken, whether it is waited for or not
 read-source : (l : Limits) (w : Waiting) (b : ℕ) (s : State) → s.input.ahead ≡ [] → source_answer s ≡ Gives (OneByte b)

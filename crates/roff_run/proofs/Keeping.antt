@@ -8,6 +8,7 @@ use Rattle.roff_escape.specs.OpenEscapes.{byte_read, reading_ended}
 use Rattle.roff_ahead.specs.Input.{beginning_line, choosing}
 use Rattle.roff_ahead.specs.Input.Calls.{arguments_given, called_text, last_result, without_last}
 use Rattle.roff_ahead.specs.Input.Names.{body_named}
+use Rattle.roff_ahead.proofs.FewEvents.{few-called, few-more}
 use Rattle.roff_escape.specs.declared.open_escape.CopyUnit.{CopyUnit}
 use Rattle.roff_escape.specs.declared.open_escape.CopyUnit.TheVariants.{Kept}
 use Rattle.roff_escape.specs.OpenEscape.{OpenEscape, unit_bytes}
@@ -63,7 +64,7 @@ Keeps-branch_taking less most k i j old false b keeps one_more =
 -- a result is kept, or isn't
 Keeps-with_result_if : (most : ℕ) (i j : PageInput) (reading : LineState) (keeps so : Bool) → Keeps most i j reading → Keeps most i (with_result_if keeps so j) reading
 Keeps-with_result_if most i j reading true so keeps =
-    record { charge = keeps.charge; newlines = keeps.newlines; line = keeps.line; free = keeps.free; escapes = keeps.escapes }
+    record { charge = keeps.charge; newlines = keeps.newlines; line = keeps.line; free = keeps.free; few = keeps.few; escapes = keeps.escapes }
 Keeps-with_result_if most i j reading false so keeps = keeps
 
 -- a condition decided
@@ -104,7 +105,7 @@ TwoMore i old t = KeepsTwoMore i old t.input t.reading
 
 -- the same input, where the same is read
 pub KeepsTwoMore-same : (i : PageInput) (reading : LineState) → KeepsTwoMore i reading i reading
-KeepsTwoMore-same i reading = record { charge = refl; newlines = refl; line = refl; free = refl; escapes = omega arith }
+KeepsTwoMore-same i reading = record { charge = refl; newlines = refl; line = refl; free = refl; few = λ room within few. few; escapes = omega arith }
 
 -- what leaves the input, and reads no name
 TwoMore-stays : (i : PageInput) (old : LineState) (t : Taking) → Stays i t → TwoMore i old t
@@ -134,7 +135,7 @@ module _ (some most : ℕ) (k : Known) (i j : PageInput) (b : ℕ) (keeps : Keep
       let half : List OpenEscape = (choosing j).escapes in
       Keeps-if most i (b == newline) _ _
       (Keeps-condition_found (2 * endings_of j.escapes) most k i j keeping (Decides (Is false) (Some b))
-      (record { charge = keeps.charge; newlines = keeps.newlines; line = keeps.line; free = keeps.free; escapes = omega arith }) (omega (arith, few)))
+      (record { charge = keeps.charge; newlines = keeps.newlines; line = keeps.line; free = keeps.free; few = keeps.few; escapes = omega arith }) (omega (arith, few)))
       (Keeps-condition_found (2 * endings_of (byte_read AboveArguments half b).1) most k i (record j { escapes = (byte_read AboveArguments half b).1 }) keeping (byte_read AboveArguments half b).0
       (Keeps-with_escapes _ _ i j LineStart (Deciding keeping) (byte_read AboveArguments half b).1 keeps (omega arith)) (omega (arith, chooses, few)))
 
@@ -153,7 +154,7 @@ module _ (some most : ℕ) (k : Known) (i j : PageInput) (b : ℕ) (keeps : Keep
       Keeps-arguments_found most k i _ breaks request (byte_read AboveArguments j.escapes b).0 (Keeps-begins AboveArguments (InArguments breaks request) (omega arith))
   Keeps-line_taking breaks request ByElse =
       Keeps-branch_taking (2 * endings_of j.escapes) most k i (without_last j) LineStart (reads_else (last_result j)) b
-      (record { charge = keeps.charge; newlines = keeps.newlines; line = keeps.line; free = keeps.free; escapes = omega arith }) (omega (arith, few))
+      (record { charge = keeps.charge; newlines = keeps.newlines; line = keeps.line; free = keeps.free; few = keeps.few; escapes = omega arith }) (omega (arith, few))
 
   -- a byte behind a name that it doesn't belong to
   Keeps-called_taking : (breaks : Bool) (called : Called) → KeepsBy most i (called_taking k j breaks called b)
@@ -172,7 +173,7 @@ Keeps-behind_definition : (most : ℕ) (k : Known) (i j : PageInput) (end : Opti
 Keeps-behind_definition most k i j None b ends keeps few = Keeps-stays most i j LineStart _ keeps (Stays-dropped_taking j b)
 Keeps-behind_definition most k i j (Some name) b ends keeps few =
     Keeps-name_ended_taking 0 most k i (beginning_line j) b
-    (record { charge = keeps.charge; newlines = keeps.newlines; line = keeps.line; free = keeps.free; escapes = omega arith })
+    (record { charge = keeps.charge; newlines = keeps.newlines; line = keeps.line; free = keeps.free; few = keeps.few; escapes = omega arith })
     (λ base. ends_mark-begins_nothing base b ends) (ends_mark-chooses_nothing b ends) few true name
 
 -- a unit of a definition's text, where its line is this
@@ -210,21 +211,21 @@ Keeps-definition_found most k i j name appends end matched (Decides decision fre
 
 -- what is read behind a request's name
 Keeps-behind_name : (i : PageInput) (breaks : Bool) (first : ℕ) (request : Request) (line : LineReading) → TwoMore i (Name breaks first) (behind_name i breaks request line)
-Keeps-behind_name i breaks first request ByArguments = record { charge = refl; newlines = refl; line = refl; free = refl; escapes = omega arith }
+Keeps-behind_name i breaks first request ByArguments = record { charge = refl; newlines = refl; line = refl; free = refl; few = λ room within few. few; escapes = omega arith }
 Keeps-behind_name i breaks first request (ByCondition keeping) =
-    record { charge = refl; newlines = refl; line = refl; free = refl; escapes = omega arith }
-Keeps-behind_name i breaks first request (ByString appends) = record { charge = refl; newlines = refl; line = refl; free = refl; escapes = omega arith }
-Keeps-behind_name i breaks first request ByLastLine = record { charge = refl; newlines = refl; line = refl; free = refl; escapes = omega arith }
-Keeps-behind_name i breaks first request (ByMessage aborts) = record { charge = refl; newlines = refl; line = refl; free = refl; escapes = omega arith }
-Keeps-behind_name i breaks first request (ByLines lines) = record { charge = refl; newlines = refl; line = refl; free = refl; escapes = omega arith }
+    record { charge = refl; newlines = refl; line = refl; free = refl; few = λ room within few. few; escapes = omega arith }
+Keeps-behind_name i breaks first request (ByString appends) = record { charge = refl; newlines = refl; line = refl; free = refl; few = λ room within few. few; escapes = omega arith }
+Keeps-behind_name i breaks first request ByLastLine = record { charge = refl; newlines = refl; line = refl; free = refl; few = λ room within few. few; escapes = omega arith }
+Keeps-behind_name i breaks first request (ByMessage aborts) = record { charge = refl; newlines = refl; line = refl; free = refl; few = λ room within few. few; escapes = omega arith }
+Keeps-behind_name i breaks first request (ByLines lines) = record { charge = refl; newlines = refl; line = refl; free = refl; few = λ room within few. few; escapes = omega arith }
 Keeps-behind_name i breaks first request ByElse =
-    record { charge = refl; newlines = refl; line = refl; free = refl; escapes = omega (arith, unnamed-branch_of (reads_else (last_result i))) }
+    record { charge = refl; newlines = refl; line = refl; free = refl; few = λ room within few. few; escapes = omega (arith, unnamed-branch_of (reads_else (last_result i))) }
 
 -- the last byte of a name
 Keeps-behind_called : (i : PageInput) (breaks : Bool) (first : ℕ) (called : Called) → TwoMore i (Name breaks first) (behind_called i breaks called)
 Keeps-behind_called i breaks first (ARequest request) = Keeps-behind_name i breaks first request (row_of request).line
-Keeps-behind_called i breaks first (ABody name) = record { charge = refl; newlines = refl; line = refl; free = refl; escapes = omega arith }
-Keeps-behind_called i breaks first Unknown = record { charge = refl; newlines = refl; line = refl; free = refl; escapes = omega arith }
+Keeps-behind_called i breaks first (ABody name) = record { charge = refl; newlines = refl; line = refl; free = refl; few = λ room within few. few; escapes = omega arith }
+Keeps-behind_called i breaks first Unknown = record { charge = refl; newlines = refl; line = refl; free = refl; few = λ room within few. few; escapes = omega arith }
 
 -- a byte that isn't dropped
 Keeps-undropped_taking : (k : Known) (reading : LineState) (i : PageInput) (b : ℕ) → TwoMore i reading (undropped_taking k reading i b)
@@ -235,10 +236,10 @@ Keeps-undropped_taking k (InText line) i b = Keeps-text_found _ k i _ line (byte
 Keeps-undropped_taking k (Control breaks) i b =
     Keeps-if _ i (b == blank || b == tab) _ _ (KeepsTwoMore-same i (Control breaks))
     (Keeps-if _ i (ends_name b) _ _ (TwoMore-stays i (Control breaks) _ (Stays-dropped_taking i b))
-    (record { charge = refl; newlines = refl; line = refl; free = refl; escapes = omega arith }))
+    (record { charge = refl; newlines = refl; line = refl; free = refl; few = λ room within few. few; escapes = omega arith }))
 Keeps-undropped_taking k (Name breaks first) i b =
     Keeps-if _ i (ends_name b) _ _
-    (Keeps-name_ended_taking 1 _ k i i b (record { charge = refl; newlines = refl; line = refl; free = refl; escapes = omega arith })
+    (Keeps-name_ended_taking 1 _ k i i b (record { charge = refl; newlines = refl; line = refl; free = refl; few = λ room within few. few; escapes = omega arith })
     (λ base. endings-byte_read base i.escapes b) (endings-byte_read AboveArguments (choosing i).escapes b) (omega arith) breaks
     (record { first = first; second = None }))
     (Keeps-behind_called i breaks first (called_by (record { first = first; second = Some b }) i.names))
@@ -273,11 +274,11 @@ Keeps-interrupted Braced i = KeepsTwoMore-same i Braced
 Keeps-interrupted (InText line) i = KeepsTwoMore-same i (InText line)
 Keeps-interrupted (Control breaks) i = KeepsTwoMore-same i (Control breaks)
 Keeps-interrupted (Name breaks first) i = KeepsTwoMore-same i (Name breaks first)
-Keeps-interrupted (InArguments breaks request) i = record { charge = refl; newlines = refl; line = refl; free = refl; escapes = omega arith }
+Keeps-interrupted (InArguments breaks request) i = record { charge = refl; newlines = refl; line = refl; free = refl; few = λ room within few. few; escapes = omega arith }
 Keeps-interrupted (Deciding keeping) i = KeepsTwoMore-same i (Deciding keeping)
-Keeps-interrupted (StringName appends) i = record { charge = refl; newlines = refl; line = refl; free = refl; escapes = omega arith }
+Keeps-interrupted (StringName appends) i = record { charge = refl; newlines = refl; line = refl; free = refl; few = λ room within few. few; escapes = omega arith }
 Keeps-interrupted (StringText name appends is_front) i = KeepsTwoMore-same i (StringText name appends is_front)
-Keeps-interrupted (Calling name) i = record { charge = refl; newlines = refl; line = refl; free = refl; escapes = omega arith }
+Keeps-interrupted (Calling name) i = record { charge = refl; newlines = refl; line = refl; free = refl; few = λ room within few. few; escapes = omega arith }
 Keeps-interrupted (Defining name appends end matched) i = KeepsTwoMore-same i (Defining name appends end matched)
 Keeps-interrupted (Skipping opened closed behind) i = KeepsTwoMore-same i (Skipping opened closed behind)
 Keeps-interrupted Dropped i = KeepsTwoMore-same i Dropped
@@ -306,7 +307,7 @@ Keeps-ended : (base : Surroundings) (i : PageInput) (reading : LineState) (first
     → KeepsOneFewer i reading (record i { escapes = (reading_ended base i.escapes).1 }) reading
 Keeps-ended base i reading first others is =
     let fewer : Falls (endings_of i.escapes) (reading_ended base i.escapes) = falls_ended base i.escapes first others is in
-    record { charge = refl; newlines = refl; line = refl; free = refl; escapes = omega (arith, fewer) }
+    record { charge = refl; newlines = refl; line = refl; free = refl; few = λ room within few. few; escapes = omega (arith, fewer) }
 
 -- what is half read ends
 pub Keeps-escape_ended : (k : Known) (reading : LineState) (i : PageInput) (first : OpenEscape) (others : List OpenEscape) → i.escapes ≡ first ∷ others
@@ -369,7 +370,7 @@ Keeps-end_taking k (Defining name appends end matched) i =
 Keeps-end_taking k (Skipping opened closed behind) i = KeepsTwoMore-same i LineStart
 Keeps-end_taking k Dropped i = KeepsTwoMore-same i LineStart
 Keeps-end_taking k (Telling aborts is_front) i = Keeps-undropped_taking k (Telling aborts is_front) i newline
-Keeps-end_taking k (Told aborts) i = record { charge = refl; newlines = refl; line = refl; free = refl; escapes = omega arith }
+Keeps-end_taking k (Told aborts) i = record { charge = refl; newlines = refl; line = refl; free = refl; few = λ room within few. few; escapes = omega arith }
 Keeps-end_taking k Exiting i = KeepsTwoMore-same i LineStart
 
 -- an input where nothing is half read
@@ -377,7 +378,7 @@ abbrev plain : PageInput → PageInput
 plain i = record i { escapes = [] }
 
 Keeps-plain : (i : PageInput) (most : ℕ) (reading : LineState) → begun reading ≤ most → Keeps most (plain i) (plain i) reading
-Keeps-plain i most reading few = record { charge = refl; newlines = refl; line = refl; free = refl; escapes = omega (arith, few) }
+Keeps-plain i most reading few = record { charge = refl; newlines = refl; line = refl; free = refl; few = λ room within few. few; escapes = omega (arith, few) }
 
 -- what a newline gives there where a line is read: a definition may begin
 module _ (k : Known) (i : PageInput) (breaks : Bool) where
@@ -404,7 +405,7 @@ module _ (k : Known) (i : PageInput) (breaks : Bool) where
   Keeps-last_line request (ByLines lines) = Keeps-last_arguments request
   Keeps-last_line request ByElse =
       Keeps-branch_taking 0 3 k (plain i) (without_last (plain i)) LineStart (reads_else (last_result (plain i))) newline
-      (record { charge = refl; newlines = refl; line = refl; free = refl; escapes = omega arith }) (omega arith)
+      (record { charge = refl; newlines = refl; line = refl; free = refl; few = λ room within few. few; escapes = omega arith }) (omega arith)
 
   -- what a line does that ends behind a name
   Keeps-last_name : (called : Called) → KeepsBy 3 (plain i) (called_taking k (plain i) breaks called newline)
@@ -488,12 +489,13 @@ Keeps-called_last (ABody name) i = record {
   charge = refl;
   newlines = refl;
   line = refl;
-  free = free_ahead-called (called_text (body_named (name_bytes name) i)) i.ahead;
+  free = free_ahead-called (called_text (body_named (name_bytes name) i)) 0 i.ahead;
+  few = λ room within few. few-called room (called_text (body_named (name_bytes name) i)) 0 i.ahead (few-more room 5 i.ahead within few);
   escapes = omega arith;
 }
-Keeps-called_last (ARequest request) i = record { charge = refl; newlines = refl; line = refl; free = refl; escapes = omega arith }
-Keeps-called_last Unknown i = record { charge = refl; newlines = refl; line = refl; free = refl; escapes = omega arith }
+Keeps-called_last (ARequest request) i = record { charge = refl; newlines = refl; line = refl; free = refl; few = λ room within few. few; escapes = omega arith }
+Keeps-called_last Unknown i = record { charge = refl; newlines = refl; line = refl; free = refl; few = λ room within few. few; escapes = omega arith }
 
 pub Keeps-last_called : (name : Option ShortName) (i : PageInput) → KeepsBy (2 * endings_of i.escapes) i (going_on (last_called name i) LineStart)
-Keeps-last_called None i = record { charge = refl; newlines = refl; line = refl; free = refl; escapes = omega arith }
+Keeps-last_called None i = record { charge = refl; newlines = refl; line = refl; free = refl; few = λ room within few. few; escapes = omega arith }
 Keeps-last_called (Some name) i = Keeps-called_last (called_by name i.names) i

@@ -3,7 +3,7 @@
 --
 -- Each function f of reading has its lemma here, with a line for each of its cases: Alike-f where it changes arguments and
 -- texts alone, and else Keeps-f.
-use Rattle.std.proofs.Common.{◌≡◌, ℕ, ◌≤◌, Bool, true, false, List, [], ◌∷◌, Option, Some, None, refl, ap, ◌∙◌, arith}
+use Rattle.std.proofs.Common.{◌≡◌, ℕ, ◌≤◌, Bool, true, false, List, [], ◌∷◌, Option, Some, None, refl, sym, subst, ap, ◌∙◌, arith}
 use Rattle.std.specs.Prelude.{◌&&◌, length, nat_le, if◌then◌else◌, ◌==◌}
 use Rattle.roff_source.specs.Bytes.{newline, blank, quote}
 use Rattle.roff_ahead.specs.Input.Calls.{arguments_given, called_text, calling_body}
@@ -35,6 +35,10 @@ use Rattle.roff_store.specs.Texts.{newest}
 use Rattle.roff_run.specs.Registers.{Known}
 use Rattle.roff_run.specs.Requests.{Effect, row_of, request_effect}
 use Rattle.roff_run.specs.TurnsToCome.{begun, endings_of, free_ahead}
+use Rattle.roff_ahead.specs.Input.{Ahead}
+use Rattle.roff_ahead.specs.Input.Few.{AreFewFrom}
+use Rattle.roff_run.specs.Requests.{PageEvent}
+use Rattle.roff_ahead.proofs.FewEvents.{few-called, few-more}
 use Rattle.roff_run.proofs.KeepingText.{Keeps, KeepsBy, Keeps-if, free_ahead-called, Keeps-measuring, Keeps-holding_text, Keeps-asking}
 
 -- an input that differs from another in its arguments and texts alone
@@ -55,6 +59,7 @@ Keeps-alike most i j old n reading keeps alike unnamed = record {
   newlines = alike.newlines ∙ keeps.newlines;
   line = alike.line ∙ keeps.line;
   free = ap free_ahead alike.ahead ∙ keeps.free;
+  few = λ room within few. subst (λ (items : List (Ahead PageEvent)). AreFewFrom room items) (sym alike.ahead) (keeps.few room within few);
   escapes = let same : endings_of n.escapes ≡ endings_of j.escapes = ap endings_of alike.escapes in omega (arith, keeps.escapes, same, unnamed);
 }
 
@@ -66,6 +71,7 @@ Keeps-no_more most i j old n reading keeps alike few = record {
   newlines = alike.newlines ∙ keeps.newlines;
   line = alike.line ∙ keeps.line;
   free = ap free_ahead alike.ahead ∙ keeps.free;
+  few = λ room within few. subst (λ (items : List (Ahead PageEvent)). AreFewFrom room items) (sym alike.ahead) (keeps.few room within few);
   escapes = let same : endings_of n.escapes ≡ endings_of j.escapes = ap endings_of alike.escapes in omega (arith, keeps.escapes, same, few);
 }
 
@@ -179,9 +185,9 @@ Keeps-unit_found : (most : ℕ) (k : Known) (i j : PageInput) (breaks : Bool) (r
 Keeps-unit_found most k i j breaks request (Byte b) keeps =
     Keeps-if most i (b == newline) _ _
     (Keeps-arguments_ended most k i j (InArguments breaks request) breaks request (row_of request).line keeps (omega arith))
-    (record { charge = keeps.charge; newlines = keeps.newlines; line = keeps.line; free = keeps.free; escapes = keeps.escapes })
+    (record { charge = keeps.charge; newlines = keeps.newlines; line = keeps.line; free = keeps.free; few = keeps.few; escapes = keeps.escapes })
 Keeps-unit_found most k i j breaks request (Kept b) keeps =
-    record { charge = keeps.charge; newlines = keeps.newlines; line = keeps.line; free = keeps.free; escapes = keeps.escapes }
+    record { charge = keeps.charge; newlines = keeps.newlines; line = keeps.line; free = keeps.free; few = keeps.few; escapes = keeps.escapes }
 
 -- what was found that is no unit
 pub Keeps-no_unit_found : (most : ℕ) (k : Known) (i j : PageInput) (reading : LineState) (found : Found) → Keeps most i j reading
@@ -201,7 +207,7 @@ Keeps-settled : (most : ℕ) (k : Known) (i j : PageInput) (reading : LineState)
     → KeepsBy most i (no_unit_found k (settling j) reading found)
 Keeps-settled most k i j reading found keeps =
     Keeps-no_unit_found most k i (settling j) reading found
-    (record { charge = keeps.charge; newlines = keeps.newlines; line = keeps.line; free = keeps.free; escapes = keeps.escapes })
+    (record { charge = keeps.charge; newlines = keeps.newlines; line = keeps.line; free = keeps.free; few = keeps.few; escapes = keeps.escapes })
 
 -- what was found of a line of arguments
 pub Keeps-arguments_found : (most : ℕ) (k : Known) (i j : PageInput) (breaks : Bool) (request : Request) (found : Found) → Keeps most i j (InArguments breaks request)
@@ -235,7 +241,7 @@ Keeps-string_line_ended most i j old appends None keeps =
 Keeps-string_line_ended most i j old appends (Some name) keeps =
     let released : PageInput = record j { arguments = no_arguments } in
     Keeps-alike most i released old _ LineStart
-    (record { charge = keeps.charge; newlines = keeps.newlines; line = keeps.line; free = keeps.free; escapes = keeps.escapes })
+    (record { charge = keeps.charge; newlines = keeps.newlines; line = keeps.line; free = keeps.free; few = keeps.few; escapes = keeps.escapes })
     (Alike-string_emptied name appends released) refl
 
 Keeps-string_name_behind : (most : ℕ) (i j : PageInput) (old : LineState) (appends : Bool) (name : Option (Option ShortName)) → Keeps most i j old
@@ -247,7 +253,7 @@ Keeps-string_name_or_text : (most : ℕ) (i j : PageInput) (old : LineState) (ap
     → KeepsBy most i (string_name_or_text j appends unit name)
 Keeps-string_name_or_text most i j old appends unit None keeps =
     Keeps-string_name_behind most i (holding unit j) old appends (name_read (holding unit j))
-    (record { charge = keeps.charge; newlines = keeps.newlines; line = keeps.line; free = keeps.free; escapes = keeps.escapes })
+    (record { charge = keeps.charge; newlines = keeps.newlines; line = keeps.line; free = keeps.free; few = keeps.few; escapes = keeps.escapes })
 Keeps-string_name_or_text most i j old appends unit (Some name) keeps =
     Keeps-string_unit most i (string_begun name j) LineStart name appends true unit (Keeps-alike most i j old _ LineStart keeps (Alike-string_begun name j) refl)
 
@@ -257,10 +263,10 @@ Keeps-string_name_unit most i j old appends (Byte b) keeps =
     Keeps-if most i (b == newline) _ _ (Keeps-string_line_ended most i j old appends (name_at 0 (arguments_given j)) keeps)
     (Keeps-if most i (b == quote) _ _ (Keeps-string_name_or_text most i j old appends (Byte b) (name_read j) keeps)
     (Keeps-string_name_or_text most i (settling j) old appends (Byte b) (name_read (settling j))
-    (record { charge = keeps.charge; newlines = keeps.newlines; line = keeps.line; free = keeps.free; escapes = keeps.escapes })))
+    (record { charge = keeps.charge; newlines = keeps.newlines; line = keeps.line; free = keeps.free; few = keeps.few; escapes = keeps.escapes })))
 Keeps-string_name_unit most i j old appends (Kept b) keeps =
     Keeps-string_name_or_text most i (settling j) old appends (Kept b) (name_read (settling j))
-    (record { charge = keeps.charge; newlines = keeps.newlines; line = keeps.line; free = keeps.free; escapes = keeps.escapes })
+    (record { charge = keeps.charge; newlines = keeps.newlines; line = keeps.line; free = keeps.free; few = keeps.few; escapes = keeps.escapes })
 
 -- what was found of a string's name
 pub Keeps-string_name_found : (most : ℕ) (k : Known) (i j : PageInput) (appends : Bool) (found : Found) → Keeps most i j (StringName appends)
@@ -293,12 +299,12 @@ Keeps-message_unit : (most : ℕ) (i j : PageInput) (aborts is_front : Bool) (un
     → KeepsBy most i (message_unit j aborts is_front unit)
 Keeps-message_unit most i j aborts is_front (Byte b) keeps =
     Keeps-if most i (b == newline) _ _
-    (record { charge = keeps.charge; newlines = keeps.newlines; line = keeps.line; free = keeps.free; escapes = omega (arith, keeps.escapes) })
+    (record { charge = keeps.charge; newlines = keeps.newlines; line = keeps.line; free = keeps.free; few = keeps.few; escapes = omega (arith, keeps.escapes) })
     (Keeps-if most i (is_front && b == blank) _ _
-    (record { charge = keeps.charge; newlines = keeps.newlines; line = keeps.line; free = keeps.free; escapes = keeps.escapes })
-    (record { charge = keeps.charge; newlines = keeps.newlines; line = keeps.line; free = keeps.free; escapes = keeps.escapes }))
+    (record { charge = keeps.charge; newlines = keeps.newlines; line = keeps.line; free = keeps.free; few = keeps.few; escapes = keeps.escapes })
+    (record { charge = keeps.charge; newlines = keeps.newlines; line = keeps.line; free = keeps.free; few = keeps.few; escapes = keeps.escapes }))
 Keeps-message_unit most i j aborts is_front (Kept b) keeps =
-    record { charge = keeps.charge; newlines = keeps.newlines; line = keeps.line; free = keeps.free; escapes = keeps.escapes }
+    record { charge = keeps.charge; newlines = keeps.newlines; line = keeps.line; free = keeps.free; few = keeps.few; escapes = keeps.escapes }
 
 -- what was found of it
 pub Keeps-message_found : (most : ℕ) (k : Known) (i j : PageInput) (aborts is_front : Bool) (found : Found) → Keeps most i j (Telling aborts is_front)
@@ -320,7 +326,8 @@ Keeps-called most i j old name keeps = record {
   charge = keeps.charge;
   newlines = keeps.newlines;
   line = keeps.line;
-  free = free_ahead-called (called_text (body_named (name_bytes name) j)) j.ahead ∙ keeps.free;
+  free = free_ahead-called (called_text (body_named (name_bytes name) j)) 0 j.ahead ∙ keeps.free;
+  few = λ room within few. few-called room (called_text (body_named (name_bytes name) j)) 0 j.ahead (few-more room 5 j.ahead within (keeps.few room within few));
   escapes = omega (arith, keeps.escapes);
 }
 
@@ -331,11 +338,11 @@ Keeps-call_unit most i j name (Byte b) keeps =
     (Keeps-if most i (b == quote) _ _
     (Keeps-no_more most i j (Calling name) _ (Calling name) keeps (Alike-holding_call (Byte b) j) (omega arith))
     (Keeps-no_more most i (settling j) (Calling name) _ (Calling name)
-    (record { charge = keeps.charge; newlines = keeps.newlines; line = keeps.line; free = keeps.free; escapes = keeps.escapes })
+    (record { charge = keeps.charge; newlines = keeps.newlines; line = keeps.line; free = keeps.free; few = keeps.few; escapes = keeps.escapes })
     (Alike-holding_call (Byte b) (settling j)) (omega arith)))
 Keeps-call_unit most i j name (Kept b) keeps =
     Keeps-no_more most i (settling j) (Calling name) _ (Calling name)
-    (record { charge = keeps.charge; newlines = keeps.newlines; line = keeps.line; free = keeps.free; escapes = keeps.escapes })
+    (record { charge = keeps.charge; newlines = keeps.newlines; line = keeps.line; free = keeps.free; few = keeps.few; escapes = keeps.escapes })
     (Alike-holding_call (Kept b) (settling j)) (omega arith)
 
 -- what was found there

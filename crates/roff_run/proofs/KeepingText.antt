@@ -10,6 +10,8 @@ use Rattle.roff_escape.specs.Characters.{character}
 use Rattle.roff_escape.specs.Escapes.{escape_of}
 use Rattle.roff_ahead.specs.Input.{Ahead, ByteAhead, EndAhead, ReturnAhead, holding_text}
 use Rattle.roff_ahead.specs.Input.Calls.{arguments_live}
+use Rattle.roff_ahead.specs.Input.Few.{AreFewFrom}
+use Rattle.roff_ahead.proofs.FewEvents.{few-more, few-text}
 use Rattle.roff_ahead.specs.Input.Names.{body_named}
 use Rattle.roff_escape.specs.declared.escapes.Escape.{Escape as Kind}
 use Rattle.roff_escape.specs.declared.escapes.Escape.TheVariants.{Prints, Blank, NoWidth, Nothing as GivesNothing, Brace, LeftOut as IsLeftOut, Comment as BeginsComment, Size as BeginsSize, Name as BeginsName, Text as BeginsText, Width as BeginsWidth, Tab as GivesTab, Interrupts}
@@ -29,20 +31,25 @@ use Rattle.roff_run.specs.declared.line_state.TextLine.{TextLine}
 use Rattle.roff_run.specs.Reading.Beginnings.{line_begun, first_taking, first_escape, beginning_found, beginning_text, line_begun_as, escape_begun, first_name}
 use Rattle.roff_run.specs.Reading.Branches.{skipping_taking, branch_of}
 use Rattle.roff_run.specs.Reading.ControlLines.{dropped_taking}
-use Rattle.roff_run.specs.Reading.Escapes.{argument_named, asking, measuring}
+use Rattle.roff_run.specs.Reading.Escapes.{argument_named, asking, measuring, putting_nothing}
 use Rattle.roff_run.specs.Reading.Items.{PageInput, Taking, going_on}
 use Rattle.roff_run.specs.Reading.TextLines.{glyph_taking, blank_taking, text_taking, escape_meant, escape_taking, character_printed, character_taking, name_taking, text_found}
 use Rattle.roff_run.specs.Registers.{Known, known_behind, step_changes, text_of_register}
 use Rattle.roff_run.specs.Requests.{PageEvent}
 use Rattle.roff_run.specs.TurnsToCome.{begun, endings_of, free_ahead}
 
--- an input behind another, in which this is read: of the same counts, with as many free bytes ahead, and no more than so
--- many turns to come of what is half read and of what is read
+-- where few events stood ahead, few do
+abbrev pub StaysFew : List (Ahead PageEvent) → List (Ahead PageEvent) → Type 0
+StaysFew before behind = (room : ℕ) → room ≤ 5 → AreFewFrom room before → AreFewFrom room behind
+
+-- an input behind another, in which this is read: of the same counts, with as many free bytes ahead, with few events still, and
+-- no more than so many turns to come of what is half read and of what is read
 pub record Keeps (most : ℕ) (i j : PageInput) (reading : LineState) : Type 0 where
   pub charge : j.charge ≡ i.charge
   pub newlines : j.newlines ≡ i.newlines
   pub line : j.line ≡ i.line
   pub free : free_ahead j.ahead ≡ free_ahead i.ahead
+  pub few : StaysFew i.ahead j.ahead
   pub escapes : 2 * endings_of j.escapes + begun reading ≤ most
 
 -- the same of what is done with an item
@@ -75,6 +82,7 @@ Keeps-unnamed most i j old reading keeps unnamed = record {
   newlines = keeps.newlines;
   line = keeps.line;
   free = keeps.free;
+  few = keeps.few;
   escapes = omega (arith, keeps.escapes, unnamed);
 }
 
@@ -207,10 +215,10 @@ free_ahead-pushed : (text : List ℕ) (items : List (Ahead PageEvent)) → free_
 free_ahead-pushed [] items = refl
 free_ahead-pushed (b ∷ text) items = free_ahead-pushed text items
 
--- nor is one of a body that a line calls
-pub free_ahead-called : (text : List ℕ) (items : List (Ahead PageEvent)) → free_ahead (map ByteAhead text ++ ReturnAhead ∷ items) ≡ free_ahead items
-free_ahead-called [] items = refl
-free_ahead-called (b ∷ text) items = free_ahead-called text items
+-- nor is one of a body that a line calls, or that springs
+pub free_ahead-called : (text : List ℕ) (back : ℕ) (items : List (Ahead PageEvent)) → free_ahead (map ByteAhead text ++ ReturnAhead back ∷ items) ≡ free_ahead items
+free_ahead-called [] back items = refl
+free_ahead-called (b ∷ text) back items = free_ahead-called text back items
 
 -- nor is one of a register's text
 free_ahead-register : (k : Known) (step : Option Direction) (name : List ℕ) (items : List (Ahead PageEvent))
@@ -220,7 +228,14 @@ free_ahead-register k step name items = free_ahead-pushed (text_of_register (kno
 -- nor is one of a width's digits
 pub Keeps-measuring : (most : ℕ) (i j : PageInput) (reading : LineState) (width : ℕ) → Keeps most i j reading → KeepsBy most i (measuring j reading width)
 Keeps-measuring most i j reading width keeps =
-    record { charge = keeps.charge; newlines = keeps.newlines; line = keeps.line; free = free_ahead-pushed (decimal width) j.ahead ∙ keeps.free; escapes = keeps.escapes }
+    record {
+      charge = keeps.charge;
+      newlines = keeps.newlines;
+      line = keeps.line;
+      free = free_ahead-pushed (decimal width) j.ahead ∙ keeps.free;
+      few = λ room within few. few-text room (decimal width) j.ahead (few-more room 5 j.ahead within (keeps.few room within few));
+      escapes = keeps.escapes;
+    }
 
 -- a unit of a text leaves as many endings
 endings-text_held : (unit : CopyUnit) (half : List OpenEscape) → endings_of (text_held unit half) ≡ endings_of half
@@ -243,6 +258,7 @@ Keeps-holding_text most i j reading unit keeps = record {
   newlines = keeps.newlines;
   line = keeps.line;
   free = keeps.free;
+  few = keeps.few;
   escapes = omega (arith, keeps.escapes, endings-text_held unit j.escapes);
 }
 
@@ -250,21 +266,53 @@ Keeps-holding_text most i j reading unit keeps = record {
 pub Keeps-with_escapes : (less most : ℕ) (i j : PageInput) (old reading : LineState) (half : List OpenEscape) → Keeps less i j old → 2 * endings_of half + begun reading ≤ most
     → Keeps most i (record j { escapes = half }) reading
 Keeps-with_escapes less most i j old reading half keeps few =
-    record { charge = keeps.charge; newlines = keeps.newlines; line = keeps.line; free = keeps.free; escapes = few }
+    record { charge = keeps.charge; newlines = keeps.newlines; line = keeps.line; free = keeps.free; few = keeps.few; escapes = few }
+
+-- nor is one of an empty text
+Keeps-nothing_put : (most : ℕ) (i j : PageInput) (reading : LineState) → Keeps most i j reading → KeepsBy most i (putting_nothing j reading)
+Keeps-nothing_put most i j reading keeps = record {
+  charge = keeps.charge;
+  newlines = keeps.newlines;
+  line = keeps.line;
+  free = keeps.free;
+  few = λ room within few. few-text room [] j.ahead (few-more room 5 j.ahead within (keeps.few room within few));
+  escapes = keeps.escapes;
+}
 
 -- what a name asks for
 pub Keeps-asking : (most : ℕ) (k : Known) (i j : PageInput) (reading : LineState) (purpose : NameUse) (name : Option (List ℕ)) → Keeps most i j reading
     → KeepsBy most i (asking k j reading purpose name)
 Keeps-asking most k i j reading purpose None keeps = keeps
 Keeps-asking most k i j reading (Register step) (Some name) keeps =
-    record { charge = keeps.charge; newlines = keeps.newlines; line = keeps.line; free = free_ahead-register k step name j.ahead ∙ keeps.free; escapes = keeps.escapes }
+    record {
+      charge = keeps.charge;
+      newlines = keeps.newlines;
+      line = keeps.line;
+      free = free_ahead-register k step name j.ahead ∙ keeps.free;
+      few = λ room within few. few-text room (text_of_register (known_behind (step_changes step name) k) name) j.ahead (few-more room 5 j.ahead within (keeps.few room within few));
+      escapes = keeps.escapes;
+    }
 Keeps-asking most k i j reading OfText (Some name) keeps =
-    record { charge = keeps.charge; newlines = keeps.newlines; line = keeps.line; free = free_ahead-pushed (body_named name j) j.ahead ∙ keeps.free; escapes = keeps.escapes }
+    record {
+      charge = keeps.charge;
+      newlines = keeps.newlines;
+      line = keeps.line;
+      free = free_ahead-pushed (body_named name j) j.ahead ∙ keeps.free;
+      few = λ room within few. few-text room (body_named name j) j.ahead (few-more room 5 j.ahead within (keeps.few room within few));
+      escapes = keeps.escapes;
+    }
 Keeps-asking most k i j reading Argument (Some name) keeps =
-    record { charge = keeps.charge; newlines = keeps.newlines; line = keeps.line; free = free_ahead-pushed (argument_named name (arguments_live j)) j.ahead ∙ keeps.free; escapes = keeps.escapes }
-Keeps-asking most k i j reading Character (Some name) keeps = record { charge = keeps.charge; newlines = keeps.newlines; line = keeps.line; free = keeps.free; escapes = keeps.escapes }
-Keeps-asking most k i j reading Font (Some name) keeps = record { charge = keeps.charge; newlines = keeps.newlines; line = keeps.line; free = keeps.free; escapes = keeps.escapes }
-Keeps-asking most k i j reading (NameLeftOut b) (Some name) keeps = record { charge = keeps.charge; newlines = keeps.newlines; line = keeps.line; free = keeps.free; escapes = keeps.escapes }
+    record {
+      charge = keeps.charge;
+      newlines = keeps.newlines;
+      line = keeps.line;
+      free = free_ahead-pushed (argument_named name (arguments_live j)) j.ahead ∙ keeps.free;
+      few = λ room within few. few-text room (argument_named name (arguments_live j)) j.ahead (few-more room 5 j.ahead within (keeps.few room within few));
+      escapes = keeps.escapes;
+    }
+Keeps-asking most k i j reading Character (Some name) keeps = Keeps-nothing_put most i j reading keeps
+Keeps-asking most k i j reading Font (Some name) keeps = Keeps-nothing_put most i j reading keeps
+Keeps-asking most k i j reading (NameLeftOut b) (Some name) keeps = Keeps-nothing_put most i j reading keeps
 
 -- a name of a text line
 Keeps-name_taking : (most : ℕ) (k : Known) (i j : PageInput) (reading : LineState) (line : TextLine) (purpose : NameUse) (name : Option (List ℕ)) → Keeps most i j reading

@@ -8,6 +8,11 @@ pub mod NumberedRequests
 pub mod InputCounts
 pub mod TurnsToCome
 pub mod Waiting
+pub mod PutBack
+pub mod LinesLeft
+pub mod CountingText
+pub mod CountingRequests
+pub mod CountsLast
 pub mod InFront
 pub mod Printing
 pub mod EscapeCounts

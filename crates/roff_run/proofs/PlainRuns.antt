@@ -56,12 +56,12 @@ pub step-taken : (l : Limits) (s : State) (names : Named Entry) (from : Origin) 
     → step l (run_at s names p from (b ∷ bytes) i) ≡ t
 step-taken l s names (FromAhead rest) p b bytes i t on none_due stays few is within =
     let before : State = run_at s names p (FromAhead rest) (b ∷ bytes) i in
-    bytes_ahead_are_taken l before b (map ByteAhead bytes ++ rest) (record { going = on.going; is_open = on.is_open; idle = on.idle; none_due = none_due })
+    bytes_ahead_are_taken l before b (map ByteAhead bytes ++ rest) (record { going = on.going; is_open = on.is_open; idle = on.idle; unsprung = on.unsprung; none_due = none_due })
     refl stays (omega (arith, few))
     ∙ ap (made l before) is ∙ made-Fits l before t (Fits-IsWithin l t within)
 step-taken l s names (FromSource tape) p b bytes i t on none_due stays few is within =
     let before : State = run_at s names p (FromSource tape) (b ∷ bytes) i in
-    bytes_of_the_source_are_taken l before b (record { going = on.going; is_open = on.is_open; idle = on.idle; none_due = none_due })
+    bytes_of_the_source_are_taken l before b (record { going = on.going; is_open = on.is_open; idle = on.idle; unsprung = on.unsprung; none_due = none_due })
     refl refl stays (omega (arith, few))
     ∙ ap (made l before) is ∙ made-Fits l before t (Fits-IsWithin l t within)
 

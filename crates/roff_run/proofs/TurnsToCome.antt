@@ -23,7 +23,7 @@ use Rattle.roff_run.proofs.Keeping.{KeepsTwoMore, Keeps-taking, Keeps-escape_end
 abbrev pub IsTaken : Shown PageEvent → Type 0
 IsTaken (ShowsByte b) = Unit {0}
 IsTaken ShowsEnd = Unit {0}
-IsTaken ShowsReturn = Unit {0}
+IsTaken (ShowsReturn back) = Unit {0}
 IsTaken (ShowsDo event) = Unit {0}
 IsTaken (ShowsNote message) = ⊥
 IsTaken (ShowsEnding ending) = ⊥
@@ -44,7 +44,7 @@ falls-item : (item : Ahead PageEvent) (items : List (Ahead PageEvent)) (bytes : 
 falls-item (ByteAhead b) items bytes i room = omega arith
 falls-item (FreeAhead b) items bytes i room = omega arith
 falls-item EndAhead items bytes i room = omega arith
-falls-item ReturnAhead items bytes i room = omega arith
+falls-item (ReturnAhead back) items bytes i room = omega arith
 falls-item (DoAhead event) items bytes i room = omega arith
 
 falls-answer : (a : Answer) (u : Unread PageEvent) → Falls u (taking_answer a u)

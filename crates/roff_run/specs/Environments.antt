@@ -1,25 +1,30 @@
--- The three environments: what happened in each of them, and which one is in force (manual, section 17).
+-- The three environments: what happened in each of them, its input-line trap, and which one is in force (manual, sections 7.5
+-- and 17).
 --
 -- They stand in a ring: the one in force, the next behind it, and the last, with 0 behind 2.
-use Rattle.std.specs.Prelude.{ℕ, Bool, true, false, List, [], ◌∷◌, Option, Some, None, if◌then◌else◌, ◌==◌}
+use Rattle.std.specs.Prelude.{ℕ, ◌-◌, Bool, true, false, List, [], ◌∷◌, nat_lt, Option, Some, None, if◌then◌else◌, ◌==◌}
 use Rattle.roff_lines.specs.Events.{History, is_interrupted}
-use Rattle.roff_lines.specs.declared.event.Event.{Event}
-use Rattle.roff_lines.specs.declared.event.Event.TheVariants.{Interrupt as IsInterrupted}
 use Rattle.roff_lines.specs.Places.{has_line_glyph}
+use Rattle.roff_lines.specs.declared.event.Event.{Event}
+use Rattle.roff_lines.specs.declared.event.Event.TheVariants.{Count, Interrupt as IsInterrupted}
 pub use Rattle.roff_run.specs.declared.environment_number.EnvironmentNumber.{EnvironmentNumber}
 pub use Rattle.roff_run.specs.declared.environment_number.EnvironmentNumber.TheVariants.{Zero, One, Two}
 use Rattle.roff_run.specs.declared.event.PageEvent.{PageEvent}
-use Rattle.roff_run.specs.declared.event.PageEvent.TheVariants.{Text, Space, Interrupt, Environment, Back}
+use Rattle.roff_run.specs.declared.event.PageEvent.TheVariants.{Text, Space, Interrupt, Environment, Back, InputTrap as SetsTrap}
+pub use Rattle.roff_run.specs.declared.event.InputTrap.{InputTrap}
+use Rattle.roff_num.specs.declared.short_name.ShortName.{ShortName}
 use Rattle.roff_run.specs.declared.line_state.TextLine.{TextLine}
 
 -- all that happened to the page, the newest first
 abbrev pub PageHistory : Type 0
 PageHistory = List PageEvent
 
--- what happened in one environment, and how many leading blanks of its interrupted line aren't told yet
+-- what happened in one environment, how many leading blanks of its interrupted line aren't told yet, and its input-line trap, if
+-- it has one
 pub record InEnvironment : Type 0 where
   pub text : History
   pub untold : ℕ
+  pub input_trap : Option InputTrap
 
 -- the number of the one in force, what happened in each of the three, and the numbers of those that were left for others and
 -- aren't gone back to, the newest first
@@ -53,7 +58,7 @@ environment_numbered n =
 
 -- an environment in which nothing happened
 abbrev pub fresh_environment : InEnvironment
-fresh_environment = record { text = []; untold = 0 }
+fresh_environment = record { text = []; untold = 0; input_trap = None }
 
 -- at first environment 0 is in force
 abbrev pub first_environments : Environments
@@ -65,14 +70,37 @@ first_environments = record {
   left = [];
 }
 
+-- an input-line trap behind a text line that counts: with the last of its lines it is gone
+abbrev pub counted_down : Option InputTrap → Option InputTrap
+counted_down None = None
+counted_down (Some trap) = if nat_lt 1 trap.lines then Some (record trap { lines = trap.lines - 1 }) else None
+
+-- the macro that a text line springs as it counts, if it is the last one that the trap waits for
+abbrev pub trap_reached : Option InputTrap → Option ShortName
+trap_reached None = None
+trap_reached (Some trap) = if nat_lt 1 trap.lines then None else Some trap.name
+
+-- an input-line trap behind an event: it counts text lines as centring does
+abbrev pub trap_behind : Event → Option InputTrap → Option InputTrap
+trap_behind Count trap = counted_down trap
+trap_behind (_) trap = trap
+
+-- something happens in an environment
+abbrev pub happened : Event → InEnvironment → InEnvironment
+happened e here = record here { text = e ∷ here.text; input_trap = trap_behind e here.input_trap }
+
 -- something happens in the environment in force
 abbrev pub with_event : Event → Environments → Environments
-with_event e es = record es { in_force = record es.in_force { text = e ∷ es.in_force.text } }
+with_event e es = record es { in_force = happened e es.in_force }
 
 -- its line is interrupted, and so many leading blanks of it aren't told yet
 abbrev pub with_interruption : ℕ → Environments → Environments
 with_interruption untold es =
-    record es { in_force = record { text = IsInterrupted ∷ es.in_force.text; untold = untold } }
+    record es { in_force = record es.in_force { text = IsInterrupted ∷ es.in_force.text; untold = untold } }
+
+-- `it`: its input-line trap is this one from now on, or it has none
+abbrev pub with_input_trap : Option InputTrap → Environments → Environments
+with_input_trap trap es = record es { in_force = record es.in_force { input_trap = trap } }
 
 -- the ring turned, so that the next one is in force
 abbrev pub turned : Environments → Environments
@@ -104,6 +132,7 @@ environments (Space lines ∷ h) = environments h
 environments (Interrupt untold ∷ h) = with_interruption untold (environments h)
 environments (Environment number ∷ h) = switched_to number (environments h)
 environments (Back ∷ h) = gone_back (environments h).left (environments h)
+environments (SetsTrap trap ∷ h) = with_input_trap trap (environments h)
 
 -- what happened in the environment in force
 abbrev pub text_of : PageHistory → History

@@ -8,11 +8,12 @@ use Rattle.roff_run.specs.Reading.Ends.{due}
 use Rattle.roff_run.specs.Requests.{PageEvent}
 use Rattle.roff_run.specs.Run.{State, made, byte_taken, moved, step}
 
--- a run takes items: it hasn't ended, its source isn't closed, and there is nothing to do first, and nothing due
+-- a run takes items: it hasn't ended, its source isn't closed, and there is nothing to do first, nothing that sprang, and nothing due
 pub record TakesItems (s : State) : Type 0 where
   pub going : s.ended ≡ None
   pub is_open : s.is_closed ≡ false
   pub idle : s.to_do ≡ []
+  pub unsprung : s.sprung ≡ None
   pub none_due : due s.reading ≡ None
 
 -- a byte ahead that doesn't end what is half read is taken in one step, at the cost of one

@@ -9,6 +9,7 @@ pub mod Reading
 pub mod Telling
 pub mod TextLine
 pub mod Output
+pub mod Springs
 pub mod Starts
 pub mod Run
 pub mod Results

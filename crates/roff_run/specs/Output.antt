@@ -3,7 +3,7 @@ use Rattle.std.specs.Prelude.{ℕ, List, [], ◌∷◌, ◌++◌, replicate, Opt
 use Rattle.roff_lines.specs.Lines.{Finished, finished}
 use Rattle.roff_lines.specs.Columns.{line_bytes}
 use Rattle.roff_source.specs.Bytes.{newline}
-use Rattle.roff_run.specs.Requests.{PageEvent, Text, Space, Interrupt, Environment, Back}
+use Rattle.roff_run.specs.Requests.{PageEvent, Text, Space, Interrupt, Environment, Back, SetsTrap}
 pub use Rattle.roff_run.specs.Environments.{PageHistory, text_of}
 
 -- what is written of a line that an event finishes, if it finishes one
@@ -18,6 +18,7 @@ written_by h (Space lines) = replicate lines newline
 written_by h (Interrupt untold) = []
 written_by h (Environment number) = []
 written_by h Back = []
+written_by h (SetsTrap trap) = []
 
 -- what a history has written, event by event
 abbrev pub written : PageHistory → List ℕ

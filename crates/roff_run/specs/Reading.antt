@@ -10,6 +10,7 @@ pub mod Definitions
 pub mod DefinedLines
 pub mod Branches
 pub mod Calls
+pub mod Returns
 pub mod Messages
 pub mod ControlLines
 pub mod Found

@@ -4,12 +4,12 @@ use Rattle.roff_store.specs.Named.{Named, entry_of}
 use Rattle.roff_store.specs.Texts.{Entry, Body, Request as RequestEntry}
 use Rattle.roff_lines.specs.declared.settings.Param.TheVariants.{Filling, Adjusting}
 pub use Rattle.roff_run.specs.declared.event.PageEvent.{PageEvent}
-pub use Rattle.roff_run.specs.declared.event.PageEvent.TheVariants.{Text, Space, Interrupt, Environment, Back}
+pub use Rattle.roff_run.specs.declared.event.PageEvent.TheVariants.{Text, Space, Interrupt, Environment, Back, InputTrap as SetsTrap}
 pub use Rattle.roff_run.specs.Registers.{Known}
 use Rattle.roff_run.specs.declared.request.LineReading.{LineReading}
 use Rattle.roff_run.specs.declared.request.LineReading.TheVariants.{ByArguments, ByCondition, ByElse, ByLastLine, ByMessage, ByString, ByLines}
 use Rattle.roff_run.specs.declared.request.Request.{Request}
-use Rattle.roff_run.specs.declared.request.Request.TheVariants.{Abort, Adjust, AppendString, AssignFormat, Break, DefineString, Else, EndMacro, Exit, Fill, If, IfElse, Indent, LineLength, NoAdjust, NoFill, NumberRegister, RemoveNames, RemoveRegisters, Rename, Space as SpaceDown, TellMessage, WithoutEffect, LeftOut, AppendMacro, DefineMacro, Ignore, Centre, Environment as SwitchEnvironment, LineSpacing, TabStops, TemporaryIndent}
+use Rattle.roff_run.specs.declared.request.Request.TheVariants.{Abort, Adjust, AppendString, AssignFormat, Break, DefineString, Else, EndMacro, Exit, Fill, If, IfElse, Indent, InputTrap, LineLength, NoAdjust, NoFill, NumberRegister, RemoveNames, RemoveRegisters, Rename, Space as SpaceDown, TellMessage, WithoutEffect, LeftOut, AppendMacro, DefineMacro, Ignore, Centre, Environment as SwitchEnvironment, LineSpacing, TabStops, TemporaryIndent}
 use Rattle.roff_run.specs.declared.request.Called.{Called}
 use Rattle.roff_run.specs.declared.request.Called.TheVariants.{Request as ARequest, Body as ABody, Nothing as Unknown}
 use Rattle.roff_run.specs.declared.request.LinesFor.TheVariants.{Macro, Nobody}
@@ -22,6 +22,7 @@ use Rattle.roff_run.specs.Requests.Lengths.{line_length, indent, temporary_inden
 use Rattle.roff_run.specs.Requests.Tabs.{tab_stops}
 use Rattle.roff_run.specs.Requests.Switching.{switch}
 use Rattle.roff_run.specs.Requests.Naming.{end_macro, remove_names, rename}
+use Rattle.roff_run.specs.Requests.Springing.{input_trap}
 use Rattle.roff_run.specs.Requests.Numbering.{assign_format, set_register, remove_registers}
 pub mod Effects
 pub mod Adjustment
@@ -31,6 +32,7 @@ pub mod Tabs
 pub mod Switching
 pub mod Numbering
 pub mod Naming
+pub mod Springing
 
 -- a request's name, how its line is read, whether it breaks, and what it does with its arguments
 pub record Row : Type 0 where
@@ -67,6 +69,7 @@ row_of IfElse = row (codes "ie") (ByCondition true) false (always nothing)  -- s
 row_of If = row (codes "if") (ByCondition false) false (always nothing)  -- section 16
 row_of Ignore = row (codes "ig") (ByLines Nobody) false (always nothing)  -- section 20
 row_of Indent = row (codes "in") ByArguments true indent  -- section 6
+row_of InputTrap = row (codes "it") ByArguments false (λ known. input_trap)  -- section 7
 row_of LineLength = row (codes "ll") ByArguments false line_length  -- section 6
 row_of LineSpacing = row (codes "ls") ByArguments false line_spacing  -- section 5
 row_of NoAdjust = row (codes "na") ByArguments false (always (setting (Adjusting false)))  -- section 4
@@ -107,7 +110,7 @@ names_left_out =
 abbrev pub built : List Request
 built =
     Abort ∷ Adjust ∷ AssignFormat ∷ AppendMacro ∷ AppendString ∷ Break ∷ Centre ∷ DefineMacro ∷ DefineString ∷ Else
-    ∷ EndMacro ∷ SwitchEnvironment ∷ Exit ∷ Fill ∷ IfElse ∷ If ∷ Ignore ∷ Indent ∷ LineLength ∷ LineSpacing ∷ NoAdjust ∷ NoFill
+    ∷ EndMacro ∷ SwitchEnvironment ∷ Exit ∷ Fill ∷ IfElse ∷ If ∷ Ignore ∷ Indent ∷ InputTrap ∷ LineLength ∷ LineSpacing ∷ NoAdjust ∷ NoFill
     ∷ NumberRegister ∷ RemoveNames ∷ Rename ∷ RemoveRegisters ∷ SpaceDown ∷ TabStops ∷ TemporaryIndent ∷ TellMessage ∷ []
 
 -- those that do nothing, or nothing but say that they are left out

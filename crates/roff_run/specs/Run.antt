@@ -1,140 +1,49 @@
 -- The run: a machine of small steps over the source's tape.
-use Rattle.std.specs.Prelude.{◌≡◌, ℕ, zero, suc, ◌+◌, Bool, true, false, not, List, [], ◌∷◌, ◌++◌, length, nat_lt, Option, Some, None, if◌then◌else◌}
-use Rattle.roff_lines.specs.Events.{settings_after}
-use Rattle.roff_lines.specs.LastLine.{last_width}
-use Rattle.roff_lines.specs.Places.{input_place}
-use Rattle.roff_lines.specs.Words.{is_empty}
+use Rattle.std.specs.Prelude.{◌≡◌, ℕ, zero, suc, ◌+◌, Bool, true, false, List, [], ◌∷◌, ◌++◌, nat_lt, Option, Some, None, if◌then◌else◌}
 use Rattle.roff_lines.specs.declared.event.Event.TheVariants.{WordEnd, Break}
-use Rattle.roff_num.specs.LimitValues.{value_of}
 use Rattle.roff_num.specs.declared.limit.Limit.{Limit}
 use Rattle.roff_num.specs.declared.limit.Limit.TheVariants.{Bytes}
 use Rattle.roff_num.specs.declared.limits.Limits.{Limits}
 use Rattle.roff_escape.specs.Waiting.{is_ended_by}
 use Rattle.roff_escape.specs.declared.open_escape.Waiting.{Waiting}
 use Rattle.roff_escape.specs.declared.open_escape.Waiting.TheVariants.{Takes, Decides, Waits}
+use Rattle.roff_num.specs.ShortNames.{name_bytes}
 use Rattle.roff_num.specs.declared.num.Num.{Num}
-use Rattle.roff_ahead.specs.Input.{Ahead, ByteAhead, FreeAhead, EndAhead, DoAhead, initial_input, cost, item_taken, counting, leaving, ReturnAhead}
-use Rattle.roff_ahead.specs.Input.Calls.{arguments_live}
+use Rattle.roff_num.specs.declared.short_name.ShortName.{ShortName}
+use Rattle.roff_ahead.specs.Input.{Ahead, ByteAhead, FreeAhead, EndAhead, DoAhead, cost, item_taken, counting, leaving, putting_all_back, ReturnAhead}
+use Rattle.roff_ahead.specs.Input.Calls.{springing}
+use Rattle.roff_ahead.specs.Input.Names.{body_named}
 use Rattle.roff_source.specs.Tape.{Tape, Answer, OneByte, OneNote, Ended, Failed, Stopped, Gives, Ends, front, behind_front}
-use Rattle.roff_scan.specs.declared.looked.Looked.TheVariants.{Nothing as NothingLooked}
-use Rattle.roff_scan.specs.Unread.{Unread}
 use Rattle.roff_ahead.specs.Shown.{Sighted, SeesByte, SeesNothing, SeesNote, SeesEnding, seen_ahead}
 use Rattle.roff_arguments.specs.Arguments.{no_arguments}
 use Rattle.roff_escape.specs.OpenEscape.{OpenEscape}
-use Rattle.roff_run.specs.Messages.{message_line, message_lines, told_line}
-use Rattle.roff_run.specs.Environments.{environments, interrupted_line}
-use Rattle.roff_run.specs.Output.{PageHistory, text_of, written}
+use Rattle.roff_run.specs.Messages.{told_line}
+use Rattle.roff_run.specs.Output.{written}
 use Rattle.roff_run.specs.Reading.{taking, escape_ended, interrupted}
-use Rattle.roff_run.specs.Reading.Calls.{behind_return, last_called}
+use Rattle.roff_run.specs.Reading.Calls.{last_called}
 use Rattle.roff_run.specs.Reading.Ends.{end_taking, due, is_unfinished}
-use Rattle.roff_run.specs.Reading.Items.{PageInput, Taking, going_on, meaning_events}
+use Rattle.roff_run.specs.Reading.Items.{Taking, going_on, meaning_events}
 use Rattle.roff_run.specs.Reading.Messages.{message_text_read}
+use Rattle.roff_run.specs.Reading.Returns.{back_of, behind_return, in_sprung}
 use Rattle.roff_run.specs.Reading.Waiting.{waiting_in}
-use Rattle.roff_run.specs.Registers.{AllRegisters, Known, no_registers, changed_by_all}
-use Rattle.roff_run.specs.Requests.{PageEvent, Text, Effect, first_entries, requests}
-use Rattle.roff_run.specs.declared.message.Message.{Message}
-use Rattle.roff_run.specs.declared.message.Message.TheVariants.{LimitReached, ReadFailed}
+use Rattle.roff_run.specs.Registers.{AllRegisters}
+use Rattle.roff_run.specs.Requests.{PageEvent, Text, called_by}
+use Rattle.roff_run.specs.Springs.{next, springs}
+use Rattle.roff_run.specs.declared.request.Called.{Called}
+use Rattle.roff_run.specs.declared.request.Called.TheVariants.{Body as ABody}
+use Rattle.roff_run.specs.declared.message.Message.TheVariants.{ReadFailed}
 use Rattle.roff_run.specs.declared.line_state.Due.{Due}
 use Rattle.roff_run.specs.declared.line_state.Due.TheVariants.{Leaves, Tells as TellsText}
-use Rattle.roff_run.specs.declared.line_state.LineState.{LineState}
 use Rattle.roff_run.specs.declared.line_state.LineState.TheVariants.{LineStart}
-use Rattle.roff_run.specs.declared.status.Status.{Status}
 use Rattle.roff_run.specs.declared.status.Status.TheVariants.{Aborted, Done, Device, Limit as Limited}
 use Rattle.roff_run.specs.declared.phase.Phase.{Phase}
 use Rattle.roff_run.specs.declared.phase.Phase.TheVariants.{Reading, LastMacro, Closing}
 use Rattle.roff_run.specs.declared.start.Start.{Start}
 use Rattle.roff_run.specs.Starts.{with_given}
 use Rattle.roff_run.specs.Run.Counts.{passes_bytes, first_passed, refusal, names_counted, counts_in}
+pub use Rattle.roff_run.specs.Run.States.{State, first_input, first_unread, blank_state, known_at, known, ending_as, ending_with, stopped_by, meaning, unless_refused}
 pub mod Counts
-
--- a state of the run
-pub record State : Type 0 where
-  -- the source's items not yet taken
-  pub tape : Tape
-  -- what stands ahead of them, what is half read, and what was counted
-  pub input : PageInput
-  -- what is being read
-  pub reading : LineState
-  -- the number registers
-  pub registers : AllRegisters
-  -- the events that the last item means and that are still to be performed
-  pub to_do : List PageEvent
-  -- the events that were performed, the newest first
-  pub history : PageHistory
-  -- the messages, as they are written
-  pub messages : List ℕ
-  -- how far the run has come with its input, and whether nothing more is taken of the source
-  pub phase : Phase
-  pub is_closed : Bool
-  -- how the run ended, and the message with which it did, if there is one
-  pub ended : Option Status
-  pub last_message : List ℕ
-
--- the input before anything is read: the requests have their names
-abbrev pub first_input : PageInput
-first_input = record (initial_input (length requests)) { names = first_entries }
-
--- the same within these limits
-abbrev pub first_unread : Limits → Unread PageEvent
-first_unread l = record { input = first_input; looked = NothingLooked; limits = l }
-
--- before anything is given
-abbrev pub blank_state : Tape → State
-blank_state tape = record {
-  tape = tape;
-  input = first_input;
-  reading = LineStart;
-  registers = no_registers;
-  to_do = [];
-  history = [];
-  messages = [];
-  phase = Reading;
-  is_closed = false;
-  ended = None;
-  last_message = [];
-}
-
--- what a request or an escape may ask behind this history
-abbrev pub known_at : PageHistory → AllRegisters → PageInput → Known
-known_at h rs i = record {
-  settings = settings_after (text_of h);
-  registers = rs;
-  newlines = i.newlines;
-  last_width = last_width (text_of h);
-  arguments = length (arguments_live i);
-  place = input_place (text_of h);
-  interrupted = interrupted_line h;
-  has_left = not (is_empty (environments h).left);
-}
-
--- the same of a state
-abbrev pub known : State → Known
-known s = known_at s.history s.registers s.input
-
--- the run ended
-abbrev pub ending_as : Status → State → State
-ending_as status s = record s { ended = Some status }
-
--- the run ended, and says why
-abbrev pub ending_with : Status → Message → State → State
-ending_with status message s = record s { ended = Some status; last_message = message_line s.input.line message }
-
--- a limit stopped the run
-abbrev pub stopped_by : Limits → Limit → State → State
-stopped_by l limit s = ending_with (Limited limit) (LimitReached limit (value_of l limit)) s
-
--- what an item means is to be done: its messages are written, its changes made, and its events stand in front
-abbrev pub meaning : Effect → State → State
-meaning effect s = record s {
-  messages = s.messages ++ message_lines s.input.line effect.messages;
-  registers = changed_by_all effect.changes s.registers;
-  to_do = effect.events ++ s.to_do;
-}
-
--- what a step does, unless a limit refuses it
-abbrev pub unless_refused : Limits → Option Limit → State → State → State
-unless_refused l None s done = done
-unless_refused l (Some limit) s done = stopped_by l limit s
+pub mod States
 
 -- the registers that are given are set, one after another, up to the first that the limit on names refuses
 abbrev pub with_registers : Limits → List (ℕ × Num) → State → State
@@ -147,9 +56,19 @@ with_registers l (given ∷ others) s =
 abbrev pub initial : Limits → Start → Tape → State
 initial l start tape = with_registers l start.registers.items (blank_state tape)
 
--- an event is performed, or refused by a limit
-abbrev pub performing : Limits → PageEvent → List PageEvent → State → State
-performing l e rest s = unless_refused l (refusal l s.history e) s (record s { to_do = rest; history = e ∷ s.history })
+-- these are left to do; where a macro was sprung they are put back, and stand behind it
+abbrev pub sprung_at : Option ShortName → List PageEvent → State → State
+sprung_at None left s = record s { to_do = left }
+sprung_at (Some name) left s = record s { to_do = []; sprung = Some name; input = putting_all_back left s.input }
+
+-- an event happened, and these are left
+abbrev pub performed : PageEvent → List PageEvent → State → State
+performed e left s = sprung_at (springs s.history e) left (record s { history = e ∷ s.history })
+
+-- an event is performed, or refused by a limit; where something comes before it, that is, and the event is left
+abbrev pub performing : Limits → Option PageEvent → PageEvent → List PageEvent → State → State
+performing l None e rest s = unless_refused l (refusal l s.history e) s (performed e rest s)
+performing l (Some own) e rest s = unless_refused l (refusal l s.history own) s (performed own (e ∷ rest) s)
 
 -- the same of a state
 abbrev pub grown : State → List (Limit × ℕ)
@@ -212,7 +131,7 @@ abbrev pub ahead_taken : Ahead PageEvent → State → State
 ahead_taken (ByteAhead b) s = byte_taken b s
 ahead_taken (FreeAhead b) s = byte_taken b s
 ahead_taken EndAhead s = s
-ahead_taken ReturnAhead s = record s { reading = behind_return s.reading }
+ahead_taken (ReturnAhead back) s = record s { reading = behind_return back s.reading }
 ahead_taken (DoAhead e) s = record s { input = interrupted s.reading s.input; to_do = e ∷ [] }
 
 -- an item ahead of the source is taken, at its cost
@@ -292,10 +211,25 @@ reading_by l (Some Leaves) s = made l s (input_left s)
 abbrev pub reading_on : Limits → State → State
 reading_on l s = reading_by l (due s.reading) s
 
--- one step of a run that hasn't ended: the first of the events to do, what is due, or an item
+-- The body of a macro that sprang is put in front: what is read goes on behind it. Where the name has no body nothing is read, and
+-- there is no end.
+abbrev pub sprung_read : Called → State → State
+sprung_read (ABody name) s = record s {
+  sprung = None;
+  input = springing (body_named (name_bytes name) s.input) (back_of s.reading) s.input;
+  reading = in_sprung s.reading;
+}
+sprung_read (_) s = record s { sprung = None }
+
+-- what sprang comes first, if something did
+abbrev pub with_sprung : Limits → Option ShortName → State → State
+with_sprung l None s = reading_on l s
+with_sprung l (Some name) s = made l s (sprung_read (called_by name s.input.names) s)
+
+-- one step of a run that hasn't ended: the first of the events to do, what sprang, what is due, or an item
 abbrev pub step_with : Limits → List PageEvent → State → State
-step_with l (e ∷ rest) s = performing l e rest s
-step_with l [] s = reading_on l s
+step_with l (e ∷ rest) s = performing l (next s.history e) e rest s
+step_with l [] s = with_sprung l s.sprung s
 
 -- one step: a run that has ended stays as it is
 abbrev pub step : Limits → State → State

@@ -1,11 +1,12 @@
 -- How many turns of a run are still to come at the most: each takes something, or ends what is half read.
-use Rattle.std.specs.Prelude.{ℕ, ◌+◌, ◌-◌, ◌*◌, List, [], ◌∷◌, Option, Some, None}
+use Rattle.std.specs.Prelude.{ℕ, ◌+◌, ◌-◌, ◌*◌, List, [], ◌∷◌, max, Option, Some, None}
 use Rattle.roff_escape.specs.OpenEscape.{OpenEscape, Condition}
 use Rattle.roff_ahead.specs.Input.{Ahead, ByteAhead, FreeAhead, EndAhead, ReturnAhead, DoAhead}
 use Rattle.roff_scan.specs.Unread.{Unread}
 use Rattle.roff_escape.specs.declared.open_escape.ConditionPart.TheVariants.{Decided}
 use Rattle.roff_run.specs.Reading.Items.{PageInput}
-use Rattle.roff_run.specs.Requests.{PageEvent}
+use Rattle.roff_lines.specs.declared.event.Event.TheVariants.{Interrupt as Interrupted, Resume}
+use Rattle.roff_run.specs.Requests.{PageEvent, Text, Space, SetsTrap}
 use Rattle.roff_run.specs.Environments.{PageHistory}
 use Rattle.roff_run.specs.declared.line_state.TextLine.{TextLine}
 use Rattle.roff_run.specs.declared.phase.Phase.{Phase}
@@ -19,7 +20,7 @@ free_ahead [] = 0
 free_ahead (ByteAhead b ∷ items) = free_ahead items
 free_ahead (FreeAhead b ∷ items) = free_ahead items + 1
 free_ahead (EndAhead ∷ items) = free_ahead items
-free_ahead (ReturnAhead ∷ items) = free_ahead items
+free_ahead (ReturnAhead back ∷ items) = free_ahead items
 free_ahead (DoAhead event ∷ items) = free_ahead items
 
 -- how many turns it takes to end these at the most: a condition is read before it decides, and a byte behind it may begin
@@ -76,3 +77,17 @@ abbrev pub phases_left : Phase → ℕ
 phases_left Reading = 5
 phases_left LastMacro = 3
 phases_left Closing = 1
+
+-- how many interrupted lines are left in the environment in force behind an event, at the most
+abbrev pub left_by : PageEvent → ℕ → ℕ
+left_by (Text Resume) lines = 0
+left_by (Text Interrupted) lines = 1
+left_by (Text e) lines = lines
+left_by (Space height) lines = lines
+left_by (SetsTrap trap) lines = lines
+left_by (_) lines = 1
+
+-- and behind any of these, as the first few of them may be performed, and the others put back
+abbrev pub most_left : List PageEvent → ℕ → ℕ
+most_left [] lines = lines
+most_left (e ∷ es) lines = max (left_by e lines) (most_left es (left_by e lines))

@@ -6,6 +6,16 @@ ghost use Rattle.roff_run.specs.Reading.TextLines.{leading_glyph};
 
 use crate::environment_number::EnvironmentNumber;
 use roff_lines::{Event, Glyph};
+use roff_num::ShortName;
+
+/// An input-line trap: a macro that springs behind so many text lines.
+#[derive(Clone, Copy, Debug, PartialEq, Eq)]
+pub struct InputTrap {
+    /// How many text lines are still to come, the one that springs it among them; 1 at least.
+    pub lines: u32,
+    /// The macro.
+    pub name: ShortName,
+}
 
 /// What happens to the page.
 #[derive(Clone, Copy, Debug, PartialEq, Eq)]
@@ -20,6 +30,8 @@ pub enum PageEvent {
     Environment(EnvironmentNumber),
     /// The environment that was left last is gone back to.
     Back,
+    /// The environment's input-line trap is this one from now on, or it has none.
+    InputTrap(Option<InputTrap>),
 }
 
 impl Default for PageEvent {

@@ -16,7 +16,7 @@ mod step;
 
 pub use definition::{DefinitionLine, EndMark, matched_behind};
 pub use environment_number::EnvironmentNumber;
-pub use event::{LineEvents, PageEvent};
+pub use event::{InputTrap, LineEvents, PageEvent};
 pub use line_state::{Due, LineState, TextLine, TextStep, ends_name};
 pub use message::{CharacterName, Message, MessageLine};
 pub use phase::Phase;

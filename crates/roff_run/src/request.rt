@@ -47,6 +47,8 @@ pub enum Request {
     Ignore,
     /// `in`: the indent.
     Indent,
+    /// `it`: the input-line trap.
+    InputTrap,
     /// `ll`: the line length.
     LineLength,
     /// `ls`: the spacing of lines.
@@ -140,7 +142,7 @@ pub struct Row {
 }
 
 /// The requests that are built, in the order of their names.
-static BUILT: [Request; 30] = [
+static BUILT: [Request; 31] = [
     Request::Abort,
     Request::Adjust,
     Request::AssignFormat,
@@ -159,6 +161,7 @@ static BUILT: [Request; 30] = [
     Request::If,
     Request::Ignore,
     Request::Indent,
+    Request::InputTrap,
     Request::LineLength,
     Request::LineSpacing,
     Request::NoAdjust,
@@ -198,7 +201,7 @@ static LEFT_OUT: [[u8; 2]; 24] = [
 
 impl Request {
     /// How many there are.
-    pub const COUNT: u16 = 69;
+    pub const COUNT: u16 = 70;
 
     /// The request of this place in the table, if there is one.
     pub fn numbered(number: usize) -> Option<Request>
@@ -238,6 +241,7 @@ impl Request {
             Request::If => Row { name: *b"if", line: ByCondition { keeps: false }, breaks: false },
             Request::Ignore => Row { name: *b"ig", line: ByLines(LinesFor::Nobody), breaks: false },
             Request::Indent => Row { name: *b"in", line: ByArguments, breaks: true },
+            Request::InputTrap => Row { name: *b"it", line: ByArguments, breaks: false },
             Request::LineLength => Row { name: *b"ll", line: ByArguments, breaks: false },
             Request::LineSpacing => Row { name: *b"ls", line: ByArguments, breaks: false },
             Request::NoAdjust => Row { name: *b"na", line: ByArguments, breaks: false },

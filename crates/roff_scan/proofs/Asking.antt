@@ -145,7 +145,7 @@ module _ {E : Type 0} where
   no_note_ahead (ByteAhead b ∷ items) m seen = cc
   no_note_ahead (FreeAhead b ∷ items) m seen = cc
   no_note_ahead (EndAhead ∷ items) m seen = no_note_ahead items m seen
-  no_note_ahead (ReturnAhead ∷ items) m seen = no_note_ahead items m seen
+  no_note_ahead (ReturnAhead back ∷ items) m seen = no_note_ahead items m seen
   no_note_ahead (DoAhead event ∷ items) m seen = cc
 
   pub no_ending_ahead : (items : List (Ahead E)) (e : Ending) → seen_ahead items ≡ Some (SeesEnding e) → ⊥
@@ -153,5 +153,5 @@ module _ {E : Type 0} where
   no_ending_ahead (ByteAhead b ∷ items) e seen = cc
   no_ending_ahead (FreeAhead b ∷ items) e seen = cc
   no_ending_ahead (EndAhead ∷ items) e seen = no_ending_ahead items e seen
-  no_ending_ahead (ReturnAhead ∷ items) e seen = no_ending_ahead items e seen
+  no_ending_ahead (ReturnAhead back ∷ items) e seen = no_ending_ahead items e seen
   no_ending_ahead (DoAhead event ∷ items) e seen = cc

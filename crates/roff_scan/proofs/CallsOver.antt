@@ -1,5 +1,5 @@
 -- The end of a called body is taken: its call is over, and what was kept in it is kept no more.
-use Rattle.std.proofs.Common.{◌≡◌, ◌≤◌, ◌+◌, ℕ, Bool, true, false, List, [], ◌∷◌, length, length-drop, drop, refl, ap, arith}
+use Rattle.std.proofs.Common.{◌≡◌, ◌≤◌, ◌+◌, ℕ, Bool, true, false, List, [], ◌∷◌, length, length-drop, drop, sym, ap, arith}
 use Rattle.std.specs.Prelude.{if◌then◌else◌, nat_le}
 use Rattle.roff_ahead.specs.Input.{Ahead, ByteAhead, FreeAhead, EndAhead, ReturnAhead, DoAhead, bytes_ahead, ends_ahead, item_taken, results_below, returns_ahead}
 use Rattle.roff_arguments.specs.Arguments.{live_bytes}
@@ -24,24 +24,24 @@ live_bytes-few (arguments ∷ calls) = omega arith
 
 module _ {E : Type 0} where
   -- only one item shows the end of a called body
-  pub shows_return : (item : Ahead E) → ShowsReturn ≡ shown_ahead item → item ≡ ReturnAhead
-  shows_return (ByteAhead b) shows = cc
-  shows_return (FreeAhead b) shows = cc
-  shows_return EndAhead shows = cc
-  shows_return ReturnAhead shows = refl
-  shows_return (DoAhead event) shows = cc
+  pub shows_return : (back : ℕ) (item : Ahead E) → ShowsReturn back ≡ shown_ahead item → item ≡ ReturnAhead back
+  shows_return back (ByteAhead b) shows = cc
+  shows_return back (FreeAhead b) shows = cc
+  shows_return back EndAhead shows = cc
+  shows_return back (ReturnAhead other) shows = let same : back ≡ other = cc in ap (λ (n : ℕ). ReturnAhead n) (sym same)
+  shows_return back (DoAhead event) shows = cc
 
   -- behind it one call less isn't over
-  pub returns-over : (ahead behind : List (Ahead E)) (calls : List (List (List ℕ))) → ahead ≡ ReturnAhead ∷ behind
+  pub returns-over : (back : ℕ) (ahead behind : List (Ahead E)) (calls : List (List (List ℕ))) → ahead ≡ ReturnAhead back ∷ behind
       → returns_ahead ahead ≡ length calls → returns_ahead behind ≡ length (drop 1 calls)
-  returns-over ahead behind calls first same =
+  returns-over back ahead behind calls first same =
       let one : returns_ahead ahead ≡ returns_ahead behind + 1 = ap returns_ahead first in
       omega (arith, one, same, length-drop 1 calls)
 
   -- and no more is counted
-  pub IsWithin-over : (u : Unread E) (behind : List (Ahead E)) → u.input.ahead ≡ ReturnAhead ∷ behind → IsWithin u
-      → u.input.charge + 1 ≤ u.limits.bytes → IsWithin (record u { input = item_taken ReturnAhead behind u.input })
-  IsWithin-over u behind first within fits =
+  pub IsWithin-over : (back : ℕ) (u : Unread E) (behind : List (Ahead E)) → u.input.ahead ≡ ReturnAhead back ∷ behind → IsWithin u
+      → u.input.charge + 1 ≤ u.limits.bytes → IsWithin (record u { input = item_taken (ReturnAhead back) behind u.input })
+  IsWithin-over back u behind first within fits =
       let bytes : bytes_ahead u.input.ahead ≡ bytes_ahead behind = ap bytes_ahead first in
       let ends : ends_ahead u.input.ahead ≡ ends_ahead behind + 1 = ap ends_ahead first in
       record {

@@ -7,7 +7,7 @@ use Rattle.roff_arguments.specs.ArgumentList.{listed}
 use Rattle.roff_source.specs.Bytes.{blank, quote}
 use Rattle.roff_arguments.specs.Calls.Kept.{first_call}
 use Rattle.roff_ahead.specs.Input.{Input, ReturnAhead, depth, pushed, returns_ahead}
-use Rattle.roff_ahead.specs.Input.Calls.{argument_live, called_text, calling_body}
+use Rattle.roff_ahead.specs.Input.Calls.{argument_live, called_text, calling_body, springing}
 use Rattle.roff_scan.specs.Unread.{Unread, IsWithin, changing}
 use Rattle.roff_scan.specs.Unread.Kept.{NoneBegun}
 use Rattle.roff_arguments.specs.declared.arguments.ArgumentList.{ArgumentList}
@@ -96,16 +96,28 @@ module _ {E : Type 0} where
   pushed-calling : (body : List ℕ) (i : Input E) → NoneBegun i.arguments
       → pushed (calling_body body i) ≡ length (called_text body) + pushed i
   pushed-calling body i none =
-      omega (arith, bytes_ahead-bytes (called_text body) (ReturnAhead ∷ i.ahead), length-given i.arguments none)
+      omega (arith, bytes_ahead-bytes (called_text body) (ReturnAhead 0 ∷ i.ahead), length-given i.arguments none)
 
   depth-calling : (body : List ℕ) (i : Input E) → depth (calling_body body i) ≡ depth i + 1
-  depth-calling body i = ends_ahead-bytes (called_text body) (ReturnAhead ∷ i.ahead)
+  depth-calling body i = ends_ahead-bytes (called_text body) (ReturnAhead 0 ∷ i.ahead)
 
   -- its end counts as one of a call
   pub returns-calling : (body : List ℕ) (i : Input E) → returns_ahead i.ahead ≡ length i.calls
       → returns_ahead (calling_body body i).ahead ≡ length (calling_body body i).calls
   returns-calling body i same =
-      omega (arith, returns_ahead-bytes (called_text body) (ReturnAhead ∷ i.ahead), same)
+      omega (arith, returns_ahead-bytes (called_text body) (ReturnAhead 0 ∷ i.ahead), same)
+
+-- a body that sprang counts as one that a line called
+module _ {E : Type 0} (body : List ℕ) (back : ℕ) (i : Input E) where
+  pushed-springing : pushed (springing body back i) ≡ length (called_text body) + pushed i
+  pushed-springing = omega (arith, bytes_ahead-bytes (called_text body) (ReturnAhead back ∷ i.ahead))
+
+  depth-springing : depth (springing body back i) ≡ depth i + 1
+  depth-springing = ends_ahead-bytes (called_text body) (ReturnAhead back ∷ i.ahead)
+
+  pub returns-springing : returns_ahead i.ahead ≡ length i.calls
+      → returns_ahead (springing body back i).ahead ≡ length (springing body back i).calls
+  returns-springing same = omega (arith, returns_ahead-bytes (called_text body) (ReturnAhead back ∷ i.ahead), same)
 
 module _ {E : Type 0} (u : Unread E) (body : List ℕ) (within : IsWithin u) (none : NoneBegun u.input.arguments)
     (bytes : ℕ) (counted : bytes ≡ pushed u.input) where
@@ -144,3 +156,41 @@ module _ {E : Type 0} (u : Unread E) (body : List ℕ) (within : IsWithin u) (no
       IsWithin-calling =
           IsWithin-put u (calling_body body u.input) others-calling (length (called_text body)) bytes counted
           (pushed-calling body u.input none) (depth-calling body u.input) within.pushed fits inside
+
+module _ {E : Type 0} (u : Unread E) (body : List ℕ) (back : ℕ) (within : IsWithin u) (bytes : ℕ) (counted : bytes ≡ pushed u.input) where
+  others-springing : OthersWithin u (springing body back u.input)
+  others-springing = record {
+    charge = within.charge;
+    newlines = within.newlines;
+    results = within.results;
+    stored = within.stored;
+    names = within.names;
+    making = within.making;
+  }
+
+  -- a body that doesn't fit is refused where it springs, too
+  pub spring_past_stack : u.limits.stack - bytes < length (called_text body)
+      → changing (springing body back u.input) u ≡ (Err Stack, u)
+  spring_past_stack above =
+      put_past_stack u (springing body back u.input) others-springing (length (called_text body)) bytes counted
+      (pushed-springing body back u.input) (depth-springing body back u.input) above
+
+  module _ (fits : length (called_text body) ≤ u.limits.stack - bytes) where
+    -- so is an end that doesn't fit
+    pub spring_past_depth : u.limits.depth ≤ depth u.input → changing (springing body back u.input) u ≡ (Err Depth, u)
+    spring_past_depth above =
+        put_past_depth u (springing body back u.input) others-springing (length (called_text body)) bytes counted
+        (pushed-springing body back u.input) (depth-springing body back u.input) within.pushed fits above
+
+    module _ (inside : depth u.input < u.limits.depth) where
+      -- and what fits is put in front
+      pub spring_within :
+          changing (springing body back u.input) u ≡ (Ok tt, record u { input = springing body back u.input })
+      spring_within =
+          put_within u (springing body back u.input) others-springing (length (called_text body)) bytes counted
+          (pushed-springing body back u.input) (depth-springing body back u.input) within.pushed fits inside
+
+      pub IsWithin-springing : IsWithin (record u { input = springing body back u.input })
+      IsWithin-springing =
+          IsWithin-put u (springing body back u.input) others-springing (length (called_text body)) bytes counted
+          (pushed-springing body back u.input) (depth-springing body back u.input) within.pushed fits inside

@@ -17,10 +17,10 @@ takes_end behind kept before is front room =
     })
 
 -- and that of a call
-pub takes_return : {E : Type 0} (behind : List (Ahead E)) (kept before : Unread E) → kept ≡ before → kept.input.ahead ≡ ReturnAhead ∷ behind
-    → kept.input.charge < kept.limits.bytes → PassesReturn before (record kept { input = item_taken ReturnAhead behind kept.input })
+pub takes_return : {E : Type 0} (behind : List (Ahead E)) (kept before : Unread E) → kept ≡ before → kept.input.ahead ≡ ReturnAhead 0 ∷ behind
+    → kept.input.charge < kept.limits.bytes → PassesReturn before (record kept { input = item_taken (ReturnAhead 0) behind kept.input })
 takes_return behind kept before is front room =
-    subst (λ (u : Unread _). PassesReturn u (record kept { input = item_taken ReturnAhead behind kept.input })) is (record {
+    subst (λ (u : Unread _). PassesReturn u (record kept { input = item_taken (ReturnAhead 0) behind kept.input })) is (record {
       behind = behind;
       in_front = front;
       input = refl;

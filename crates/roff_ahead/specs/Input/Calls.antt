@@ -1,4 +1,4 @@
--- Lines that call bodies, the arguments of calls, and the results of conditions that are kept (manual, section 7).
+-- Lines that call bodies, bodies that spring, the arguments of calls, and the results of conditions that are kept (manual, section 7).
 use Rattle.std.specs.Prelude.{ℕ, Bool, false, List, [], ◌∷◌, ◌++◌, drop, length, map, Option, Some, None, if◌then◌else◌, ◌==◌, not, get_or, reverse}
 use Rattle.roff_arguments.specs.Arguments.{no_arguments, only_kept, finished}
 use Rattle.roff_source.specs.Bytes.{newline}
@@ -19,9 +19,17 @@ arguments_given i = reverse (only_kept (finished i.arguments)).whole
 -- a line calls a body with the arguments that it was given: it is put in front, and its end
 abbrev pub calling_body : {E : Type 0} → List ℕ → Input E → Input E
 calling_body body i = record i {
-  ahead = map ByteAhead (called_text body) ++ ReturnAhead ∷ i.ahead;
+  ahead = map ByteAhead (called_text body) ++ ReturnAhead 0 ∷ i.ahead;
   calls = arguments_given i ∷ i.calls;
   arguments = no_arguments;
+}
+
+-- A body that sprang is put in front, and behind it an end that leads back to what this code stands for. No arguments are in
+-- force in it; those of a line that is half read stay as they are.
+abbrev pub springing : {E : Type 0} → List ℕ → ℕ → Input E → Input E
+springing body back i = record i {
+  ahead = map ByteAhead (called_text body) ++ ReturnAhead back ∷ i.ahead;
+  calls = [] ∷ i.calls;
 }
 
 -- the arguments of the innermost call that isn't over

@@ -10,7 +10,7 @@ abbrev pub items_of : {E : Type 0} → Texts → Ahead (EventOrBody E) → List 
 items_of t (ByteAhead b) = ByteAhead b ∷ []
 items_of t (FreeAhead b) = FreeAhead b ∷ []
 items_of t EndAhead = EndAhead ∷ []
-items_of t ReturnAhead = ReturnAhead ∷ []
+items_of t (ReturnAhead back) = ReturnAhead back ∷ []
 items_of t (DoAhead (Event event)) = DoAhead event ∷ []
 items_of t (DoAhead (Body id)) = map ByteAhead (lease_bytes (lease_of id.0 t))
 
@@ -25,6 +25,6 @@ leases_in [] = []
 leases_in (ByteAhead b ∷ items) = leases_in items
 leases_in (FreeAhead b ∷ items) = leases_in items
 leases_in (EndAhead ∷ items) = leases_in items
-leases_in (ReturnAhead ∷ items) = leases_in items
+leases_in (ReturnAhead back ∷ items) = leases_in items
 leases_in (DoAhead (Event event) ∷ items) = leases_in items
 leases_in (DoAhead (Body id) ∷ items) = id.0 ∷ leases_in items

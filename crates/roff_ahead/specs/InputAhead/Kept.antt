@@ -1,7 +1,8 @@
 -- What frames keep.
 use Rattle.std.specs.Prelude.{◌≡◌, ◌≢◌, ℕ, ◌<◌, ◌≤◌, ◌^◌, Bool, true, false, List, [], ◌∷◌, length, All, AllPairs, sum_by}
-use Rattle.roff_ahead.specs.Input.{Ahead, ByteAhead, FreeAhead, EndAhead, ReturnAhead, DoAhead, bytes_ahead, ends_ahead, events_ahead, frees_ahead, most_events, most_frees}
+use Rattle.roff_ahead.specs.Input.{Ahead, ByteAhead, FreeAhead, EndAhead, ReturnAhead, DoAhead, bytes_ahead, ends_ahead, events_ahead, frees_ahead, most_frees}
 use Rattle.roff_ahead.specs.InputAhead.Bodies.{leases_in, with_bodies}
+use Rattle.roff_ahead.specs.PushedTexts.Held.{most_used}
 use Rattle.roff_ahead.specs.declared.input_ahead.EventOrBody.{EventOrBody}
 use Rattle.roff_ahead.specs.declared.input_ahead.EventOrBody.TheVariants.{Event, Body}
 use Rattle.roff_ahead.specs.declared.input_ahead.InputAhead.TheInside.{Inside}
@@ -33,7 +34,7 @@ is_end_next [] = false
 is_end_next (ByteAhead b ∷ items) = is_end_next items
 is_end_next (FreeAhead b ∷ items) = false
 is_end_next (EndAhead ∷ items) = true
-is_end_next (ReturnAhead ∷ items) = true
+is_end_next (ReturnAhead back ∷ items) = true
 is_end_next (DoAhead event ∷ items) = false
 
 -- behind each body comes the end of its text
@@ -42,7 +43,7 @@ AreEnded [] = Unit {0}
 AreEnded (ByteAhead b ∷ items) = AreEnded items
 AreEnded (FreeAhead b ∷ items) = AreEnded items
 AreEnded (EndAhead ∷ items) = AreEnded items
-AreEnded (ReturnAhead ∷ items) = AreEnded items
+AreEnded (ReturnAhead back ∷ items) = AreEnded items
 AreEnded (DoAhead (Event event) ∷ items) = AreEnded items
 AreEnded (DoAhead (Body id) ∷ items) = (is_end_next items ≡ true) × AreEnded items
 
@@ -61,7 +62,7 @@ pub record IsSound {E : Type 0} (a : Inside E) : Type 0 where
   pub cap_kept : a.texts.cap_kept ≡ a.pushed_texts.most_bytes
   pub bytes : bytes_ahead (kept_by a).ahead ≤ a.pushed_texts.most_bytes
   pub ends : ends_ahead (kept_by a).ahead ≤ a.pushed_texts.most_texts
-  pub events : events_ahead (kept_by a).ahead ≤ most_events a.pushed_texts.most_texts
+  pub events : events_ahead (kept_by a).ahead ≤ most_used a.pushed_texts.most_texts
   pub frees : frees_ahead (kept_by a).ahead ≤ most_frees
   pub small : a.pushed_texts.most_bytes < 2 ^ 32
   pub store : a.texts.cap_bytes < 2 ^ 32

@@ -10,9 +10,14 @@ pub record Held (E : Type 0) : Type 0 where
   pub most_bytes : ℕ
   pub most_texts : ℕ
 
--- so many events may stand ahead: four before each end, and four behind the last
+-- so many marks are used before no more events are put back: seven for each end, and seven behind the last, beside those of
+-- bytes that stand in front again
+abbrev pub most_used : ℕ → ℕ
+most_used most_texts = 7 * (most_texts + 1) + most_frees
+
+-- so many events may stand ahead, bodies among them
 abbrev pub most_marks : ℕ → ℕ
-most_marks most_texts = 4 * (most_texts + 1)
+most_marks most_texts = 8 * (most_texts + 1) + most_frees
 
 -- no more stands ahead than there is room for
 pub record HasRoom {E : Type 0} (h : Held E) : Type 0 where

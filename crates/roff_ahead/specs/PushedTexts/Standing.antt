@@ -12,13 +12,13 @@ abbrev pub item_of : {E : Type 0} → PushedItem E → Ahead E
 item_of (FrontByte b) = ByteAhead b
 item_of (FrontFree b) = FreeAhead b
 item_of FrontEnd = EndAhead
-item_of FrontReturn = ReturnAhead
+item_of (FrontReturn back) = ReturnAhead back
 item_of (FrontDo event) = DoAhead event
 
 -- what a mark stands for
 abbrev pub items_of : {E : Type 0} → Mark E → List (Ahead E)
 items_of (Ends more) = EndAhead ∷ replicate more EndAhead
-items_of Return = ReturnAhead ∷ []
+items_of (Return back) = ReturnAhead back ∷ []
 items_of (Free b) = FreeAhead b ∷ []
 items_of (Do event) = DoAhead event ∷ []
 

@@ -48,7 +48,7 @@ impl<E: Copy> InputAhead<E> {
             Some(PushedItem::Do(_)) => false,
             Some(PushedItem::Free(_)) => false,
             Some(PushedItem::End) => false,
-            Some(PushedItem::Return) => false,
+            Some(PushedItem::Return(_)) => false,
             None => false,
         }
     }
@@ -127,7 +127,7 @@ fn body_in_front<E: Copy>(pushed_texts: &PushedTexts<EventOrBody<E>>) -> Option<
         Some(PushedItem::Byte(_)) => None,
         Some(PushedItem::Free(_)) => None,
         Some(PushedItem::End) => None,
-        Some(PushedItem::Return) => None,
+        Some(PushedItem::Return(_)) => None,
         None => None,
     }
 }

@@ -1,6 +1,6 @@
 //! Texts, bodies and events that are put in front.
 
-ghost use Rattle.std.specs.Prelude.{true, ◌≡◌, ◌+◌, ◌<◌, ◌≤◌, ◌∷◌, ◌++◌, map, length, None, ℕ};
+ghost use Rattle.std.specs.Prelude.{true, false, ◌≡◌, ◌+◌, ◌<◌, ◌≤◌, ◌∷◌, ◌++◌, map, length, None, ℕ};
 ghost use Rattle.std.specs.Prelude.{List};
 ghost use Rattle.std.specs.List.{last_or};
 ghost use Rattle.roff_ahead.specs.Input.{ByteAhead, FreeAhead, EndAhead, ReturnAhead, DoAhead};
@@ -60,17 +60,19 @@ impl<E: Copy> InputAhead<E> {
     }
 
     /// Puts the body of a name as a line calls it in front, if it then has so many bytes at the
-    /// most, and the end of the call; it is read where it lies. Returns whether it did.
-    pub fn call(&mut self, name: &Name, most: usize) -> bool
+    /// most, and an end of a call that leads back to what this code stands for; it is read where it
+    /// lies. Returns whether it did.
+    #[inline(always)]
+    pub fn call(&mut self, name: &Name, back: u8, most: usize) -> bool
         requires bytes { most + bytes_ahead self.old.ahead ≤ self.old.most_bytes }
         requires ends { ends_ahead self.old.ahead < self.old.most_texts }
         ensures { PutsWithin self.old self.new (called_text (body_of name.now self.old.texts))
-            ReturnAhead most result }
+            (ReturnAhead back) most result }
     {
         // There is room for a newline behind it, whether it lacks one or not.
         match self.texts.lease_within(name, 1, most.saturating_sub(1)) {
             Leased::Body(lease, last) => {
-                self.pushed_texts.push_return();
+                self.pushed_texts.push_return(back);
                 if lacks_newline(last) {
                     self.pushed_texts.push_byte(b'\n');
                     self.pushed_texts.put_back(EventOrBody::Body(lease));
@@ -80,26 +82,26 @@ impl<E: Copy> InputAhead<E> {
                 true
             }
             Leased::Nothing => {
-                self.pushed_texts.push_return();
+                self.pushed_texts.push_return(back);
                 true
             }
-            Leased::Long => self.call_long(name, most),
+            Leased::Long => self.call_long(name, back, most),
         }
     }
 
     /// The same, where no byte may be left.
     #[inline(never)]
-    fn call_long(&mut self, name: &Name, most: usize) -> bool
+    fn call_long(&mut self, name: &Name, back: u8, most: usize) -> bool
         requires bytes { most + bytes_ahead self.old.ahead ≤ self.old.most_bytes }
         requires ends { ends_ahead self.old.ahead < self.old.most_texts }
         ensures { PutsWithin self.old self.new (called_text (body_of name.now self.old.texts))
-            ReturnAhead most result }
+            (ReturnAhead back) most result }
     {
         let called = self.called(name);
         if called.len > most {
             return false;
         }
-        self.push_call(name, called);
+        self.push_call(name, back, called);
         true
     }
 
@@ -126,7 +128,7 @@ impl<E: Copy> InputAhead<E> {
 
     /// Puts the body of a name that a line calls so in front, and the end of the call; it is read
     /// where it lies.
-    fn push_call(&mut self, name: &Name, called: Called)
+    fn push_call(&mut self, name: &Name, back: u8, called: Called)
         requires len { called.len ≡ length (called_text (body_of name.now self.old.texts)) }
         requires lacks { called.lacks_newline ≡ lacks_newline (body_of name.now self.old.texts) }
         requires bytes { length (called_text (body_of name.now self.old.texts))
@@ -134,10 +136,10 @@ impl<E: Copy> InputAhead<E> {
         requires ends { ends_ahead self.old.ahead < self.old.most_texts }
         ensures { self.new ≡ record self.old {
           ahead = map ByteAhead (called_text (body_of name.now self.old.texts))
-              ++ ReturnAhead ∷ self.old.ahead;
+              ++ ReturnAhead back ∷ self.old.ahead;
         } }
     {
-        self.pushed_texts.push_return();
+        self.pushed_texts.push_return(back);
         if called.lacks_newline {
             self.pushed_texts.push_byte(b'\n');
             put_body(
@@ -151,12 +153,20 @@ impl<E: Copy> InputAhead<E> {
         }
     }
 
-    /// Puts an event in front.
-    pub fn put_back(&mut self, event: E)
-        requires { events_ahead self.old.ahead < most_events self.old.most_texts }
-        ensures { self.new ≡ record self.old { ahead = DoAhead event ∷ self.old.ahead } }
+    /// Puts an event in front, if there is room for it. Returns whether there is.
+    #[cold]
+    pub fn put_back(&mut self, event: E) -> bool
+        ensures room { events_ahead self.old.ahead < most_events self.old.most_texts
+            → result ≡ true }
+        ensures put { result ≡ true
+            → self.new ≡ record self.old { ahead = DoAhead event ∷ self.old.ahead } }
+        ensures unchanged { result ≡ false → self.new ≡ self.old }
     {
+        if !self.pushed_texts.has_room() {
+            return false;
+        }
         self.pushed_texts.put_back(EventOrBody::Event(event));
+        true
     }
 
     /// Puts bytes in front again.

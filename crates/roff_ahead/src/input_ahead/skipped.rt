@@ -27,7 +27,7 @@ impl<E: Copy> InputAhead<E> {
             Some(PushedItem::Byte(_)) => 0,
             Some(PushedItem::Free(_)) => 0,
             Some(PushedItem::End) => 0,
-            Some(PushedItem::Return) => 0,
+            Some(PushedItem::Return(_)) => 0,
             None => 0,
         }
     }
@@ -55,7 +55,7 @@ impl<E: Copy> InputAhead<E> {
             Some(PushedItem::Byte(_)) => false,
             Some(PushedItem::Free(_)) => false,
             Some(PushedItem::End) => false,
-            Some(PushedItem::Return) => false,
+            Some(PushedItem::Return(_)) => false,
             None => false,
         }
     }
@@ -75,20 +75,24 @@ impl<E: Copy> InputAhead<E> {
             Some(PushedItem::Do(_)) => false,
             Some(PushedItem::Byte(_)) => false,
             Some(PushedItem::Free(_)) => false,
-            Some(PushedItem::Return) => false,
+            Some(PushedItem::Return(_)) => false,
             None => false,
         }
     }
 
-    /// Takes the end of a call in front, if one is. Returns whether it did.
+    /// Takes the end of a call in front that leads back to a line's beginning, if one is. Returns
+    /// whether it did.
     #[inline(always)]
     pub fn pass_return(&mut self) -> bool
         ensures taken { result ≡ true
-            → self.old ≡ record self.new { ahead = ReturnAhead ∷ self.new.ahead } }
+            → self.old ≡ record self.new { ahead = ReturnAhead 0 ∷ self.new.ahead } }
         ensures unchanged { result ≡ false → self.new ≡ self.old }
     {
         match self.pushed_texts.front() {
-            Some(PushedItem::Return) => {
+            Some(PushedItem::Return(back)) => {
+                if back > 0 {
+                    return false;
+                }
                 let _return = self.pushed_texts.take();
                 true
             }

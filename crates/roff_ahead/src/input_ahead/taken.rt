@@ -21,7 +21,7 @@ impl<E: Copy> InputAhead<E> {
             None | Some(PushedItem::Free(_)) => 0,
             Some(PushedItem::Byte(_)) => 1,
             Some(PushedItem::End) => 1,
-            Some(PushedItem::Return) => 1,
+            Some(PushedItem::Return(_)) => 1,
             Some(PushedItem::Do(_)) => 1,
         }
     }
@@ -44,9 +44,9 @@ impl<E: Copy> InputAhead<E> {
                 self.pushed_texts.take();
                 Item::End
             }
-            Some(PushedItem::Return) => {
+            Some(PushedItem::Return(back)) => {
                 self.pushed_texts.take();
-                Item::Return
+                Item::Return(back)
             }
             Some(PushedItem::Do(EventOrBody::Event(event))) => {
                 self.pushed_texts.take();
@@ -89,7 +89,7 @@ impl<E: Copy> InputAhead<E> {
             Some(PushedItem::Do(EventOrBody::Event(_))) => None,
             Some(PushedItem::Free(_)) => None,
             Some(PushedItem::End) => None,
-            Some(PushedItem::Return) => None,
+            Some(PushedItem::Return(_)) => None,
             None => None,
         }
     }
@@ -115,7 +115,7 @@ impl<E: Copy> InputAhead<E> {
             Some(PushedItem::Byte(_)) => None,
             Some(PushedItem::Free(_)) => None,
             Some(PushedItem::End) => None,
-            Some(PushedItem::Return) => None,
+            Some(PushedItem::Return(_)) => None,
             None => None,
         }
     }
@@ -150,7 +150,7 @@ impl<E: Copy> InputAhead<E> {
             Some(PushedItem::Do(EventOrBody::Event(_))) => None,
             Some(PushedItem::Free(_)) => None,
             Some(PushedItem::End) => None,
-            Some(PushedItem::Return) => None,
+            Some(PushedItem::Return(_)) => None,
             None => None,
         }
     }
@@ -167,7 +167,7 @@ impl<E: Copy> InputAhead<E> {
             Some(PushedItem::Byte(byte)) => Some(Sight::Byte(byte)),
             Some(PushedItem::Free(byte)) => Some(Sight::Byte(byte)),
             Some(PushedItem::End) => Some(Sight::Nothing),
-            Some(PushedItem::Return) => Some(Sight::Nothing),
+            Some(PushedItem::Return(_)) => Some(Sight::Nothing),
             Some(PushedItem::Do(EventOrBody::Event(_))) => Some(Sight::Nothing),
         }
     }

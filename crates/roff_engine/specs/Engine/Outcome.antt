@@ -87,7 +87,7 @@ pub record MessagesFail (l : Limits) (t : Beginning) (left : Tape) (status : Sta
   pub rest : IsLeftOf left (step l state).tape
 
 -- The run ended before its first step, as a limit refused what was given to it, and the message sink failed, once, as that was told:
--- a beginning of the message was written, and no text.
+-- a beginning of the message was written, and no text. All of its source is left.
 pub record StartFails (l : Limits) (t : Beginning) (left : Tape) (status : Status) (before now : Seen) : Type 0 where
   pub is_device : status ≡ Device
   pub refused : IsSome (initial l t.start t.tape).ended
@@ -95,7 +95,7 @@ pub record StartFails (l : Limits) (t : Beginning) (left : Tape) (status : Statu
   pub messages : AppendsBetween before.err.contents now.err.contents [] (reported (initial l t.start t.tape))
   pub fault : CountsFault before.err.failures now.err.failures
   pub output_stays : now.out.failures ≡ before.out.failures
-  pub rest : IsLeftOf left (initial l t.start t.tape).tape
+  pub rest : left ≡ t.tape
 
 -- a run with such a beginning, of whose tape this is left, comes to one of these
 abbrev pub OutcomeOf : Limits → Beginning → Tape → Status → Seen → Seen → Type 0

@@ -9,7 +9,6 @@ use Rattle.roff_source.specs.Tape.{Tape, Item, items_then}
 use Rattle.roff_source.specs.declared.source.ByteSource as byte_source
 use Rattle.roff_scan.specs.Looking.{is_closed, looked_then}
 use Rattle.roff_scan.specs.declared.looked.Looked.TheVariants.{Nothing}
-use Rattle.roff_scan.specs.Unread.{asks_to_take}
 use Rattle.roff_requests.specs.Environments.Standing.{StandFor}
 use Rattle.roff_engine.specs.declared.formatter.Formatter.{Formatter}
 use Rattle.roff_engine.specs.declared.running.Running.{Running as Coded}
@@ -19,11 +18,12 @@ use Rattle.roff_engine.specs.declared.halt.Halt.{Halt}
 use Rattle.roff_engine.specs.declared.halt.Halt.TheVariants.{Limit as Limited, Refused, Output, Messages}
 use Rattle.roff_engine.specs.Engine.Outcome.{Beginning, Seen, seen, IsLeftOf, Reaches, OutputStops, MessagesFail, OutcomeOf}
 use Rattle.roff_engine.specs.Formatter.Performing.{Opens, going}
+use Rattle.roff_run.specs.TurnsToCome.{most_left}
 use Rattle.roff_sinks.specs.Sinks.{Sunk}
 use Rattle.roff_reader.specs.Reader.State.{fresh_reader}
 use Rattle.roff_reader.specs.Reader.Taken.{IsReady}
 use Rattle.roff_run.specs.Reading.Items.{PageUnread}
-use Rattle.roff_run.specs.TurnsToCome.{begun, behind_all, lines_left, phases_left, turns_to_come, turns_within}
+use Rattle.roff_run.specs.TurnsToCome.{begun, lines_left, phases_left, turns_to_come, turns_within}
 use Rattle.roff_run.specs.declared.line_state.LineState.{LineState}
 use Rattle.roff_run.specs.declared.line_state.LineState.TheVariants.{LineStart, Braced}
 use Rattle.roff_run.specs.declared.phase.Phase.TheVariants.{Closing}
@@ -63,10 +63,10 @@ turns_of_run run =
 abbrev pub turns_with : Coded → ℕ → ℕ
 turns_with run notes = turns_of_run run + 4 * notes
 
--- the same of a state within so many bytes, once its events are performed
+-- the same of a state within so many bytes, once any of its events are performed
 abbrev pub turns_at : ℕ → State → ℕ
 turns_at bytes s =
-    4 * (turns_within bytes s.input + begun s.reading) + line_turns s.reading (lines_left (interrupted_line (behind_all s.to_do s.history)))
+    4 * (turns_within bytes s.input + begun s.reading) + line_turns s.reading (most_left s.to_do (lines_left (interrupted_line s.history)))
     + phases_left s.phase
 
 -- a step of the definition does this from the state that the run of the code is at
@@ -95,7 +95,8 @@ pub record LimitStops (l : Limits) (t : Beginning) (left : Tape) (line : ℕ) (l
   pub quiet : state.last_message ≡ []
   pub line_is : state.input.line ≡ line
 
--- a limit refused what was given to the run, which stops before its first step, at a state of this line in which nothing happened yet
+-- a limit refused what was given to the run, which stops before its first step, at a state of this line in which nothing happened
+-- yet: its source wasn't asked
 pub record StartStops (l : Limits) (t : Beginning) (left : Tape) (line : ℕ) (limit : Limit) (before now : Seen) : Type 0 where
   pub state : State
   pub stops : initial l t.start t.tape ≡ stopped_by l limit state
@@ -104,7 +105,8 @@ pub record StartStops (l : Limits) (t : Beginning) (left : Tape) (line : ℕ) (l
   pub source : before.failures ≤ now.failures
   pub out : now.out ≡ before.out
   pub err : now.err ≡ before.err
-  pub rest : IsLeftOf left state.tape
+  pub rest : left ≡ t.tape
+  pub unread : state.tape ≡ t.tape
   pub line_is : state.input.line ≡ line
 
 -- the output failed in the step behind a state of this line
@@ -149,12 +151,12 @@ pub record TookFrom (t : Beginning) (tape : Tape) (start now : Seen) (line : ℕ
   pub rest : IsLeftOf tape from.tape
 
 -- The code did what is to be done with an item that it took, or has ended: for each state from which a step of the
--- definition leads to that. Where it goes on, as many turns are to come as of the definition's state.
+-- definition leads to that. Where it goes on, no more turns are to come than of the definition's state.
 pub record DoesItem (line : ℕ) (does : State → State) (old new : Coded) (now behind : Seen) (r : Result (Unit {0}) Status) : Type 0 where
   pub limits : new.limits ≡ old.limits
   pub acts : (t : Beginning) (tape : Tape) (start : Seen) (from : State) → TookFrom t tape start now line does from old → Continues t tape start behind r new
   pub turns : (t : Beginning) (tape : Tape) (start : Seen) (from : State) → (took : TookFrom t tape start now line does from old)
-      → OnOk r (turns_of_run new ≡ turns_at old.limits.bytes (does (state_at tape old took.history took.messages)))
+      → OnOk r (turns_of_run new ≤ turns_at old.limits.bytes (does (state_at tape old took.history took.messages)))
 
 -- at the end of its input a run goes on: something is half read, or a line unfinished, or it isn't in its last phase
 abbrev pub MayGoOn : Coded → PageHistory → Type 0
@@ -162,14 +164,6 @@ MayGoOn run h =
     let reading : LineState = run.formatter.reader.reading in
     run.unread.input.escapes ≡ [] → is_unfinished run.phase (known_at h run.formatter.reader.registers.all run.unread.input) reading ≡ false
     → run.phase ≡ Closing → ⊥
-
--- nothing is half read, and the source is asked for what stands in front
-abbrev pub AsksFirst : PageUnread → Type 0
-AsksFirst u = (u.input.escapes ≡ []) × (asks_to_take u ≡ true)
-
--- the run asks its source next, or there is a tape that the source may give
-abbrev pub HasTape : Coded → (Tape → Type 0) → Type 0
-HasTape run gives = (AsksFirst run.unread × (due run.formatter.reader.reading ≡ None)) ⊎ ((tape : Tape) × gives tape)
 
 -- a run may end where nothing was looked at that it doesn't take, or its source is closed
 abbrev pub MayEnd : Coded → Type 0
@@ -189,7 +183,6 @@ pub record TurnsBy (does : State → State) (gave gives : Tape → Type 0) (note
   pub limits : new.limits ≡ old.limits
   pub taken : List Item
   pub before : (tape : Tape) → gives tape → gave (items_then taken tape)
-  pub some : HasTape old gave → (tape : Tape) × gives tape
   pub turns : (t : Beginning) (tape : Tape) (start : Seen) → gives tape → (at : IsAt t (items_then taken tape) start now old)
       → StepDoes does (items_then taken tape) old at.history at.messages → Continues t tape start behind r new
   pub falls : (t : Beginning) (tape : Tape) (start : Seen) → gives tape → (at : IsAt t (items_then taken tape) start now old)
@@ -200,7 +193,6 @@ pub record GoesPast (gave gives : Tape → Type 0) (noted notes : ℕ) (old new 
   pub limits : new.limits ≡ old.limits
   pub taken : List Item
   pub before : (tape : Tape) → gives tape → gave (items_then taken tape)
-  pub some : HasTape old gave → HasTape new gives
   pub past : (t : Beginning) (tape : Tape) (start : Seen) → gives tape → IsAt t (items_then taken tape) start now old → IsAt t tape start behind new
   pub turns : turns_with new notes ≤ turns_with old noted
 
@@ -223,7 +215,6 @@ GoesFurtherOver begins g was is old new =
 pub record HasCome (given : Start) (old new : Tape → Type 0) (start now : Seen) (run : Coded) : Type 0 where
   pub taken : List Item
   pub before : (tape : Tape) → new tape → old (items_then taken tape)
-  pub some : HasTape run new
   pub at : (tape : Tape) → new tape → IsAt (record { start = given; tape = items_then taken tape }) tape start now run
 
 -- before the first item: nothing is read, set or ahead, and the requests have their names

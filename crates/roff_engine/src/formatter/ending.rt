@@ -13,6 +13,7 @@ ghost use Rattle.roff_run.specs.Run.{known_at};
 
 use super::Formatter;
 use crate::halt::Halt;
+use crate::sprung::Sprung;
 use roff_run::{PageEvent, Phase, Step};
 use roff_scan::Unread;
 use roff_sinks::ByteSink;
@@ -24,7 +25,7 @@ impl Formatter {
         unread: &mut Unread<PageEvent>,
         out: &mut O,
         err: &mut E,
-    ) -> Result<(), Halt>
+    ) -> Result<Option<Sprung>, Halt>
         ensures { DoesTaking (λ k. escape_ended k self.old.reader.reading unread.old.input) []
             self.old self.new unread.old unread.new
             (sinks (O.sunk out.old) (E.sunk err.old))
@@ -42,7 +43,7 @@ impl Formatter {
         unread: &mut Unread<PageEvent>,
         out: &mut O,
         err: &mut E,
-    ) -> Result<(), Halt>
+    ) -> Result<Option<Sprung>, Halt>
         ensures { DoesTaking (λ k. end_taking k self.old.reader.reading unread.old.input) []
             self.old self.new unread.old unread.new
             (sinks (O.sunk out.old) (E.sunk err.old))
@@ -68,19 +69,22 @@ impl Formatter {
     }
 
     /// The last macro is read behind the input, if there is one.
-    pub(crate) fn read_last_macro(&mut self, unread: &mut Unread<PageEvent>) -> Result<(), Halt>
+    pub(crate) fn read_last_macro(
+        &mut self,
+        unread: &mut Unread<PageEvent>,
+    ) -> Result<Option<Sprung>, Halt>
         ensures { (out err : Sunk) → DoesTaking
             (λ k. going_on (last_called self.old.reader.registers.all.last_macro unread.old.input) LineStart) []
             self.old self.new unread.old unread.new (sinks out err) (sinks out err) result }
     {
         match self.reader.read_last_macro(unread) {
-            Ok(_) => Ok(()),
+            Ok(_) => Ok(None),
             Err(limit) => Err(Halt::Refused(limit)),
         }
     }
 
     /// The run closes: the pending line is placed.
-    pub(crate) fn finish<O: ByteSink>(&mut self, out: &mut O) -> Result<(), Halt>
+    pub(crate) fn finish<O: ByteSink>(&mut self, out: &mut O) -> Result<Option<Sprung>, Halt>
         ensures { (u : PageUnread) (err : Sunk) → DoesTaking
             (λ k. meaning_events u.input LineStart closing_events) [] self.old self.new u u
             (sinks (O.sunk out.old) err) (sinks (O.sunk out.new) err) result }

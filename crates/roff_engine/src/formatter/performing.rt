@@ -1,20 +1,23 @@
 //! What is meant is done: the message is told, and the events are performed.
 
-ghost use Rattle.std.specs.Prelude.{[], ◌∷◌, IsOkUnless};
+ghost use Rattle.std.specs.Prelude.{[], ◌≡◌, ◌∷◌, IsOkUnless};
 ghost use Rattle.roff_run.specs.Events.Steps.{events_of, messages_of};
 ghost use Rattle.roff_engine.specs.Clauses.{option_to_list, message_lines, DoesMeaning};
-ghost use Rattle.roff_engine.specs.Clauses.{PerformsOnly, sinks, Text, Puts, Sunk, Environment};
+ghost use Rattle.roff_engine.specs.Clauses.{PerformsAll, PerformsOne, PerformsOnly, none_sprung};
+ghost use Rattle.roff_engine.specs.Clauses.{quiet_events, sinks, Text, Puts, Sunk, Environment};
 
 use super::Formatter;
 use crate::halt::Halt;
 use crate::report::report;
+use crate::sprung::Sprung;
 use roff_lines::{Event, Glyph};
+use roff_num::ShortName;
 use roff_run::{EnvironmentNumber, Message, PageEvent, Step};
 use roff_sinks::ByteSink;
 
 impl Formatter {
     /// Does what an item means that ended on this line of the input: its message is reported, and then
-    /// its events are performed.
+    /// its events are performed, up to one that springs a macro.
     #[inline(always)]
     pub(super) fn perform<O: ByteSink, E: ByteSink>(
         &mut self,
@@ -22,7 +25,7 @@ impl Formatter {
         line: u32,
         out: &mut O,
         err: &mut E,
-    ) -> Result<(), Halt>
+    ) -> Result<Option<Sprung>, Halt>
         ensures { DoesMeaning line (messages_of self.old.reader.meaning.message step)
             (events_of self.old.reader.meaning.events step) self.old self.new
             (sinks (O.sunk out.old) (E.sunk err.old))
@@ -36,13 +39,12 @@ impl Formatter {
 
     /// The same of the meaning that the reader keeps.
     #[inline(never)]
-    #[tactic(auto, using(crate::proofs::Performed::told_then_performed))]
     fn report_and_perform<O: ByteSink, E: ByteSink>(
         &mut self,
         line: u32,
         out: &mut O,
         err: &mut E,
-    ) -> Result<(), Halt>
+    ) -> Result<Option<Sprung>, Halt>
         ensures { DoesMeaning line (option_to_list self.old.reader.meaning.message)
             self.old.reader.meaning.events self.old self.new
             (sinks (O.sunk out.old) (E.sunk err.old))
@@ -54,25 +56,45 @@ impl Formatter {
         }
     }
 
-    /// Performs the events of the meaning that the reader keeps, one after another.
-    fn perform_each<O: ByteSink>(&mut self, out: &mut O) -> Result<(), Halt>
-        ensures { PerformsOnly self.old.reader.meaning.events self.old self.new
+    /// Performs the events of the meaning that the reader keeps, one after another, up to one that
+    /// springs a macro.
+    fn perform_each<O: ByteSink>(&mut self, out: &mut O) -> Result<Option<Sprung>, Halt>
+        ensures { PerformsAll self.old.reader.meaning.events self.old self.new
             (O.sunk out.old) (O.sunk out.new) result }
     {
         let mut index = 0;
         while let Some(event) = self.reader.event(index) {
             match self.perform_event(event, out) {
-                Ok(()) => index += 1,
+                Ok(sprung) => match sprung {
+                    None => index += 1,
+                    Some(name) => return Ok(Some(Sprung::behind(name, index))),
+                },
                 Err(halt) => return Err(halt),
             }
         }
-        Ok(())
+        Ok(None)
     }
 
     /// Performs the events of a step that has a name of its own.
     #[inline(always)]
-    pub(super) fn perform_line<O: ByteSink>(&mut self, step: Step, out: &mut O) -> Result<(), Halt>
-        ensures { PerformsOnly (events_of [] step) self.old self.new
+    pub(super) fn perform_line<O: ByteSink>(
+        &mut self,
+        step: Step,
+        out: &mut O,
+    ) -> Result<Option<Sprung>, Halt>
+        ensures { PerformsAll (events_of [] step) self.old self.new
+            (O.sunk out.old) (O.sunk out.new) result }
+    {
+        match step {
+            Step::LineEnd => self.end_text_line(out),
+            _ => none_sprung(self.perform_quietly(step, out)),
+        }
+    }
+
+    /// The same of one that springs nothing: of any but the end of a text line.
+    #[inline(always)]
+    fn perform_quietly<O: ByteSink>(&mut self, step: Step, out: &mut O) -> Result<(), Halt>
+        ensures { PerformsOnly (quiet_events step) self.old self.new
             (O.sunk out.old) (O.sunk out.new) result }
     {
         match step {
@@ -81,66 +103,69 @@ impl Formatter {
             Step::Tab(leading) => self.tab_behind(leading),
             Step::Gap => self.gap_behind_word(out),
             Step::Break => self.break_behind_word(out),
-            Step::LineEnd => self.end_text_line(out),
+            Step::LineEnd => Ok(()),
             Step::BlankLine => self.blank_line(out),
             Step::Meaning => Ok(()),
         }
     }
 
-    /// Performs an event.
+    /// Performs an event, and before it what comes before it. Returns the macro that it springs, if it
+    /// springs one.
     pub(crate) fn perform_event<O: ByteSink>(
         &mut self,
         event: PageEvent,
         out: &mut O,
-    ) -> Result<(), Halt>
-        ensures { PerformsOnly (event ∷ []) self.old self.new
+    ) -> Result<Option<ShortName>, Halt>
+        ensures { PerformsOne event self.old self.new
             (O.sunk out.old) (O.sunk out.new) result }
     {
         match event {
             PageEvent::Text(event) => self.perform_text(event, out),
-            PageEvent::Space(lines) => self.space(lines, out),
+            PageEvent::Space(lines) => none_named(self.space(lines, out)),
             PageEvent::Interrupt(untold) => {
                 self.environments.interrupt(untold);
-                Ok(())
+                Ok(None)
             }
-            PageEvent::Environment(number) => self.switch_to(number),
+            PageEvent::Environment(number) => none_named(self.switch_to(number)),
             PageEvent::Back => {
                 self.environments.switch_back();
-                Ok(())
+                Ok(None)
+            }
+            PageEvent::InputTrap(trap) => {
+                self.environments.set_input_trap(trap);
+                Ok(None)
             }
         }
     }
 
-    /// Performs an event of the text.
-    fn perform_text<O: ByteSink>(&mut self, event: Event, out: &mut O) -> Result<(), Halt>
-        ensures { PerformsOnly (Text event ∷ []) self.old self.new
+    /// Performs an event of the text, and before it the end of an open word, where that comes before it.
+    fn perform_text<O: ByteSink>(
+        &mut self,
+        event: Event,
+        out: &mut O,
+    ) -> Result<Option<ShortName>, Halt>
+        ensures { PerformsOne (Text event) self.old self.new
             (O.sunk out.old) (O.sunk out.new) result }
     {
         match event {
-            Event::Print(glyph) => self.glyph(glyph),
-            Event::Tab => self.tab(),
-            Event::WordEnd => self.end_word(out),
-            Event::Gap(blanks) => {
-                self.environments.in_force.lines.gap(blanks);
-                Ok(())
-            }
-            Event::LineEnd => self.end_line(out),
-            Event::Count => {
-                self.environments.in_force.lines.count();
-                Ok(())
-            }
-            Event::Break => self.brk(out),
+            Event::Print(glyph) => none_named(self.glyph(glyph)),
+            Event::Tab => none_named(self.tab()),
+            Event::WordEnd => none_named(self.end_word(out)),
+            Event::Gap(blanks) => none_named(self.gap_behind_own(blanks, out)),
+            Event::LineEnd => none_named(self.line_end_behind_own(out)),
+            Event::Count => Ok(self.environments.count()),
+            Event::Break => none_named(self.break_behind_own(out)),
             Event::Interrupt => {
                 self.environments.in_force.lines.interrupt();
-                Ok(())
+                Ok(None)
             }
             Event::Resume => {
                 self.environments.in_force.lines.resume();
-                Ok(())
+                Ok(None)
             }
             Event::Set(param) => {
                 self.environments.in_force.lines.set(param);
-                Ok(())
+                Ok(None)
             }
         }
     }
@@ -154,6 +179,28 @@ impl Formatter {
             Ok(()) => Ok(()),
             Err(limit) => Err(Halt::Limit(limit)),
         }
+    }
+}
+
+/// What was performed sprang nothing.
+#[inline(always)]
+fn none_sprung(done: Result<(), Halt>) -> Result<Option<Sprung>, Halt>
+    ensures { result ≡ none_sprung done }
+{
+    match done {
+        Ok(()) => Ok(None),
+        Err(halt) => Err(halt),
+    }
+}
+
+/// The same of an event.
+#[inline(always)]
+fn none_named(done: Result<(), Halt>) -> Result<Option<ShortName>, Halt>
+    ensures { result ≡ none_sprung done }
+{
+    match done {
+        Ok(()) => Ok(None),
+        Err(halt) => Err(halt),
     }
 }
 

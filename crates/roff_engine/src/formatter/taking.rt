@@ -5,6 +5,7 @@ ghost use Rattle.roff_engine.specs.Clauses.{DoesTaking, sinks, taking};
 
 use super::Formatter;
 use crate::halt::Halt;
+use crate::sprung::Sprung;
 use roff_run::PageEvent;
 use roff_scan::Unread;
 use roff_sinks::ByteSink;
@@ -18,7 +19,7 @@ impl Formatter {
         unread: &mut Unread<PageEvent>,
         out: &mut O,
         err: &mut E,
-    ) -> Result<(), Halt>
+    ) -> Result<Option<Sprung>, Halt>
         ensures { DoesTaking (λ k. taking k self.old.reader.reading unread.old.input byte) []
             self.old self.new unread.old unread.new
             (sinks (O.sunk out.old) (E.sunk err.old))

@@ -5,10 +5,12 @@ ghost use Rattle.roff_run.specs.Reading.TextLines.{blank_line, leading_glyph};
 ghost use Rattle.roff_engine.specs.Clauses.{finished_of, Gap, Print, WordEnd, LineEnd, Break};
 ghost use Rattle.roff_engine.specs.Clauses.{finished_bytes};
 ghost use Rattle.roff_lines.specs.declared.event.Event.TheVariants.{Count};
-ghost use Rattle.roff_engine.specs.Clauses.{PerformsOnly, Text, Space, Puts, Sunk, Tab};
+ghost use Rattle.roff_engine.specs.Clauses.{EndsOpenWord, EndsWordFirst, PerformsAll, PerformsOne, PerformsOnly};
+ghost use Rattle.roff_engine.specs.Clauses.{Text, Space, Puts, Sunk, Tab, none_sprung};
 
 use super::Formatter;
 use crate::halt::Halt;
+use crate::sprung::Sprung;
 use roff_lines::{Glyph, Line};
 use roff_sinks::{Block, ByteSink};
 
@@ -54,29 +56,27 @@ impl Formatter {
         }
     }
 
-    /// The end of a text line that isn't blank: the open word ends, and the line counts.
+    /// The end of a text line that isn't blank: the open word ends, and the line counts. Returns the
+    /// macro that it springs, if it springs one.
     #[inline(always)]
-    pub(super) fn end_text_line<O: ByteSink>(&mut self, out: &mut O) -> Result<(), Halt>
-        ensures { PerformsOnly (Text WordEnd ∷ Text LineEnd ∷ Text Count ∷ []) self.old self.new
+    pub(super) fn end_text_line<O: ByteSink>(&mut self, out: &mut O) -> Result<Option<Sprung>, Halt>
+        ensures { PerformsAll (Text WordEnd ∷ Text LineEnd ∷ Text Count ∷ []) self.old self.new
             (O.sunk out.old) (O.sunk out.new) result }
     {
-        match self.end_word(out) {
-            Ok(()) => self.end_counted_line(out),
+        match self.end_word_and_line(out) {
+            Ok(()) => Ok(Sprung::last(self.environments.count())),
             Err(halt) => Err(halt),
         }
     }
 
-    /// Ends a line of the input, which counts.
+    /// Ends the open word, and then a line of the input.
     #[inline(always)]
-    fn end_counted_line<O: ByteSink>(&mut self, out: &mut O) -> Result<(), Halt>
-        ensures { PerformsOnly (Text LineEnd ∷ Text Count ∷ []) self.old self.new
+    fn end_word_and_line<O: ByteSink>(&mut self, out: &mut O) -> Result<(), Halt>
+        ensures { PerformsOnly (Text WordEnd ∷ Text LineEnd ∷ []) self.old self.new
             (O.sunk out.old) (O.sunk out.new) result }
     {
-        match self.end_line(out) {
-            Ok(()) => {
-                self.environments.in_force.lines.count();
-                Ok(())
-            }
+        match self.end_word(out) {
+            Ok(()) => self.end_line(out),
             Err(halt) => Err(halt),
         }
     }
@@ -142,10 +142,62 @@ impl Formatter {
         }
     }
 
-    /// Ends the open word, and writes the line that it finishes.
+    /// Ends the word that is open, if one is: what stands behind a macro that sprang may find one.
+    fn end_open_word<O: ByteSink>(&mut self, out: &mut O) -> Result<(), Halt>
+        ensures { EndsOpenWord self.old self.new (O.sunk out.old) (O.sunk out.new) result }
+    {
+        if !self.environments.in_force.lines.has_open_word() {
+            return Ok(());
+        }
+        self.end_word(out)
+    }
+
+    /// Ends the word that is open, if one is, and then a gap stands.
+    pub(super) fn gap_behind_own<O: ByteSink>(
+        &mut self,
+        blanks: u32,
+        out: &mut O,
+    ) -> Result<(), Halt>
+        ensures { PerformsOne (Text (Gap blanks)) self.old self.new
+            (O.sunk out.old) (O.sunk out.new) (none_sprung result) }
+    {
+        match self.end_open_word(out) {
+            Ok(()) => {
+                self.environments.in_force.lines.gap(blanks);
+                Ok(())
+            }
+            Err(halt) => Err(halt),
+        }
+    }
+
+    /// Ends the word that is open, if one is, and then a line of the input.
+    pub(super) fn line_end_behind_own<O: ByteSink>(&mut self, out: &mut O) -> Result<(), Halt>
+        ensures { PerformsOne (Text LineEnd) self.old self.new
+            (O.sunk out.old) (O.sunk out.new) (none_sprung result) }
+    {
+        match self.end_open_word(out) {
+            Ok(()) => self.end_line(out),
+            Err(halt) => Err(halt),
+        }
+    }
+
+    /// Ends the word that is open, if one is, and breaks.
+    pub(super) fn break_behind_own<O: ByteSink>(&mut self, out: &mut O) -> Result<(), Halt>
+        ensures { PerformsOne (Text Break) self.old self.new
+            (O.sunk out.old) (O.sunk out.new) (none_sprung result) }
+    {
+        match self.end_open_word(out) {
+            Ok(()) => self.brk(out),
+            Err(halt) => Err(halt),
+        }
+    }
+
+    /// Ends the open word, and writes the line that it finishes. It may be the event to do, or come
+    /// before that.
     pub(super) fn end_word<O: ByteSink>(&mut self, out: &mut O) -> Result<(), Halt>
-        ensures { PerformsOnly (Text WordEnd ∷ []) self.old self.new
+        ensures performs { PerformsOnly (Text WordEnd ∷ []) self.old self.new
             (O.sunk out.old) (O.sunk out.new) result }
+        ensures own { EndsWordFirst self.old self.new (O.sunk out.old) (O.sunk out.new) result }
     {
         let line = self.environments.in_force.lines.end_word();
         put_finished(&mut self.block, line, out)

@@ -30,7 +30,7 @@ impl Running {
     {
         let line = self.unread.line();
         match self.formatter.take_escape_end(&mut self.unread, out, err) {
-            Ok(()) => Ok(()),
+            Ok(sprung) => self.go_on(sprung, err),
             Err(halt) => Err(self.halted(halt, line, line, err)),
         }
     }
@@ -71,7 +71,7 @@ impl Running {
         let line = self.unread.line();
         self.phase = Phase::LastMacro;
         match self.formatter.read_last_macro(&mut self.unread) {
-            Ok(()) => Ok(()),
+            Ok(sprung) => self.go_on(sprung, err),
             Err(halt) => Err(self.halted(halt, line, line, err)),
         }
     }
@@ -85,7 +85,7 @@ impl Running {
     {
         let line = self.unread.line();
         match self.formatter.end_input_line(&mut self.unread, out, err) {
-            Ok(()) => Ok(()),
+            Ok(sprung) => self.go_on(sprung, err),
             Err(halt) => Err(self.halted(halt, line, line, err)),
         }
     }
@@ -101,7 +101,7 @@ impl Running {
         let line = self.unread.line();
         self.phase = Phase::Closing;
         match self.formatter.finish(out) {
-            Ok(()) => Ok(()),
+            Ok(sprung) => self.go_on(sprung, err),
             Err(halt) => Err(self.halted(halt, line, line, err)),
         }
     }

@@ -4,7 +4,7 @@ ghost use Rattle.std.specs.Prelude.{◌≡◌, ℕ, [], true, false, None};
 ghost use Rattle.roff_reader.specs.ControlFronts.{BeginsControl, TakesAtBeginning};
 ghost use Rattle.roff_reader.specs.Reader.Runs.{IsRun};
 ghost use Rattle.roff_scan.specs.declared.run_kind.RunKind.TheVariants.{Dropped as DroppedRun};
-ghost use Rattle.roff_run.specs.Reading.Calls.{behind_return};
+ghost use Rattle.roff_run.specs.Reading.Returns.{behind_return};
 ghost use Rattle.roff_run.specs.Stages.{EndsLine};
 ghost use Rattle.roff_escape.specs.declared.open_escape.Waiting.TheVariants.{Takes};
 ghost use Rattle.roff_scan.specs.Unread.{IsWithin};
@@ -60,7 +60,7 @@ impl Running {
         ensures reads { result ≡ true → self.new ≡ record self.old {
           formatter = record self.old.formatter {
             reader = record self.old.formatter.reader {
-              reading = behind_return self.old.formatter.reader.reading;
+              reading = behind_return 0 self.old.formatter.reader.reading;
             };
           };
           unread = self.new.unread;
@@ -71,7 +71,7 @@ impl Running {
             return false;
         }
         self.unread.stays_within();
-        self.formatter.reader.end_call();
+        self.formatter.reader.end_call(0);
         true
     }
 

@@ -1,43 +1,36 @@
 //! What is given to a run, before anything is read.
 
-ghost use Rattle.std.specs.Prelude.{◌≡◌, [], IfErr, OnOk};
-ghost use Rattle.roff_engine.specs.Clauses.{Runs, Sunk, Tape, seen};
+ghost use Rattle.std.specs.Prelude.{◌≡◌, ℕ, [], IfErr, OnOk};
+ghost use Rattle.roff_engine.specs.Clauses.{Outcome, Sunk, Tape, seen};
 ghost use Rattle.roff_run.specs.Run.{initial, stopped_by, with_registers};
 ghost use Rattle.roff_run.specs.declared.start.Start.{Start as StartOf};
+ghost use Rattle.roff_scan.specs.declared.looked.Looked.TheVariants.{Nothing};
 
 use super::Running;
 use crate::halt::Halt;
 use roff_num::{Limit, Num};
 use roff_run::{Start, Status};
-use roff_scan::ByteSource;
 use roff_sinks::ByteSink;
 
 impl Running {
-    ghost use Rattle.roff_engine.specs.Running.Turning.{AsksFirst, state_at};
+    ghost use Rattle.roff_engine.specs.Running.Turning.{state_at};
     ghost use Rattle.roff_engine.specs.Running.Starting.{Begins, HasRoom, SetsGiven};
 
     /// Sets the registers that are given. An `Err` is the status of a run that ended: the limit on
     /// names refused one.
-    pub(crate) fn begin<S: ByteSource, E: ByteSink>(
-        &mut self,
-        start: &Start,
-        source: &mut S,
-        err: &mut E,
-    ) -> Result<(), Status>
+    pub(crate) fn begin<E: ByteSink>(&mut self, start: &Start, err: &mut E) -> Result<(), Status>
         ensures begins { OnOk result (Begins self.old self.new start.now.registers.items) }
-        ensures source { OnOk result (source.new ≡ source.old) }
         ensures err { OnOk result (err.new ≡ err.old) }
-        ensures ends { HasRoom self.old → AsksFirst self.old.unread
-            → ((tape : Tape) → initial self.old.limits start.now tape
-            ≡ with_registers self.old.limits start.now.registers.items (state_at tape self.old [] []))
-            → (out : Sunk) → IfErr result (λ status. Runs self.old.limits start.now status
-            (S.gives source.old) (S.gives source.new)
-            (seen (S.failures source.old) out (E.sunk err.old))
-            (seen (S.failures source.new) out (E.sunk err.new))) }
+        ensures ends { HasRoom self.old → self.old.unread.looked ≡ Nothing → (tape : Tape)
+            → initial self.old.limits start.now tape
+            ≡ with_registers self.old.limits start.now.registers.items (state_at tape self.old [] [])
+            → (failures : ℕ) (out : Sunk) → IfErr result (λ status.
+            Outcome self.old.limits start.now tape tape status
+            (seen failures out (E.sunk err.old)) (seen failures out (E.sunk err.new))) }
     {
         match self.set_registers(start.registers.as_slice()) {
             Ok(()) => Ok(()),
-            Err(limit) => Err(self.refuse(limit, source, err)),
+            Err(limit) => Err(self.refuse(limit, err)),
         }
     }
 
@@ -61,21 +54,13 @@ impl Running {
 
     /// A limit refused what is given: the status of the run.
     #[inline(never)]
-    fn refuse<S: ByteSource, E: ByteSink>(
-        &mut self,
-        limit: Limit,
-        source: &mut S,
-        err: &mut E,
-    ) -> Status
-        ensures { (given : StartOf) (out : Sunk) → AsksFirst self.old.unread
-            → ((tape : Tape) → initial self.old.limits given tape
-            ≡ stopped_by self.old.limits limit (state_at tape self.old [] []))
-            → Runs self.old.limits given result (S.gives source.old) (S.gives source.new)
-            (seen (S.failures source.old) out (E.sunk err.old))
-            (seen (S.failures source.new) out (E.sunk err.new)) }
+    fn refuse<E: ByteSink>(&self, limit: Limit, err: &mut E) -> Status
+        ensures { (given : StartOf) (tape : Tape) (failures : ℕ) (out : Sunk)
+            → self.now.unread.looked ≡ Nothing → initial self.now.limits given tape
+            ≡ stopped_by self.now.limits limit (state_at tape self.now [] [])
+            → Outcome self.now.limits given tape tape result
+            (seen failures out (E.sunk err.old)) (seen failures out (E.sunk err.new)) }
     {
-        // only a source that was asked tells that there is an input
-        let _ = self.unread.look(source);
         let line = self.unread.line();
         self.halted(Halt::Refused(limit), line, line, err)
     }

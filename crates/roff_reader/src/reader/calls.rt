@@ -2,6 +2,7 @@
 
 ghost use Rattle.roff_reader.specs.Clauses.{EnvironmentsOf, LineStart, TakesAs, call_found, call_unit};
 ghost use Rattle.roff_reader.specs.Clauses.{called_by, called_last, going_on, last_called};
+ghost use Rattle.roff_reader.specs.Reader.Springs.{Springs};
 ghost use Rattle.roff_run.specs.declared.request.Called.TheVariants as Called;
 
 use super::Reader;
@@ -104,5 +105,36 @@ impl Reader {
         unread.begin_arguments();
         unread.call(&name.name())?;
         Ok(self.read_on(LineState::LineStart))
+    }
+
+    /// A macro that sprang is read, if its name has a body: what is read goes on behind it.
+    ///
+    /// # Errors
+    ///
+    /// A limit that it would pass; nothing changed then.
+    #[cold]
+    pub fn spring(&mut self, name: ShortName, unread: &mut Unread<PageEvent>) -> Result<(), Limit>
+        ensures { Springs (called_by name unread.old.input.names)
+            self.old self.new unread.old unread.new result }
+    {
+        match called_by(name, unread) {
+            Called::Body(name) => self.spring_body(name, unread),
+            Called::Request(_) => Ok(()),
+            Called::Nothing => Ok(()),
+        }
+    }
+
+    /// The same of a name that has a body.
+    fn spring_body(&mut self, name: ShortName, unread: &mut Unread<PageEvent>) -> Result<(), Limit>
+        ensures { Springs (Called.Body name)
+            self.old self.new unread.old unread.new result }
+    {
+        match unread.spring(&name.name(), self.reading.back()) {
+            Ok(()) => {
+                self.reading = self.reading.behind_return(0);
+                Ok(())
+            }
+            Err(limit) => Err(limit),
+        }
     }
 }

@@ -10,6 +10,7 @@ use Rattle.roff_requests.specs.declared.environments.Environments.{Environments 
 pub record StandsAs (cap : ℕ) (e : InEnvironment) (coded : EnvironmentOf) : Type 0 where
   pub lines : Stands cap e.text coded.lines
   pub untold : coded.untold ≡ e.untold
+  pub input_trap : coded.input_trap ≡ e.input_trap
 
 -- the three of the code stand for those of the definition, within these limits
 pub record StandBy (l : Limits) (es : Environments) (coded : EnvironmentsOf) : Type 0 where

@@ -4,6 +4,7 @@ ghost use Rattle.std.specs.Prelude.{◌≡◌, ℕ, List, slice_get};
 ghost use Rattle.std.specs.Option.{option_copied};
 ghost use Rattle.roff_requests.specs.Request.Coded.{response_of};
 ghost use Rattle.roff_run.specs.Requests.Naming.{end_macro, rename};
+ghost use Rattle.roff_num.specs.ShortNames.{name_at, name_or_none};
 
 use crate::registers::Change;
 use crate::requests::{Changes, Response, name_given, register_named};
@@ -29,9 +30,16 @@ pub(super) fn end_macro(first: Option<&[u8]>) -> Response
     ensures { (as_given : List (List ℕ)) → option_copied first.entry ≡ slice_get as_given 0
         → response_of as_given result ≡ end_macro as_given }
 {
-    let name = match first {
+    Response::changing(Changes::One(Change::ReadLast(name_in(first))))
+}
+
+/// The name that an argument gives, if it is there and gives one.
+pub(super) fn name_in(argument: Option<&[u8]>) -> Option<ShortName>
+    ensures { (index : ℕ) (as_given : List (List ℕ)) → option_copied argument.entry ≡ slice_get as_given index
+        → result ≡ name_or_none (name_at index as_given) }
+{
+    match argument {
         Some(text) => ShortName::of(text),
         None => None,
-    };
-    Response::changing(Changes::One(Change::ReadLast(name)))
+    }
 }

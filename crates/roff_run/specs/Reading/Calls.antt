@@ -12,8 +12,7 @@ use Rattle.roff_escape.specs.declared.open_escape.Found.TheVariants.{Unit, Escap
 use Rattle.roff_run.specs.Reading.Items.{PageInput, Taking, going_on}
 use Rattle.roff_run.specs.Reading.Units.{holding, settling, no_unit_found}
 use Rattle.roff_num.specs.ShortNames.{name_bytes}
-use Rattle.roff_run.specs.declared.line_state.LineState.{LineState}
-use Rattle.roff_run.specs.declared.line_state.LineState.TheVariants.{LineStart, Branch, Braced, Text as InText, Calling}
+use Rattle.roff_run.specs.declared.line_state.LineState.TheVariants.{LineStart, Calling}
 use Rattle.roff_num.specs.declared.short_name.ShortName.{ShortName}
 use Rattle.roff_run.specs.declared.request.Called.{Called}
 use Rattle.roff_run.specs.declared.request.Called.TheVariants.{Request as ARequest, Body as ABody, Nothing as Unknown}
@@ -49,10 +48,3 @@ called_last Unknown i = i
 abbrev pub last_called : Option ShortName → PageInput → PageInput
 last_called None i = i
 last_called (Some name) i = called_last (called_by name i.names) i
-
--- what is read behind the end of a body that a line called: a line begins, unless a control line is being read
-abbrev pub behind_return : LineState → LineState
-behind_return Branch = LineStart
-behind_return Braced = LineStart
-behind_return (InText line) = LineStart
-behind_return reading = reading

@@ -11,7 +11,7 @@ use Rattle.roff_run.specs.Environments.{environments}
 use Rattle.roff_run.specs.Output.{PageHistory, text_of}
 use Rattle.roff_run.specs.Reading.Items.{PageInput}
 use Rattle.roff_run.specs.Registers.{AllRegisters}
-use Rattle.roff_run.specs.Requests.{PageEvent, Text, Space, Interrupt, Environment, Back}
+use Rattle.roff_run.specs.Requests.{PageEvent, Text, Space, Interrupt, Environment, Back, SetsTrap}
 
 -- the limit on bytes stops one more
 abbrev pub passes_bytes : Limits → PageInput → Bool
@@ -24,6 +24,7 @@ counts h (Space lines) = []
 counts h (Interrupt untold) = []
 counts h (Environment number) = (EnvironmentsLimit, length (environments h).left + 1) ∷ []
 counts h Back = []
+counts h (SetsTrap trap) = []
 
 -- the first limit that a count is above
 abbrev pub first_passed : Limits → List (Limit × ℕ) → Option Limit

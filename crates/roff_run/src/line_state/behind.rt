@@ -1,6 +1,6 @@
 //! What is read behind something.
 
-ghost use Rattle.std.specs.Prelude.{◌≡◌};
+ghost use Rattle.std.specs.Prelude.{◌≡◌, ◌≤◌};
 ghost use Rattle.roff_run.specs.Reading.Items.{PageInput};
 ghost use Rattle.roff_run.specs.Reading.Arguments.{reading_behind};
 ghost use Rattle.roff_run.specs.Reading.Branches.{branch_of, counted_if};
@@ -8,11 +8,12 @@ ghost use Rattle.roff_run.specs.Reading.Items.{going_on};
 ghost use Rattle.roff_run.specs.Reading.{undropped_taking};
 ghost use Rattle.roff_run.specs.Reading.ControlLines.{dropped_taking};
 ghost use Rattle.roff_run.specs.Reading.Branches.{skipping_taking};
-ghost use Rattle.roff_run.specs.Reading.Calls.{behind_return};
+ghost use Rattle.roff_run.specs.Reading.Returns.{back_of, behind_return, flag, gone_back_to};
+ghost use Rattle.roff_run.specs.Reading.Returns.{leading_back, line_of};
 ghost use Rattle.roff_run.specs.Registers.{Known};
-ghost use Rattle.roff_run.specs.declared.line_state.LineState.TheVariants.{Control as BehindControl};
+ghost use Rattle.roff_run.specs.declared.line_state.LineState.TheVariants.{Control as BehindControl, Text as InText};
 
-use super::{LineState, ends_name};
+use super::{LineState, TextLine, ends_name};
 use crate::request::LineReading;
 
 impl LineState {
@@ -86,13 +87,30 @@ impl LineState {
         }
     }
 
-    /// What is read behind the end of a body that a line called: a line begins, unless a control line
-    /// is being read.
-    pub fn behind_return(self) -> LineState
-        ensures { result ≡ behind_return self }
+    /// The number by which this is gone back to behind a body that springs where it is read: that of a
+    /// line's beginning, but of a branch and a text line.
+    pub fn back(self) -> u8
+        ensures { result ≡ back_of self }
     {
         match self {
-            LineState::Branch | LineState::Braced | LineState::Text(_) => LineState::LineStart,
+            LineState::Branch => 1,
+            LineState::Braced => 2,
+            LineState::Text(line) => line.number(),
+            _ => 0,
+        }
+    }
+
+    /// What is read behind the end of a body: what it leads back to by its number, unless a control
+    /// line is being read.
+    #[inline]
+    pub fn behind_return(self, back: u8) -> LineState
+        ensures { result ≡ behind_return back self }
+    {
+        match self {
+            LineState::LineStart => gone_back_to(back),
+            LineState::Branch => gone_back_to(back),
+            LineState::Braced => gone_back_to(back),
+            LineState::Text(_) => gone_back_to(back),
             reading => reading,
         }
     }
@@ -107,6 +125,63 @@ impl LineState {
             LineState::Dropped
         }
     }
+}
+
+impl TextLine {
+    /// The number by which it is gone back to. An event stands behind the first of its leading blanks
+    /// alone.
+    fn number(self) -> u8
+        ensures { result ≡ back_of (InText self) }
+    {
+        3 + flag(self.has_glyph)
+            + 2 * flag(self.has_other)
+            + 4 * flag(self.has_brace)
+            + 8 * self.leading_back()
+    }
+
+    /// How many leading blanks it has where it is gone back to.
+    fn leading_back(self) -> u8
+        ensures count { result ≡ leading_back self }
+        ensures few { result ≤ 1 }
+    {
+        if self.has_glyph || self.leading == 0 {
+            0
+        } else {
+            1
+        }
+    }
+
+    /// The text line of a number.
+    fn numbered(number: u8) -> TextLine
+        ensures { result ≡ line_of number }
+    {
+        TextLine {
+            has_glyph: number % 2 == 1,
+            has_other: number / 2 % 2 == 1,
+            has_brace: number / 4 % 2 == 1,
+            leading: (number / 8) as u32,
+        }
+    }
+}
+
+/// What is gone back to by its number.
+fn gone_back_to(back: u8) -> LineState
+    ensures { result ≡ gone_back_to back }
+{
+    match back {
+        0 => LineState::LineStart,
+        1 => LineState::Branch,
+        2 => LineState::Braced,
+        _ => LineState::Text(TextLine::numbered(back - 3)),
+    }
+}
+
+/// One for what is so.
+fn flag(so: bool) -> u8
+    ensures flag { result ≡ flag so }
+    ensures few { result ≤ 1 }
+{
+    if so { 1 } else { 0 }
 }
 
 /// A count of braces, with one more if this is so.

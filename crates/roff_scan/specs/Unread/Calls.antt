@@ -82,11 +82,11 @@ pub record PassesEnd {E : Type 0} (before after : Unread E) : Type 0 where
   pub input : after ≡ record before { input = record before.input { ahead = behind; charge = before.input.charge + 1 } }
   pub within : before.input.charge + 1 ≤ before.limits.bytes
 
--- the end of a call was in front, and was taken
+-- the end of a call that leads back to a line's beginning was in front, and was taken
 pub record PassesReturn {E : Type 0} (before after : Unread E) : Type 0 where
   pub behind : List (Ahead E)
-  pub in_front : before.input.ahead ≡ ReturnAhead ∷ behind
-  pub input : after ≡ record before { input = item_taken ReturnAhead behind before.input }
+  pub in_front : before.input.ahead ≡ ReturnAhead 0 ∷ behind
+  pub input : after ≡ record before { input = item_taken (ReturnAhead 0) behind before.input }
   pub within : before.input.charge + 1 ≤ before.limits.bytes
 
 -- So many bytes of a pushed text were taken at once where a condition is half read, each at its cost, and changed only what is half

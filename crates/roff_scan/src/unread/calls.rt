@@ -1,9 +1,10 @@
-//! Lines that call bodies, and the arguments of calls.
+//! Lines that call bodies, bodies that spring, and the arguments of calls.
 
 ghost use Rattle.roff_arguments.specs.ArgumentList.{listed};
 ghost use Rattle.std.specs.Prelude.{vec_capacity, reverse, ◌≡◌, ◌<◌, ◌^◌, [], drop, get_or, length};
 ghost use Rattle.roff_ahead.specs.Input.{pushing, results_below};
 ghost use Rattle.roff_ahead.specs.Input.Calls.{arguments_live, argument_live, calling_body};
+ghost use Rattle.roff_ahead.specs.Input.Calls.{springing};
 ghost use Rattle.roff_ahead.specs.Input.Names.{body_named};
 
 use super::Unread;
@@ -32,12 +33,39 @@ impl<E: Copy> Unread<E> {
             }
             return Err(Limit::Depth);
         }
-        if !self.input_ahead.call(name, room) {
+        if !self.input_ahead.call(name, 0, room) {
             return Err(Limit::Stack);
         }
         self.arguments.finish();
         self.calls.push(self.arguments.list());
         self.arguments.clear();
+        Ok(())
+    }
+
+    /// A name springs: its body is put in front, as it is now and as a line calls it, and an end that
+    /// leads back to what this code stands for. No arguments are in force in it; those of a line that
+    /// is half read stay.
+    ///
+    /// # Errors
+    ///
+    /// As for [`push`](Unread::push).
+    #[cold]
+    pub fn spring(&mut self, name: &Name, back: u8) -> Result<(), Limit>
+        ensures change { (result, self.new)
+            ≡ changing (springing (body_named name.now self.old.input) back self.old.input)
+            self.old }
+    {
+        let room = self.limits.stack as usize - self.pushed();
+        if self.is_deep() {
+            if self.input_ahead.called(name).len > room {
+                return Err(Limit::Stack);
+            }
+            return Err(Limit::Depth);
+        }
+        if !self.input_ahead.call(name, back, room) {
+            return Err(Limit::Stack);
+        }
+        self.calls.push(ArgumentList::new(&[], &[]));
         Ok(())
     }
 

@@ -62,12 +62,14 @@ impl<E: Copy> Unread<E> {
         Ok(())
     }
 
-    /// Puts an event back in front.
+    /// Puts an event back in front. There is room for it where events are as few as those are that a
+    /// run puts back.
+    #[cold]
     pub fn put_back(&mut self, event: E)
-        requires { events_ahead self.old.input.ahead < most_events self.old.limits.depth }
-        ensures change { self.new ≡ record self.old { input = putting_back event self.old.input } }
+        ensures change { events_ahead self.old.input.ahead < most_events self.old.limits.depth
+            → self.new ≡ record self.old { input = putting_back event self.old.input } }
     {
-        self.input_ahead.put_back(event);
+        let _room = self.input_ahead.put_back(event);
     }
 
     /// Puts bytes that were taken in front again. They cost nothing.

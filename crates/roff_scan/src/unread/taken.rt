@@ -214,9 +214,9 @@ impl<E: Copy> Unread<E> {
         }
         self.charge += cost;
         match self.input_ahead.take() {
-            Item::Return => {
+            Item::Return(back) => {
                 end_call(&mut self.calls, &mut self.results);
-                Item::Return
+                Item::Return(back)
             }
             item => item,
         }

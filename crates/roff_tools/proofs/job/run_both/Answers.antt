@@ -10,4 +10,4 @@ returns-in-Ok-clause-runs g c =
     (g.S.ByteSource.gives c.args.source) (g.S.ByteSource.gives behind.inner)
     (seen (g.S.ByteSource.failures c.args.source) (g.O.ByteSink.sunk c.args.out.now) (g.E.ByteSink.sunk c.args.err.now))
     (seen (g.S.ByteSource.failures behind.inner) (g.O.ByteSink.sunk c.format-status.new.out) (g.E.ByteSink.sunk c.format-status.new.err))
-    (rw c.in-Ok.ensures.made at c.format-status.ensures))
+    (rw c.in-Ok.ensures.made at c.format-status.ensures.runs))

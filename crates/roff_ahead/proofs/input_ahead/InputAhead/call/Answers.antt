@@ -42,9 +42,9 @@ put_back-requires g c =
     let few = rw (← c.self.view_is) at c.requires.ends in
     let some = c.in-Body.ensures.long in
     let short = c.in-Body.ensures.short in
-    let returning : Inside _ = record inside { pushed_texts = record inside.pushed_texts { ahead = ReturnAhead ∷ inside.pushed_texts.ahead } } in
-    let sound = IsSound-returning inside c.self.invariant few in
-    let lined : Inside _ = record inside { pushed_texts = record inside.pushed_texts { ahead = ByteAhead newline ∷ ReturnAhead ∷ inside.pushed_texts.ahead } } in
+    let returning : Inside _ = record inside { pushed_texts = record inside.pushed_texts { ahead = ReturnAhead c.args.back ∷ inside.pushed_texts.ahead } } in
+    let sound = IsSound-returning c.args.back inside c.self.invariant few in
+    let lined : Inside _ = record inside { pushed_texts = record inside.pushed_texts { ahead = ByteAhead newline ∷ ReturnAhead c.args.back ∷ inside.pushed_texts.ahead } } in
     let sounder = IsSound-byte returning newline sound (omega (arith, fits, some, short, c.saturating_sub.ensures)) in
     rw (c.push_byte.ensures, c.push_return.ensures) (room-for-mark lined sounder name refl (omega (arith, fits, some, short, c.saturating_sub.ensures)))
 
@@ -56,9 +56,9 @@ invariant_of-self g c =
     let few = rw (← c.self.view_is) at c.requires.ends in
     let some = c.in-Body.ensures.long in
     let short = c.in-Body.ensures.short in
-    let returning : Inside _ = record inside { pushed_texts = record inside.pushed_texts { ahead = ReturnAhead ∷ inside.pushed_texts.ahead } } in
-    let sound = IsSound-returning inside c.self.invariant few in
-    let lined : Inside _ = record inside { pushed_texts = record inside.pushed_texts { ahead = ByteAhead newline ∷ ReturnAhead ∷ inside.pushed_texts.ahead } } in
+    let returning : Inside _ = record inside { pushed_texts = record inside.pushed_texts { ahead = ReturnAhead c.args.back ∷ inside.pushed_texts.ahead } } in
+    let sound = IsSound-returning c.args.back inside c.self.invariant few in
+    let lined : Inside _ = record inside { pushed_texts = record inside.pushed_texts { ahead = ByteAhead newline ∷ ReturnAhead c.args.back ∷ inside.pushed_texts.ahead } } in
     let sounder = IsSound-byte returning newline sound (omega (arith, fits, some, short, c.saturating_sub.ensures)) in
     rw (c.put_back.ensures, c.push_byte.ensures, c.push_return.ensures, c.in-Body.ensures.leased)
     (PutsBytes-leased lined sounder name refl (omega (arith, fits, some, short, c.saturating_sub.ensures)) some c.in-Body.lease c.in-Body.ensures.number).sound
@@ -72,19 +72,19 @@ returns-then-lacks_newline g c =
     let few = rw (← c.self.view_is) at c.requires.ends in
     let some = c.in-Body.ensures.long in
     let short = c.in-Body.ensures.short in
-    let returning : Inside _ = record inside { pushed_texts = record inside.pushed_texts { ahead = ReturnAhead ∷ inside.pushed_texts.ahead } } in
-    let sound = IsSound-returning inside c.self.invariant few in
-    let lined : Inside _ = record inside { pushed_texts = record inside.pushed_texts { ahead = ByteAhead newline ∷ ReturnAhead ∷ inside.pushed_texts.ahead } } in
+    let returning : Inside _ = record inside { pushed_texts = record inside.pushed_texts { ahead = ReturnAhead c.args.back ∷ inside.pushed_texts.ahead } } in
+    let sound = IsSound-returning c.args.back inside c.self.invariant few in
+    let lined : Inside _ = record inside { pushed_texts = record inside.pushed_texts { ahead = ByteAhead newline ∷ ReturnAhead c.args.back ∷ inside.pushed_texts.ahead } } in
     let sounder = IsSound-byte returning newline sound (omega (arith, fits, some, short, c.saturating_sub.ensures)) in
     let lacks : lacks_newline body ≡ true = sym (c.lacks_newline.ensures body c.in-Body.ensures.last_is) ∙ c.if-lacks_newline.true in
     let puts : PutsBytes lined (record { pushed_texts = c.put_back.new.self; texts = c.lease_within.new.self }) body =
     rw (c.put_back.ensures, c.push_byte.ensures, c.push_return.ensures, c.in-Body.ensures.leased)
     (PutsBytes-leased lined sounder name refl (omega (arith, fits, some, short, c.saturating_sub.ensures)) some c.in-Body.lease c.in-Body.ensures.number) in
     let viewed =
-    ap (λ (f : AheadAndTexts _). record f { ahead = map ByteAhead (body_of name f.texts) ++ ByteAhead newline ∷ ReturnAhead ∷ f.ahead })
+    ap (λ (f : AheadAndTexts _). record f { ahead = map ByteAhead (body_of name f.texts) ++ ByteAhead newline ∷ ReturnAhead c.args.back ∷ f.ahead })
     c.self.view_is in
     let lacks_now = subst (λ (f : AheadAndTexts _). lacks_newline (body_of name f.texts) ≡ true) c.self.view_is lacks in
-    let whole = called-in-front (body_of name c.args.self.now.texts) (ReturnAhead ∷ c.args.self.now.ahead) lacks_now in
+    let whole = called-in-front (body_of name c.args.self.now.texts) (ReturnAhead c.args.back ∷ c.args.self.now.ahead) lacks_now in
     let shorter : length (called_text body) ≤ c.args.most =
     omega (arith, called-len body lacks, some, short, c.saturating_sub.ensures) in
     record {
@@ -102,8 +102,8 @@ put_back-requires-in-Body g c =
     let few = rw (← c.self.view_is) at c.requires.ends in
     let some = c.in-Body.ensures.long in
     let short = c.in-Body.ensures.short in
-    let returning : Inside _ = record inside { pushed_texts = record inside.pushed_texts { ahead = ReturnAhead ∷ inside.pushed_texts.ahead } } in
-    let sound = IsSound-returning inside c.self.invariant few in
+    let returning : Inside _ = record inside { pushed_texts = record inside.pushed_texts { ahead = ReturnAhead c.args.back ∷ inside.pushed_texts.ahead } } in
+    let sound = IsSound-returning c.args.back inside c.self.invariant few in
     rw c.push_return.ensures (room-for-mark returning sound name refl (omega (arith, fits, some, short, c.saturating_sub.ensures)))
 
 pub invariant_of-self-in-Body : goal.invariant_of-self-in-Body
@@ -114,8 +114,8 @@ invariant_of-self-in-Body g c =
     let few = rw (← c.self.view_is) at c.requires.ends in
     let some = c.in-Body.ensures.long in
     let short = c.in-Body.ensures.short in
-    let returning : Inside _ = record inside { pushed_texts = record inside.pushed_texts { ahead = ReturnAhead ∷ inside.pushed_texts.ahead } } in
-    let sound = IsSound-returning inside c.self.invariant few in
+    let returning : Inside _ = record inside { pushed_texts = record inside.pushed_texts { ahead = ReturnAhead c.args.back ∷ inside.pushed_texts.ahead } } in
+    let sound = IsSound-returning c.args.back inside c.self.invariant few in
     rw (c.put_back-in-Body.ensures, c.push_return.ensures, c.in-Body.ensures.leased)
     (PutsBytes-leased returning sound name refl (omega (arith, fits, some, short, c.saturating_sub.ensures)) some c.in-Body.lease c.in-Body.ensures.number).sound
 
@@ -133,15 +133,15 @@ returns-else-lacks_newline g c =
     let few = rw (← c.self.view_is) at c.requires.ends in
     let some = c.in-Body.ensures.long in
     let short = c.in-Body.ensures.short in
-    let returning : Inside _ = record inside { pushed_texts = record inside.pushed_texts { ahead = ReturnAhead ∷ inside.pushed_texts.ahead } } in
-    let sound = IsSound-returning inside c.self.invariant few in
+    let returning : Inside _ = record inside { pushed_texts = record inside.pushed_texts { ahead = ReturnAhead c.args.back ∷ inside.pushed_texts.ahead } } in
+    let sound = IsSound-returning c.args.back inside c.self.invariant few in
     let old = c.args.self.now in
     let ends : lacks_newline body ≡ false = sym (c.lacks_newline.ensures body c.in-Body.ensures.last_is) ∙ c.if-lacks_newline.false in
     let puts : PutsBytes returning (record { pushed_texts = c.put_back-in-Body.new.self; texts = c.lease_within.new.self }) body =
     rw (c.put_back-in-Body.ensures, c.push_return.ensures, c.in-Body.ensures.leased)
     (PutsBytes-leased returning sound name refl (omega (arith, fits, some, short, c.saturating_sub.ensures)) some c.in-Body.lease c.in-Body.ensures.number) in
     let viewed =
-    ap (λ (f : AheadAndTexts _). record f { ahead = map ByteAhead (body_of name f.texts) ++ ReturnAhead ∷ f.ahead }) c.self.view_is in
+    ap (λ (f : AheadAndTexts _). record f { ahead = map ByteAhead (body_of name f.texts) ++ ReturnAhead c.args.back ∷ f.ahead }) c.self.view_is in
     let ends_now = subst (λ (f : AheadAndTexts _). lacks_newline (body_of name f.texts) ≡ false) c.self.view_is ends in
     let whole = called-whole (body_of name old.texts) ends_now in
     let shorter : length (called_text body) ≤ c.args.most =
@@ -150,7 +150,7 @@ returns-else-lacks_newline g c =
       short = λ is. rw (← c.self.view_is) shorter;
       put = λ is.
           puts.kept ∙ viewed
-          ∙ ap (λ (text : List ℕ). record old { ahead = map ByteAhead text ++ ReturnAhead ∷ old.ahead }) (sym whole);
+          ∙ ap (λ (text : List ℕ). record old { ahead = map ByteAhead text ++ ReturnAhead c.args.back ∷ old.ahead }) (sym whole);
       long = λ is. absurd (cc);
       unchanged = λ is. absurd (cc);
     }

@@ -44,9 +44,9 @@ put_body-requires-clause-sound g c =
     let fits = rw (← c.self.view_is) at c.requires.bytes in
     let few = rw (← c.self.view_is) at c.requires.ends in
     let len = called-len (body_of c.args.name.now inside.texts) lacks in
-    let returning = record inside { pushed_texts = record inside.pushed_texts { ahead = ReturnAhead ∷ inside.pushed_texts.ahead } } in
+    let returning = record inside { pushed_texts = record inside.pushed_texts { ahead = ReturnAhead c.args.back ∷ inside.pushed_texts.ahead } } in
     rw (c.push_byte.ensures, c.push_return.ensures)
-    (IsSound-byte returning newline (IsSound-returning inside c.self.invariant few) (omega (arith, fits, len)))
+    (IsSound-byte returning newline (IsSound-returning c.args.back inside c.self.invariant few) (omega (arith, fits, len)))
 
 pub put_body-requires-clause-end : goal.put_body-requires-clause-end
 put_body-requires-clause-end g c = rw (c.push_byte.ensures, c.push_return.ensures) refl
@@ -68,9 +68,9 @@ returns-then-called g c =
     let put = rw (c.push_byte.ensures, c.push_return.ensures) at c.put_body.ensures.kept in
     let name = c.args.name.now in
     let viewed =
-    ap (λ (f : AheadAndTexts _). record f { ahead = map ByteAhead (body_of name f.texts) ++ ByteAhead newline ∷ ReturnAhead ∷ f.ahead })
+    ap (λ (f : AheadAndTexts _). record f { ahead = map ByteAhead (body_of name f.texts) ++ ByteAhead newline ∷ ReturnAhead c.args.back ∷ f.ahead })
     c.self.view_is in
-    let whole = called-in-front (body_of name c.args.self.now.texts) (ReturnAhead ∷ c.args.self.now.ahead) lacks in
+    let whole = called-in-front (body_of name c.args.self.now.texts) (ReturnAhead c.args.back ∷ c.args.self.now.ahead) lacks in
     put ∙ viewed ∙ ap (λ (items : List (Ahead _)). record c.args.self.now { ahead = items }) whole
 
 pub put_body-requires-else-called-clause-len : goal.put_body-requires-else-called-clause-len
@@ -82,7 +82,7 @@ put_body-requires-else-called-clause-len g c =
 pub put_body-requires-else-called-clause-sound : goal.put_body-requires-else-called-clause-sound
 put_body-requires-else-called-clause-sound g c =
     let few = rw (← c.self.view_is) at c.requires.ends in
-    rw c.push_return.ensures (IsSound-returning c.self.inside c.self.invariant few)
+    rw c.push_return.ensures (IsSound-returning c.args.back c.self.inside c.self.invariant few)
 
 pub put_body-requires-else-called-clause-end : goal.put_body-requires-else-called-clause-end
 put_body-requires-else-called-clause-end g c = rw c.push_return.ensures refl
@@ -104,6 +104,6 @@ returns-else-called g c =
     let whole = called-whole (body_of name c.args.self.now.texts) ends in
     let put = rw c.push_return.ensures at c.put_body-else-called.ensures.kept in
     let viewed =
-    ap (λ (f : AheadAndTexts _). record f { ahead = map ByteAhead (body_of name f.texts) ++ ReturnAhead ∷ f.ahead }) c.self.view_is in
+    ap (λ (f : AheadAndTexts _). record f { ahead = map ByteAhead (body_of name f.texts) ++ ReturnAhead c.args.back ∷ f.ahead }) c.self.view_is in
     let old = c.args.self.now in
-    put ∙ viewed ∙ ap (λ (text : List ℕ). record old { ahead = map ByteAhead text ++ ReturnAhead ∷ old.ahead }) (sym whole)
+    put ∙ viewed ∙ ap (λ (text : List ℕ). record old { ahead = map ByteAhead text ++ ReturnAhead c.args.back ∷ old.ahead }) (sym whole)

@@ -49,4 +49,4 @@ returns-in-Some-End g c =
 
 pub returns-in-Some-Return : goal.returns-in-Some-Return
 returns-in-Some-Return g c =
-    absurd (no-return-first c.self.inside.pushed_texts.ahead (rw c.in-Some-Return.field-0-is at c.in-Some-Return.ensures))
+    absurd (no-return-first c.in-Some-Return.field-0-0 c.self.inside.pushed_texts.ahead (rw c.in-Some-Return.field-0-is at c.in-Some-Return.ensures))

@@ -24,9 +24,9 @@ module _ {E : Type 0} (pushed_texts below : List (MarkAt E)) (slot : MarkAt E) (
       rw (reverse_front pushed_texts below slot split, standing_mark slot (reverse below) bytes (at_end reached), is) passed
 
   -- and so does what is seen of the end of a called body
-  seen_below_return : length bytes ≤ slot.height → slot.mark ≡ Return
+  seen_below_return : (back : ℕ) → length bytes ≤ slot.height → slot.mark ≡ Return back
       → first_but_ends (standing (reverse pushed_texts) bytes) ≡ first_but_ends (standing (reverse below) bytes)
-  seen_below_return reached is =
+  seen_below_return back reached is =
       rw (reverse_front pushed_texts below slot split, standing_mark slot (reverse below) bytes (at_end reached), is) refl
 
   stacked_below : length bytes ≤ slot.height → IsStacked (reverse below) (length bytes)
@@ -52,6 +52,6 @@ loop-slot-preserved g c =
     let stacked = c.loop-slot.invariant.stacked in
     let reached : length bytes ≤ slot.height = omega (arith, c.self.inside.bytes.ok.0, c.len.ensures, c.if-slot-len.false) in
     record {
-      seen = rw (← seen_below_return pushed_texts below slot bytes split stacked reached c.in-Return.is) c.loop-slot.invariant.seen;
+      seen = rw (← seen_below_return pushed_texts below slot bytes split stacked c.in-Return.field-0 reached c.in-Return.is) c.loop-slot.invariant.seen;
       stacked = stacked_below pushed_texts below slot bytes split stacked reached;
     }

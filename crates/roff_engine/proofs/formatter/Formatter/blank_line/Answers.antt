@@ -5,7 +5,7 @@ use Rattle.roff_engine.proofs.Performed.{performs_both, performs_first_halted}
 use Rattle.roff_engine.proofs.formatter.Formatter.blank_line.Goals as goal
 
 pub returns-in-Ok : goal.returns-in-Ok
-returns-in-Ok g c = performs_both (Text WordEnd) (Text Break ∷ Space 1 ∷ []) _ c.end_word.new.self _ _ _ _ _ c.in-Ok.ensures c.break_and_space.ensures
+returns-in-Ok g c = performs_both (Text WordEnd) (Text Break ∷ Space 1 ∷ []) _ c.end_word.new.self _ _ _ _ _ c.in-Ok.ensures.performs c.break_and_space.ensures
 
 pub returns-in-Err : goal.returns-in-Err
-returns-in-Err g c = performs_first_halted (Text WordEnd) (Text Break ∷ Space 1 ∷ []) _ _ _ _ c.in-Err.halt c.in-Err.ensures
+returns-in-Err g c = performs_first_halted (Text WordEnd) (Text Break ∷ Space 1 ∷ []) _ _ _ _ c.in-Err.halt c.in-Err.ensures.performs

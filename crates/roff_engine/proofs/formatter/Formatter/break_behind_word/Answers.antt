@@ -5,7 +5,7 @@ use Rattle.roff_engine.proofs.Performed.{performs_both, performs_first_halted}
 use Rattle.roff_engine.proofs.formatter.Formatter.break_behind_word.Goals as goal
 
 pub returns-in-Ok : goal.returns-in-Ok
-returns-in-Ok g c = performs_both (Text WordEnd) (Text Break ∷ []) _ c.end_word.new.self _ _ _ _ _ c.in-Ok.ensures c.brk.ensures
+returns-in-Ok g c = performs_both (Text WordEnd) (Text Break ∷ []) _ c.end_word.new.self _ _ _ _ _ c.in-Ok.ensures.performs c.brk.ensures
 
 pub returns-in-Err : goal.returns-in-Err
-returns-in-Err g c = performs_first_halted (Text WordEnd) (Text Break ∷ []) _ _ _ _ c.in-Err.halt c.in-Err.ensures
+returns-in-Err g c = performs_first_halted (Text WordEnd) (Text Break ∷ []) _ _ _ _ c.in-Err.halt c.in-Err.ensures.performs

@@ -6,8 +6,8 @@ use Rattle.roff_engine.proofs.formatter.Formatter.gap_behind_word.Goals as goal
 
 pub returns-in-Ok : goal.returns-in-Ok
 returns-in-Ok g c =
-    performs_both (Text WordEnd) (Text (Gap 1) ∷ []) _ c.end_word.new.self _ _ _ _ _ c.in-Ok.ensures
-    (text_changes_only (Gap 1) _ _ _ (lines_behind (Gap 1) c.end_word.new.self.environments _ c.gap.ensures) (λ h. refl) (search rules))
+    performs_both (Text WordEnd) (Text (Gap 1) ∷ []) _ c.end_word.new.self _ _ _ _ _ c.in-Ok.ensures.performs
+    (text_changes_only (Gap 1) _ _ _ (lines_behind (Gap 1) c.end_word.new.self.environments _ (λ trap. refl) c.gap.ensures) (λ h. refl) (search rules))
 
 pub returns-in-Err : goal.returns-in-Err
-returns-in-Err g c = performs_first_halted (Text WordEnd) (Text (Gap 1) ∷ []) _ _ _ _ c.in-Err.halt c.in-Err.ensures
+returns-in-Err g c = performs_first_halted (Text WordEnd) (Text (Gap 1) ∷ []) _ _ _ _ c.in-Err.halt c.in-Err.ensures.performs

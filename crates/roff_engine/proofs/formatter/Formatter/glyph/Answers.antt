@@ -8,14 +8,14 @@ use Rattle.roff_engine.proofs.formatter.Formatter.glyph.Goals as goal
 
 pub returns-in-Ok : goal.returns-in-Ok
 returns-in-Ok c = λ told. text_changes_only (Print c.args.glyph) _ _ told
-    (lines_behind (Print c.args.glyph) c.args.self.now.environments _ c.in-Ok.ensures.stands) (λ h. refl) (search rules)
+    (lines_behind (Print c.args.glyph) c.args.self.now.environments _ (λ trap. refl) c.in-Ok.ensures.stands) (λ h. refl) (search rules)
 
 pub returns-in-Err : goal.returns-in-Err
 returns-in-Err c = λ told. record {
   events_performed = record {
-    performs = λ l t before failures err s h rest stood reached.
+    performs = λ l t before failures err s h rest stood flows reached.
         let is_line : c.in-Err.limit ≡ Line = search rules in
-        rw is_line (event_stopped l t before failures err s h (Text (Print c.args.glyph)) rest told reached Line
+        rw is_line (event_stopped l t before failures err s h (Text (Print c.args.glyph)) rest told reached (Text (Print c.args.glyph)) rest refl Line
         (text_refused l h (Print c.args.glyph) ((c.in-Err.ensures.limit l.line (text_of h) stood.in_force.lines).0 refl)));
   };
   reader = search rules;

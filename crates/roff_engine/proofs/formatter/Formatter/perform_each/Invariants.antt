@@ -2,12 +2,12 @@ use Rattle.std.proofs.Common.{◌≡◌, ℕ, ◌-◌, ◌++◌, List}
 use Rattle.std.specs.Prelude.{drop}
 use Rattle.roff_num.specs.declared.limits.Limits.{Limits}
 use Rattle.roff_engine.specs.Engine.Outcome.{Beginning, Reaches, Seen, seen}
-use Rattle.roff_engine.specs.Formatter.Performing.{AllPerformed, acting}
+use Rattle.roff_engine.specs.Formatter.Performing.{acting}
+use Rattle.roff_engine.proofs.LinesLeft.{CameSoFar}
 use Rattle.roff_requests.specs.Environments.Standing.{StandFor}
 use Rattle.roff_run.specs.Output.{PageHistory}
 use Rattle.roff_run.specs.declared.event.PageEvent.{PageEvent}
 use Rattle.roff_run.specs.Run.{State}
-use Rattle.roff_run.specs.TurnsToCome.{behind_all}
 use Rattle.roff_sinks.specs.Sinks.{Sunk}
 use Rattle.roff_engine.proofs.formatter.Formatter.perform_each.Given as goal
 
@@ -16,8 +16,7 @@ invariant-loop-event g l = record {
   performed : (k : Limits) (t : Beginning) (before : Seen) (failures : ℕ) (err : Sunk) (s : State) (h : PageHistory) (rest : List PageEvent)
       → StandFor k h l.initial.self.environments
       → Reaches k t before (seen failures (g.O.ByteSink.sunk l.initial.out) err) (acting s (l.initial.self.reader.meaning.events ++ rest) h)
-      → (now : PageHistory) × (behind_all (drop l.index l.initial.self.reader.meaning.events) now ≡ behind_all l.initial.self.reader.meaning.events h)
-      × AllPerformed k t before (seen failures (g.O.ByteSink.sunk l.out) err) s now (drop l.index l.initial.self.reader.meaning.events ++ rest) l.self.environments;
+      → CameSoFar k t before (seen failures (g.O.ByteSink.sunk l.out) err) s l.initial.self.reader.meaning.events h (drop l.index l.initial.self.reader.meaning.events) rest l.self.environments;
   reader : l.self.reader ≡ l.initial.self.reader;
 }
 

@@ -1,26 +1,18 @@
-use Rattle.roff_engine.proofs.Performed.{performs_nothing}
+use Rattle.std.proofs.Common.{subst, List}
+use Rattle.roff_run.specs.declared.event.PageEvent.{PageEvent}
+use Rattle.roff_engine.specs.Formatter.Performing.{PerformsAll}
+use Rattle.roff_engine.specs.Formatter.Sprung.{none_sprung}
+use Rattle.roff_engine.proofs.NamedSteps.{quiet-events, quiet-flows}
+use Rattle.roff_engine.proofs.Springing.{all_quietly}
 use Rattle.roff_engine.proofs.formatter.Formatter.perform_line.Goals as goal
-
-pub returns-in-Nothing : goal.returns-in-Nothing
-returns-in-Nothing g c = rw c.in-Nothing.is (performs_nothing c.args.self.now (g.O.ByteSink.sunk c.args.out.now))
-
-pub returns-in-Glyph : goal.returns-in-Glyph
-returns-in-Glyph g c = rw c.in-Glyph.is (c.glyph_behind.ensures (g.O.ByteSink.sunk c.args.out.now))
-
-pub returns-in-Tab : goal.returns-in-Tab
-returns-in-Tab g c = rw c.in-Tab.is (c.tab_behind.ensures (g.O.ByteSink.sunk c.args.out.now))
-
-pub returns-in-Gap : goal.returns-in-Gap
-returns-in-Gap g c = rw c.in-Gap.is c.gap_behind_word.ensures
-
-pub returns-in-Break : goal.returns-in-Break
-returns-in-Break g c = rw c.in-Break.is c.break_behind_word.ensures
 
 pub returns-in-LineEnd : goal.returns-in-LineEnd
 returns-in-LineEnd g c = rw c.in-LineEnd.is c.end_text_line.ensures
 
-pub returns-in-BlankLine : goal.returns-in-BlankLine
-returns-in-BlankLine g c = rw c.in-BlankLine.is c.blank_line.ensures
-
-pub returns-in-Meaning : goal.returns-in-Meaning
-returns-in-Meaning g c = rw c.in-Meaning.is (performs_nothing c.args.self.now (g.O.ByteSink.sunk c.args.out.now))
+pub returns-in_default : goal.returns-in_default
+returns-in_default g c =
+    rw c.none_sprung.ensures
+    (subst (λ (events : List PageEvent). PerformsAll events c.args.self.now c.perform_quietly.new.self (g.O.ByteSink.sunk c.args.out.now)
+    (g.O.ByteSink.sunk c.perform_quietly.new.out) (none_sprung c.perform_quietly.result))
+    (quiet-events c.args.step c.in_default.not-LineEnd)
+    (all_quietly _ _ _ _ _ c.perform_quietly.result (quiet-flows c.args.step) c.perform_quietly.ensures))

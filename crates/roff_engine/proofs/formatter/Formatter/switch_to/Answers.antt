@@ -13,9 +13,9 @@ returns-in-Ok c = λ told. changes_only (Environment c.args.number) _ _ told
 pub returns-in-Err : goal.returns-in-Err
 returns-in-Err c = λ told. record {
   events_performed = record {
-    performs = λ l t before failures err s h rest stood reached.
+    performs = λ l t before failures err s h rest stood flows reached.
         let is_limit : c.in-Err.limit ≡ EnvironmentsLimit = search rules in
-        rw is_limit (event_stopped l t before failures err s h (Environment c.args.number) rest told reached EnvironmentsLimit
+        rw is_limit (event_stopped l t before failures err s h (Environment c.args.number) rest told reached (Environment c.args.number) rest refl EnvironmentsLimit
         (switch_refused l h c.args.number ((c.in-Err.ensures.limit l h stood).0 refl)));
   };
   reader = search rules;

@@ -6,6 +6,7 @@ use Rattle.roff_engine.proofs.Starting.{begin_refused}
 use Rattle.roff_engine.proofs.running.Running.begin.Goals as goal
 
 pub returns-in-Err-clause-ends : goal.returns-in-Err-clause-ends
-returns-in-Err-clause-ends g c = λ had asks is out.
+returns-in-Err-clause-ends g c = λ had unread tape is failures out.
     let refused = subst (λ (given : List (ℕ × Num)). IsRefused c.args.self.now c.set_registers.new.self given c.in-Err.limit) c.as_slice.ensures.value c.in-Err.ensures in
-    begin_refused _ _ c.args.self.now c.set_registers.new.self c.args.start.now c.in-Err.limit _ _ _ refused had asks is (λ asks stops. c.refuse.ensures c.args.start.now out asks stops)
+    begin_refused c.args.self.now c.set_registers.new.self c.args.start.now tape c.in-Err.limit _ _ _ refused had unread is
+    (λ unread stops. c.refuse.ensures c.args.start.now tape failures out unread stops)

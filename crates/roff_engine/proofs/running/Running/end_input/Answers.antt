@@ -3,7 +3,8 @@ use Rattle.roff_run.specs.Run.{escape_ends, input_ended, phase_ended}
 use Rattle.roff_run.specs.declared.phase.Phase.{Phase}
 use Rattle.roff_run.specs.declared.phase.Phase.TheVariants.{Closing, LastMacro, Reading}
 use Rattle.roff_engine.specs.Running.Turning.{input_ends, state_at}
-use Rattle.roff_engine.proofs.Acting.{DoesItem-as, closed_acts, input_ends-escapes, input_ends-no_half, some_half}
+use Rattle.roff_engine.proofs.Acting.{DoesItem-as}
+use Rattle.roff_engine.proofs.Ending.{closed_acts, input_ends-escapes, input_ends-no_half, some_half}
 use Rattle.roff_engine.proofs.Turns.{on_ok}
 use Rattle.roff_engine.proofs.running.Running.end_input.Goals as goal
 

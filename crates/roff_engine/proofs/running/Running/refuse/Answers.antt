@@ -1,8 +1,10 @@
-use Rattle.roff_engine.proofs.Starting.{refused_at_start}
+use Rattle.std.proofs.Common.{inr}
+use Rattle.roff_engine.specs.Engine.Outcome.{seen}
+use Rattle.roff_engine.proofs.Starting.{stops_at_start}
 use Rattle.roff_engine.proofs.running.Running.refuse.Goals as goal
 
 pub returns : goal.returns
-returns g c = λ given out asks stops.
-    let look = c.look.ensures in
-    refused_at_start c.args.self.now look.looks given c.args.limit _ _ _ out _ _ c.line-line.result look.failures asks stops c.line-line.ensures
-    (λ t tape start halts. c.halted.ensures t tape start _ out halts)
+returns g c = λ given tape failures out unread stops.
+    let now = seen failures out (g.E.ByteSink.sunk c.args.err.now) in
+    let stopped = stops_at_start c.args.self.now given tape c.args.limit c.line-line.result now unread stops c.line-line.ensures in
+    c.halted.ensures (record { start = given; tape = tape }) tape now failures out (inr stopped)

@@ -5,7 +5,8 @@ use Rattle.roff_run.specs.declared.step.Step.TheVariants.{Nothing}
 use Rattle.roff_run.specs.Reading.Branches.{branch_of, reads_else}
 use Rattle.roff_run.specs.Reading.ControlLines.{behind_called}
 use Rattle.roff_run.specs.Reading.Items.{going_on}
-use Rattle.roff_reader.proofs.TakesAs.{NoMore-half_begun, NoMore-without_last, TakesAs-as, TakesAs-gone_on}
+use Rattle.roff_reader.proofs.TakesAs.{NoMore-half_begun, NoMore-without_last, TakesAs-as}
+use Rattle.roff_reader.proofs.LinesTaken.{TakesAs-gone_on}
 use Rattle.roff_reader.proofs.reader.Reader.begin_called.Goals as goal
 
 pub returns-in-Some : goal.returns-in-Some

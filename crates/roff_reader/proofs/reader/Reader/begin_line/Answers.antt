@@ -4,7 +4,8 @@ use Rattle.roff_run.specs.Reading.Beginnings.{first_name}
 use Rattle.roff_run.specs.Reading.TextLines.{motion_taking}
 use Rattle.roff_escape.specs.declared.open_escape.CopyUnit.TheVariants.{Byte, Kept}
 use Rattle.roff_escape.specs.declared.open_escape.Found.TheVariants.{Unit}
-use Rattle.roff_reader.proofs.TakesAs.{TakesAs-begun, TakesAs-set}
+use Rattle.roff_reader.proofs.TakesAs.{TakesAs-set}
+use Rattle.roff_reader.proofs.LinesTaken.{TakesAs-begun}
 use Rattle.roff_reader.proofs.reader.Reader.begin_line.Goals as goal
 
 pub returns-in-Asks : goal.returns-in-Asks

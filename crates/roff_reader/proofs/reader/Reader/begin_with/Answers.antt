@@ -1,7 +1,8 @@
 use Rattle.std.proofs.Common.{◌≡◌, Ok, rules}
 use Rattle.roff_run.specs.Reading.Beginnings.{first_taking, line_begun}
 use Rattle.roff_run.specs.Registers.{Known}
-use Rattle.roff_reader.proofs.TakesAs.{TakesAs-as, first_taking-any}
+use Rattle.roff_reader.proofs.TakesAs.{TakesAs-as}
+use Rattle.roff_reader.proofs.LinesTaken.{first_taking-any}
 use Rattle.roff_reader.proofs.reader.Reader.begin_with.Goals.{in_default-via-in-Branch+in_default, in_default-via-in-Braced+in_default, in_default-via-in_default}
 use Rattle.roff_reader.proofs.reader.Reader.begin_with.Goals as goal
 

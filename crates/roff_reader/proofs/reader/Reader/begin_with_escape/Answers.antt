@@ -3,7 +3,8 @@ use Rattle.roff_run.specs.Reading.Beginnings.{escape_begun, first_escape}
 use Rattle.roff_run.specs.Reading.TextLines.{escape_taking}
 use Rattle.roff_run.specs.Registers.{Known}
 use Rattle.roff_reader.proofs.Strings.{other}
-use Rattle.roff_reader.proofs.TakesAs.{TakesAs-as, TakesAs-begun, TakesAs-meant, first_escape-any}
+use Rattle.roff_reader.proofs.TakesAs.{TakesAs-as}
+use Rattle.roff_reader.proofs.LinesTaken.{TakesAs-begun, TakesAs-meant, first_escape-any}
 use Rattle.roff_reader.proofs.reader.Reader.begin_with_escape.Goals.{in_default-via-in-Branch+in_default, in_default-via-in_default}
 use Rattle.roff_reader.proofs.reader.Reader.begin_with_escape.Goals as goal
 

@@ -1,5 +1,5 @@
 use Rattle.roff_run.specs.Reading.TextLines.{character_taking, left_out_taking, other_taking}
-use Rattle.roff_reader.proofs.TakesAs.{TakesAs-begun}
+use Rattle.roff_reader.proofs.LinesTaken.{TakesAs-begun}
 use Rattle.roff_reader.proofs.reader.Reader.begin_with_name.Goals as goal
 
 pub returns-in-Character : goal.returns-in-Character

@@ -1,6 +1,6 @@
 use Rattle.std.proofs.Common.{◌≡◌, false, rules}
 use Rattle.roff_run.specs.declared.line_state.LineState.TheVariants.{Deciding}
-use Rattle.roff_reader.proofs.TakesAs.{TakesAs-decided}
+use Rattle.roff_reader.proofs.LinesTaken.{TakesAs-decided}
 use Rattle.roff_reader.proofs.reader.Reader.decides.Goals as goal
 
 pub returns-in-Some-clause-decides : goal.returns-in-Some-clause-decides

@@ -9,7 +9,8 @@ use Rattle.roff_run.specs.declared.event.PageEvent.{PageEvent}
 use Rattle.roff_run.specs.declared.event.PageEvent.TheVariants.{Text}
 use Rattle.roff_run.specs.declared.line_state.LineState.TheVariants.{LineStart}
 use Rattle.roff_run.specs.declared.line_state.TextLine.{TextLine}
-use Rattle.roff_reader.proofs.TakesAs.{TakesAs-asked, TakesAs-meant, TakesAs-said}
+use Rattle.roff_reader.proofs.TakesAs.{TakesAs-asked}
+use Rattle.roff_reader.proofs.LinesTaken.{TakesAs-meant, TakesAs-said}
 use Rattle.roff_run.specs.declared.step.Step.TheVariants.{Meaning, Nothing}
 use Rattle.roff_reader.proofs.reader.Reader.end_interrupted.Goals as goal
 

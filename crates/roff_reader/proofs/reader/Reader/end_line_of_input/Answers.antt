@@ -8,7 +8,8 @@ use Rattle.roff_run.specs.Reading.Items.{going_on}
 use Rattle.roff_run.specs.Reading.Strings.{string_entered, string_line_ended}
 use Rattle.roff_num.specs.ShortNames.{name_at}
 use Rattle.roff_run.specs.declared.line_state.LineState.TheVariants.{Braced, Control, Deciding, Defining, Dropped, Exiting, LineStart, Skipping, StringName, StringText, Told}
-use Rattle.roff_reader.proofs.TakesAs.{TakesAs-as, TakesAs-last_line, TakesAs-no_last_line, TakesAs-where, end_taking-newline, string_line_ended-going}
+use Rattle.roff_reader.proofs.TakesAs.{TakesAs-as, TakesAs-where}
+use Rattle.roff_reader.proofs.LinesTaken.{TakesAs-last_line, TakesAs-no_last_line, end_taking-newline, string_line_ended-going}
 use Rattle.roff_reader.proofs.reader.Reader.end_line_of_input.Goals as goal
 
 pub returns-in-LineStart : goal.returns-in-LineStart

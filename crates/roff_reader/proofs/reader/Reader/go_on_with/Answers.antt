@@ -9,7 +9,7 @@ use Rattle.roff_run.specs.declared.event.PageEvent.{PageEvent}
 use Rattle.roff_run.specs.declared.event.PageEvent.TheVariants.{Text}
 use Rattle.roff_reader.specs.Reader.State.{MeaningKept, ReaderState}
 use Rattle.roff_run.specs.declared.step.Step.TheVariants.{Meaning}
-use Rattle.roff_reader.proofs.TakesAs.{TakesAs-said}
+use Rattle.roff_reader.proofs.LinesTaken.{TakesAs-said}
 use Rattle.roff_reader.proofs.reader.Reader.go_on_with.Goals as goal
 
 pub returns : goal.returns

@@ -2,7 +2,7 @@ use Rattle.std.proofs.Common.{◌≡◌, Err, false, rules}
 use Rattle.roff_ahead.specs.Input.{holding_plain}
 use Rattle.roff_run.specs.declared.line_state.LineState.{LineState}
 use Rattle.roff_run.specs.declared.line_state.LineState.TheVariants.{Telling}
-use Rattle.roff_reader.proofs.TakesAs.{TakesAs-changed, TakesAs-not_changed}
+use Rattle.roff_reader.proofs.LinesTaken.{TakesAs-changed, TakesAs-not_changed}
 use Rattle.roff_reader.proofs.reader.Reader.hold_plain.Goals as goal
 
 pub returns-in_err-hold_plain : goal.returns-in_err-hold_plain

@@ -1,7 +1,7 @@
 use Rattle.std.proofs.Common.{◌≡◌, ℕ, List, Err, Ok, rules, subst, decimal, ◌∙◌}
 use Rattle.roff_ahead.specs.Input.{pushing}
 use Rattle.roff_scan.specs.Unread.{changing}
-use Rattle.roff_reader.proofs.TakesAs.{TakesAs-changed, TakesAs-not_changed}
+use Rattle.roff_reader.proofs.LinesTaken.{TakesAs-changed, TakesAs-not_changed}
 use Rattle.roff_reader.proofs.reader.Reader.measure.Goals as goal
 
 pub returns-in_err-push : goal.returns-in_err-push

@@ -6,7 +6,7 @@ use Rattle.roff_reader.specs.Reader.Taken.{TakesAs}
 use Rattle.roff_run.specs.Reading.Escapes.{argument_named}
 use Rattle.roff_run.specs.Reading.Items.{going_on}
 use Rattle.roff_reader.proofs.CalledBodies.{argument_named-digit, argument_named-other}
-use Rattle.roff_reader.proofs.TakesAs.{TakesAs-changed, TakesAs-not_changed}
+use Rattle.roff_reader.proofs.LinesTaken.{TakesAs-changed, TakesAs-not_changed}
 use Rattle.roff_reader.proofs.reader.Reader.put_argument.Goals.{in_default-via-then-as_bytes-lt1, in_default-via-else-as_bytes-lt1+then-this-lt2+then-this-lt49, in_default-via-else-as_bytes-lt1+then-this-lt2+else-this-lt49+else-this-lt58, in_default-via-else-as_bytes-lt1+else-this-lt2}
 use Rattle.roff_run.specs.declared.step.Step.TheVariants.{Nothing}
 use Rattle.roff_reader.proofs.reader.Reader.put_argument.Goals as goal

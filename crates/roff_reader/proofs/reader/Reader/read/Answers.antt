@@ -1,7 +1,7 @@
 use Rattle.std.proofs.Common.{rules, refl, sym}
 use Rattle.roff_run.specs.Reading.{taking}
 use Rattle.roff_run.specs.declared.step.Step.TheVariants.{Gap, Glyph}
-use Rattle.roff_reader.proofs.TakesAs.{TakesAs-undropped}
+use Rattle.roff_reader.proofs.LinesTaken.{TakesAs-undropped}
 use Rattle.roff_reader.proofs.TextTaken.{TakesAs-named}
 use Rattle.roff_reader.proofs.reader.Reader.read.Goals as goal
 

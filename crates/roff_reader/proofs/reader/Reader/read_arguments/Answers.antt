@@ -2,7 +2,8 @@ use Rattle.roff_run.specs.Reading.Arguments.{arguments_found}
 use Rattle.roff_run.specs.Reading.Units.{no_unit_found, settling}
 use Rattle.roff_run.specs.declared.line_state.LineState.{LineState}
 use Rattle.roff_run.specs.declared.line_state.LineState.TheVariants.{Arguments as InArguments}
-use Rattle.roff_reader.proofs.TakesAs.{TakesAs-as, TakesAs-settled, arguments_found-no_unit}
+use Rattle.roff_reader.proofs.TakesAs.{TakesAs-as, TakesAs-settled}
+use Rattle.roff_reader.proofs.LinesTaken.{arguments_found-no_unit}
 use Rattle.roff_reader.proofs.reader.Reader.read_arguments.Goals as goal
 
 pub returns-in-Unit : goal.returns-in-Unit

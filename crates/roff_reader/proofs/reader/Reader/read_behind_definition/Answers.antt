@@ -1,7 +1,7 @@
 use Rattle.std.specs.Prelude.{true}
 use Rattle.roff_run.specs.Reading.ControlLines.{dropped_taking, name_ended_taking}
 use Rattle.roff_reader.proofs.EndedDefinitions.{TakesAs-line_begun}
-use Rattle.roff_reader.proofs.TakesAs.{TakesAs-meant}
+use Rattle.roff_reader.proofs.LinesTaken.{TakesAs-meant}
 use Rattle.roff_reader.proofs.reader.Reader.read_behind_definition.Goals as goal
 
 pub returns-in-Some : goal.returns-in-Some

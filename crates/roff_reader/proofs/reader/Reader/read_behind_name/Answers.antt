@@ -8,7 +8,8 @@ use Rattle.roff_run.specs.Reading.Found.{read_in}
 use Rattle.roff_run.specs.Requests.{row_of}
 use Rattle.roff_run.specs.declared.line_state.LineState.TheVariants.{Calling}
 use Rattle.roff_run.specs.declared.request.Called.{Called}
-use Rattle.roff_reader.proofs.TakesAs.{TakesAs-as, TakesAs-meant, TakesAs-read}
+use Rattle.roff_reader.proofs.TakesAs.{TakesAs-as, TakesAs-read}
+use Rattle.roff_reader.proofs.LinesTaken.{TakesAs-meant}
 use Rattle.roff_reader.proofs.reader.Reader.read_behind_name.Goals as goal
 
 pub returns-in-Request : goal.returns-in-Request

@@ -4,7 +4,8 @@ use Rattle.roff_reader.specs.Reader.State.{ReaderState}
 use Rattle.roff_run.specs.declared.line_state.LineState.{LineState}
 use Rattle.roff_run.specs.declared.line_state.LineState.TheVariants.{StringName, StringText, LineStart, Branch, Braced, Text as InText, Arguments as InArguments, Deciding, Telling, Calling, Defining}
 use Rattle.roff_reader.proofs.Placed.{found-elsewhere}
-use Rattle.roff_reader.proofs.TakesAs.{TakesAs-meant, TakesAs-where}
+use Rattle.roff_reader.proofs.TakesAs.{TakesAs-where}
+use Rattle.roff_reader.proofs.LinesTaken.{TakesAs-meant}
 use Rattle.roff_run.specs.declared.step.Step.TheVariants.{Nothing}
 use Rattle.roff_reader.proofs.reader.Reader.read_found.Goals as goal
 

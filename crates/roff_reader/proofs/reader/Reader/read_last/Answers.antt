@@ -4,7 +4,7 @@ use Rattle.roff_run.specs.Reading.Calls.{called_last}
 use Rattle.roff_run.specs.Reading.Items.{going_on}
 use Rattle.roff_run.specs.declared.line_state.LineState.TheVariants.{LineStart}
 use Rattle.roff_run.specs.declared.request.Called.{Called}
-use Rattle.roff_reader.proofs.TakesAs.{TakesAs-meant}
+use Rattle.roff_reader.proofs.LinesTaken.{TakesAs-meant}
 use Rattle.roff_reader.proofs.reader.Reader.read_last.Goals as goal
 
 pub returns-in-Body : goal.returns-in-Body

@@ -6,7 +6,8 @@ use Rattle.roff_num.specs.ShortNames.{name_bytes}
 use Rattle.roff_run.specs.Reading.Items.{going_on}
 use Rattle.roff_run.specs.declared.line_state.LineState.TheVariants.{LineStart}
 use Rattle.roff_run.proofs.InputCounts.{NoMore-released}
-use Rattle.roff_reader.proofs.TakesAs.{TakesAs-changed, TakesAs-less}
+use Rattle.roff_reader.proofs.TakesAs.{TakesAs-less}
+use Rattle.roff_reader.proofs.LinesTaken.{TakesAs-changed}
 use Rattle.roff_reader.proofs.reader.Reader.read_last_body.Goals as goal
 
 pub returns : goal.returns

@@ -5,7 +5,7 @@ use Rattle.roff_reader.specs.Reader.Taken.{TakesAs}
 use Rattle.roff_run.specs.Reading.Calls.{last_called}
 use Rattle.roff_run.specs.Reading.Items.{going_on}
 use Rattle.roff_run.specs.declared.line_state.LineState.TheVariants.{LineStart}
-use Rattle.roff_reader.proofs.TakesAs.{TakesAs-meant}
+use Rattle.roff_reader.proofs.LinesTaken.{TakesAs-meant}
 use Rattle.roff_reader.proofs.reader.Reader.read_last_macro.Goals as goal
 
 pub returns-in-None : goal.returns-in-None

@@ -2,7 +2,8 @@ use Rattle.roff_run.specs.Reading.Messages.{message_found}
 use Rattle.roff_run.specs.Reading.Units.{no_unit_found}
 use Rattle.roff_run.specs.declared.line_state.LineState.{LineState}
 use Rattle.roff_run.specs.declared.line_state.LineState.TheVariants.{Telling}
-use Rattle.roff_reader.proofs.TakesAs.{TakesAs-as, message_found-no_unit}
+use Rattle.roff_reader.proofs.TakesAs.{TakesAs-as}
+use Rattle.roff_reader.proofs.LinesTaken.{message_found-no_unit}
 use Rattle.roff_reader.proofs.reader.Reader.read_message.Goals as goal
 
 pub returns-in-Unit : goal.returns-in-Unit

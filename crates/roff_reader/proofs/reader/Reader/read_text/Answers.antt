@@ -9,7 +9,8 @@ use Rattle.roff_run.specs.Reading.Items.{meaning_events}
 use Rattle.roff_run.specs.Reading.TextLines.{motion_taking, name_taking, text_found, text_taking}
 use Rattle.roff_run.specs.declared.step.Step.{Step}
 use Rattle.roff_run.specs.declared.line_state.LineState.TheVariants.{Text}
-use Rattle.roff_reader.proofs.TakesAs.{TakesAs-set, TakesAs-stepped}
+use Rattle.roff_reader.proofs.TakesAs.{TakesAs-set}
+use Rattle.roff_reader.proofs.LinesTaken.{TakesAs-stepped}
 use Rattle.roff_reader.proofs.TextTaken.{TakesAs-named}
 use Rattle.roff_reader.proofs.reader.Reader.read_text.Goals as goal
 

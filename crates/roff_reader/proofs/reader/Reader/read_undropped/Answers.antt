@@ -3,7 +3,8 @@ use Rattle.roff_reader.specs.Reader.State.{ReaderState}
 use Rattle.roff_run.specs.Reading.{undropped_taking}
 use Rattle.roff_run.specs.declared.line_state.LineState.TheVariants.{Control, Dropped, Name, Skipping, Told, Exiting}
 use Rattle.roff_reader.proofs.Placed.{placed}
-use Rattle.roff_reader.proofs.TakesAs.{TakesAs-meant, TakesAs-where}
+use Rattle.roff_reader.proofs.TakesAs.{TakesAs-where}
+use Rattle.roff_reader.proofs.LinesTaken.{TakesAs-meant}
 use Rattle.roff_reader.proofs.reader.Reader.read_undropped.Goals as goal
 
 pub read_placed-requires : goal.read_placed-requires

@@ -11,7 +11,8 @@ use Rattle.roff_reader.proofs.BegunDefinitions.{front_of-few}
 use Rattle.roff_run.proofs.MarkEnds.{ends-line_from}
 use Rattle.roff_reader.proofs.EndedDefinitions.{definition_line-text}
 use Rattle.roff_reader.proofs.Strings.{TakesAs-became, TakesAs-not_became}
-use Rattle.roff_reader.proofs.TakesAs.{TakesAs-as, TakesAs-meant}
+use Rattle.roff_reader.proofs.TakesAs.{TakesAs-as}
+use Rattle.roff_reader.proofs.LinesTaken.{TakesAs-meant}
 use Rattle.roff_reader.proofs.reader.Reader.read_unit_of_definition.Goals as goal
 
 pub returns-in-MayBeLast : goal.returns-in-MayBeLast

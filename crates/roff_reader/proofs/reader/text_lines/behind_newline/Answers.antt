@@ -1,5 +1,5 @@
 use Rattle.std.proofs.Common.{rules, sym}
-use Rattle.roff_reader.proofs.TakesAs.{first_escape-newline}
+use Rattle.roff_reader.proofs.LinesTaken.{first_escape-newline}
 use Rattle.roff_reader.proofs.reader.text_lines.behind_newline.Goals as goal
 
 pub returns-in_default : goal.returns-in_default

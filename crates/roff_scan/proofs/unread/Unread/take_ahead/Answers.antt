@@ -11,10 +11,11 @@ pub invariant_of-self : goal.invariant_of-self
 invariant_of-self g c =
     let kept = kept_by c.self.inside in
     let new = c.take.new.self in
-    let over = shows_return c.in-Return.ensures.front c.in-Return.ensures.shows in
-    let taken : c.self.inside.input_ahead ≡ record new { ahead = ReturnAhead ∷ new.ahead } =
+    let back = c.in-Return.back in
+    let over = shows_return back c.in-Return.ensures.front c.in-Return.ensures.shows in
+    let taken : c.self.inside.input_ahead ≡ record new { ahead = ReturnAhead back ∷ new.ahead } =
     c.in-Return.ensures.taken ∙ ap (λ (item : Ahead _). record new { ahead = item ∷ new.ahead }) over in
-    let first : c.self.inside.input_ahead.ahead ≡ ReturnAhead ∷ new.ahead = ap (λ (f : AheadAndTexts _). f.ahead) taken in
+    let first : c.self.inside.input_ahead.ahead ≡ ReturnAhead back ∷ new.ahead = ap (λ (f : AheadAndTexts _). f.ahead) taken in
     let one : c.cost-cost.result ≡ 1 = c.cost-cost.ensures ∙ ap front_cost first in
     record {
       bytes = ap (λ (f : AheadAndTexts _). f.most_bytes) (sym taken) ∙ c.self.invariant.bytes;
@@ -29,18 +30,18 @@ invariant_of-self g c =
       most_calls = rw c.end_call.ensures.calls c.self.invariant.most_calls;
       calls =
           rw c.end_call.ensures.calls
-          (returns-over c.self.inside.input_ahead.ahead new.ahead c.self.inside.calls.calls first c.self.invariant.calls);
+          (returns-over back c.self.inside.input_ahead.ahead new.ahead c.self.inside.calls.calls first c.self.invariant.calls);
       held = c.self.invariant.held;
       small = c.self.invariant.small;
       results = rw c.end_call.ensures.capacity c.self.invariant.results;
       within =
           rw (c.end_call.ensures.calls, c.end_call.ensures.results, one)
           (subst (λ (f : AheadAndTexts _). IsWithin (record kept {
-            input = record (item_taken ReturnAhead new.ahead kept.input) {
+            input = record (item_taken (ReturnAhead back) new.ahead kept.input) {
               names = f.texts.names.entries;
               open_texts = f.texts.open_texts;
             };
           })) taken
-          (IsWithin-over kept new.ahead first c.self.invariant.within
+          (IsWithin-over back kept new.ahead first c.self.invariant.within
           (omega (arith, one, c.if-cost-self.false, c.self.invariant.within.charge))));
     }

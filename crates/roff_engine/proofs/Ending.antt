@@ -1,0 +1,131 @@
+-- What the code does where the input ends: what is half read ends, and a line, and the phases.
+use Rattle.std.proofs.Common.{◌≡◌, ◌⊎◌, ℕ, Bool, true, false, List, [], ◌∷◌, length, Option, None, Err, inl, inr, refl, subst, sym, ap, append-nil, ◌∙◌}
+use Rattle.std.proofs.Math.Dec.{eqb-suc-zero}
+use Rattle.std.specs.Prelude.{not, ◌==◌}
+use Rattle.roff_num.specs.declared.limit.Limit.{Limit}
+use Rattle.roff_num.specs.declared.limits.Limits.{Limits}
+use Rattle.roff_escape.specs.OpenEscapes.{reading_ended}
+use Rattle.roff_source.specs.Tape.{Tape, behind_front}
+use Rattle.roff_scan.specs.Looking.{is_closed, looked_then}
+use Rattle.roff_scan.specs.declared.looked.Looked.{Looked}
+use Rattle.roff_scan.specs.declared.looked.Looked.TheVariants.{Nothing}
+use Rattle.roff_escape.specs.OpenEscape.{OpenEscape}
+use Rattle.roff_escape.specs.declared.open_escape.Surroundings.TheVariants.{Arguments as AboveArguments, Copy as AboveCopy}
+use Rattle.roff_engine.specs.declared.running.Running.{Running as Coded}
+use Rattle.roff_engine.specs.Engine.Outcome.{Seen, IsRest}
+use Rattle.roff_engine.specs.Running.Turning.{DoesItem, MayEnd, input_ends, state_at}
+use Rattle.roff_run.specs.Reading.{escape_ended}
+use Rattle.roff_run.specs.Reading.Beginnings.{at_start}
+use Rattle.roff_run.specs.Reading.Ends.{is_unfinished}
+use Rattle.roff_run.specs.Reading.Items.{PageInput}
+use Rattle.roff_run.specs.Reading.TextLines.{on_line}
+use Rattle.roff_run.specs.Reading.Found.{read_in}
+use Rattle.roff_run.specs.Registers.{Known}
+use Rattle.roff_run.specs.Run.{State, initial, ending_as, escape_ends, input_ended, known, phase_ended, step, unless_refused, grown}
+use Rattle.roff_run.specs.Run.Counts.{counts_in, first_passed}
+use Rattle.roff_run.specs.declared.line_state.LineState.{LineState}
+use Rattle.roff_run.specs.declared.line_state.LineState.TheVariants.{LineStart, Branch, Braced, Text as InText, Control, Name, Arguments as InArguments, Deciding, StringName, StringText, Skipping, Dropped, Telling, Told, Exiting, Calling, Defining}
+use Rattle.roff_run.specs.declared.phase.Phase.TheVariants.{Closing}
+use Rattle.roff_run.specs.declared.status.Status.TheVariants.{Done}
+use Rattle.roff_run.proofs.Keeping.{Keeps-escape_ended}
+use Rattle.roff_run.proofs.Leads.{Leads-to}
+use Rattle.roff_engine.proofs.Acting.{IsLeftOf-looked_then}
+
+-- the line stays where a half read item ends with nothing half read
+line-nothing_ended : (k : Known) (reading : LineState) (i : PageInput) → i.escapes ≡ []
+    → (escape_ended k reading i).input.line ≡ i.line
+line-nothing_ended k LineStart i none = subst (λ (half : List OpenEscape). (read_in k LineStart i (reading_ended (at_start k) half)).input.line ≡ i.line) (sym none) refl
+line-nothing_ended k Branch i none = subst (λ (half : List OpenEscape). (read_in k Branch i (reading_ended (at_start k) half)).input.line ≡ i.line) (sym none) refl
+line-nothing_ended k Braced i none = subst (λ (half : List OpenEscape). (read_in k Braced i (reading_ended (at_start k) half)).input.line ≡ i.line) (sym none) refl
+line-nothing_ended k (InText line) i none = subst (λ (half : List OpenEscape). (read_in k (InText line) i (reading_ended (on_line k line) half)).input.line ≡ i.line) (sym none) refl
+line-nothing_ended k (Control breaks) i none = refl
+line-nothing_ended k (Name breaks byte) i none = refl
+line-nothing_ended k (InArguments breaks request) i none =
+    subst (λ (half : List OpenEscape). (read_in k (InArguments breaks request) i (reading_ended AboveArguments half)).input.line ≡ i.line) (sym none) refl
+line-nothing_ended k (Deciding keeping) i none =
+    subst (λ (half : List OpenEscape). (read_in k (Deciding keeping) i (reading_ended AboveArguments half)).input.line ≡ i.line) (sym none) refl
+line-nothing_ended k (StringName appends) i none =
+    subst (λ (half : List OpenEscape). (read_in k (StringName appends) i (reading_ended AboveArguments half)).input.line ≡ i.line) (sym none) refl
+line-nothing_ended k (Calling name) i none =
+    subst (λ (half : List OpenEscape). (read_in k (Calling name) i (reading_ended AboveArguments half)).input.line ≡ i.line) (sym none) refl
+line-nothing_ended k (StringText name appends is_front) i none =
+    subst (λ (half : List OpenEscape). (read_in k (StringText name appends is_front) i (reading_ended AboveCopy half)).input.line ≡ i.line) (sym none) refl
+line-nothing_ended k (Defining name appends end matched) i none =
+    subst (λ (half : List OpenEscape). (read_in k (Defining name appends end matched) i (reading_ended AboveCopy half)).input.line ≡ i.line) (sym none) refl
+line-nothing_ended k (Telling aborts is_front) i none =
+    subst (λ (half : List OpenEscape). (read_in k (Telling aborts is_front) i (reading_ended AboveCopy half)).input.line ≡ i.line) (sym none) refl
+line-nothing_ended k (Told aborts) i none = refl
+line-nothing_ended k Exiting i none = refl
+line-nothing_ended k (Skipping opened closed behind) i none = refl
+line-nothing_ended k Dropped i none = refl
+
+-- the line stays where what is half read ends
+pub line-escape_ended : (k : Known) (reading : LineState) (i : PageInput) → (escape_ended k reading i).input.line ≡ i.line
+line-escape_ended k reading i =
+    let by : (half : List OpenEscape) → i.escapes ≡ half → (escape_ended k reading i).input.line ≡ i.line = λ half. elim half as (λ h. i.escapes ≡ h → (escape_ended k reading i).input.line ≡ i.line) [
+      | [] ↦ λ is. line-nothing_ended k reading i is
+      | first ∷ others ↦ λ is. (Keeps-escape_ended k reading i first others is).line
+    ] in
+    by i.escapes refl
+
+-- what is left where a run may end: all, or its input was left
+rest_at_end : (looked : Looked) (tape : Tape) (s : State) → (looked ≡ Nothing) ⊎ (is_closed looked ≡ true) → s.tape ≡ looked_then looked tape
+    → s.is_closed ≡ is_closed looked → IsRest Done tape s
+rest_at_end looked tape s (inl none) is closed = inl (sym (is ∙ ap (λ (looked : Looked). looked_then looked tape) none))
+rest_at_end looked tape s (inr left) is closed = elim (IsLeftOf-looked_then looked tape) [
+  | inl all ↦ inl (all ∙ sym is)
+  | inr behind ↦ inr (closed ∙ left, behind ∙ sym (ap behind_front is))
+]
+
+-- the last phase ends, and the run with it
+pub closed_acts : (line : ℕ) (old : Coded) (now : Seen) → MayEnd old → DoesItem line (phase_ended Closing) old old now now (Err Done)
+closed_acts line old now may_end = record {
+  limits = refl;
+  acts = λ t tape start from took.
+      let s : State = state_at tape old took.history took.messages in
+      let done : State = ending_as Done s in
+      let allowed : first_passed old.limits (grown done) ≡ None =
+      subst (λ (l : Limits). first_passed l (counts_in old.formatter.reader.registers.all old.unread.input) ≡ None) took.limits took.ready.within in
+      let there : step old.limits from ≡ done = took.opens.opens ∙ ap (λ (r : Option Limit). unless_refused old.limits r from done) allowed in
+      inl (record {
+        state = done;
+        reaches = record {
+          comes = Leads-to old.limits (initial old.limits t.start t.tape) from done took.reaches.comes there;
+          text = rw (← took.opens.wrote) took.reaches.text;
+          messages = rw (append-nil, ← took.opens.said) took.reaches.messages;
+          faults = took.reaches.faults;
+        };
+        ended = refl;
+        rest = rest_at_end old.unread.looked tape done may_end refl refl;
+        fault = λ wrong. cc;
+      });
+  turns = λ t tape start from took. tt;
+}
+
+-- one of two, by whether something is half read
+by_half : {A : Type 0} (half : List OpenEscape) (none some : A) → not (length half == 0) ≡ true
+    → (elim half as (λ _. A) [ [] ↦ none | first ∷ others ↦ some ]) ≡ some
+by_half [] none some is = cc
+by_half (first ∷ others) none some is = refl
+
+-- and by whether nothing is
+by_no_half : {A : Type 0} (half : List OpenEscape) (none some : A) → not (length half == 0) ≡ false
+    → (elim half as (λ _. A) [ [] ↦ none | first ∷ others ↦ some ]) ≡ none
+by_no_half [] none some is = refl
+by_no_half (first ∷ others) none some is = cc (eqb-suc-zero (length others))
+
+-- at the input's end what is half read ends, if something is
+pub input_ends-escapes : (s : State) → not (length s.input.escapes == 0) ≡ true → input_ends s ≡ escape_ends s
+input_ends-escapes s is = by_half s.input.escapes (input_ended (is_unfinished s.phase (known s) s.reading) s) (escape_ends s) is
+
+-- and else an unfinished line, or the phase
+pub input_ends-no_half : (s : State) (unfinished : Bool) → not (length s.input.escapes == 0) ≡ false
+    → is_unfinished s.phase (known s) s.reading ≡ unfinished
+    → input_ends s ≡ input_ended unfinished s
+input_ends-no_half s unfinished is ends =
+    by_no_half s.input.escapes (input_ended (is_unfinished s.phase (known s) s.reading) s) (escape_ends s) is ∙ ap (λ (b : Bool). input_ended b s) ends
+
+-- something is half read, or nothing is
+pub some_half : (half : List OpenEscape) → not (length half == 0) ≡ true → half ≡ [] → ⊥
+some_half [] is none = cc
+some_half (first ∷ others) is none = cc

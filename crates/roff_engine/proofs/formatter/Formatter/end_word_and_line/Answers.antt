@@ -1,0 +1,11 @@
+use Rattle.std.proofs.Common.{[], ◌∷◌}
+use Rattle.roff_lines.specs.declared.event.Event.TheVariants.{LineEnd, WordEnd}
+use Rattle.roff_run.specs.declared.event.PageEvent.TheVariants.{Text}
+use Rattle.roff_engine.proofs.Performed.{performs_both, performs_first_halted}
+use Rattle.roff_engine.proofs.formatter.Formatter.end_word_and_line.Goals as goal
+
+pub returns-in-Ok : goal.returns-in-Ok
+returns-in-Ok g c = performs_both (Text WordEnd) (Text LineEnd ∷ []) _ c.end_word.new.self _ _ _ _ _ c.in-Ok.ensures.performs c.end_line.ensures
+
+pub returns-in-Err : goal.returns-in-Err
+returns-in-Err g c = performs_first_halted (Text WordEnd) (Text LineEnd ∷ []) _ _ _ _ c.in-Err.halt c.in-Err.ensures.performs

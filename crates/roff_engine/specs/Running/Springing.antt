@@ -1,0 +1,41 @@
+-- How far a run of the code has come where events were performed, of which one may have sprung a macro.
+use Rattle.std.specs.Prelude.{◌≡◌, ◌≤◌, ℕ, ◌+◌, List, [], length, Option, OnOk, Result}
+use Rattle.roff_ahead.specs.Input.{events_ahead, most_events, putting_all_back}
+use Rattle.roff_run.specs.Reading.Items.{PageUnread}
+use Rattle.roff_requests.specs.Environments.Standing.{StandFor}
+use Rattle.roff_reader.specs.Reader.Taken.{IsReady}
+use Rattle.roff_run.specs.Environments.{PageHistory}
+use Rattle.roff_run.specs.declared.event.PageEvent.{PageEvent}
+use Rattle.roff_run.specs.declared.status.Status.{Status}
+use Rattle.roff_source.specs.Tape.{Tape}
+use Rattle.roff_engine.specs.Engine.Outcome.{Beginning, Seen, Reaches}
+use Rattle.roff_engine.specs.Formatter.Sprung.{behind_sprung, rest_left}
+use Rattle.roff_engine.specs.Running.Turning.{Continues, state_at, turns_of_run}
+use Rattle.roff_engine.specs.declared.running.Running.{Running as Coded}
+use Rattle.roff_engine.specs.declared.sprung.Sprung.{Sprung}
+
+-- so many events can be put back before this unread input, if there are any
+abbrev pub HasRoom : List PageEvent → PageUnread → Type 0
+HasRoom events u = 1 ≤ length events → events_ahead u.input.ahead + length events ≤ most_events u.limits.depth
+
+-- The run of the code stands behind events, of which one may have sprung a macro that isn't read yet: the definition has put back
+-- what is left of them, and has still to read it.
+pub record IsBehind (t : Beginning) (tape : Tape) (start now : Seen) (sprung : Option Sprung) (run : Coded) : Type 0 where
+  pub history : PageHistory
+  pub messages : List ℕ
+  pub reaches : Reaches run.limits t start now (behind_sprung sprung run.formatter.reader.meaning.events [] (state_at tape run history messages))
+  pub stands : StandFor run.limits history run.formatter.environments
+  pub ready : IsReady run.formatter.reader.registers run.unread
+  pub limits : run.unread.limits ≡ run.limits
+  pub room : HasRoom (rest_left sprung run.formatter.reader.meaning.events) run.unread
+
+-- it goes on there, or has ended; no more turns are to come
+pub record GoesOn (sprung : Option Sprung) (old new : Coded) (now behind : Seen) (r : Result (Unit {0}) Status) : Type 0 where
+  pub limits : new.limits ≡ old.limits
+  pub goes : (t : Beginning) (tape : Tape) (start : Seen) → IsBehind t tape start now sprung old → Continues t tape start behind r new
+  pub turns : (t : Beginning) (tape : Tape) (start : Seen) → IsBehind t tape start now sprung old → OnOk r (turns_of_run new ≤ turns_of_run old)
+
+-- these events were put back, if there is room for them
+pub record PutsBack (events : List PageEvent) (old new : Coded) : Type 0 where
+  pub others : new ≡ record old { unread = new.unread }
+  pub puts : HasRoom events old.unread → new ≡ record old { unread = record old.unread { input = putting_all_back events old.unread.input } }

@@ -1,0 +1,81 @@
+//! A macro that sprang is read.
+
+ghost use Rattle.roff_engine.specs.Clauses.{Sunk, seen};
+ghost use Rattle.std.specs.Prelude.{ℕ, ◌≡◌, ◌≤◌, [], Some, drop};
+ghost use Rattle.roff_engine.specs.Formatter.Sprung.{left_of};
+
+use super::Running;
+use crate::halt::Halt;
+use crate::sprung::Sprung;
+use roff_run::Status;
+use roff_sinks::ByteSink;
+
+impl Running {
+    ghost use Rattle.roff_engine.specs.Running.Springing.{GoesOn, PutsBack};
+
+    /// Goes on behind the events of an item, of which one may have sprung a macro: that is read.
+    #[inline(always)]
+    pub(super) fn go_on<E: ByteSink>(
+        &mut self,
+        sprung: Option<Sprung>,
+        err: &mut E,
+    ) -> Result<(), Status>
+        ensures { (failures : ℕ) (out : Sunk) → GoesOn sprung self.old self.new
+            (seen failures out (E.sunk err.old)) (seen failures out (E.sunk err.new)) result }
+    {
+        match sprung {
+            None => Ok(()),
+            Some(sprung) => self.spring(sprung, err),
+        }
+    }
+
+    /// Puts the events back that were left, and reads a macro that sprang.
+    #[cold]
+    #[inline(never)]
+    fn spring<E: ByteSink>(&mut self, sprung: Sprung, err: &mut E) -> Result<(), Status>
+        ensures { (failures : ℕ) (out : Sunk) → GoesOn (Some sprung) self.old self.new
+            (seen failures out (E.sunk err.old)) (seen failures out (E.sunk err.new)) result }
+    {
+        self.put_left_back(sprung.left);
+        let line = self.unread.line();
+        match self.formatter.reader.spring(sprung.name, &mut self.unread) {
+            Ok(()) => Ok(()),
+            Err(limit) => Err(self.halted(Halt::Limit(limit), line, line, err)),
+        }
+    }
+
+    /// Puts the events back that the reader keeps from an index on, if there is one.
+    fn put_left_back(&mut self, left: Option<u8>)
+        ensures { PutsBack (left_of left self.old.formatter.reader.meaning.events) self.old self.new }
+    {
+        match left {
+            None => {}
+            Some(first) => self.put_back(first as usize),
+        }
+    }
+
+    /// Puts the events back that the reader keeps, from an index on: the last one first.
+    fn put_back(&mut self, first: usize)
+        ensures { PutsBack (drop first self.old.formatter.reader.meaning.events) self.old self.new }
+    {
+        let mut index = self.end_of_events(first);
+        while index > first {
+            index -= 1;
+            if let Some(event) = self.formatter.reader.event(index) {
+                self.unread.put_back(event);
+            }
+        }
+    }
+
+    /// The index behind the last event that the reader keeps, of those from an index on.
+    fn end_of_events(&self, first: usize) -> usize
+        ensures reached { first ≤ result }
+        ensures end { drop result self.now.formatter.reader.meaning.events ≡ [] }
+    {
+        let mut index = first;
+        while self.formatter.reader.event(index).is_some() {
+            index += 1;
+        }
+        index
+    }
+}

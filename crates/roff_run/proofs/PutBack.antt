@@ -1,0 +1,45 @@
+-- Events that are put back count as nothing else, and are few.
+use Rattle.std.proofs.Common.{◌≡◌, ◌≤◌, true, List, [], ◌∷◌, ◌++◌, length, Some, refl, arith}
+use Rattle.std.specs.Prelude.{map}
+use Rattle.roff_ahead.specs.Input.{Ahead, DoAhead, bytes_ahead, ends_ahead}
+use Rattle.roff_lines.specs.declared.event.Event.TheVariants.{Print, Tab, WordEnd, Gap, LineEnd, Count, Break, Interrupt as Interrupted, Resume, Set}
+use Rattle.roff_num.specs.declared.short_name.ShortName.{ShortName}
+use Rattle.roff_run.specs.Environments.{PageHistory}
+use Rattle.roff_run.specs.Requests.{PageEvent, Text, Space, Interrupt, Environment, Back, SetsTrap}
+use Rattle.roff_run.specs.Springs.{AreFewBehind, may_spring, springs}
+use Rattle.roff_run.specs.TurnsToCome.{free_ahead}
+
+pub bytes_ahead-back : (events : List PageEvent) (items : List (Ahead PageEvent)) → bytes_ahead (map DoAhead events ++ items) ≡ bytes_ahead items
+bytes_ahead-back [] items = refl
+bytes_ahead-back (e ∷ events) items = bytes_ahead-back events items
+
+pub ends_ahead-back : (events : List PageEvent) (items : List (Ahead PageEvent)) → ends_ahead (map DoAhead events ++ items) ≡ ends_ahead items
+ends_ahead-back [] items = refl
+ends_ahead-back (e ∷ events) items = ends_ahead-back events items
+
+pub free_ahead-back : (events : List PageEvent) (items : List (Ahead PageEvent)) → free_ahead (map DoAhead events ++ items) ≡ free_ahead items
+free_ahead-back [] items = refl
+free_ahead-back (e ∷ events) items = free_ahead-back events items
+
+-- so few events may all stand behind one that springs a macro
+pub few-short : (es : List PageEvent) → length es ≤ 6 → AreFewBehind es
+few-short [] short = tt
+few-short (e ∷ es) short = (λ may. omega (arith, short), few-short es (omega (arith, short)))
+
+-- an event springs a macro only if it may
+pub may_spring-springs : (h : PageHistory) (e : PageEvent) (name : ShortName) → springs h e ≡ Some name → may_spring e ≡ true
+may_spring-springs h (Text Count) name sprung = refl
+may_spring-springs h (Text (Print glyph)) name sprung = absurd (cc)
+may_spring-springs h (Text Tab) name sprung = absurd (cc)
+may_spring-springs h (Text WordEnd) name sprung = absurd (cc)
+may_spring-springs h (Text (Gap columns)) name sprung = absurd (cc)
+may_spring-springs h (Text LineEnd) name sprung = absurd (cc)
+may_spring-springs h (Text Break) name sprung = absurd (cc)
+may_spring-springs h (Text Interrupted) name sprung = absurd (cc)
+may_spring-springs h (Text Resume) name sprung = absurd (cc)
+may_spring-springs h (Text (Set param)) name sprung = absurd (cc)
+may_spring-springs h (Space lines) name sprung = absurd (cc)
+may_spring-springs h (Interrupt untold) name sprung = absurd (cc)
+may_spring-springs h (Environment number) name sprung = absurd (cc)
+may_spring-springs h Back name sprung = absurd (cc)
+may_spring-springs h (SetsTrap trap) name sprung = absurd (cc)
