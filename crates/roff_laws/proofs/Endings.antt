@@ -1,36 +1,43 @@
 -- Every run comes to an end, and to one alone.
-use Rattle.std.proofs.Common.{◌≡◌, ◌⊎◌, inl, inr, ◌≤◌, ◌+◌, ◌-◌, ◌*◌, ℕ, zero, suc, Bool, true, false, List, [], ◌∷◌, ◌++◌, length, Option, Some, None, refl, sym, ◌∙◌, ap, subst, add_comm, arith}
-use Rattle.std.proofs.lemmas.List.{append-nil}
-use Rattle.std.specs.Prelude.{IsSome, ◌||◌, if◌then◌else◌}
+use Rattle.std.proofs.Common.{◌≡◌, ◌⊎◌, inl, inr, ◌≤◌, ◌+◌, ◌*◌, ℕ, zero, suc, Bool, true, false, List, [], ◌∷◌, length, Option, Some, None, refl, sym, ◌∙◌, ap, subst, add_comm, arith}
+use Rattle.std.specs.Prelude.{IsSome}
 use Rattle.roff_num.specs.declared.limits.Limits.{Limits}
 use Rattle.roff_run.specs.declared.status.Status.{Status}
 use Rattle.roff_run.specs.declared.event.PageEvent.{PageEvent}
 use Rattle.roff_run.specs.Results.{turn, turns, last_state}
 use Rattle.roff_laws.specs.ResultLaws.{EveryRunEnds, StepsLeadToTheLastState, NoOtherStateIsLast}
-use Rattle.roff_run.specs.Run.{State, Leads, blank_state, closing_events, initial, known, moved, performing, phase_ended, unless_refused, with_registers, step_with, step, after}
-use Rattle.roff_ahead.specs.Input.{Ahead, ByteAhead, FreeAhead, EndAhead, ReturnAhead, DoAhead, cost, item_taken, counting}
-use Rattle.roff_source.specs.Tape.{Tape, Item, Gives, OneByte, OneNote, front, behind_front}
-use Rattle.roff_run.specs.TurnsToCome.{begun, behind_all, endings_of, free_ahead, lines_left, phases_left, turns_of}
-use Rattle.roff_lines.specs.declared.event.Event.TheVariants.{WordEnd, LineEnd, Count, Resume}
+use Rattle.roff_run.specs.Run.{State, Leads, blank_state, grown, initial, performing, sprung_read, unless_refused, with_registers, with_sprung, step_with, step, after}
+use Rattle.roff_source.specs.Tape.{Tape}
+use Rattle.roff_run.specs.TurnsToCome.{left_by, lines_left, phases_left, unended}
+use Rattle.roff_lines.specs.Words.{has_open_word}
+use Rattle.roff_lines.specs.declared.event.Event.TheVariants.{Print, Tab, WordEnd, Gap, LineEnd, Count, Break, Interrupt as Interrupted, Resume, Set}
 use Rattle.roff_num.specs.declared.limit.Limit.{Limit}
 use Rattle.roff_num.specs.declared.num.Num.{Num}
-use Rattle.roff_run.specs.Environments.{PageHistory, interrupted_line}
-use Rattle.roff_run.specs.Reading.Ends.{interrupted_end, is_left, is_unfinished}
-use Rattle.roff_run.specs.Reading.TextLines.{blank_line, text_line_end}
-use Rattle.roff_run.specs.declared.event.PageEvent.TheVariants.{Text}
+use Rattle.roff_run.specs.Environments.{PageHistory, interrupted_line, text_of}
+use Rattle.roff_run.specs.declared.event.PageEvent.TheVariants.{Text, Space, Interrupt, Environment, Back, InputTrap as SetsTrap}
+use Rattle.roff_run.specs.Reading.Returns.{back_of, in_sprung}
+use Rattle.roff_run.specs.Requests.{called_by}
+use Rattle.roff_run.specs.Springs.{next, own_word_end}
+use Rattle.roff_run.specs.declared.request.Called.{Called}
+use Rattle.roff_run.specs.declared.request.Called.TheVariants.{Request as ARequest, Body as ABody, Nothing as Unknown}
+use Rattle.roff_ahead.specs.Input.Calls.{called_text}
+use Rattle.roff_ahead.specs.Input.Names.{body_named}
+use Rattle.roff_num.specs.ShortNames.{name_bytes}
+use Rattle.roff_num.specs.declared.short_name.ShortName.{ShortName}
 use Rattle.roff_run.specs.Run.Counts.{first_passed, names_counted}
 use Rattle.roff_run.specs.Starts.{with_given}
 use Rattle.roff_run.specs.declared.line_state.LineState.{LineState}
-use Rattle.roff_run.specs.declared.line_state.LineState.TheVariants.{LineStart, Braced, Told, Exiting}
-use Rattle.roff_run.specs.declared.line_state.TextLine.{TextLine}
+use Rattle.roff_run.specs.declared.line_state.LineState.TheVariants.{LineStart, Branch, Braced, Text as InText, Control, Name, Arguments as InArguments, Deciding, StringName, StringText, Skipping, Dropped, Telling, Told, Exiting, Calling, Defining}
 use Rattle.roff_run.specs.declared.phase.Phase.{Phase}
 use Rattle.roff_run.specs.declared.phase.Phase.TheVariants.{Reading, LastMacro, Closing}
 use Rattle.roff_run.specs.declared.start.Start.{Start}
-use Rattle.roff_run.proofs.EscapeCounts.{some_ending}
+use Rattle.roff_run.proofs.KeepingText.{free_ahead-called}
 use Rattle.roff_run.proofs.Leads.{Leads-refl, Leads-trans, Leads-step, after-add}
-use Rattle.roff_laws.proofs.PerformedOrStopped.{PerformedOrStopped, Performed, StoppedAt, performed_or_stopped}
-use Rattle.roff_run.proofs.Keeping.{AtBrace, AtStart, Keeps-end_taking, Keeps-last_called, LineEnded, Within, line_ended, unended-few}
-use Rattle.roff_run.proofs.Readings.{ReadsOn, LimitStops, AheadTaken, ByteTaken, NoteTaken, HalfEnds, InputLeft, LineEnds, PhaseEnds, MessageTold, RunAborts, SourceFails, SourceStops, ReadsOn-reading_on, Behind-byte_taken, Behind-ahead_taken, Behind-escape_ends, line_ends}
+use Rattle.roff_run.proofs.LinesLeft.{most_left-fewer, lines_left-event}
+use Rattle.roff_run.proofs.PutBack.{free_ahead-back}
+use Rattle.roff_laws.proofs.PerformedOrStopped.{PerformedOrStopped, Performed, Sprang, StoppedAt, performed_or_stopped}
+use Rattle.roff_run.proofs.Readings.{ReadsOn-reading_on, begun-behind_return}
+use Rattle.roff_laws.proofs.TurnsNeeded.{EndsWithin, EndsWithin-read, turns_needed}
 
 -- a run has ended, or it hasn't
 pub ended_or_not : (o : Option Status) → IsSome o ⊎ (o ≡ None)
@@ -54,210 +61,226 @@ pub after-ended : (l : Limits) (n : ℕ) (s : State) → IsSome s.ended → afte
 after-ended l zero s ended = refl
 after-ended l (suc n) s ended = rw (step-ended l s ended) (after-ended l n s ended)
 
--- the events that were to do are performed, and nothing else has changed that the end depends on
-record Idle (s t : State) : Type 0 where
-  to_do : t.to_do ≡ []
-  tape : t.tape ≡ s.tape
-  input : t.input ≡ s.input
-  reading : t.reading ≡ s.reading
-  phase : t.phase ≡ s.phase
-  history : t.history ≡ behind_all s.to_do s.history
+-- what sprang takes one step, and an event one, beside what comes before it and what it springs
+abbrev own_steps : Option PageEvent → ℕ
+own_steps None = 0
+own_steps (Some own) = 1
 
--- a run has ended, or has come to be idle
-abbrev EndsOrIdles : State → State → Type 0
-EndsOrIdles s t = IsSome t.ended ⊎ Idle s t
+abbrev sprung_steps : Option ShortName → ℕ
+sprung_steps None = 0
+sprung_steps (Some name) = 1
 
--- an event is performed, or the run ends at it
-first_performed : (l : Limits) (e : PageEvent) (es : List PageEvent) (s t : State) → s.to_do ≡ e ∷ es → PerformedOrStopped l e es s t
-    → ((u : State) → u.to_do ≡ es → EndsOrIdles u (after l (length es) u)) → EndsOrIdles s (after l (length es) t)
-first_performed l e es s t to_do (Performed goes) others =
-    elim (others t refl) [
-      | inl ended ↦ inl ended
-      | inr idle ↦ inr (record {
-        to_do = idle.to_do;
-        tape = idle.tape;
-        input = idle.input;
-        reading = idle.reading;
-        phase = idle.phase;
-        history = idle.history ∙ sym (ap (λ (all : List PageEvent). behind_all all s.history) to_do);
-      })
-    ]
-first_performed l e es s t to_do (StoppedAt limit) others = inl (rw (after-ended l (length es) t refl) refl)
+-- how many steps there are at the most before something is read
+abbrev steps_before : List PageEvent → Option ShortName → PageHistory → ℕ
+steps_before [] sprung h = sprung_steps sprung
+steps_before (e ∷ es) sprung h = 2 * length es + own_steps (next h e) + 2
 
--- in as many steps as there are events to do
-all_performed : (l : Limits) (es : List PageEvent) (s : State) → s.to_do ≡ es → EndsOrIdles s (after l (length es) s)
-all_performed l [] s to_do = inr (record {
-  to_do = to_do;
-  tape = refl;
-  input = refl;
-  reading = refl;
-  phase = refl;
-  history = sym (ap (λ (all : List PageEvent). behind_all all s.history) to_do);
-})
-all_performed l (e ∷ es) s to_do =
-    let Goal : State → Type 0 = λ t. EndsOrIdles s (after l (length es) t) in
-    elim (ended_or_not s.ended) [
-      | inl ended ↦ inl (rw (after-ended l (length (e ∷ es)) s ended) ended)
-      | inr going ↦
-          let is : step l s ≡ performing l e es s = step-going l s going ∙ ap (λ (todo : List PageEvent). step_with l todo s) to_do in
-          subst Goal (sym is) (first_performed l e es s (performing l e es s) to_do (performed_or_stopped l e es s) (all_performed l es))
-    ]
+abbrev steps_of : State → ℕ
+steps_of s = steps_before s.to_do s.sprung s.history
 
--- one interrupted line is to end at the most
-pub lines_left-few : (left : Option TextLine) → lines_left left ≤ 1
-lines_left-few None = omega arith
-lines_left-few (Some line) = omega arith
+own_steps-few : (own : Option PageEvent) → own_steps own ≤ 1
+own_steps-few None = omega arith
+own_steps-few (Some own) = omega arith
 
--- How many turns are enough. What is still to be charged may begin something that ends, and a line that ends behind that, and so
--- may a free byte; an item of the source takes one. A condition takes two endings, and the escape that begins it one more: the
--- first byte of its request's name begins nothing, and some are kept for it. Each of these may leave a line unfinished, and one
--- interrupted; and each phase ends.
-abbrev turns_needed : Limits → State → ℕ
-turns_needed l s =
-    4 * (5 * (l.bytes - s.input.charge) + 5 * free_ahead s.input.ahead + length s.tape.items)
-    + turns_of (endings_of s.input.escapes) s.reading + lines_left (interrupted_line (behind_all s.to_do s.history)) + phases_left s.phase
+sprung_steps-few : (sprung : Option ShortName) → sprung_steps sprung ≤ 1
+sprung_steps-few None = omega arith
+sprung_steps-few (Some name) = omega arith
 
--- a run has ended, or so many turns are enough
-abbrev EndsWithin : Limits → ℕ → State → Type 0
-EndsWithin l n s = IsSome s.ended ⊎ (turns_needed l s ≤ n)
+steps_before-few : (es : List PageEvent) (sprung : Option ShortName) (h : PageHistory) → steps_before es sprung h ≤ 2 * length es + 1
+steps_before-few [] sprung h = omega (arith, sprung_steps-few sprung)
+steps_before-few (e ∷ es) sprung h = omega (arith, own_steps-few (next h e))
 
--- an item ahead is charged, or a free byte goes
-charged_or_free : (item : Ahead PageEvent) (behind : List (Ahead PageEvent)) → cost item + free_ahead (item ∷ behind) ≡ free_ahead behind + 1
-charged_or_free (ByteAhead b) behind = omega arith
-charged_or_free (FreeAhead b) behind = omega arith
-charged_or_free EndAhead behind = omega arith
-charged_or_free ReturnAhead behind = omega arith
-charged_or_free (DoAhead event) behind = omega arith
+-- a step that read nothing leaves fewer before one that does, and as many turns are enough
+record IsNearer (l : Limits) (s t : State) : Type 0 where
+  steps : steps_of t + 1 ≤ steps_of s
+  turns : turns_needed l t ≤ turns_needed l s
 
--- what a tape gives goes from its items
-items-behind_front : (tape : Tape) (item : Item) → front tape ≡ Gives item → length tape.items ≡ length (behind_front tape).items + 1
-items-behind_front tape item gives =
-    elim tape.items as (λ items. let t : Tape = record tape { items = items } in front t ≡ Gives item → length items ≡ length (behind_front t).items + 1) [
-      | [] ↦ λ none. absurd (cc)
-      | first ∷ others ↦ λ some. omega arith
-    ] gives
+-- what a step came to: the run ended, or what was read left so many turns, or nothing was read
+data Stepped (l : Limits) (n : ℕ) (s t : State) : Type 0 where
+  HasEnded : IsSome t.ended → Stepped l n s t
+  HasRead : turns_needed l t ≤ n → Stepped l n s t
+  HasNeared : IsNearer l s t → Stepped l n s t
 
--- so many turns are enough behind a state that needs fewer
-fewer_needed : (l : Limits) (n : ℕ) (s t : State) → turns_needed l s ≤ suc n → turns_needed l t + 1 ≤ turns_needed l s → EndsWithin l n t
-fewer_needed l n s t enough fewer = inr (omega (arith, enough, fewer))
+-- what comes before an event is a word end; nothing comes before the event behind that, and it leaves the line
+data ComesBefore (h : PageHistory) (e : PageEvent) : Option PageEvent → Type 0 where
+  NothingComes : ComesBefore h e None
+  WordEndComes : next (Text WordEnd ∷ h) e ≡ None → ((lines : ℕ) → left_by e lines ≡ lines) → ComesBefore h e (Some (Text WordEnd))
 
--- the last event of an interrupted line's end leaves none
-none_left : (line : TextLine) (h : PageHistory) → lines_left (interrupted_line (behind_all (Text Resume ∷ text_line_end line) h)) ≡ 0
-none_left line h = by_glyphs (line.has_glyph || line.has_other) line.has_brace
-  where
-    by_glyphs : (told brace : Bool) → lines_left (interrupted_line (behind_all (Text Resume ∷ (if told then Text WordEnd ∷ Text LineEnd ∷ Text Count ∷ [] else if brace then [] else blank_line)) h)) ≡ 0
-    by_glyphs true brace = refl
-    by_glyphs false true = refl
-    by_glyphs false false = refl
+word_end_comes : (h : PageHistory) (e : PageEvent) (is_open : Bool) → next (Text WordEnd ∷ h) e ≡ None → ((lines : ℕ) → left_by e lines ≡ lines)
+    → ComesBefore h e (own_word_end is_open)
+word_end_comes h e false none same = NothingComes
+word_end_comes h e true none same = WordEndComes none same
 
--- so where an interrupted line is to end, none is left behind it
-one_left : (phase : Phase) (left : Option TextLine) (h : PageHistory) → is_left phase left ≡ true
-    → lines_left (interrupted_line (behind_all (interrupted_end left) h)) + 1 ≡ lines_left left
-one_left Reading None h is = absurd (cc)
-one_left LastMacro None h is = absurd (cc)
-one_left Closing None h is = absurd (cc)
-one_left phase (Some line) h is = ap (λ n. n + 1) (none_left line h)
+comes_before : (h : PageHistory) (e : PageEvent) → ComesBefore h e (next h e)
+comes_before h (Text (Gap columns)) = word_end_comes h (Text (Gap columns)) (has_open_word (text_of h)) refl (λ lines. refl)
+comes_before h (Text LineEnd) = word_end_comes h (Text LineEnd) (has_open_word (text_of h)) refl (λ lines. refl)
+comes_before h (Text Break) = word_end_comes h (Text Break) (has_open_word (text_of h)) refl (λ lines. refl)
+comes_before h (Text (Print glyph)) = NothingComes
+comes_before h (Text Tab) = NothingComes
+comes_before h (Text WordEnd) = NothingComes
+comes_before h (Text Count) = NothingComes
+comes_before h (Text Interrupted) = NothingComes
+comes_before h (Text Resume) = NothingComes
+comes_before h (Text (Set param)) = NothingComes
+comes_before h (Space height) = NothingComes
+comes_before h (Interrupt untold) = NothingComes
+comes_before h (Environment number) = NothingComes
+comes_before h Back = NothingComes
+comes_before h (SetsTrap trap) = NothingComes
 
--- the same where nothing else is to do
-pub left_behind : (phase : Phase) (h : PageHistory) (es : List PageEvent) → es ≡ [] → is_left phase (interrupted_line h) ≡ true
-    → lines_left (interrupted_line (behind_all (interrupted_end (interrupted_line h) ++ es) h)) + 1 ≡ lines_left (interrupted_line (behind_all es h))
-left_behind phase h es none is =
-    subst (λ (es : List PageEvent). lines_left (interrupted_line (behind_all (interrupted_end (interrupted_line h) ++ es) h)) + 1 ≡ lines_left (interrupted_line (behind_all es h)))
-    (sym none)
-    (ap (λ (all : List PageEvent). lines_left (interrupted_line (behind_all all h)) + 1) (append-nil (interrupted_end (interrupted_line h)))
-    ∙ one_left phase (interrupted_line h) h is)
+-- an event is performed, and nothing comes before it
+event-nearer : (l : Limits) (n : ℕ) (e : PageEvent) (es : List PageEvent) (s t : State) → s.to_do ≡ e ∷ es → PerformedOrStopped l e es s t → Stepped l n s t
+event-nearer l n e es s t to_do (Performed allowed none) =
+    let lines = lines_left-event e s.history in
+    let fewer = most_left-fewer es (lines_left (interrupted_line (e ∷ s.history))) (left_by e (lines_left (interrupted_line s.history))) lines in
+    HasNeared (record {
+      steps = rw to_do (omega (arith, steps_before-few es s.sprung (e ∷ s.history)));
+      turns = rw to_do (omega (arith, fewer));
+    })
+event-nearer l n e es s t to_do (Sprang name allowed some) =
+    let lines = lines_left-event e s.history in
+    HasNeared (record {
+      steps = rw to_do (omega arith);
+      turns = rw to_do (omega (arith, lines, free_ahead-back es s.input.ahead));
+    })
+event-nearer l n e es s t to_do (StoppedAt limit) = HasEnded refl
 
--- where an unfinished line ends a turn fewer is needed
-LineEnds-fewer : (l : Limits) (s : State) (reading : LineState) → LineEnded (known s) s.input reading → s.to_do ≡ []
-    → is_unfinished s.phase (known s) reading ≡ true
-    → turns_needed l (line_ends (record s { reading = reading })) + 1 ≤ turns_needed l (record s { reading = reading })
-LineEnds-fewer l s LineStart AtStart none unfinished =
-    let fewer = left_behind s.phase s.history s.to_do none unfinished in omega (arith, fewer)
-LineEnds-fewer l s Braced AtBrace none unfinished =
-    let fewer = left_behind s.phase s.history s.to_do none unfinished in omega (arith, fewer)
-LineEnds-fewer l s reading (Within same fewer) none unfinished =
-    let keeps = Keeps-end_taking (known s) reading s.input in
-    let behind : State = line_ends (record s { reading = reading }) in
-    let few = lines_left-few (interrupted_line (behind_all behind.to_do s.history)) in
-    omega (arith, fewer, few, keeps.charge, keeps.free)
+-- a word end is performed that comes before it
+word_end-nearer : (l : Limits) (n : ℕ) (e : PageEvent) (es : List PageEvent) (s t : State) → s.to_do ≡ e ∷ es → next s.history e ≡ Some (Text WordEnd)
+    → next (Text WordEnd ∷ s.history) e ≡ None → ((lines : ℕ) → left_by e lines ≡ lines)
+    → PerformedOrStopped l (Text WordEnd) (e ∷ es) s t → Stepped l n s t
+word_end-nearer l n e es s t to_do own none same (Performed allowed unsprung) =
+    let lines = lines_left-event (Text WordEnd) s.history in
+    let fewer = most_left-fewer (e ∷ es) (lines_left (interrupted_line (Text WordEnd ∷ s.history))) (lines_left (interrupted_line s.history)) lines in
+    HasNeared (record {
+      steps = rw (to_do, own, none) (omega arith);
+      turns = rw to_do (omega (arith, fewer));
+    })
+word_end-nearer l n e es s t to_do own none same (Sprang name allowed some) = absurd (cc)
+word_end-nearer l n e es s t to_do own none same (StoppedAt limit) = HasEnded refl
 
--- what is read behind fewer than so many endings, and a line that ends, needs few turns
-turns_of-few : (endings most : ℕ) (reading : LineState) → 2 * endings + begun reading ≤ most → turns_of endings reading ≤ 4 * most + 2
-turns_of-few endings most reading few = omega (arith, few, unended-few reading)
+-- by what comes before it
+performing-nearer : (l : Limits) (n : ℕ) (e : PageEvent) (es : List PageEvent) (s : State) (own : Option PageEvent) → s.to_do ≡ e ∷ es → next s.history e ≡ own
+    → ComesBefore s.history e own → Stepped l n s (performing l own e es s)
+performing-nearer l n e es s own to_do is NothingComes = event-nearer l n e es s _ to_do (performed_or_stopped l None e es s)
+performing-nearer l n e es s own to_do is (WordEndComes none same) =
+    word_end-nearer l n e es s _ to_do is none same (performed_or_stopped l (Some (Text WordEnd)) e es s)
 
--- a phase ends
-PhaseEnds-fewer : (l : Limits) (n : ℕ) (phase : Phase) (s : State) → s.phase ≡ phase → is_unfinished phase (known s) s.reading ≡ false
-    → turns_needed l s ≤ suc n → EndsWithin l n (phase_ended phase s)
-PhaseEnds-fewer l n Reading s is unfinished enough =
-    let keeps = Keeps-last_called s.registers.last_macro s.input in
-    let phases : phases_left s.phase ≡ 5 = ap phases_left is in
-    inr (omega (arith, enough, keeps.charge, keeps.free, keeps.escapes, phases))
-PhaseEnds-fewer l n LastMacro s is unfinished enough =
-    let phases : phases_left s.phase ≡ 3 = ap phases_left is in
-    let few = lines_left-few (interrupted_line (behind_all (closing_events ++ s.to_do) s.history)) in
-    inr (omega (arith, enough, few, phases))
-PhaseEnds-fewer l n Closing s is unfinished enough = inl refl
+-- what is read of a macro is no line yet
+unended-in_sprung : (reading : LineState) → unended (in_sprung reading) ≤ unended reading
+unended-in_sprung LineStart = omega arith
+unended-in_sprung Branch = omega arith
+unended-in_sprung Braced = omega arith
+unended-in_sprung (InText line) = omega arith
+unended-in_sprung (Control breaks) = omega arith
+unended-in_sprung (Name breaks first) = omega arith
+unended-in_sprung (InArguments breaks request) = omega arith
+unended-in_sprung (Deciding keeping) = omega arith
+unended-in_sprung (StringName appends) = omega arith
+unended-in_sprung (StringText name appends is_front) = omega arith
+unended-in_sprung (Calling name) = omega arith
+unended-in_sprung (Defining name appends end matched) = omega arith
+unended-in_sprung (Skipping opened closed behind) = omega arith
+unended-in_sprung Dropped = omega arith
+unended-in_sprung (Telling aborts is_front) = omega arith
+unended-in_sprung (Told aborts) = omega arith
+unended-in_sprung Exiting = omega arith
+
+-- a macro that sprang is put in front
+sprung-nearer : (l : Limits) (called : Called) (name : ShortName) (s : State) → s.to_do ≡ [] → s.sprung ≡ Some name → IsNearer l s (sprung_read called s)
+sprung-nearer l (ABody body) name s to_do sprung =
+    let text : List ℕ = called_text (body_named (name_bytes body) s.input) in record {
+      steps = rw (to_do, sprung) (omega arith);
+      turns = omega (arith, free_ahead-called text (back_of s.reading) s.input.ahead, begun-behind_return 0 s.reading, unended-in_sprung s.reading);
+    }
+sprung-nearer l (ARequest request) name s to_do sprung = record { steps = rw (to_do, sprung) (omega arith); turns = omega arith }
+sprung-nearer l Unknown name s to_do sprung = record { steps = rw (to_do, sprung) (omega arith); turns = omega arith }
+
+-- unless a limit refuses it
+Stepped-unless_refused : (l : Limits) (n : ℕ) (r : Option Limit) (s done : State) → Stepped l n s done → Stepped l n s (unless_refused l r s done)
+Stepped-unless_refused l n None s done stepped = stepped
+Stepped-unless_refused l n (Some limit) s done stepped = HasEnded refl
 
 -- what was read, or how the run ended
-EndsWithin-read : (l : Limits) (n : ℕ) (s t : State) → ReadsOn l s t → s.to_do ≡ [] → turns_needed l s ≤ suc n → EndsWithin l n t
-EndsWithin-read l n s t (LimitStops limit) idle enough = inl refl
-EndsWithin-read l n s t (AheadTaken item behind ahead charge is_made) idle enough =
-    let read = Behind-ahead_taken item (record s { input = item_taken item behind s.input }) in
-    let items : length t.tape.items ≡ length s.tape.items = ap (λ (tape : Tape). length tape.items) read.tape in
-    let phase : phases_left t.phase ≡ phases_left s.phase = ap phases_left read.phase in
-    let free : free_ahead s.input.ahead ≡ free_ahead (item ∷ behind) = ap free_ahead ahead in
-    let few = lines_left-few (interrupted_line (behind_all t.to_do t.history)) in
-    let turns = turns_of-few (endings_of t.input.escapes) (2 * endings_of s.input.escapes + begun s.reading + 4) t.reading read.input.escapes in
-    fewer_needed l n s t enough (omega (arith, read.input.charge, read.input.free, turns, items, phase, few, free, charge, charged_or_free item behind))
-EndsWithin-read l n s t (ByteTaken b none is_open gives charge is_made) idle enough =
-    let read = Behind-byte_taken b (moved (record s { input = counting b s.input })) in
-    let items = items-behind_front s.tape (OneByte b) gives in
-    let few = lines_left-few (interrupted_line (behind_all t.to_do t.history)) in
-    let turns = turns_of-few (endings_of t.input.escapes) (2 * endings_of s.input.escapes + begun s.reading + 4) t.reading read.input.escapes in
-    fewer_needed l n s t enough (omega (arith, read.input.charge, read.input.free, turns, items, few, charge))
-EndsWithin-read l n s t (NoteTaken message is_open gives) idle enough =
-    let items = items-behind_front s.tape (OneNote message) gives in fewer_needed l n s t enough (omega (arith, items))
-EndsWithin-read l n s t (HalfEnds first others half is_made) idle enough =
-    let read = Behind-escape_ends s first others half in
-    let some : 1 ≤ endings_of s.input.escapes = rw half (omega (arith, some_ending first others)) in
-    let few = lines_left-few (interrupted_line (behind_all t.to_do t.history)) in
-    let turns = turns_of-few (endings_of t.input.escapes) (2 * endings_of s.input.escapes + begun s.reading - 1) t.reading read.input.escapes in
-    fewer_needed l n s t enough (omega (arith, read.input.charge, read.input.free, turns, few, some))
-EndsWithin-read l n s t (PhaseEnds none half ends unfinished is_made) idle enough = PhaseEnds-fewer l n s.phase s refl unfinished enough
-EndsWithin-read l n s t (LineEnds unfinished none ends is_made) idle enough =
-    fewer_needed l n s t enough (LineEnds-fewer l s s.reading (line_ended (known s) s.reading s.input none) idle unfinished)
-EndsWithin-read l n s t (MessageTold told is_made) idle enough =
-    let turns : turns_of (endings_of s.input.escapes) s.reading ≡ turns_of (endings_of s.input.escapes) (Told false) = ap (turns_of (endings_of s.input.escapes)) told in
-    fewer_needed l n s t enough (omega (arith, turns))
-EndsWithin-read l n s t (RunAborts told) idle enough = inl refl
-EndsWithin-read l n s t (InputLeft leaves is_made) idle enough =
-    let turns : turns_of (endings_of s.input.escapes) s.reading ≡ turns_of (endings_of s.input.escapes) Exiting = ap (turns_of (endings_of s.input.escapes)) leaves in
-    fewer_needed l n s t enough (omega (arith, turns))
-EndsWithin-read l n s t (SourceFails is_open fails) idle enough = inl refl
-EndsWithin-read l n s t (SourceStops limit is_open stops) idle enough = inl refl
+Stepped-within : (l : Limits) (n : ℕ) (s t : State) → EndsWithin l n t → Stepped l n s t
+Stepped-within l n s t (inl ended) = HasEnded ended
+Stepped-within l n s t (inr enough) = HasRead enough
 
--- a run that is idle needs as many turns
-turns-Idle : (l : Limits) (s t : State) → Idle s t → turns_needed l t ≡ turns_needed l s
-turns-Idle l s t idle = rw (idle.tape, idle.input, idle.reading, idle.phase, idle.to_do, idle.history) refl
+-- one with nothing to do
+Stepped-with_sprung : (l : Limits) (n : ℕ) (s : State) (sprung : Option ShortName) → s.to_do ≡ [] → s.sprung ≡ sprung → turns_needed l s ≤ suc n
+    → Stepped l n s (with_sprung l sprung s)
+Stepped-with_sprung l n s None to_do is enough = Stepped-within l n s _ (EndsWithin-read l n s _ (ReadsOn-reading_on l s) to_do is enough)
+Stepped-with_sprung l n s (Some name) to_do is enough =
+    let called : Called = called_by name s.input.names in
+    Stepped-unless_refused l n (first_passed l (grown (sprung_read called s))) s _ (HasNeared (sprung-nearer l called name s to_do is))
 
--- and makes a step
-EndsWithin-step : (l : Limits) (n : ℕ) (s t : State) → Idle s t → turns_needed l s ≤ suc n → EndsWithin l n (step l t)
-EndsWithin-step l n s t idle enough =
-    elim (ended_or_not t.ended) [
-      | inl ended ↦ inl (rw (step-ended l t ended) ended)
-      | inr going ↦
-          let is : step l t ≡ step_with l [] t = step-going l t going ∙ ap (λ (es : List PageEvent). step_with l es t) idle.to_do in
-          rw is (EndsWithin-read l n t _ (ReadsOn-reading_on l t) idle.to_do (omega (arith, enough, turns-Idle l s t idle)))
+-- one of a run that hasn't ended
+Stepped-step_with : (l : Limits) (n : ℕ) (s : State) (es : List PageEvent) → s.to_do ≡ es → turns_needed l s ≤ suc n → Stepped l n s (step_with l es s)
+Stepped-step_with l n s [] to_do enough = Stepped-with_sprung l n s s.sprung to_do refl enough
+Stepped-step_with l n s (e ∷ es) to_do enough =
+    performing-nearer l n e es s (next s.history e) to_do refl (comes_before s.history e)
+
+-- a step
+Stepped-step : (l : Limits) (n : ℕ) (s : State) → turns_needed l s ≤ suc n → Stepped l n s (step l s)
+Stepped-step l n s enough =
+    elim (ended_or_not s.ended) [
+      | inl ended ↦ HasEnded (rw (step-ended l s ended) ended)
+      | inr going ↦ subst (λ (t : State). Stepped l n s t) (sym (step-going l s going)) (Stepped-step_with l n s s.to_do refl enough)
     ]
+
+-- some phase is left
+some_phase : (phase : Phase) → 1 ≤ phases_left phase
+some_phase Reading = omega arith
+some_phase LastMacro = omega arith
+some_phase Closing = omega arith
+
+-- so many turns are enough behind a step
+still_within : (l : Limits) (n : ℕ) (s t : State) → turns_needed l s ≤ suc n → Stepped l n s t → EndsWithin l (suc n) t
+still_within l n s t enough (HasEnded ended) = inl ended
+still_within l n s t enough (HasRead few) = inr (omega (arith, few))
+still_within l n s t enough (HasNeared near) = inr (omega (arith, near.turns, enough))
+
+-- and behind several
+EndsWithin-after : (l : Limits) (m n : ℕ) (s : State) → EndsWithin l n s → EndsWithin l n (after l m s)
+EndsWithin-after l zero n s ends = ends
+EndsWithin-after l (suc m) n s (inl ended) = inl (rw (after-ended l (suc m) s ended) ended)
+EndsWithin-after l (suc m) zero s (inr enough) = let some = some_phase s.phase in absurd (omega (arith, enough, some))
+EndsWithin-after l (suc m) (suc n) s (inr enough) =
+    EndsWithin-after l m (suc n) (step l s) (still_within l n s (step l s) enough (Stepped-step l n s enough))
+
+-- behind a step that read something, or with which the run ended, one turn fewer is enough; behind another one there are fewer steps
+-- before that
+steps_on : (l : Limits) (k n : ℕ) (s t : State) → steps_of s ≤ suc k → turns_needed l s ≤ suc n → Stepped l n s t
+    → (steps_of t ≤ k → turns_needed l t ≤ suc n → EndsWithin l n (after l (suc k) t)) → EndsWithin l n (after l (suc k) t)
+steps_on l k n s t few enough (HasEnded ended) others = EndsWithin-after l (suc k) n t (inl ended)
+steps_on l k n s t few enough (HasRead read) others = EndsWithin-after l (suc k) n t (inr read)
+steps_on l k n s t few enough (HasNeared near) others = others (omega (arith, near.steps, few)) (omega (arith, near.turns, enough))
+
+-- with no step before that it is this one
+last_step : (l : Limits) (n : ℕ) (s t : State) → steps_of s ≤ 0 → Stepped l n s t → EndsWithin l n t
+last_step l n s t none (HasEnded ended) = inl ended
+last_step l n s t none (HasRead read) = inr read
+last_step l n s t none (HasNeared near) = absurd (omega (arith, near.steps, none))
+
+-- in as many steps as there are before something is read, and one more, a turn is taken
+EndsWithin-steps : (l : Limits) (k n : ℕ) (s : State) → steps_of s ≤ k → turns_needed l s ≤ suc n → EndsWithin l n (after l (suc k) s)
+EndsWithin-steps l zero n s few enough = last_step l n s (step l s) few (Stepped-step l n s enough)
+EndsWithin-steps l (suc k) n s few enough =
+    steps_on l k n s (step l s) few enough (Stepped-step l n s enough) (EndsWithin-steps l k n (step l s))
+
+-- a turn is so many steps
+turn-after : (l : Limits) (s : State) → turn l s ≡ after l (suc (3 * length s.to_do + 1)) s
+turn-after l s =
+    let k : ℕ = 3 * length s.to_do + 1 in
+    let more : k + 1 ≡ suc k = omega arith in
+    sym (after-add l k 1 s) ∙ ap (λ (n : ℕ). after l n s) more
 
 -- a turn leaves one fewer
 EndsWithin-turn : (l : Limits) (n : ℕ) (s : State) → EndsWithin l (suc n) s → EndsWithin l n (turn l s)
-EndsWithin-turn l n s (inl ended) = inl (rw (after-ended l (length s.to_do) s ended, step-ended l s ended) ended)
-EndsWithin-turn l n s (inr has) =
-    elim (all_performed l s.to_do s refl) [
-      | inl ended ↦ inl (rw (step-ended l (after l (length s.to_do) s) ended) ended)
-      | inr idle ↦ EndsWithin-step l n s (after l (length s.to_do) s) idle has
-    ]
+EndsWithin-turn l n s (inl ended) =
+    let k : ℕ = 3 * length s.to_do + 1 in inl (rw (after-ended l k s ended, step-ended l s ended) ended)
+EndsWithin-turn l n s (inr enough) =
+    rw (turn-after l s) (EndsWithin-steps l (3 * length s.to_do + 1) n s (omega (arith, steps_before-few s.to_do s.sprung s.history)) enough)
 
 -- turns of a run that has ended
 turns-ended : (l : Limits) (n : ℕ) (s : State) → IsSome s.ended → turns l n s ≡ s
@@ -271,12 +294,6 @@ turns-ended l (suc n) s ended =
 -- and of one that hasn't
 turns-going : (l : Limits) (n : ℕ) (s : State) → s.ended ≡ None → turns l (suc n) s ≡ turns l n (turn l s)
 turns-going l n s going = ap (λ (o : Option Status). elim o as (λ _. State) [ None ↦ turns l n (turn l s) | Some status ↦ s ]) going
-
--- some phase is left
-some_phase : (phase : Phase) → 1 ≤ phases_left phase
-some_phase Reading = omega arith
-some_phase LastMacro = omega arith
-some_phase Closing = omega arith
 
 -- with none left the run has ended
 ended-turns : (l : Limits) (n : ℕ) (s : State) → EndsWithin l n s → IsSome (turns l n s).ended
@@ -311,7 +328,8 @@ Leads-turns : (l : Limits) (n : ℕ) (s : State) → Leads l s (turns l n s)
 Leads-turns l zero s = Leads-refl l s
 Leads-turns l (suc n) s =
     let Goal : State → Type 0 = λ t. Leads l s t in
-    let to_turn : Leads l s (turn l s) = Leads-step l s (after l (length s.to_do) s) (record { steps = length s.to_do; there = refl }) in
+    let before : ℕ = 3 * length s.to_do + 1 in
+    let to_turn : Leads l s (turn l s) = Leads-step l s (after l before s) (record { steps = before; there = refl }) in
     elim (ended_or_not s.ended) [
       | inl ended ↦ subst Goal (sym (turns-ended l (suc n) s ended)) (Leads-refl l s)
       | inr going ↦ subst Goal (sym (turns-going l n s going)) (Leads-trans l s (turn l s) (turns l n (turn l s)) to_turn (Leads-turns l n (turn l s)))

@@ -1,22 +1,47 @@
--- The step at an event has two outcomes. What is proved of both holds of it, however events are counted.
-use Rattle.std.proofs.Common.{◌≡◌, List, ◌∷◌, Option, Some, None, refl}
+-- The step at an event has few outcomes. What is proved of each of them holds of it, however events are counted.
+use Rattle.std.proofs.Common.{◌≡◌, List, [], ◌∷◌, Option, Some, None, refl}
 use Rattle.roff_num.specs.declared.limit.Limit.{Limit}
 use Rattle.roff_num.specs.declared.limits.Limits.{Limits}
+use Rattle.roff_num.specs.declared.short_name.ShortName.{ShortName}
+use Rattle.roff_ahead.specs.Input.{putting_all_back}
 use Rattle.roff_run.specs.declared.event.PageEvent.{PageEvent}
-use Rattle.roff_run.specs.Run.{State, stopped_by, unless_refused, performing}
+use Rattle.roff_run.specs.Run.{State, stopped_by, unless_refused, performed, performing, sprung_at}
 use Rattle.roff_run.specs.Run.Counts.{refusal}
+use Rattle.roff_run.specs.Springs.{springs}
 
--- an event was performed, which no limit refuses, or a limit stopped the run at it
-pub data PerformedOrStopped (l : Limits) (e : PageEvent) (rest : List PageEvent) (s : State) : State → Type 0 where
-  Performed : refusal l s.history e ≡ None → PerformedOrStopped l e rest s (record s { to_do = rest; history = e ∷ s.history })
-  StoppedAt : (limit : Limit) → PerformedOrStopped l e rest s (stopped_by l limit s)
+-- the event that is performed: what comes before one, or that one
+abbrev pub first_of : Option PageEvent → PageEvent → PageEvent
+first_of None e = e
+first_of (Some own) e = own
+
+-- those that are left behind it
+abbrev pub left_of : Option PageEvent → PageEvent → List PageEvent → List PageEvent
+left_of None e rest = rest
+left_of (Some own) e rest = e ∷ rest
+
+-- An event was performed, which no limit refuses, and these are left; or it sprang a macro, and they are put back; or a limit stopped
+-- the run at it.
+pub data PerformedOrStopped (l : Limits) (e : PageEvent) (left : List PageEvent) (s : State) : State → Type 0 where
+  Performed : refusal l s.history e ≡ None → springs s.history e ≡ None
+      → PerformedOrStopped l e left s (record s { to_do = left; history = e ∷ s.history })
+  Sprang : (name : ShortName) → refusal l s.history e ≡ None → springs s.history e ≡ Some name
+      → PerformedOrStopped l e left s (record s { to_do = []; sprung = Some name; history = e ∷ s.history; input = putting_all_back left s.input })
+  StoppedAt : (limit : Limit) → PerformedOrStopped l e left s (stopped_by l limit s)
+
+-- by what it springs
+by_spring : (l : Limits) (e : PageEvent) (left : List PageEvent) (s : State) (sprung : Option ShortName) → springs s.history e ≡ sprung
+    → refusal l s.history e ≡ None → PerformedOrStopped l e left s (sprung_at sprung left (record s { history = e ∷ s.history }))
+by_spring l e left s None none allowed = Performed allowed none
+by_spring l e left s (Some name) some allowed = Sprang name allowed some
 
 -- by whether a limit refuses it
-by_refusal : (l : Limits) (e : PageEvent) (rest : List PageEvent) (s : State) (r : Option Limit) → refusal l s.history e ≡ r
-    → PerformedOrStopped l e rest s (unless_refused l r s (record s { to_do = rest; history = e ∷ s.history }))
-by_refusal l e rest s None allowed = Performed allowed
-by_refusal l e rest s (Some limit) refused = StoppedAt limit
+by_refusal : (l : Limits) (e : PageEvent) (left : List PageEvent) (s : State) (r : Option Limit) → refusal l s.history e ≡ r
+    → PerformedOrStopped l e left s (unless_refused l r s (performed e left s))
+by_refusal l e left s None allowed = by_spring l e left s (springs s.history e) refl allowed
+by_refusal l e left s (Some limit) refused = StoppedAt limit
 
--- an event that is to be performed is, or a limit stops the run
-pub performed_or_stopped : (l : Limits) (e : PageEvent) (rest : List PageEvent) (s : State) → PerformedOrStopped l e rest s (performing l e rest s)
-performed_or_stopped l e rest s = by_refusal l e rest s (refusal l s.history e) refl
+-- what comes before an event that is to be performed, or that one, is performed, or a limit stops the run
+pub performed_or_stopped : (l : Limits) (own : Option PageEvent) (e : PageEvent) (rest : List PageEvent) (s : State)
+    → PerformedOrStopped l (first_of own e) (left_of own e rest) s (performing l own e rest s)
+performed_or_stopped l None e rest s = by_refusal l e rest s (refusal l s.history e) refl
+performed_or_stopped l (Some own) e rest s = by_refusal l own (e ∷ rest) s (refusal l s.history own) refl

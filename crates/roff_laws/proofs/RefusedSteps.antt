@@ -1,17 +1,19 @@
 -- A step that a limit refuses does nothing.
-use Rattle.std.proofs.Common.{◌≡◌, inl, inr, List, [], ◌∷◌, Some, None, refl, ap, sym, subst, ◌∙◌}
+use Rattle.std.proofs.Common.{◌≡◌, inl, inr, List, Option, [], ◌∷◌, Some, None, refl, ap, sym, subst, ◌∙◌}
 use Rattle.roff_num.specs.declared.limit.Limit.{Limit}
 use Rattle.roff_num.specs.declared.limits.Limits.{Limits}
 use Rattle.roff_ahead.specs.Input.{item_taken}
 use Rattle.roff_run.specs.Run.{State, ending_as, phase_ended, step_with, stopped_by}
+use Rattle.roff_run.specs.Requests.{called_by}
+use Rattle.roff_run.specs.Springs.{next}
 use Rattle.roff_run.specs.declared.phase.Phase.{Phase}
 use Rattle.roff_run.specs.declared.phase.Phase.TheVariants.{Reading, LastMacro, Closing}
 use Rattle.roff_run.specs.declared.event.PageEvent.{PageEvent}
 use Rattle.roff_run.specs.declared.status.Status.TheVariants.{Limit as Limited}
-use Rattle.roff_run.proofs.Readings.{ReadsOn, LimitStops, AheadTaken, ByteTaken, NoteTaken, HalfEnds, InputLeft, LineEnds, MessageTold, PhaseEnds, RunAborts, SourceFails, SourceStops, ReadsOn-reading_on, Behind-ahead_taken}
+use Rattle.roff_run.proofs.Readings.{ReadsOn, LimitStops, AheadTaken, ByteTaken, NoteTaken, HalfEnds, InputLeft, LineEnds, MessageTold, PhaseEnds, RunAborts, SourceFails, SourceStops, SprungRead, ReadsOn-with_sprung, Behind-ahead_taken, Behind-sprung_read}
 use Rattle.roff_laws.specs.Refusals.{DoesNothing, RefusedStepsDoNothing}
 use Rattle.roff_laws.proofs.Endings.{step-going}
-use Rattle.roff_laws.proofs.PerformedOrStopped.{PerformedOrStopped, Performed, StoppedAt, performed_or_stopped}
+use Rattle.roff_laws.proofs.PerformedOrStopped.{PerformedOrStopped, Performed, Sprang, StoppedAt, first_of, left_of, performed_or_stopped}
 
 -- a state in which the run ended by a limit, if it did, is one in which nothing else was done
 abbrev IsRefusal : Limits → State → State → Type 0
@@ -47,6 +49,8 @@ IsRefusal-read l s t (LineEnds unfinished none ends is_made) going = IsRefusal-g
 IsRefusal-read l s t (MessageTold told is_made) going = IsRefusal-going l s t going
 IsRefusal-read l s t (RunAborts told) going = λ limit ended. absurd (cc)
 IsRefusal-read l s t (InputLeft leaves is_made) going = IsRefusal-going l s t going
+IsRefusal-read l s t (SprungRead name sprung is_made) going =
+    IsRefusal-going l s t ((Behind-sprung_read (called_by name s.input.names) s).ended ∙ going)
 IsRefusal-read l s t (SourceFails is_open fails) going = λ limit ended. absurd (cc)
 IsRefusal-read l s t (SourceStops other is_open stops) going = λ limit ended.
     let same : other ≡ limit = cc in
@@ -54,14 +58,17 @@ IsRefusal-read l s t (SourceStops other is_open stops) going = λ limit ended.
 
 -- an event was performed, or refused
 IsRefusal-event : (l : Limits) (e : PageEvent) (es : List PageEvent) (s t : State) → PerformedOrStopped l e es s t → s.ended ≡ None → IsRefusal l s t
-IsRefusal-event l e es s t (Performed performed) going = IsRefusal-going l s t going
+IsRefusal-event l e es s t (Performed allowed none) going = IsRefusal-going l s t going
+IsRefusal-event l e es s t (Sprang name allowed some) going = IsRefusal-going l s t going
 IsRefusal-event l e es s t (StoppedAt limit) going = IsRefusal-stopped l limit s
 
 -- a step of a run that hasn't ended
 IsRefusal-step_with : (l : Limits) (es : List PageEvent) (s : State) → s.ended ≡ None → IsRefusal l s (step_with l es s)
-IsRefusal-step_with l (e ∷ es) s going = IsRefusal-event l e es s _ (performed_or_stopped l e es s) going
+IsRefusal-step_with l (e ∷ es) s going =
+    let own : Option PageEvent = next s.history e in
+    IsRefusal-event l (first_of own e) (left_of own e es) s _ (performed_or_stopped l own e es s) going
 IsRefusal-step_with l [] s going =
-    IsRefusal-read l s _ (ReadsOn-reading_on l s) going
+    IsRefusal-read l s _ (ReadsOn-with_sprung l s.sprung s refl) going
 
 -- each step
 pub refused_steps_do_nothing : RefusedStepsDoNothing

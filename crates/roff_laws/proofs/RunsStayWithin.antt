@@ -12,14 +12,17 @@ use Rattle.roff_run.specs.declared.environment_number.EnvironmentNumber.{Environ
 use Rattle.roff_laws.specs.Laws.{NoLimitIsPassed}
 use Rattle.roff_run.specs.Within.{EnvironmentsWithin, IsWithin}
 use Rattle.roff_run.specs.declared.event.PageEvent.{PageEvent}
-use Rattle.roff_run.specs.declared.event.PageEvent.TheVariants.{Text, Space, Interrupt, Environment, Back}
+use Rattle.roff_run.specs.declared.event.PageEvent.TheVariants.{Text, Space, Interrupt, Environment, Back, InputTrap as SetsTrap}
 use Rattle.roff_run.specs.Run.{State, blank_state, initial, grown, moved, stopped_by, unless_refused, with_registers, step_with, step, after}
 use Rattle.roff_run.specs.Run.Counts.{counts, first_passed, names_counted, refusal}
-use Rattle.roff_laws.proofs.PerformedOrStopped.{PerformedOrStopped, Performed, StoppedAt, performed_or_stopped}
-use Rattle.roff_run.proofs.Readings.{IsMade, ReadsOn, LimitStops, AheadTaken, ByteTaken, NoteTaken, HalfEnds, InputLeft, LineEnds, PhaseEnds, MessageTold, RunAborts, SourceFails, SourceStops, ReadsOn-reading_on, Behind-byte_taken, Behind-ahead_taken, Behind-escape_ends, Behind-line_ends, Passed-phase_ended, within}
+use Rattle.roff_laws.proofs.PerformedOrStopped.{PerformedOrStopped, Performed, Sprang, StoppedAt, first_of, left_of, performed_or_stopped}
+use Rattle.roff_run.proofs.Readings.{IsMade, ReadsOn, LimitStops, AheadTaken, ByteTaken, NoteTaken, HalfEnds, InputLeft, LineEnds, PhaseEnds, MessageTold, RunAborts, SourceFails, SourceStops, SprungRead, ReadsOn-with_sprung, Behind-byte_taken, Behind-sprung_read, Behind-ahead_taken, Behind-escape_ends, Behind-line_ends, Passed-phase_ended, within}
 use Rattle.roff_ahead.specs.Input.{counting, item_taken}
 use Rattle.roff_num.specs.declared.num.Num.{Num}
+use Rattle.roff_run.specs.Requests.{called_by}
+use Rattle.roff_run.specs.Springs.{next}
 use Rattle.roff_run.specs.Starts.{with_given}
+use Rattle.roff_run.proofs.PutBack.{bytes_ahead-back, ends_ahead-back}
 use Rattle.roff_source.specs.Tape.{Tape}
 
 -- a state of the same input, registers and history
@@ -85,12 +88,24 @@ environments_within l h (Environment number) is allowed =
     let few : length es.left + 1 ≤ l.environments = (counts_within l (counts h (Environment number)) allowed).0 in
     within-turned_to l number _ (within-left l (es.number ∷ es.left) es is (omega (arith, few)))
 environments_within l h Back is allowed = within-gone_back l (environments h).left (environments h) is is.left
+environments_within l h (SetsTrap trap) is allowed = record { in_force = is.in_force; next = is.next; last = is.last; left = is.left }
 
 -- an event is performed, or the run ends at it
-IsWithin-event : (l : Limits) (e : PageEvent) (rest : List PageEvent) (s t : State) → PerformedOrStopped l e rest s t → IsWithin l s → IsWithin l t
-IsWithin-event l e rest s t (Performed allowed) is =
+IsWithin-event : (l : Limits) (e : PageEvent) (left : List PageEvent) (s t : State) → PerformedOrStopped l e left s t → IsWithin l s → IsWithin l t
+IsWithin-event l e left s t (Performed allowed none) is =
     record { bytes = is.bytes; stack = is.stack; depth = is.depth; store = is.store; texts = is.texts; making = is.making; conditions = is.conditions; names = is.names; environments = environments_within l s.history e is.environments allowed }
-IsWithin-event l e rest s t (StoppedAt limit) is = IsWithin-same l s t refl refl refl is
+IsWithin-event l e left s t (Sprang name allowed some) is = record {
+  bytes = is.bytes;
+  stack = omega (arith, is.stack, bytes_ahead-back left s.input.ahead);
+  depth = omega (arith, is.depth, ends_ahead-back left s.input.ahead);
+  store = is.store;
+  texts = is.texts;
+  making = is.making;
+  conditions = is.conditions;
+  names = is.names;
+  environments = environments_within l s.history e is.environments allowed;
+}
+IsWithin-event l e left s t (StoppedAt limit) is = IsWithin-same l s t refl refl refl is
 
 -- a step that is made, and takes no more than the limit says
 IsWithin-made : (l : Limits) (s t : State) → t.input.charge ≤ l.bytes → t.history ≡ s.history → IsMade l t → IsWithin l s → IsWithin l t
@@ -130,13 +145,18 @@ IsWithin-read l s t (MessageTold told is_made) is = IsWithin-made l s t is.bytes
 IsWithin-read l s t (RunAborts told) is = IsWithin-same l s t refl refl refl is
 IsWithin-read l s t (InputLeft leaves is_made) is =
     IsWithin-made l s t is.bytes refl is_made is
+IsWithin-read l s t (SprungRead name sprung is_made) is =
+    let read = Behind-sprung_read (called_by name s.input.names) s in
+    IsWithin-made l s t (rw read.input.charge is.bytes) read.history is_made is
 IsWithin-read l s t (SourceFails is_open fails) is = IsWithin-same l s t refl refl refl is
 IsWithin-read l s t (SourceStops limit is_open stops) is = IsWithin-same l s t refl refl refl is
 
 -- a step of a run that hasn't ended
 IsWithin-step_with : (l : Limits) (es : List PageEvent) (s : State) → IsWithin l s → IsWithin l (step_with l es s)
-IsWithin-step_with l (e ∷ rest) s is = IsWithin-event l e rest s _ (performed_or_stopped l e rest s) is
-IsWithin-step_with l [] s is = IsWithin-read l s _ (ReadsOn-reading_on l s) is
+IsWithin-step_with l (e ∷ rest) s is =
+    let own : Option PageEvent = next s.history e in
+    IsWithin-event l (first_of own e) (left_of own e rest) s _ (performed_or_stopped l own e rest s) is
+IsWithin-step_with l [] s is = IsWithin-read l s _ (ReadsOn-with_sprung l s.sprung s refl) is
 
 -- a step
 IsWithin-step : (l : Limits) (s : State) → IsWithin l s → IsWithin l (step l s)

@@ -6,6 +6,8 @@ use Rattle.roff_num.specs.declared.limits.Limits.{Limits}
 use Rattle.roff_run.specs.declared.event.PageEvent.{PageEvent}
 use Rattle.roff_run.specs.Run.{State, blank_state, initial, phase_ended, unless_refused, with_registers, step_with, step, after}
 use Rattle.roff_run.specs.Run.Counts.{first_passed, names_counted}
+use Rattle.roff_run.specs.Requests.{called_by}
+use Rattle.roff_run.specs.Springs.{next}
 use Rattle.roff_run.specs.Starts.{with_given}
 use Rattle.roff_run.specs.declared.phase.Phase.{Phase}
 use Rattle.roff_run.specs.declared.phase.Phase.TheVariants.{Reading, LastMacro, Closing}
@@ -18,8 +20,8 @@ use Rattle.roff_run.specs.declared.status.Status.{Status}
 use Rattle.roff_ahead.specs.Input.{item_taken}
 use Rattle.roff_source.specs.Tape.{Tape, Item, Ending, Ends, Ended, Failed, Stopped, front}
 use Rattle.roff_laws.proofs.Endings.{at_last_state, ended_or_not, step-ended, step-going}
-use Rattle.roff_laws.proofs.PerformedOrStopped.{PerformedOrStopped, Performed, StoppedAt, performed_or_stopped}
-use Rattle.roff_run.proofs.Readings.{ReadsOn, LimitStops, AheadTaken, ByteTaken, HasEnded, NoteTaken, HalfEnds, InputLeft, LineEnds, PhaseEnds, MessageTold, RunAborts, SourceFails, SourceStops, ReadsOn-reading_on, Behind, Behind-ahead_taken}
+use Rattle.roff_laws.proofs.PerformedOrStopped.{PerformedOrStopped, Performed, Sprang, StoppedAt, first_of, left_of, performed_or_stopped}
+use Rattle.roff_run.proofs.Readings.{ReadsOn, LimitStops, AheadTaken, ByteTaken, HasEnded, NoteTaken, HalfEnds, InputLeft, LineEnds, PhaseEnds, MessageTold, RunAborts, SourceFails, SourceStops, SprungRead, ReadsOn-with_sprung, Behind, Behind-ahead_taken, Behind-sprung_read}
 
 -- what is known of a run while it goes on: it has no last message yet
 pub record GoesOn (s : State) : Type 0 where
@@ -44,7 +46,8 @@ GoesOn-told l s going told = subst (λ o. TellsSo l o s) going told
 
 -- an event is performed, or the run ends at it
 IsTold-event : (l : Limits) (e : PageEvent) (es : List PageEvent) (s t : State) → s.ended ≡ None → GoesOn s → PerformedOrStopped l e es s t → IsTold l t
-IsTold-event l e es s t going goes (Performed performed) = IsTold-going l t going (record { quiet = goes.quiet })
+IsTold-event l e es s t going goes (Performed allowed none) = IsTold-going l t going (record { quiet = goes.quiet })
+IsTold-event l e es s t going goes (Sprang name allowed some) = IsTold-going l t going (record { quiet = goes.quiet })
 IsTold-event l e es s t going goes (StoppedAt limit) = inr refl
 
 -- a tape that answers an ending has no item left
@@ -81,13 +84,17 @@ IsTold-read l s t (LineEnds unfinished none over is_made) going quiet = IsTold-g
 IsTold-read l s t (MessageTold told is_made) going quiet = IsTold-going l t going (record { quiet = quiet })
 IsTold-read l s t (RunAborts told) going quiet = (told, refl)
 IsTold-read l s t (InputLeft leaves is_made) going quiet = IsTold-going l t going (record { quiet = quiet })
+IsTold-read l s t (SprungRead name sprung is_made) going quiet =
+    IsTold-behind l _ s t (Behind-sprung_read (called_by name s.input.names) s) going quiet
 IsTold-read l s t (SourceFails is_open fails) going quiet = (HasMet-front s.tape.items s.tape.ending Failed fails, refl)
 IsTold-read l s t (SourceStops limit is_open stops) going quiet = inl (HasMet-front s.tape.items s.tape.ending (Stopped limit) stops, quiet)
 
 -- a step of a run that hasn't ended
 IsTold-step_with : (l : Limits) (es : List PageEvent) (s : State) → s.ended ≡ None → GoesOn s → IsTold l (step_with l es s)
-IsTold-step_with l (e ∷ es) s going goes = IsTold-event l e es s _ going goes (performed_or_stopped l e es s)
-IsTold-step_with l [] s going goes = IsTold-read l s _ (ReadsOn-reading_on l s) going goes.quiet
+IsTold-step_with l (e ∷ es) s going goes =
+    let own : Option PageEvent = next s.history e in
+    IsTold-event l (first_of own e) (left_of own e es) s _ going goes (performed_or_stopped l own e es s)
+IsTold-step_with l [] s going goes = IsTold-read l s _ (ReadsOn-with_sprung l s.sprung s refl) going goes.quiet
 
 -- a step
 pub IsTold-step : (l : Limits) (s : State) → IsTold l s → IsTold l (step l s)

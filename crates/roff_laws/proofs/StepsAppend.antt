@@ -20,10 +20,15 @@ use Rattle.roff_run.specs.Reading.Ends.{due, is_unfinished}
 use Rattle.roff_run.specs.declared.line_state.Due.{Due}
 use Rattle.roff_run.specs.declared.line_state.Due.TheVariants.{Leaves, Tells as TellsText}
 use Rattle.roff_run.specs.declared.event.PageEvent.{PageEvent}
-use Rattle.roff_run.specs.Run.{read_waiting, State, performing, unless_refused, grown, made, moved, byte_taken, escape_ends, ahead_taken, taking_ahead, taking_byte, ending_input, answered, in_front_taken, front_seen, awaited_of_source, awaited, item_read, input_ended, message_told, input_left, reading_by, step_with, step, known, phase_ended, source_answer, with_registers}
+use Rattle.roff_run.specs.Run.{read_waiting, State, performing, unless_refused, grown, made, moved, byte_taken, escape_ends, ahead_taken, taking_ahead, taking_byte, ending_input, answered, in_front_taken, front_seen, awaited_of_source, awaited, item_read, input_ended, message_told, input_left, reading_by, step_with, step, known, performed, phase_ended, source_answer, sprung_at, sprung_read, with_registers, with_sprung}
 use Rattle.roff_run.specs.Run.Counts.{passes_bytes, refusal, first_passed, names_counted}
 use Rattle.roff_num.specs.declared.num.Num.{Num}
+use Rattle.roff_run.specs.Requests.{called_by}
+use Rattle.roff_run.specs.Springs.{next, springs}
 use Rattle.roff_run.specs.Starts.{with_given}
+use Rattle.roff_run.specs.declared.request.Called.{Called}
+use Rattle.roff_run.specs.declared.request.Called.TheVariants.{Request as ARequest, Body as ABody, Nothing as Unknown}
+use Rattle.roff_num.specs.declared.short_name.ShortName.{ShortName}
 use Rattle.roff_run.specs.declared.phase.Phase.{Phase}
 use Rattle.roff_run.specs.declared.phase.Phase.TheVariants.{Reading, LastMacro, Closing}
 use Rattle.roff_laws.proofs.Beginnings.{IsBeginning-same, IsBeginning-append, IsBeginning-trans}
@@ -68,9 +73,19 @@ OnlyCuts-with_registers l (first ∷ others) s =
     OnlyCuts-unless_refused l (first_passed l (names_counted behind.registers)) s
     (OnlyCuts-trans (OnlyCuts-same s behind refl refl) (OnlyCuts-with_registers l others behind))
 
--- an event is performed
-pub OnlyCuts-performing : (l : Limits) (e : PageEvent) (rest : List PageEvent) (s : State) → OnlyCuts s (performing l e rest s)
-OnlyCuts-performing l e rest s = OnlyCuts-unless_refused l (refusal l s.history e) s (OnlyCuts-event s _ e refl refl)
+-- these are left to do, or put back
+OnlyCuts-sprung_at : (sprung : Option ShortName) (left : List PageEvent) (s t : State) → OnlyCuts s t → OnlyCuts s (sprung_at sprung left t)
+OnlyCuts-sprung_at None left s t cuts = record { text = cuts.text; messages = cuts.messages }
+OnlyCuts-sprung_at (Some name) left s t cuts = record { text = cuts.text; messages = cuts.messages }
+
+-- an event happened
+pub OnlyCuts-performed : (e : PageEvent) (left : List PageEvent) (s : State) → OnlyCuts s (performed e left s)
+OnlyCuts-performed e left s = OnlyCuts-sprung_at (springs s.history e) left s (record s { history = e ∷ s.history }) (OnlyCuts-event s _ e refl refl)
+
+-- an event is performed, or what comes before it
+pub OnlyCuts-performing : (l : Limits) (own : Option PageEvent) (e : PageEvent) (rest : List PageEvent) (s : State) → OnlyCuts s (performing l own e rest s)
+OnlyCuts-performing l None e rest s = OnlyCuts-unless_refused l (refusal l s.history e) s (OnlyCuts-performed e rest s)
+OnlyCuts-performing l (Some own) e rest s = OnlyCuts-unless_refused l (refusal l s.history own) s (OnlyCuts-performed own (e ∷ rest) s)
 
 -- a step that leads to this state
 pub OnlyCuts-made : (l : Limits) (s done : State) → OnlyCuts s done → OnlyCuts s (made l s done)
@@ -104,7 +119,7 @@ pub OnlyCuts-ahead_taken : (item : Ahead PageEvent) (s : State) → OnlyCuts s (
 OnlyCuts-ahead_taken (ByteAhead b) s = OnlyCuts-message s _ _ refl refl
 OnlyCuts-ahead_taken (FreeAhead b) s = OnlyCuts-message s _ _ refl refl
 OnlyCuts-ahead_taken EndAhead s = OnlyCuts-same s s refl refl
-OnlyCuts-ahead_taken ReturnAhead s = OnlyCuts-same s _ refl refl
+OnlyCuts-ahead_taken (ReturnAhead back) s = OnlyCuts-same s _ refl refl
 OnlyCuts-ahead_taken (DoAhead e) s = OnlyCuts-same s _ refl refl
 
 -- the state behind an item ahead, if no limit refuses it
@@ -188,10 +203,21 @@ OnlyCuts-reading_by l (Some (TellsText false)) s = OnlyCuts-made l s _ (OnlyCuts
 OnlyCuts-reading_by l (Some (TellsText true)) s = OnlyCuts-same s _ refl refl
 OnlyCuts-reading_by l (Some Leaves) s = OnlyCuts-made l s _ (OnlyCuts-input_left s)
 
+-- a macro that sprang is read
+pub OnlyCuts-sprung_read : (called : Called) (s : State) → OnlyCuts s (sprung_read called s)
+OnlyCuts-sprung_read (ABody name) s = OnlyCuts-same s _ refl refl
+OnlyCuts-sprung_read (ARequest request) s = OnlyCuts-same s _ refl refl
+OnlyCuts-sprung_read Unknown s = OnlyCuts-same s _ refl refl
+
+-- if one did
+pub OnlyCuts-with_sprung : (l : Limits) (name : Option ShortName) (s : State) → OnlyCuts s (with_sprung l name s)
+OnlyCuts-with_sprung l None s = OnlyCuts-reading_by l (due s.reading) s
+OnlyCuts-with_sprung l (Some name) s = OnlyCuts-made l s _ (OnlyCuts-sprung_read (called_by name s.input.names) s)
+
 -- a step of a run that hasn't ended
 pub OnlyCuts-step_with : (l : Limits) (es : List PageEvent) (s : State) → OnlyCuts s (step_with l es s)
-OnlyCuts-step_with l (e ∷ rest) s = OnlyCuts-performing l e rest s
-OnlyCuts-step_with l [] s = OnlyCuts-reading_by l (due s.reading) s
+OnlyCuts-step_with l (e ∷ rest) s = OnlyCuts-performing l (next s.history e) e rest s
+OnlyCuts-step_with l [] s = OnlyCuts-with_sprung l s.sprung s
 
 -- a step
 pub OnlyCuts-step : (l : Limits) (s : State) → OnlyCuts s (step l s)

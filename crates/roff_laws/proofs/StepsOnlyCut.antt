@@ -26,8 +26,13 @@ use Rattle.roff_run.specs.Reading.Ends.{due, is_unfinished}
 use Rattle.roff_run.specs.declared.line_state.Due.{Due}
 use Rattle.roff_run.specs.declared.line_state.Due.TheVariants.{Leaves, Tells as TellsText}
 use Rattle.roff_run.specs.declared.event.PageEvent.{PageEvent}
-use Rattle.roff_run.specs.Run.{read_waiting, State, ending_with, unless_refused, stopped_by, performing, grown, made, escape_ends, taking_ahead, taking_byte, ending_input, answered, in_front_taken, front_seen, awaited_of_source, awaited, item_read, input_ended, reading_by, step_with, step, after, known, phase_ended, with_registers}
-use Rattle.roff_run.specs.Run.Counts.{counts, first_passed, passes_bytes, names_counted}
+use Rattle.roff_run.specs.Run.{read_waiting, State, ending_with, unless_refused, stopped_by, performing, grown, made, escape_ends, taking_ahead, taking_byte, ending_input, answered, in_front_taken, front_seen, awaited_of_source, awaited, item_read, input_ended, performed, reading_by, sprung_at, sprung_read, step_with, step, after, known, phase_ended, with_registers, with_sprung}
+use Rattle.roff_run.specs.Run.Counts.{counts, first_passed, passes_bytes, names_counted, refusal}
+use Rattle.roff_run.specs.Requests.{called_by}
+use Rattle.roff_run.specs.Springs.{next, springs}
+use Rattle.roff_run.specs.declared.request.Called.{Called}
+use Rattle.roff_run.specs.declared.request.Called.TheVariants.{Request as ARequest, Body as ABody, Nothing as Unknown}
+use Rattle.roff_num.specs.declared.short_name.ShortName.{ShortName}
 use Rattle.roff_num.specs.declared.num.Num.{Num}
 use Rattle.roff_run.specs.Starts.{with_given}
 use Rattle.roff_run.specs.declared.phase.Phase.{Phase}
@@ -35,7 +40,7 @@ use Rattle.roff_run.specs.declared.phase.Phase.TheVariants.{Reading, LastMacro, 
 use Rattle.roff_run.specs.declared.message.Message.TheVariants.{ReadFailed}
 use Rattle.roff_run.specs.declared.status.Status.{Status}
 use Rattle.roff_run.specs.declared.status.Status.TheVariants.{Device, Limit as Limited}
-use Rattle.roff_laws.proofs.StepsAppend.{OnlyCuts-same, OnlyCuts-event, OnlyCuts-trans, OnlyCuts-if, OnlyCuts-unless_refused, OnlyCuts-made, OnlyCuts-escape_ends, OnlyCuts-phase_ended, OnlyCuts-with_registers, OnlyCuts-input_ended, OnlyCuts-message_told, OnlyCuts-input_left, ahead_done, OnlyCuts-ahead_done, byte_done, OnlyCuts-byte_done, OnlyCuts-answered, OnlyCuts-awaited_of_source, OnlyCuts-step}
+use Rattle.roff_laws.proofs.StepsAppend.{OnlyCuts-same, OnlyCuts-performed, OnlyCuts-sprung_read, OnlyCuts-trans, OnlyCuts-if, OnlyCuts-unless_refused, OnlyCuts-made, OnlyCuts-escape_ends, OnlyCuts-phase_ended, OnlyCuts-with_registers, OnlyCuts-input_ended, OnlyCuts-message_told, OnlyCuts-input_left, ahead_done, OnlyCuts-ahead_done, byte_done, OnlyCuts-byte_done, OnlyCuts-answered, OnlyCuts-awaited_of_source, OnlyCuts-step}
 
 -- what passes a larger limit passes a smaller one
 abbrev pub IsMonotone : (Limits → Bool) → Type 0
@@ -50,7 +55,7 @@ ahead_done-over : (item : Ahead PageEvent) (behind : List (Ahead PageEvent)) (s 
 ahead_done-over (ByteAhead b) behind s tape = refl
 ahead_done-over (FreeAhead b) behind s tape = refl
 ahead_done-over EndAhead behind s tape = refl
-ahead_done-over ReturnAhead behind s tape = refl
+ahead_done-over (ReturnAhead back) behind s tape = refl
 ahead_done-over (DoAhead e) behind s tape = refl
 
 -- and leaves it
@@ -58,8 +63,28 @@ ahead_done-tape : (item : Ahead PageEvent) (behind : List (Ahead PageEvent)) (s 
 ahead_done-tape (ByteAhead b) behind s = refl
 ahead_done-tape (FreeAhead b) behind s = refl
 ahead_done-tape EndAhead behind s = refl
-ahead_done-tape ReturnAhead behind s = refl
+ahead_done-tape (ReturnAhead back) behind s = refl
 ahead_done-tape (DoAhead e) behind s = refl
+
+-- so is a macro that sprang
+sprung_read-over : (called : Called) (s : State) (tape : Tape) → sprung_read called (over tape s) ≡ over tape (sprung_read called s)
+sprung_read-over (ABody name) s tape = refl
+sprung_read-over (ARequest request) s tape = refl
+sprung_read-over Unknown s tape = refl
+
+sprung_read-tape : (called : Called) (s : State) → (sprung_read called s).tape ≡ s.tape
+sprung_read-tape (ABody name) s = refl
+sprung_read-tape (ARequest request) s = refl
+sprung_read-tape Unknown s = refl
+
+-- and what an event leaves is left alike
+sprung_at-over : (sprung : Option ShortName) (left : List PageEvent) (s : State) (tape : Tape) → sprung_at sprung left (over tape s) ≡ over tape (sprung_at sprung left s)
+sprung_at-over None left s tape = refl
+sprung_at-over (Some name) left s tape = refl
+
+sprung_at-tape : (sprung : Option ShortName) (left : List PageEvent) (s : State) → (sprung_at sprung left s).tape ≡ s.tape
+sprung_at-tape None left s = refl
+sprung_at-tape (Some name) left s = refl
 
 -- a step that a limit refuses, or else the limits behind it
 unless_refused-if : (l : Limits) (b : Bool) (limit : Limit) (r : Option Limit) (s t : State)
@@ -132,10 +157,19 @@ module _ (Beside : Tape → Tape → Type 0) (IsCause : Status → Type 0) where
         (OnlyCuts-trans (OnlyCuts-same (over tape s) (over tape behind) refl refl) (OnlyCuts-with_registers large others (over tape behind)))
         (Cut-with_registers others behind tape beside)
 
-    -- both perform an event
-    pub Cut-performing : (e : PageEvent) (rest : List PageEvent) (s : State) (tape : Tape) → Beside s.tape tape → Cut (performing small e rest s) (performing large e rest (over tape s))
-    Cut-performing e rest s tape beside =
-        Cut-unless_refused (counts s.history e) s _ _ tape beside (OnlyCuts-event (over tape s) _ e refl refl) (Same tape beside refl)
+    -- an event happens in both, if no limit refuses it
+    Cut-performed : (e : PageEvent) (left : List PageEvent) (s : State) (tape : Tape) → Beside s.tape tape
+        → Cut (unless_refused small (refusal small s.history e) s (performed e left s)) (unless_refused large (refusal large s.history e) (over tape s) (performed e left (over tape s)))
+    Cut-performed e left s tape beside =
+        let behind : State = record s { history = e ∷ s.history } in
+        Cut-unless_refused (counts s.history e) s _ _ tape beside (OnlyCuts-performed e left (over tape s))
+        (Same tape (subst (λ (t : Tape). Beside t tape) (sym (sprung_at-tape (springs s.history e) left behind)) beside) (sprung_at-over (springs s.history e) left behind tape))
+
+    -- both perform an event, or what comes before it
+    pub Cut-performing : (own : Option PageEvent) (e : PageEvent) (rest : List PageEvent) (s : State) (tape : Tape) → Beside s.tape tape
+        → Cut (performing small own e rest s) (performing large own e rest (over tape s))
+    Cut-performing None e rest s tape beside = Cut-performed e rest s tape beside
+    Cut-performing (Some own) e rest s tape beside = Cut-performed own (e ∷ rest) s tape beside
 
     -- both make a step that leads to this state over two tapes
     pub Cut-made : (s done whole : State) (tape left : Tape) → Beside s.tape tape → Beside done.tape left → whole ≡ over left done → OnlyCuts (over tape s) whole → Cut (made small s done) (made large (over tape s) whole)
@@ -269,10 +303,18 @@ module _ (Beside : Tape → Tape → Type 0) (IsCause : Status → Type 0) where
     Cut-reading_by (Some (TellsText true)) s tape beside = Same tape beside refl
     Cut-reading_by (Some Leaves) s tape beside = Cut-made s _ _ tape tape beside beside refl (OnlyCuts-input_left (over tape s))
 
+    -- both read what sprang, if something did
+    pub Cut-with_sprung : (name : Option ShortName) (s : State) (tape : Tape) → Beside s.tape tape → Cut (with_sprung small name s) (with_sprung large name (over tape s))
+    Cut-with_sprung None s tape beside = Cut-reading_by (due s.reading) s tape beside
+    Cut-with_sprung (Some name) s tape beside =
+        let called : Called = called_by name s.input.names in
+        Cut-made s (sprung_read called s) (sprung_read called (over tape s)) tape tape beside
+        (subst (λ (t : Tape). Beside t tape) (sym (sprung_read-tape called s)) beside) (sprung_read-over called s tape) (OnlyCuts-sprung_read called (over tape s))
+
     -- both make a step, and haven't ended
     pub Cut-step_with : (es : List PageEvent) (s : State) (tape : Tape) → Beside s.tape tape → Cut (step_with small es s) (step_with large es (over tape s))
-    Cut-step_with (e ∷ rest) s tape beside = Cut-performing e rest s tape beside
-    Cut-step_with [] s tape beside = Cut-reading_by (due s.reading) s tape beside
+    Cut-step_with (e ∷ rest) s tape beside = Cut-performing (next s.history e) e rest s tape beside
+    Cut-step_with [] s tape beside = Cut-with_sprung s.sprung s tape beside
 
     -- both make a step from the same state
     pub Cut-step_over : (s : State) (tape : Tape) → Beside s.tape tape → Cut (step small s) (step large (over tape s))

@@ -10,6 +10,8 @@ use Rattle.roff_num.specs.declared.limits.Limits.{Limits}
 use Rattle.roff_num.specs.declared.limit.Limit.{Limit}
 use Rattle.roff_num.specs.declared.num.Num.{Num}
 use Rattle.roff_run.specs.Run.Counts.{first_passed, names_counted}
+use Rattle.roff_run.specs.Requests.{called_by}
+use Rattle.roff_run.specs.Springs.{next}
 use Rattle.roff_run.specs.Starts.{with_given}
 use Rattle.roff_run.specs.Within.{IsWithin}
 use Rattle.roff_run.specs.Reading.Items.{PageInput}
@@ -21,8 +23,8 @@ use Rattle.roff_source.specs.Bytes.{newline}
 use Rattle.roff_ahead.specs.Input.{Ahead, counting, item_taken}
 use Rattle.roff_source.specs.Tape.{Tape, Item, Ending, OneByte, OneNote, Gives, front, behind_front}
 use Rattle.roff_laws.proofs.Endings.{at_last_state}
-use Rattle.roff_laws.proofs.PerformedOrStopped.{PerformedOrStopped, Performed, StoppedAt, performed_or_stopped}
-use Rattle.roff_run.proofs.Readings.{ReadsOn, LimitStops, AheadTaken, ByteTaken, NoteTaken, HalfEnds, InputLeft, LineEnds, PhaseEnds, MessageTold, RunAborts, SourceFails, SourceStops, ReadsOn-reading_on, Behind, Behind-byte_taken, Behind-ahead_taken, Behind-escape_ends, Behind-line_ends, Passed-phase_ended, behind_note}
+use Rattle.roff_laws.proofs.PerformedOrStopped.{PerformedOrStopped, Performed, Sprang, StoppedAt, first_of, left_of, performed_or_stopped}
+use Rattle.roff_run.proofs.Readings.{ReadsOn, LimitStops, AheadTaken, ByteTaken, NoteTaken, HalfEnds, InputLeft, LineEnds, PhaseEnds, MessageTold, RunAborts, SourceFails, SourceStops, SprungRead, ReadsOn-with_sprung, Behind, Behind-sprung_read, Behind-byte_taken, Behind-ahead_taken, Behind-escape_ends, Behind-line_ends, Passed-phase_ended, behind_note}
 use Rattle.roff_laws.proofs.RunsStayWithin.{no_limit_is_passed}
 
 -- the bytes of two lists of items
@@ -119,7 +121,8 @@ Takes-charged tape item behind s takes =
 
 -- an event is performed, or the run ends at it
 Takes-event : (tape : Tape) (l : Limits) (e : PageEvent) (es : List PageEvent) (s t : State) → PerformedOrStopped l e es s t → Takes tape s → Takes tape t
-Takes-event tape l e es s t (Performed goes) takes = Takes-unread tape s t refl refl takes
+Takes-event tape l e es s t (Performed allowed none) takes = Takes-unread tape s t refl refl takes
+Takes-event tape l e es s t (Sprang name allowed some) takes = Takes-same tape s t refl (omega arith) refl refl takes
 Takes-event tape l e es s t (StoppedAt limit) takes = Takes-unread tape s t refl refl takes
 
 -- what was read, or how the run ended
@@ -138,13 +141,17 @@ Takes-read tape l s t (LineEnds unfinished none ends is_made) takes = Takes-behi
 Takes-read tape l s t (MessageTold told is_made) takes = Takes-same tape s t refl (omega arith) refl refl takes
 Takes-read tape l s t (RunAborts told) takes = Takes-unread tape s t refl refl takes
 Takes-read tape l s t (InputLeft leaves is_made) takes = Takes-same tape s t refl (omega arith) refl refl takes
+Takes-read tape l s t (SprungRead name sprung is_made) takes =
+    Takes-behind tape _ s t (Behind-sprung_read (called_by name s.input.names) s) takes
 Takes-read tape l s t (SourceFails is_open fails) takes = Takes-unread tape s t refl refl takes
 Takes-read tape l s t (SourceStops limit is_open stops) takes = Takes-unread tape s t refl refl takes
 
 -- a step of a run that hasn't ended
 Takes-step_with : (tape : Tape) (l : Limits) (es : List PageEvent) (s : State) → Takes tape s → Takes tape (step_with l es s)
-Takes-step_with tape l (e ∷ es) s takes = Takes-event tape l e es s _ (performed_or_stopped l e es s) takes
-Takes-step_with tape l [] s takes = Takes-read tape l s _ (ReadsOn-reading_on l s) takes
+Takes-step_with tape l (e ∷ es) s takes =
+    let own : Option PageEvent = next s.history e in
+    Takes-event tape l (first_of own e) (left_of own e es) s _ (performed_or_stopped l own e es s) takes
+Takes-step_with tape l [] s takes = Takes-read tape l s _ (ReadsOn-with_sprung l s.sprung s refl) takes
 
 -- a step
 Takes-step : (tape : Tape) (l : Limits) (s : State) → Takes tape s → Takes tape (step l s)

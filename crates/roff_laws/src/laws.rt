@@ -11,16 +11,20 @@ ghost use Rattle.roff_run.specs.Requests.Effects.{Ignored, changing, naming};
 ghost use Rattle.roff_run.specs.Requests.Lengths.{length_set};
 ghost use Rattle.roff_run.specs.Requests.Numbering.{number, remove_registers, set_register};
 ghost use Rattle.roff_num.specs.declared.limit.Limit.TheVariants.{Bytes, Depth, Line, Names, Stack};
-ghost use Rattle.roff_run.specs.declared.status.Status.TheVariants.{Aborted, Done, Device, Limit as Limited};
-ghost use Rattle.roff_laws.specs.Laws.{LimitsOnlyCut, SameUntilALimit, FailingOnlyCuts, SameUntilTheFault, NoLimitIsPassed, StepsOnlyAppend};
-ghost use Rattle.roff_laws.specs.ResultLaws.{EveryRunEnds, StepsLeadToTheLastState, NoOtherStateIsLast, LimitsCutResults, SameResultWithoutALimit, FailingCutsResults, SameResultBeforeTheFault, EachStateIsABeginning};
+ghost use Rattle.roff_run.specs.declared.status.Status.TheVariants.{Aborted, Done, Device};
+ghost use Rattle.roff_run.specs.declared.status.Status.TheVariants.{Limit as Limited};
+ghost use Rattle.roff_laws.specs.Laws.{LimitsOnlyCut, SameUntilALimit, FailingOnlyCuts};
+ghost use Rattle.roff_laws.specs.Laws.{SameUntilTheFault, NoLimitIsPassed, StepsOnlyAppend};
+ghost use Rattle.roff_laws.specs.ResultLaws.{EveryRunEnds, StepsLeadToTheLastState};
+ghost use Rattle.roff_laws.specs.ResultLaws.{NoOtherStateIsLast, LimitsCutResults};
+ghost use Rattle.roff_laws.specs.ResultLaws.{SameResultWithoutALimit, FailingCutsResults};
+ghost use Rattle.roff_laws.specs.ResultLaws.{SameResultBeforeTheFault, EachStateIsABeginning};
 ghost use Rattle.roff_laws.specs.Statuses.{EachStatusTells};
 ghost use Rattle.roff_laws.specs.Refusals.{RefusedStepsDoNothing};
-ghost use Rattle.roff_laws.specs.MessageLaws.{MessagesAreTheirTexts};
 ghost use Rattle.roff_laws.specs.Taken.{EachItemIsTakenOnce, EachRunLeavesItsRest};
-ghost use Rattle.roff_laws.specs.RequestLaws.{EachIsListedOnce, EachIsNamed, EachNameHasTwoBytes, LeftOutOnlySaysSo, WithoutEffectDoesNothing};
 ghost use Rattle.roff_source.specs.Tape.{Ended, Failed};
-ghost use Rattle.roff_laws.specs.Rows.{gives, formatted, formatted_up_to, formatted_within, formatted_with, formatted_failing};
+ghost use Rattle.roff_laws.specs.Rows.{gives, formatted, formatted_up_to, formatted_within};
+ghost use Rattle.roff_laws.specs.Rows.{formatted_with, formatted_failing};
 
 /// What the definitions give on the worked rows of filled text.
 pub fn filled_text_rows()
@@ -59,8 +63,9 @@ pub fn limit_rows()
         ≡ gives (codes "ab\n") (codes "nroff: line 3: read failed\n") Device }
 {}
 
-/// What the definitions give where the limit on bytes is met at the end of a text, and something waits
-/// for the byte behind it: of a source that fails there that is told, and where it ends the limit.
+/// What the definitions give where the limit on bytes is met at the end of a text, and something
+/// waits for the byte behind it: of a source that fails there that is told, and where it ends the
+/// limit.
 pub fn waiting_rows()
     ensures behind_a_dot { formatted_up_to 12 Failed (codes ".ds x .\n\\*x")
         ≡ gives (codes "") (codes "nroff: line 2: read failed\n") Device }
@@ -76,7 +81,8 @@ pub fn waiting_rows()
         ≡ gives (codes "") (codes "nroff: line 2: limit bytes (12) reached\n") (Limited Bytes) }
 {}
 
-/// What the definitions give behind a backslash and a newline, with which a line or a branch begins.
+/// What the definitions give behind a backslash and a newline, with which a line or a branch
+/// begins.
 pub fn joined_line_rows()
     ensures branch { formatted (codes ".if 1 \\\n.ds a x\n\\*a\n")
         ≡ gives (codes "x\n") (codes "") Done }
@@ -158,8 +164,8 @@ pub fn limits()
     ensures same_result { SameResultWithoutALimit }
 {}
 
-/// A source that fails only cuts: where it went on, the run would write and report what it does, and
-/// more, and come to the same state until it met the fault.
+/// A source that fails only cuts: where it went on, the run would write and report what it does,
+/// and more, and come to the same state until it met the fault.
 pub fn cut()
     ensures beginning { FailingOnlyCuts }
     ensures same_until_the_fault { SameUntilTheFault }
@@ -169,8 +175,8 @@ pub fn cut()
     ensures same_result { SameResultBeforeTheFault }
 {}
 
-/// No run takes more bytes, has a longer pending line, more inserted bytes or texts, or more registers than
-/// its limits say.
+/// No run takes more bytes, has a longer pending line, more inserted bytes or texts, or more
+/// registers than its limits say.
 pub fn bounds()
     ensures { NoLimitIsPassed }
 {}
@@ -182,25 +188,13 @@ pub fn rest()
     ensures whole_run { EachRunLeavesItsRest }
 {}
 
-/// Each request is listed once, and no two have the same name.
-pub fn request_names()
-    ensures named { EachIsNamed }
-    ensures listed_once { EachIsListedOnce }
-    ensures two_bytes { EachNameHasTwoBytes }
-{}
-
 /// What the definitions give on worked rows of requests that do nothing.
 pub fn other_request_rows()
-    ensures registers_stepped { formatted (codes ".pl 1\n.nr x 0 1\nab\n.ft \\n+x\n'so \\n+x\n\\nx\n")
+    ensures registers_stepped { formatted
+        (codes ".pl 1\n.nr x 0 1\nab\n.ft \\n+x\n'so \\n+x\n\\nx\n")
         ≡ gives (codes "ab 2\n") (codes "nroff: line 5: left out: so\n") Done }
     ensures input_ends { formatted (codes ".pl 1\nab\n.so file")
         ≡ gives (codes "ab\n") (codes "nroff: line 3: left out: so\n") Done }
-{}
-
-/// Requests that are read without effect do nothing, and those that are left out only say so.
-pub fn other_requests()
-    ensures without_effect { WithoutEffectDoesNothing }
-    ensures left_out { LeftOutOnlySaysSo }
 {}
 
 /// What the definitions give on worked arguments of requests.
@@ -228,16 +222,19 @@ pub fn argument_rows()
 pub fn naming_rows()
     ensures renamed { formatted (codes ".rn br x\na\n.x\nb\n") ≡ gives (codes "a\nb\n") [] Done }
     ensures removed { formatted (codes ".rm br\na\n.br\nb\n") ≡ gives (codes "a b\n") [] Done }
-    ensures string_removed { formatted (codes ".ds s a\n.rm s\n.as s b\n\\*s\n") ≡ gives (codes "b\n") [] Done }
+    ensures string_removed { formatted (codes ".ds s a\n.rm s\n.as s b\n\\*s\n")
+        ≡ gives (codes "b\n") [] Done }
 {}
 
 /// What the definitions give on worked rows of escapes.
 pub fn escape_rows()
     ensures characters { formatted (codes "a\\(em\\(xxb\n")
         ≡ gives (codes "a--b\n") (codes "nroff: line 1: unknown character: xx\n") Done }
-    ensures comments { formatted (codes "a\\\" b\n.br \\\" c\nd\n") ≡ gives (codes "a\nd\n") [] Done }
+    ensures comments { formatted (codes "a\\\" b\n.br \\\" c\nd\n")
+        ≡ gives (codes "a\nd\n") [] Done }
     ensures left_out { formatted (codes "a\\zb\\g(xyc")
-        ≡ gives (codes "abc\n") (codes "nroff: line 1: left out: \\z\nnroff: line 1: left out: \\g\n")
+        ≡ gives (codes "abc\n")
+        (codes "nroff: line 1: left out: \\z\nnroff: line 1: left out: \\g\n")
         Done }
     ensures no_strings_yet { formatted (codes "\\*x.br\na\\$1b\n") ≡ gives (codes "ab\n") [] Done }
     ensures comment_in_a_name { formatted (codes "\\(em\\(e\\\" m\n")
@@ -256,10 +253,4 @@ pub fn message_rows()
     ensures called_at_the_end { formatted (codes ".ds m ab\n.m") ≡ gives (codes "ab\n") [] Done }
     ensures begun_at_the_end { formatted (codes "a\n.de m")
         ≡ gives (codes "a\n") (codes "nroff: line 2: definition not ended\n") Done }
-{}
-
-/// A line of a message that has no escape, and no byte that is dropped, tells its text: without the
-/// blanks in front, and with its quotes.
-pub fn messages()
-    ensures { MessagesAreTheirTexts }
 {}

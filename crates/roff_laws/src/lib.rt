@@ -1,13 +1,7 @@
-//! Laws over whole runs: facts about the definitions alone, as contracts of functions that do nothing.
+//! Laws over whole runs, registers and the table of requests: facts about the definitions alone, as
+//! contracts of functions that do nothing.
 #![tactic(auto)]
 
-pub mod call_laws;
-pub mod condition_laws;
-pub mod definition_laws;
-pub mod end_laws;
-pub mod environment_laws;
-pub mod interpolation_laws;
 pub mod laws;
 pub mod register_laws;
-pub mod string_laws;
-pub mod text_laws;
+pub mod request_laws;

@@ -1,7 +1,11 @@
 //! Facts about the definitions of number registers alone, as contracts of functions that do
 //! nothing.
 
-ghost use Rattle.roff_laws.specs.RegisterLaws.{FormatsReadBack, FormatsStay, PageNumberStays, ReadingIsSilent, ReadingMakesNone, ReadOnlyAreLeftAlone, ReadOnlyStay, RemovedReadAsZero, UndefinedReadAsZero, ValuesReadBack};
+ghost use Rattle.roff_laws.specs.RegisterLaws.{FormatsReadBack, FormatsStay, PageNumberStays};
+ghost use Rattle.roff_laws.specs.RegisterLaws.{ReadingIsSilent, ReadingMakesNone};
+ghost use Rattle.roff_laws.specs.RegisterLaws.{ReadOnlyAreLeftAlone, ReadOnlyStay};
+ghost use Rattle.roff_laws.specs.RegisterLaws.{RemovedReadAsZero, UndefinedReadAsZero};
+ghost use Rattle.roff_laws.specs.RegisterLaws.{ValuesReadBack};
 
 /// What is set of a register that isn't read-only, `%` too, is read back; its format stays as its
 /// value is set.

@@ -1,0 +1,122 @@
+-- How many turns of a run are enough, and that what is read leaves fewer.
+use Rattle.std.proofs.Common.{◌≡◌, ◌⊎◌, inl, inr, ◌≤◌, ◌+◌, ◌-◌, ◌*◌, ℕ, suc, true, false, List, [], ◌∷◌, ◌++◌, length, None, refl, ap, arith}
+use Rattle.std.specs.Prelude.{IsSome}
+use Rattle.roff_num.specs.declared.limits.Limits.{Limits}
+use Rattle.roff_run.specs.declared.event.PageEvent.{PageEvent}
+use Rattle.roff_run.specs.Run.{State, closing_events, known, moved, phase_ended}
+use Rattle.roff_ahead.specs.Input.{Ahead, ByteAhead, FreeAhead, EndAhead, ReturnAhead, DoAhead, cost, item_taken, counting}
+use Rattle.roff_source.specs.Tape.{Tape, Item, Gives, OneByte, OneNote, front, behind_front}
+use Rattle.roff_run.specs.TurnsToCome.{begun, endings_of, free_ahead, lines_left, most_left, phases_left, turns_of}
+use Rattle.roff_run.specs.Environments.{interrupted_line}
+use Rattle.roff_run.specs.Reading.Ends.{is_unfinished}
+use Rattle.roff_run.specs.declared.line_state.LineState.{LineState}
+use Rattle.roff_run.specs.declared.line_state.LineState.TheVariants.{LineStart, Braced, Told, Exiting}
+use Rattle.roff_run.specs.declared.phase.Phase.{Phase}
+use Rattle.roff_run.specs.declared.phase.Phase.TheVariants.{Reading, LastMacro, Closing}
+use Rattle.roff_run.proofs.EscapeCounts.{some_ending}
+use Rattle.roff_run.proofs.LinesLeft.{left-few, left_behind}
+use Rattle.roff_run.proofs.Keeping.{AtBrace, AtStart, Keeps-end_taking, Keeps-last_called, LineEnded, Within, line_ended, unended-few}
+use Rattle.roff_run.proofs.Readings.{ReadsOn, LimitStops, AheadTaken, ByteTaken, NoteTaken, HalfEnds, InputLeft, LineEnds, PhaseEnds, MessageTold, RunAborts, SourceFails, SourceStops, SprungRead, Behind-byte_taken, Behind-ahead_taken, Behind-escape_ends, line_ends}
+
+-- How many turns are enough. What is still to be charged may begin something that ends, and a line that ends behind that, and so
+-- may a free byte; an item of the source takes one. A condition takes two endings, and the escape that begins it one more: the
+-- first byte of its request's name begins nothing, and some are kept for it. Each of these may leave a line unfinished, and one
+-- interrupted; and each phase ends.
+abbrev pub turns_needed : Limits → State → ℕ
+turns_needed l s =
+    4 * (5 * (l.bytes - s.input.charge) + 5 * free_ahead s.input.ahead + length s.tape.items)
+    + turns_of (endings_of s.input.escapes) s.reading + most_left s.to_do (lines_left (interrupted_line s.history)) + phases_left s.phase
+
+-- a run has ended, or so many turns are enough
+abbrev pub EndsWithin : Limits → ℕ → State → Type 0
+EndsWithin l n s = IsSome s.ended ⊎ (turns_needed l s ≤ n)
+
+-- an item ahead is charged, or a free byte goes
+charged_or_free : (item : Ahead PageEvent) (behind : List (Ahead PageEvent)) → cost item + free_ahead (item ∷ behind) ≡ free_ahead behind + 1
+charged_or_free (ByteAhead b) behind = omega arith
+charged_or_free (FreeAhead b) behind = omega arith
+charged_or_free EndAhead behind = omega arith
+charged_or_free (ReturnAhead back) behind = omega arith
+charged_or_free (DoAhead event) behind = omega arith
+
+-- what a tape gives goes from its items
+items-behind_front : (tape : Tape) (item : Item) → front tape ≡ Gives item → length tape.items ≡ length (behind_front tape).items + 1
+items-behind_front tape item gives =
+    elim tape.items as (λ items. let t : Tape = record tape { items = items } in front t ≡ Gives item → length items ≡ length (behind_front t).items + 1) [
+      | [] ↦ λ none. absurd (cc)
+      | first ∷ others ↦ λ some. omega arith
+    ] gives
+
+-- so many turns are enough behind a state that needs fewer
+fewer_needed : (l : Limits) (n : ℕ) (s t : State) → turns_needed l s ≤ suc n → turns_needed l t + 1 ≤ turns_needed l s → EndsWithin l n t
+fewer_needed l n s t enough fewer = inr (omega (arith, enough, fewer))
+
+-- where an unfinished line ends a turn fewer is needed
+LineEnds-fewer : (l : Limits) (s : State) (reading : LineState) → LineEnded (known s) s.input reading → s.to_do ≡ []
+    → is_unfinished s.phase (known s) reading ≡ true
+    → turns_needed l (line_ends (record s { reading = reading })) + 1 ≤ turns_needed l (record s { reading = reading })
+LineEnds-fewer l s LineStart AtStart none unfinished =
+    let fewer = left_behind s.phase s.history s.to_do none unfinished in omega (arith, fewer)
+LineEnds-fewer l s Braced AtBrace none unfinished =
+    let fewer = left_behind s.phase s.history s.to_do none unfinished in omega (arith, fewer)
+LineEnds-fewer l s reading (Within same fewer) none unfinished =
+    let keeps = Keeps-end_taking (known s) reading s.input in
+    let behind : State = line_ends (record s { reading = reading }) in
+    let few = left-few behind.to_do s.history in
+    omega (arith, fewer, few, keeps.charge, keeps.free)
+
+-- what is read behind fewer than so many endings, and a line that ends, needs few turns
+turns_of-few : (endings most : ℕ) (reading : LineState) → 2 * endings + begun reading ≤ most → turns_of endings reading ≤ 4 * most + 2
+turns_of-few endings most reading few = omega (arith, few, unended-few reading)
+
+-- a phase ends
+PhaseEnds-fewer : (l : Limits) (n : ℕ) (phase : Phase) (s : State) → s.phase ≡ phase → is_unfinished phase (known s) s.reading ≡ false
+    → turns_needed l s ≤ suc n → EndsWithin l n (phase_ended phase s)
+PhaseEnds-fewer l n Reading s is unfinished enough =
+    let keeps = Keeps-last_called s.registers.last_macro s.input in
+    let phases : phases_left s.phase ≡ 5 = ap phases_left is in
+    inr (omega (arith, enough, keeps.charge, keeps.free, keeps.escapes, phases))
+PhaseEnds-fewer l n LastMacro s is unfinished enough =
+    let phases : phases_left s.phase ≡ 3 = ap phases_left is in
+    let few = left-few (closing_events ++ s.to_do) s.history in
+    inr (omega (arith, enough, few, phases))
+PhaseEnds-fewer l n Closing s is unfinished enough = inl refl
+
+-- what was read, or how the run ended
+pub EndsWithin-read : (l : Limits) (n : ℕ) (s t : State) → ReadsOn l s t → s.to_do ≡ [] → s.sprung ≡ None → turns_needed l s ≤ suc n → EndsWithin l n t
+EndsWithin-read l n s t (LimitStops limit) idle unsprung enough = inl refl
+EndsWithin-read l n s t (AheadTaken item behind ahead charge is_made) idle unsprung enough =
+    let read = Behind-ahead_taken item (record s { input = item_taken item behind s.input }) in
+    let items : length t.tape.items ≡ length s.tape.items = ap (λ (tape : Tape). length tape.items) read.tape in
+    let phase : phases_left t.phase ≡ phases_left s.phase = ap phases_left read.phase in
+    let free : free_ahead s.input.ahead ≡ free_ahead (item ∷ behind) = ap free_ahead ahead in
+    let few = left-few t.to_do t.history in
+    let turns = turns_of-few (endings_of t.input.escapes) (2 * endings_of s.input.escapes + begun s.reading + 4) t.reading read.input.escapes in
+    fewer_needed l n s t enough (omega (arith, read.input.charge, read.input.free, turns, items, phase, few, free, charge, charged_or_free item behind))
+EndsWithin-read l n s t (ByteTaken b none is_open gives charge is_made) idle unsprung enough =
+    let read = Behind-byte_taken b (moved (record s { input = counting b s.input })) in
+    let items = items-behind_front s.tape (OneByte b) gives in
+    let few = left-few t.to_do t.history in
+    let turns = turns_of-few (endings_of t.input.escapes) (2 * endings_of s.input.escapes + begun s.reading + 4) t.reading read.input.escapes in
+    fewer_needed l n s t enough (omega (arith, read.input.charge, read.input.free, turns, items, few, charge))
+EndsWithin-read l n s t (NoteTaken message is_open gives) idle unsprung enough =
+    let items = items-behind_front s.tape (OneNote message) gives in fewer_needed l n s t enough (omega (arith, items))
+EndsWithin-read l n s t (HalfEnds first others half is_made) idle unsprung enough =
+    let read = Behind-escape_ends s first others half in
+    let some : 1 ≤ endings_of s.input.escapes = rw half (omega (arith, some_ending first others)) in
+    let few = left-few t.to_do t.history in
+    let turns = turns_of-few (endings_of t.input.escapes) (2 * endings_of s.input.escapes + begun s.reading - 1) t.reading read.input.escapes in
+    fewer_needed l n s t enough (omega (arith, read.input.charge, read.input.free, turns, few, some))
+EndsWithin-read l n s t (PhaseEnds none half ends unfinished is_made) idle unsprung enough = PhaseEnds-fewer l n s.phase s refl unfinished enough
+EndsWithin-read l n s t (LineEnds unfinished none ends is_made) idle unsprung enough =
+    fewer_needed l n s t enough (LineEnds-fewer l s s.reading (line_ended (known s) s.reading s.input none) idle unfinished)
+EndsWithin-read l n s t (MessageTold told is_made) idle unsprung enough =
+    let turns : turns_of (endings_of s.input.escapes) s.reading ≡ turns_of (endings_of s.input.escapes) (Told false) = ap (turns_of (endings_of s.input.escapes)) told in
+    fewer_needed l n s t enough (omega (arith, turns))
+EndsWithin-read l n s t (RunAborts told) idle unsprung enough = inl refl
+EndsWithin-read l n s t (InputLeft leaves is_made) idle unsprung enough =
+    let turns : turns_of (endings_of s.input.escapes) s.reading ≡ turns_of (endings_of s.input.escapes) Exiting = ap (turns_of (endings_of s.input.escapes)) leaves in
+    fewer_needed l n s t enough (omega (arith, turns))
+EndsWithin-read l n s t (SprungRead name sprung is_made) idle unsprung enough = absurd (cc)
+EndsWithin-read l n s t (SourceFails is_open fails) idle unsprung enough = inl refl
+EndsWithin-read l n s t (SourceStops limit is_open stops) idle unsprung enough = inl refl

@@ -1,0 +1,114 @@
+-- The laws over the start and the end of a run.
+use Rattle.std.proofs.Common.{◌≡◌, ◌⊎◌, inl, inr, ℕ, Bool, true, false, List, [], ◌∷◌, ◌++◌, Option, Some, None, refl, sym, ap, ◌∙◌}
+use Rattle.std.specs.Prelude.{bytes_eq, pos, if◌then◌else◌}
+use Rattle.std.proofs.lemmas.List.{append-nil}
+use Rattle.roff_num.specs.declared.limit.Limit.{Limit}
+use Rattle.roff_num.specs.declared.limits.Limits.{Limits}
+use Rattle.roff_num.specs.declared.num.Num.{Num}
+use Rattle.roff_num.specs.declared.short_name.ShortName.{ShortName}
+use Rattle.roff_escape.specs.OpenEscape.{OpenEscape}
+use Rattle.roff_ahead.specs.Input.{Ahead}
+use Rattle.roff_source.specs.Tape.{Answer, Ended, Ends, front}
+use Rattle.roff_rules.specs.EndLaws.{ExClosesTheInput, GivenRegistersRead, IsReadThrough, NamesNone, TheLastMacroIsRead, ThenTheLineIsPlaced, ThenTheRunIsDone, WithoutOneNothingIsRead}
+use Rattle.roff_run.specs.Reading.Calls.{called_last, last_called}
+use Rattle.roff_run.specs.Reading.Ends.{is_unfinished}
+use Rattle.roff_run.specs.Reading.Items.{PageInput}
+use Rattle.roff_run.specs.Registers.{settable}
+use Rattle.roff_run.specs.Run.Counts.{first_passed, names_counted}
+use Rattle.roff_run.specs.Starts.{with_given}
+use Rattle.roff_store.specs.declared.register.Register.{Register}
+use Rattle.roff_laws.proofs.RegisterLaws.{settable-other, settable-set}
+use Rattle.roff_run.specs.declared.event.PageEvent.{PageEvent}
+use Rattle.roff_run.specs.Run.{State, answered, closing_events, ending_input, input_ended, known, made, phase_ended, source_answer, step, unless_refused, with_registers}
+use Rattle.roff_run.proofs.ItemsTaken.{step-reads}
+use Rattle.roff_rules.proofs.TapeInFront.{unread_input_is_the_tape}
+use Rattle.roff_run.specs.declared.line_state.LineState.TheVariants.{LineStart}
+use Rattle.roff_run.specs.declared.phase.Phase.{Phase}
+use Rattle.roff_run.specs.declared.phase.Phase.TheVariants.{Reading, LastMacro, Closing}
+use Rattle.roff_run.specs.declared.request.Called.{Called}
+use Rattle.roff_run.specs.declared.request.Called.TheVariants.{Body as ABody}
+
+-- a source that has ended, or is closed, answers so
+answers_end : (s : State) → (s.is_closed ≡ true) ⊎ (front s.tape ≡ Ends Ended) → source_answer s ≡ Ends Ended
+answers_end s (inl closed) = ap (λ (closed : Bool). if closed then Ends Ended else front s.tape) closed
+answers_end s (inr ends) = by_closed s.is_closed
+  where
+    by_closed : (closed : Bool) → (if closed then Ends Ended else front s.tape) ≡ Ends Ended
+    by_closed true = refl
+    by_closed false = ends
+
+-- where all is read the phase ends
+ends-phase : (l : Limits) (phase : Phase) (s : State) → IsReadThrough phase s → step l s ≡ made l s (phase_ended phase s)
+ends-phase l phase s through =
+    step-reads l s through.going through.idle through.unsprung through.none_due
+    ∙ unread_input_is_the_tape l s through.none_ahead through.none_half
+    ∙ ap (λ (a : Answer). answered l a s) (answers_end s through.over)
+    ∙ ap (λ (half : List OpenEscape). ending_input l half s) through.none_half
+    ∙ ap (λ (p : Phase). made l s (input_ended (is_unfinished p (known s) s.reading) s)) through.phase_is
+    ∙ ap (λ (unfinished : Bool). made l s (input_ended unfinished s)) through.finished
+    ∙ ap (λ (p : Phase). made l s (phase_ended p s)) through.phase_is
+
+-- nothing is said as it does
+phase-silent : (l : Limits) (s : State) (i : PageInput) (phase : Phase) (es : List PageEvent)
+    → made l s (record s { phase = phase; reading = LineStart; input = i; messages = s.messages ++ []; to_do = es })
+    ≡ made l s (record s { phase = phase; reading = LineStart; input = i; to_do = es })
+phase-silent l s i phase es =
+    ap (λ (said : List ℕ). made l s (record s { phase = phase; reading = LineStart; input = i; messages = said; to_do = es })) (append-nil s.messages)
+
+pub the_last_macro_is_read : TheLastMacroIsRead
+the_last_macro_is_read l s name through named is_body =
+    ends-phase l Reading s through
+    ∙ ap (λ (name : Option ShortName). made l s (record s { phase = LastMacro; reading = LineStart; input = last_called name s.input; messages = s.messages ++ [] })) named
+    ∙ ap (λ (called : Called). made l s (record s { phase = LastMacro; reading = LineStart; input = called_last called s.input; messages = s.messages ++ [] })) is_body
+    ∙ phase-silent l s (called_last (ABody name) s.input) LastMacro s.to_do
+    ∙ ap (λ (items : List (Ahead PageEvent)). made l s (record s { phase = LastMacro; reading = LineStart; input = called_last (ABody name) (record s.input { ahead = items }) })) through.none_ahead
+
+pub without_one_nothing_is_read : WithoutOneNothingIsRead
+without_one_nothing_is_read l s through none =
+    ends-phase l Reading s through
+    ∙ ap (λ (name : Option ShortName). made l s (record s { phase = LastMacro; reading = LineStart; input = last_called name s.input; messages = s.messages ++ [] })) none
+    ∙ phase-silent l s s.input LastMacro s.to_do
+
+pub then_the_line_is_placed : ThenTheLineIsPlaced
+then_the_line_is_placed l s through =
+    ends-phase l LastMacro s through
+    ∙ ap (λ (es : List PageEvent). made l s (record s { phase = Closing; reading = LineStart; messages = s.messages ++ []; to_do = closing_events ++ es })) through.idle
+    ∙ phase-silent l s s.input Closing closing_events
+
+pub then_the_run_is_done : ThenTheRunIsDone
+then_the_run_is_done l s through = ends-phase l Closing s through
+
+pub ex_closes_the_input : ExClosesTheInput
+ex_closes_the_input l s going idle unsprung leaves = rw (going, idle, unsprung, leaves) refl
+
+-- a limit that refuses a register ends the run
+refused_ends : (l : Limits) (r : Option Limit) (s done : State) → (unless_refused l r s done).ended ≡ None → unless_refused l r s done ≡ done
+refused_ends l None s done going = refl
+refused_ends l (Some limit) s done going = absurd (cc)
+
+-- where others are given its value stays
+module _ (l : Limits) (name : ℕ) (value : Num) where
+  stays_given : (others : List (ℕ × Num)) (s : State) → NamesNone name others → (with_registers l others s).ended ≡ None
+      → (settable (name ∷ []) s.registers).value ≡ value → (settable (name ∷ []) (with_registers l others s).registers).value ≡ value
+  stays_given [] s none going is = is
+  stays_given (other ∷ others) s none going is =
+      let behind : State = record s { registers = with_given other s.registers } in
+      let done : State = with_registers l others behind in
+      let same = refused_ends l (first_passed l (names_counted behind.registers)) s done going in
+      let differ : bytes_eq (name ∷ []) (other.0 ∷ []) ≡ false = rw none.0 refl in
+      let kept = settable-other (name ∷ []) (other.0 ∷ []) other.1 (record { 0 = pos 0 }) s.registers differ in
+      let there = stays_given others behind none.1 (ap (λ (t : State). t.ended) (sym same) ∙ going) (ap (λ (r : Register). r.value) kept ∙ is) in
+      ap (λ (t : State). (settable (name ∷ []) t.registers).value) same ∙ there
+
+pub given_registers_read : GivenRegistersRead
+given_registers_read l [] behind name value s free none going =
+    let next : State = record s { registers = with_given (name, value) s.registers } in
+    let same = refused_ends l (first_passed l (names_counted next.registers)) s (with_registers l behind next) going in
+    ap (λ (t : State). (settable (name ∷ []) t.registers).value) same
+    ∙ stays_given l name value behind next none (ap (λ (t : State). t.ended) (sym same) ∙ going)
+    (settable-set (name ∷ []) value (record { 0 = pos 0 }) s.registers free)
+given_registers_read l (first ∷ before) behind name value s free none going =
+    let next : State = record s { registers = with_given first s.registers } in
+    let same = refused_ends l (first_passed l (names_counted next.registers)) s (with_registers l (before ++ (name, value) ∷ behind) next) going in
+    ap (λ (t : State). (settable (name ∷ []) t.registers).value) same
+    ∙ given_registers_read l before behind name value next free none (ap (λ (t : State). t.ended) (sym same) ∙ going)

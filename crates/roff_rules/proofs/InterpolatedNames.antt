@@ -1,0 +1,282 @@
+-- Escapes that are read as texts: names of one byte and of two, and what they ask for.
+use Rattle.std.proofs.Common.{◌≡◌, ℕ, ◌+◌, ◌<◌, true, List, ◌∷◌, ◌++◌, length, Option, Some, None, refl, ap, sym, subst, ◌∙◌, arith, []}
+use Rattle.std.specs.Prelude.{◌||◌, ◌==◌}
+use Rattle.std.proofs.lemmas.List.{append-nil}
+use Rattle.roff_num.specs.declared.limits.Limits.{Limits}
+use Rattle.roff_arguments.specs.Arguments.{Arguments}
+use Rattle.roff_source.specs.Bytes.{newline, backslash, is_dropped}
+use Rattle.roff_escape.specs.EscapeLaws.{sign}
+use Rattle.roff_escape.specs.declared.escapes.NameUse.{NameUse}
+use Rattle.roff_escape.specs.declared.escapes.NameUse.TheVariants.{Register, Text as OfText, Argument}
+use Rattle.roff_escape.specs.OpenEscapes.{byte_read, most_names}
+use Rattle.roff_ahead.specs.Input.{Ahead, pushing}
+use Rattle.roff_escape.specs.OpenEscape.{OpenEscape, Backslash, Name, names_in}
+use Rattle.roff_escape.specs.declared.open_escape.NamePart.TheVariants.{Nothing}
+use Rattle.roff_escape.specs.declared.open_escape.Found.TheVariants.{Asks}
+use Rattle.roff_escape.specs.declared.open_escape.Surroundings.{Surroundings}
+use Rattle.roff_num.specs.declared.direction.Direction.{Direction}
+use Rattle.roff_run.specs.declared.line_state.LineState.{LineState}
+use Rattle.roff_run.specs.declared.line_state.LineState.TheVariants.{LineStart, Branch, Braced, Text as InText, Control, Name as NameOf, Arguments as InArguments, Deciding, StringName, StringText, Skipping, Dropped, Telling, Told, Exiting, Calling, Defining}
+use Rattle.roff_run.specs.declared.line_state.TextLine.{TextLine}
+use Rattle.roff_rules.proofs.Interpolation.{AtLast, Behind, IsRead, IsRead-itself, Means, ReadsEscapes, AtBeginning, AtBranch, AtBraced, OnText, OnArguments, OnCondition, OnStringName, OnCall, OnStringText, OnDefinition, OnMessage, ReadsEscapes-reads_escapes, after-escape, interrupted-arguments, is-going, is_no_newline, line_behind, settled_for, settled_for-settled_for, settled_input, source_behind, taking-reads}
+use Rattle.roff_run.proofs.ItemsTaken.{Fits-IsWithin, FromAhead, FromSource, Origin, ahead_at, going, input_of, not-first, tape_at}
+use Rattle.roff_rules.specs.InterpolationLaws.{IsEscapeOf, Short, Long, ShortString, LongString, OfArgument, reads_text, reads_escapes, reads_above, stepped, text_named, with_text_ahead, EscapesReadAsTexts, EscapesOfTheSourceReadAsTexts, EscapesOfTextReadAsTexts}
+use Rattle.roff_run.specs.ItemsTaken.{TakesItems}
+use Rattle.roff_run.specs.Within.{IsWithin}
+use Rattle.roff_run.specs.Reading.{taking, interrupted}
+use Rattle.roff_run.specs.Reading.Beginnings.{first_name}
+use Rattle.roff_run.specs.Reading.Escapes.{asking}
+use Rattle.roff_run.specs.Reading.Found.{place_in, read_in}
+use Rattle.roff_run.specs.Reading.Items.{PageInput, Taking}
+use Rattle.roff_run.specs.Reading.TextLines.{name_taking}
+use Rattle.roff_run.specs.Registers.{Known, text_of_register}
+use Rattle.roff_run.specs.declared.event.PageEvent.{PageEvent}
+use Rattle.roff_run.specs.Run.{State, known, taken_as, step, after}
+use Rattle.roff_rules.proofs.NamesAsked.{AsksAtLast, asks-argument, asks-opened, byte_read-argument, byte_read-backslash, byte_read-opening, byte_read-short, byte_read-string, finds-signed, finds-string, goes_on-names}
+
+-- what is read as a text: a register, a string or an argument
+pub data Interpolates : NameUse → Type 0 where
+  ARegister : (step : Option Direction) → Interpolates (Register step)
+  AString : Interpolates OfText
+  AnArgument : Interpolates Argument
+
+-- in text too
+name_taking-Interpolates : (k : Known) (i : PageInput) (reading : LineState) (line : TextLine) (purpose : NameUse) (name : Option (List ℕ)) → Interpolates purpose
+    → name_taking k i reading line purpose name ≡ asking k i reading purpose name
+name_taking-Interpolates k i reading line _ name (ARegister step) = refl
+name_taking-Interpolates k i reading line _ name AString = refl
+name_taking-Interpolates k i reading line _ name AnArgument = refl
+
+-- and where a line begins
+first_name-Interpolates : (k : Known) (i : PageInput) (reading : LineState) (purpose : NameUse) (name : Option (List ℕ)) → Interpolates purpose
+    → first_name k i reading purpose name ≡ asking k i reading purpose name
+first_name-Interpolates k i reading _ name (ARegister step) = refl
+first_name-Interpolates k i reading _ name AString = refl
+first_name-Interpolates k i reading _ name AnArgument = refl
+
+-- such a text is asked for
+pub read_in-asks : (k : Known) (reading : LineState) (i : PageInput) (half : List OpenEscape) (asks : NameUse) (name : Option (List ℕ))
+    → Interpolates asks → ReadsEscapes reading
+    → read_in k reading i (Asks asks name, half) ≡ asking k (settled_input reading half i) reading asks name
+read_in-asks k _ i half asks name of AtBeginning = first_name-Interpolates k (record i { escapes = half }) LineStart asks name of
+read_in-asks k _ i half asks name of AtBranch = first_name-Interpolates k (record i { escapes = half }) Branch asks name of
+read_in-asks k _ i half asks name of AtBraced = first_name-Interpolates k (record i { escapes = half }) Braced asks name of
+read_in-asks k _ i half asks name of (OnText line) = name_taking-Interpolates k (record i { escapes = half }) (InText line) line asks name of
+read_in-asks k _ i half asks name of (OnArguments breaks request) = refl
+read_in-asks k _ i half asks name of (OnCondition keeps) = refl
+read_in-asks k _ i half asks name of (OnStringName appends) = refl
+read_in-asks k _ i half asks name of (OnCall string) = refl
+read_in-asks k _ i half asks name of (OnStringText string appends is_front) = refl
+read_in-asks k _ i half asks name of (OnDefinition string appends end matched) = refl
+read_in-asks k _ i half asks name of (OnMessage aborts is_front) = refl
+
+-- a byte that asks for it
+taking-asks : (k : Known) (reading : LineState) (i : PageInput) (b : ℕ) (half : List OpenEscape) (asks : NameUse) (name : Option (List ℕ))
+    → Interpolates asks → ReadsEscapes reading → IsRead b → byte_read (place_in k reading) i.escapes b ≡ (Asks asks name, half)
+    → taking k reading i b ≡ asking k (settled_input reading half i) reading asks name
+taking-asks k reading i b half asks name of on read reads =
+    taking-reads k reading i b on read ∙ ap (read_in k reading i) reads ∙ read_in-asks k reading i half asks name of on
+
+-- a text was asked for in a run
+abbrev pub asked : State → LineState → Origin → Arguments → List OpenEscape → ℕ → ℕ → NameUse → List ℕ → State
+asked s reading from a half charge line asks name =
+    let t : State = stepped asks name (going s reading from [] a half charge line) in
+    record t { input = pushing (text_named (known t) t.input asks name) t.input }
+
+-- what it means is done
+pub taken_as-asking : (s : State) (reading : LineState) (from : Origin) (a : Arguments) (before half : List OpenEscape) (charge line : ℕ) (asks : NameUse) (name : List ℕ)
+    → Interpolates asks
+    → taken_as (asking (known s) (input_of s from [] a half charge line) reading asks (Some name)) (going s reading from [] a before charge line)
+    ≡ asked s reading from a half charge line asks name
+taken_as-asking s reading from a before half charge line _ name (ARegister None) =
+    ap (λ (m : List ℕ). record (asked s reading from a half charge line (Register None) name) { messages = m }) (append-nil s.messages)
+taken_as-asking s reading from a before half charge line _ name (ARegister (Some direction)) = refl
+taken_as-asking s reading from a before half charge line _ name AString =
+    ap (λ (m : List ℕ). record (asked s reading from a half charge line OfText name) { messages = m }) (append-nil s.messages)
+taken_as-asking s reading from a before half charge line _ name AnArgument =
+    ap (λ (m : List ℕ). record (asked s reading from a half charge line Argument name) { messages = m }) (append-nil s.messages)
+
+-- a byte that asks for a text
+means-asks : (s : State) (reading : LineState) (from : Origin) (a : Arguments) (charge line : ℕ) (asks : NameUse) (name : List ℕ)
+    (behind : List OpenEscape) → Interpolates asks → ReadsEscapes reading → settled_for reading a ≡ a
+    → Means s reading from a charge line (Asks asks (Some name)) behind (asked s reading from a behind charge line asks name)
+means-asks s reading from a charge line asks name behind of on same half b read reads =
+    let before : State = going s reading from [] a half charge line in
+    let i : PageInput = input_of s from [] a behind charge line in
+    ap (λ (taking : Taking). taken_as taking before) (taking-asks (known s) reading before.input b behind asks (Some name) of on read reads)
+    ∙ ap (λ (there : Arguments). taken_as (asking (known s) (record i { arguments = there }) reading asks (Some name)) before) same
+    ∙ taken_as-asking s reading from a half behind charge line asks name of
+
+-- a text ahead of what is behind some bytes
+abbrev pub read_from : Origin → NameUse → List ℕ → ℕ → State → State
+read_from from asks name taken s = with_text_ahead asks name taken (ahead_at from []) (stepped asks name (source_behind from s))
+
+-- before it no quote follows the quote before
+with_text_ahead-arguments : (asks : NameUse) (name : List ℕ) (taken : ℕ) (rest : List (Ahead PageEvent)) (s : State) → ReadsEscapes s.reading
+    → with_text_ahead asks name taken rest s
+    ≡ record s { input = pushing (text_named (known s) s.input asks name) (record s.input { ahead = rest; arguments = settled_for s.reading s.input.arguments; charge = s.input.charge + taken }) }
+with_text_ahead-arguments asks name taken rest s on =
+    ap (λ (i : PageInput). record s { input = pushing (text_named (known s) s.input asks name) (record i { ahead = rest; charge = s.input.charge + taken }) })
+    (interrupted-arguments s.reading s.input on)
+
+-- so it is the text that was asked for
+pub read_from-asked : (s : State) (reading : LineState) (from : Origin) (bytes : List ℕ) (a : Arguments) (half : List OpenEscape) (charge taken line : ℕ)
+    (asks : NameUse) (name : List ℕ) → Interpolates asks → ReadsEscapes reading
+    → read_from from asks name taken (going s reading from bytes a half charge line)
+    ≡ asked s reading from (settled_for reading a) half (charge + taken) (line_behind from s line) asks name
+read_from-asked s reading (FromAhead rest) bytes a half charge taken line _ name (ARegister None) on =
+    with_text_ahead-arguments (Register None) name taken rest (going s reading (FromAhead rest) bytes a half charge line) on
+read_from-asked s reading (FromAhead rest) bytes a half charge taken line _ name (ARegister (Some direction)) on =
+    with_text_ahead-arguments (Register (Some direction)) name taken rest (stepped (Register (Some direction)) name (going s reading (FromAhead rest) bytes a half charge line)) on
+read_from-asked s reading (FromAhead rest) bytes a half charge taken line _ name AString on =
+    with_text_ahead-arguments OfText name taken rest (going s reading (FromAhead rest) bytes a half charge line) on
+read_from-asked s reading (FromAhead rest) bytes a half charge taken line _ name AnArgument on =
+    with_text_ahead-arguments Argument name taken rest (going s reading (FromAhead rest) bytes a half charge line) on
+read_from-asked s reading (FromSource tape) bytes a half charge taken line _ name (ARegister None) on =
+    with_text_ahead-arguments (Register None) name taken [] (going s reading (FromSource tape) [] a half charge (s.input.newlines + 1)) on
+read_from-asked s reading (FromSource tape) bytes a half charge taken line _ name (ARegister (Some direction)) on =
+    with_text_ahead-arguments (Register (Some direction)) name taken [] (stepped (Register (Some direction)) name (going s reading (FromSource tape) [] a half charge (s.input.newlines + 1))) on
+read_from-asked s reading (FromSource tape) bytes a half charge taken line _ name AString on =
+    with_text_ahead-arguments OfText name taken [] (going s reading (FromSource tape) [] a half charge (s.input.newlines + 1)) on
+read_from-asked s reading (FromSource tape) bytes a half charge taken line _ name AnArgument on =
+    with_text_ahead-arguments Argument name taken [] (going s reading (FromSource tape) [] a half charge (s.input.newlines + 1)) on
+
+-- its charge
+pub charge-asked : (s : State) (reading : LineState) (from : Origin) (a : Arguments) (half : List OpenEscape) (charge line : ℕ) (asks : NameUse) (name : List ℕ)
+    → Interpolates asks → (asked s reading from a half charge line asks name).input.charge ≡ charge
+charge-asked s reading from a half charge line _ name (ARegister None) = refl
+charge-asked s reading from a half charge line _ name (ARegister (Some direction)) = refl
+charge-asked s reading from a half charge line _ name AString = refl
+charge-asked s reading from a half charge line _ name AnArgument = refl
+
+-- an escape is read as its text, where a run takes items
+escape-going : (l : Limits) (s : State) (reading : LineState) (from : Origin) (a : Arguments)
+    (asks : NameUse) (name : List ℕ) (names : List OpenEscape) (bytes : List ℕ) (charge line : ℕ)
+    → Interpolates asks → ReadsEscapes reading → reads_above names ≡ true → AsksAtLast (place_in (known s) reading) asks name names (Backslash ∷ names) bytes
+    → let first : State = going s reading from (backslash ∷ bytes) a names charge line in
+    let read : State = read_from from asks name (length (backslash ∷ bytes)) first in
+    IsWithin l first → IsWithin l read → after l (length (backslash ∷ bytes)) first ≡ read
+escape-going l s reading from a asks name names bytes charge line of on are last within within_read =
+    let first : State = going s reading from (backslash ∷ bytes) a names charge line in
+    let read : State = read_from from asks name (length (backslash ∷ bytes)) first in
+    let total : ℕ = charge + length (backslash ∷ bytes) in
+    let t : State = asked s reading from (settled_for reading a) names total (line_behind from s line) asks name in
+    let is : read ≡ t = read_from-asked s reading from (backslash ∷ bytes) a names charge (length (backslash ∷ bytes)) line asks name of on in
+    let within_t : IsWithin l t = subst (IsWithin l) is within_read in
+    let charged : t.input.charge ≡ total = charge-asked s reading from (settled_for reading a) names total (line_behind from s line) asks name of in
+    after-escape l s reading from a (Asks asks (Some name)) names names bytes charge line t on (goes_on-names names are) (byte_read-backslash (place_in (known s) reading) names are)
+    last (omega (arith, within_t.bytes, charged)) (Fits-IsWithin l first within)
+    (means-asks s reading from (settled_for reading a) total (line_behind from s line) asks name names of on (settled_for-settled_for reading a on))
+    (Fits-IsWithin l t within_t)
+    ∙ sym is
+
+-- and in any state of such a run
+escape-reads : (l : Limits) (s : State) (from : Origin) (asks : NameUse) (name bytes : List ℕ)
+    → Interpolates asks → TakesItems s → ReadsEscapes s.reading → reads_above s.input.escapes ≡ true → AsksAtLast (place_in (known s) s.reading) asks name s.input.escapes (Backslash ∷ s.input.escapes) bytes
+    → s.input.ahead ≡ ahead_at from (backslash ∷ bytes) → s.tape ≡ tape_at from (backslash ∷ bytes) s.tape
+    → let read : State = read_from from asks name (length (backslash ∷ bytes)) s in
+    IsWithin l s → IsWithin l read → after l (length (backslash ∷ bytes)) s ≡ read
+escape-reads l s from asks name bytes of takes on are last ahead tape =
+    let Goal : State → Type 0 = λ t.
+    IsWithin l t → IsWithin l (read_from from asks name (length (backslash ∷ bytes)) t)
+    → after l (length (backslash ∷ bytes)) t ≡ read_from from asks name (length (backslash ∷ bytes)) t in
+    subst Goal (is-going s from (backslash ∷ bytes) takes ahead tape)
+    (escape-going l s s.reading from s.input.arguments asks name s.input.escapes bytes s.input.charge s.input.line of on are last)
+
+-- each escape
+escapes_read_from : (l : Limits) (s : State) (from : Origin) (asks : NameUse) (name escape : List ℕ)
+    → IsEscapeOf asks name escape → TakesItems s → reads_above s.input.escapes ≡ true → names_in s.input.escapes < most_names
+    → reads_escapes s.reading ≡ true → s.input.ahead ≡ ahead_at from escape → s.tape ≡ tape_at from escape s.tape
+    → let read : State = read_from from asks name (length escape) s in
+    IsWithin l s → IsWithin l read → after l (length escape) s ≡ read
+escapes_read_from l s from _ _ _ (Short step x may plain) takes are few reads ahead tape =
+    let on : ReadsEscapes s.reading = ReadsEscapes-reads_escapes s.reading reads in
+    let base : Surroundings = place_in (known s) s.reading in
+    escape-reads l s from (Register step) (x ∷ []) (110 ∷ sign step ++ x ∷ []) (ARegister step) takes on are
+    (finds-signed base (Asks (Register step) (Some (x ∷ []))) s.input.escapes step (x ∷ []) s.input.escapes few
+    (AtLast (Name (Register step) Nothing ∷ s.input.escapes) x (IsRead-itself x may) (is_no_newline x may) (byte_read-short base step x s.input.escapes are plain))) ahead tape
+escapes_read_from l s from _ _ _ (Long step x y first second) takes are few reads ahead tape =
+    let on : ReadsEscapes s.reading = ReadsEscapes-reads_escapes s.reading reads in
+    let base : Surroundings = place_in (known s) s.reading in
+    escape-reads l s from (Register step) (x ∷ y ∷ []) (110 ∷ sign step ++ 40 ∷ x ∷ y ∷ []) (ARegister step) takes on are
+    (finds-signed base (Asks (Register step) (Some (x ∷ y ∷ []))) s.input.escapes step (40 ∷ x ∷ y ∷ []) s.input.escapes few
+    (Behind _ _ 40 (x ∷ y ∷ []) refl refl (byte_read-opening base step s.input.escapes) refl (asks-opened base (Register step) x y s.input.escapes are first second))) ahead tape
+escapes_read_from l s from _ _ _ (ShortString x may no_opening) takes are few reads ahead tape =
+    let on : ReadsEscapes s.reading = ReadsEscapes-reads_escapes s.reading reads in
+    let base : Surroundings = place_in (known s) s.reading in
+    escape-reads l s from OfText (x ∷ []) (42 ∷ x ∷ []) AString takes on are
+    (finds-string base (Asks OfText (Some (x ∷ []))) s.input.escapes (x ∷ []) s.input.escapes few
+    (AtLast (Name OfText Nothing ∷ s.input.escapes) x (IsRead-itself x may) (is_no_newline x may)
+    (byte_read-string base x s.input.escapes are (not-first (x == backslash) (is_dropped x || x == newline) may) no_opening))) ahead tape
+escapes_read_from l s from _ _ _ (LongString x y first second) takes are few reads ahead tape =
+    let on : ReadsEscapes s.reading = ReadsEscapes-reads_escapes s.reading reads in
+    let base : Surroundings = place_in (known s) s.reading in
+    escape-reads l s from OfText (x ∷ y ∷ []) (42 ∷ 40 ∷ x ∷ y ∷ []) AString takes on are
+    (finds-string base (Asks OfText (Some (x ∷ y ∷ []))) s.input.escapes (40 ∷ x ∷ y ∷ []) s.input.escapes few
+    (Behind _ _ 40 (x ∷ y ∷ []) refl refl refl refl (asks-opened base OfText x y s.input.escapes are first second))) ahead tape
+escapes_read_from l s from _ _ _ (OfArgument x may) takes are few reads ahead tape =
+    let on : ReadsEscapes s.reading = ReadsEscapes-reads_escapes s.reading reads in
+    let base : Surroundings = place_in (known s) s.reading in
+    escape-reads l s from Argument (x ∷ []) (36 ∷ x ∷ []) AnArgument takes on are
+    (asks-argument base (x ∷ []) (x ∷ []) s.input.escapes few
+    (AtLast (Name Argument Nothing ∷ s.input.escapes) x (IsRead-itself x may) (is_no_newline x may)
+    (byte_read-argument base x s.input.escapes are (not-first (x == backslash) (is_dropped x || x == newline) may)))) ahead tape
+
+pub escapes_read_as_texts : EscapesReadAsTexts
+escapes_read_as_texts l s asks name escape rest is_escape takes are few reads ahead =
+    escapes_read_from l s (FromAhead rest) asks name escape is_escape takes are few reads ahead refl
+
+pub escapes_of_the_source_read_as_texts : EscapesOfTheSourceReadAsTexts
+escapes_of_the_source_read_as_texts l s asks name escape tape is_escape takes are few reads none stands =
+    escapes_read_from l s (FromSource tape) asks name escape is_escape takes are few reads none stands
+
+-- where text is read, nothing that isn't a byte of the line changes the input
+interrupted-reads_text : (reading : LineState) (i : PageInput) → reads_text reading ≡ true → interrupted reading i ≡ i
+interrupted-reads_text LineStart i is = refl
+interrupted-reads_text Branch i is = refl
+interrupted-reads_text Braced i is = refl
+interrupted-reads_text (InText line) i is = refl
+interrupted-reads_text (InArguments breaks request) i is = absurd (cc)
+interrupted-reads_text (Control breaks) i is = absurd (cc)
+interrupted-reads_text (NameOf breaks first) i is = absurd (cc)
+interrupted-reads_text (Deciding keeps) i is = absurd (cc)
+interrupted-reads_text (StringName appends) i is = absurd (cc)
+interrupted-reads_text (Calling name) i is = absurd (cc)
+interrupted-reads_text (StringText name appends is_front) i is = absurd (cc)
+interrupted-reads_text (Defining name appends end matched) i is = absurd (cc)
+interrupted-reads_text (Skipping opened closed behind) i is = absurd (cc)
+interrupted-reads_text Dropped i is = absurd (cc)
+interrupted-reads_text (Telling aborts is_front) i is = absurd (cc)
+interrupted-reads_text (Told aborts) i is = absurd (cc)
+interrupted-reads_text Exiting i is = absurd (cc)
+
+-- and escapes are read
+reads_escapes-reads_text : (reading : LineState) → reads_text reading ≡ true → reads_escapes reading ≡ true
+reads_escapes-reads_text LineStart is = refl
+reads_escapes-reads_text Branch is = refl
+reads_escapes-reads_text Braced is = refl
+reads_escapes-reads_text (InText line) is = refl
+reads_escapes-reads_text (InArguments breaks request) is = refl
+reads_escapes-reads_text (Control breaks) is = absurd (cc)
+reads_escapes-reads_text (NameOf breaks first) is = absurd (cc)
+reads_escapes-reads_text (Deciding keeps) is = refl
+reads_escapes-reads_text (StringName appends) is = refl
+reads_escapes-reads_text (Calling name) is = refl
+reads_escapes-reads_text (StringText name appends is_front) is = refl
+reads_escapes-reads_text (Defining name appends end matched) is = refl
+reads_escapes-reads_text (Skipping opened closed behind) is = absurd (cc)
+reads_escapes-reads_text Dropped is = absurd (cc)
+reads_escapes-reads_text (Telling aborts is_front) is = refl
+reads_escapes-reads_text (Told aborts) is = absurd (cc)
+reads_escapes-reads_text Exiting is = absurd (cc)
+
+pub escapes_of_text_read_as_texts : EscapesOfTextReadAsTexts
+escapes_of_text_read_as_texts l s name escape rest is_escape takes reads half ahead within within_read =
+    let of : PageInput → State = λ i. record s {
+      input = pushing (text_of_register (known s) name) (record i { ahead = rest; charge = s.input.charge + length escape });
+    } in
+    let is : with_text_ahead (Register None) name (length escape) rest s ≡ of s.input = ap of (interrupted-reads_text s.reading s.input reads) in
+    let few : names_in s.input.escapes < most_names = rw half (omega arith) in
+    escapes_read_as_texts l s (Register None) name escape rest is_escape takes (rw half refl) few (reads_escapes-reads_text s.reading reads) ahead
+    within (subst (IsWithin l) (sym is) within_read)
+    ∙ is

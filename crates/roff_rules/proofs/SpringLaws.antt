@@ -1,0 +1,143 @@
+-- The laws over macros that spring, and over the input-line trap.
+use Rattle.std.proofs.Common.{◌≡◌, ◌≢◌, ◌∙◌, ℕ, zero, suc, ◌+◌, ◌-◌, ◌≤◌, Bool, true, false, List, ◌∷◌, Option, Some, None, refl, ap, arith}
+use Rattle.std.specs.Prelude.{nat_lt, if◌then◌else◌}
+use Rattle.std.proofs.lemmas.Bool.{le-ltb}
+use Rattle.std.proofs.lemmas.Bool.Decides.{nat_tests}
+use Rattle.roff_num.specs.declared.limit.Limit.{Limit}
+use Rattle.roff_num.specs.declared.limit.Limit.TheVariants.{Bytes}
+use Rattle.roff_num.specs.declared.limits.Limits.{Limits}
+use Rattle.roff_num.specs.declared.short_name.ShortName.{ShortName}
+use Rattle.roff_escape.specs.OpenEscape.{OpenEscape}
+use Rattle.roff_ahead.specs.Input.{Ahead, ReturnAhead, item_taken}
+use Rattle.roff_lines.specs.declared.event.Event.TheVariants.{Count}
+use Rattle.roff_run.specs.Environments.{Environments, InEnvironment, counted_down, environments, happened, is_same, number_behind, trap_reached}
+use Rattle.roff_run.specs.Reading.Returns.{back_of, behind_return, gone_back_to}
+use Rattle.roff_run.specs.Reading.Waiting.{waiting_above}
+use Rattle.roff_run.specs.Requests.{called_by}
+use Rattle.roff_run.specs.Run.{State, after, ahead_taken, in_front_taken, made, performed, performing, read_waiting, sprung_at, sprung_read, step, step_with, stopped_by, unless_refused}
+use Rattle.roff_run.specs.declared.environment_number.EnvironmentNumber.{EnvironmentNumber}
+use Rattle.roff_run.specs.declared.environment_number.EnvironmentNumber.TheVariants.{Zero, One, Two}
+use Rattle.roff_run.specs.declared.event.PageEvent.{PageEvent}
+use Rattle.roff_run.specs.declared.line_state.LineState.{LineState}
+use Rattle.roff_run.specs.declared.line_state.LineState.TheVariants.{LineStart, Branch, Braced, Text as InText, Control, Name, Arguments as InArguments, Deciding, StringName, StringText, Skipping, Dropped, Telling, Told, Exiting, Calling, Defining}
+use Rattle.roff_run.specs.declared.line_state.TextLine.{TextLine}
+use Rattle.roff_run.specs.declared.request.Called.{Called}
+use Rattle.roff_run.specs.declared.request.Called.TheVariants.{Body as ABody, Nothing as Unknown}
+use Rattle.roff_run.proofs.ItemsTaken.{step-TakesItems}
+use Rattle.roff_laws.proofs.Endings.{step-going}
+use Rattle.roff_rules.specs.SpringLaws.{EachLineCounts, LinesGoOnAsTheyWere, MacrosAreReadFirst, MayBeInterrupted, NamesWithoutABodyReadNothing, OthersKeepTheirTraps, Springs, TheLastLineSprings, with_rest_back}
+
+-- the step at the event
+springing-step : (l : Limits) (s : State) (e : PageEvent) (rest : List PageEvent) (name : ShortName) → Springs l s e rest name
+    → step l s ≡ record (with_rest_back e rest s) { sprung = Some name }
+springing-step l s e rest name does =
+    step-going l s does.going
+    ∙ ap (λ (es : List PageEvent). step_with l es s) does.first
+    ∙ ap (λ (own : Option PageEvent). performing l own e rest s) does.none_before
+    ∙ ap (λ (r : Option Limit). unless_refused l r s (performed e rest s)) does.allowed
+    ∙ ap (λ (sprung : Option ShortName). sprung_at sprung rest (record s { history = e ∷ s.history })) does.sprung
+
+-- and the one behind it, by what the name stands for
+sprung-step : (l : Limits) (s : State) (e : PageEvent) (rest : List PageEvent) (name : ShortName) (called : Called) → Springs l s e rest name
+    → called_by name s.input.names ≡ called
+    → let before : State = record (with_rest_back e rest s) { sprung = Some name } in after l 2 s ≡ made l before (sprung_read called before)
+sprung-step l s e rest name called does is =
+    let before : State = record (with_rest_back e rest s) { sprung = Some name } in
+    ap (step l) (springing-step l s e rest name does)
+    ∙ step-going l before does.going
+    ∙ ap (λ (c : Called). made l before (sprung_read c before)) is
+
+pub macros_are_read_first : MacrosAreReadFirst
+macros_are_read_first l s e rest name does is = sprung-step l s e rest name (ABody name) does is
+
+pub names_without_a_body_read_nothing : NamesWithoutABodyReadNothing
+names_without_a_body_read_nothing l s e rest name does is = sprung-step l s e rest name Unknown does is
+
+-- what may be interrupted is gone back to
+gone_back-text : (glyph other brace : Bool) (leading : ℕ) → leading ≤ 1 → (glyph ≡ true → leading ≡ 0)
+    → let line : TextLine = record { has_glyph = glyph; has_other = other; has_brace = brace; leading = leading } in
+    gone_back_to (back_of (InText line)) ≡ InText line
+gone_back-text true true true zero few told = refl
+gone_back-text true true false zero few told = refl
+gone_back-text true false true zero few told = refl
+gone_back-text true false false zero few told = refl
+gone_back-text false true true zero few told = refl
+gone_back-text false true false zero few told = refl
+gone_back-text false false true zero few told = refl
+gone_back-text false false false zero few told = refl
+gone_back-text false true true (suc zero) few told = refl
+gone_back-text false true false (suc zero) few told = refl
+gone_back-text false false true (suc zero) few told = refl
+gone_back-text false false false (suc zero) few told = refl
+gone_back-text true other brace (suc leading) few told = let none = told refl in absurd (cc)
+gone_back-text false other brace (suc (suc leading)) few told = absurd (omega (arith, few))
+
+gone_back : (reading : LineState) → MayBeInterrupted reading → gone_back_to (back_of reading) ≡ reading
+gone_back LineStart may = refl
+gone_back Branch may = refl
+gone_back Braced may = refl
+gone_back (InText line) may = gone_back-text line.has_glyph line.has_other line.has_brace line.leading may.0 may.1
+gone_back (Control breaks) may = absurd may
+gone_back (Name breaks first) may = absurd may
+gone_back (InArguments breaks request) may = absurd may
+gone_back (Deciding keeps) may = absurd may
+gone_back (Skipping opened closed behind) may = absurd may
+gone_back (StringName appends) may = absurd may
+gone_back (StringText name appends is_front) may = absurd may
+gone_back Dropped may = absurd may
+gone_back (Telling aborts is_front) may = absurd may
+gone_back (Told aborts) may = absurd may
+gone_back Exiting may = absurd may
+gone_back (Calling name) may = absurd may
+gone_back (Defining name appends end matched) may = absurd may
+
+pub lines_go_on_as_they_were : LinesGoOnAsTheyWere
+lines_go_on_as_they_were l s reading behind on may starts none_half ahead within =
+    let item : Ahead PageEvent = ReturnAhead (back_of reading) in
+    let taken : State = record s { input = item_taken item behind s.input } in
+    let done : State = made l s (ahead_taken item taken) in
+    step-TakesItems l s on
+    ∙ ap (λ (r : LineState). read_waiting l (waiting_above r s.input.arguments.place s.input.escapes) s) starts
+    ∙ ap (λ (half : List OpenEscape). read_waiting l (waiting_above LineStart s.input.arguments.place half) s) none_half
+    ∙ ap (λ (items : List (Ahead PageEvent)). in_front_taken l items s) ahead
+    ∙ ap (λ (c : Bool). if c then stopped_by l Bytes s else done) (le-ltb l.bytes (s.input.charge + 1) (omega (arith, within)))
+    ∙ ap (λ (r : LineState). made l s (record taken { reading = behind_return (back_of reading) r })) starts
+    ∙ ap (λ (r : LineState). made l s (record taken { reading = r })) (gone_back reading may)
+
+-- the trap of the environment in force
+pub the_last_line_springs : TheLastLineSprings
+the_last_line_springs h name is = (ap trap_reached is, ap counted_down is)
+
+pub each_line_counts : EachLineCounts
+each_line_counts h trap more is =
+    let waits : nat_lt 1 trap.lines ≡ true = grind (arith, nat_tests) in (
+      ap trap_reached is ∙ ap (λ (c : Bool). if c then None else Some trap.name) waits,
+      ap counted_down is ∙ ap (λ (c : Bool). if c then Some (record trap { lines = trap.lines - 1 }) else None) waits,
+    )
+
+-- of another number the environment isn't in force
+differ : (number other : EnvironmentNumber) → number ≢ other → is_same number other ≡ false
+differ Zero Zero differs = absurd (differs refl)
+differ Zero One differs = refl
+differ Zero Two differs = refl
+differ One Zero differs = refl
+differ One One differs = absurd (differs refl)
+differ One Two differs = refl
+differ Two Zero differs = refl
+differ Two One differs = refl
+differ Two Two differs = absurd (differs refl)
+
+-- one that isn't in force has the same trap, whatever happens to that one
+others_same : (is_there : Bool) (now before other : InEnvironment) → is_there ≡ false
+    → (if is_there then now else other).input_trap ≡ (if is_there then before else other).input_trap
+others_same true now before other apart = absurd (cc)
+others_same false now before other apart = refl
+
+pub others_keep_their_traps : OthersKeepTheirTraps
+others_keep_their_traps h number trap differs =
+    let es : Environments = environments h in
+    let other : InEnvironment = if is_same (number_behind es.number) number then es.next else es.last in
+    let apart : is_same es.number number ≡ false = differ es.number number differs in (
+      others_same (is_same es.number number) (happened Count es.in_force) es.in_force other apart,
+      others_same (is_same es.number number) (record es.in_force { input_trap = trap }) es.in_force other apart,
+    )

@@ -1,0 +1,135 @@
+-- Laws of text lines: what a line of glyphs and blanks tells, and a line of blanks alone (manual, sections 4.1 and 4.2).
+use Rattle.std.specs.Prelude.{◌≡◌, ℕ, zero, suc, ◌+◌, ◌≤◌, ⊤, Bool, true, false, not, ◌||◌, List, [], ◌∷◌, ◌++◌, length, map, replicate, All, None, ◌==◌}
+use Rattle.std.specs.List.{flat_map}
+use Rattle.roff_num.specs.declared.limits.Limits.{Limits}
+use Rattle.roff_source.specs.Bytes.{apostrophe, blank, dot, is_text_byte, newline}
+use Rattle.roff_source.specs.Tape.{Tape, OneByte, items_then}
+use Rattle.roff_lines.specs.declared.event.Event.TheVariants.{Print, WordEnd, Gap, LineEnd, Count, Break}
+use Rattle.roff_lines.specs.declared.glyph.Glyph.TheVariants.{Printed, Blanks}
+use Rattle.roff_ahead.specs.Input.{Ahead, ByteAhead, lines_taken}
+use Rattle.roff_rules.specs.CallLaws.{BeginsLine}
+use Rattle.roff_run.specs.Environments.{PageHistory, interrupted_line}
+use Rattle.roff_run.specs.Reading.TextLines.{most_leading}
+use Rattle.roff_run.specs.declared.event.PageEvent.{PageEvent}
+use Rattle.roff_run.specs.declared.event.PageEvent.TheVariants.{Space, Text}
+use Rattle.roff_run.specs.Springs.{springs}
+use Rattle.roff_run.specs.Run.{State, after}
+use Rattle.roff_run.specs.Run.Counts.{refusal}
+use Rattle.roff_run.specs.TurnsToCome.{behind_all}
+use Rattle.roff_run.specs.Within.{IsWithin}
+
+-- a byte that is printed as a glyph, and stands for itself
+pub record IsGlyph (b : ℕ) : Type 0 where
+  pub is_text : is_text_byte b ≡ true
+  pub is_printed : (b == blank) ≡ false
+
+-- a text line: blanks in front, a word, behind it blanks and words in turn, and blanks at its end
+pub record TextOnLine : Type 0 where
+  pub leading : ℕ
+  pub first : ℕ
+  pub word : List ℕ
+  pub others : List (ℕ × List ℕ)
+  pub trailing : ℕ
+
+-- blanks, of which there is one at least, and the word behind them
+abbrev pub gap_and_word : ℕ × List ℕ → List ℕ
+gap_and_word part = replicate (suc part.0) blank ++ part.1
+
+-- its bytes
+abbrev pub text_bytes : TextOnLine → List ℕ
+text_bytes t =
+    ((replicate t.leading blank ++ t.first ∷ t.word) ++ flat_map gap_and_word t.others) ++ replicate t.trailing blank ++ newline ∷ []
+
+-- whether a text line may begin so: its first glyph begins no control line, or blanks stand in front of it
+abbrev pub begins_text : ℕ → ℕ → Bool
+begins_text zero b = not (b == dot || b == apostrophe)
+begins_text (suc n) b = true
+
+-- the line is one of text, and its words are of glyphs
+pub record IsTextOnLine (t : TextOnLine) : Type 0 where
+  pub leading_few : t.leading ≤ most_leading
+  pub first_is : IsGlyph t.first
+  pub word_is : All IsGlyph t.word
+  pub others_are : All (λ (part : ℕ × List ℕ). All IsGlyph part.1) t.others
+  pub begins : begins_text t.leading t.first ≡ true
+
+-- the glyphs of a word
+abbrev pub word_events : List ℕ → List PageEvent
+word_events word = map (λ b. Text (Print (Printed b))) word
+
+-- each blank behind it ends the word, and is a gap
+abbrev pub gap_events : ℕ → List PageEvent
+gap_events zero = []
+gap_events (suc n) = Text WordEnd ∷ Text (Gap 1) ∷ gap_events n
+
+-- blanks in front break, and are one glyph that can't be padded, in front of the first one of the line
+abbrev pub leading_events : ℕ → List PageEvent
+leading_events zero = []
+leading_events (suc n) = Text WordEnd ∷ Text Break ∷ Text (Print (Blanks (suc n))) ∷ []
+
+-- what it tells: words and gaps, and at its end a word's end, the line's end, and that it counts
+abbrev pub text_events : TextOnLine → List PageEvent
+text_events t =
+    leading_events t.leading ++ word_events (t.first ∷ t.word) ++ flat_map (λ part. gap_events (suc part.0) ++ word_events part.1) t.others
+    ++ gap_events t.trailing ++ Text WordEnd ∷ Text LineEnd ∷ Text Count ∷ []
+
+-- no limit refuses any of these events, one behind another
+abbrev pub AreAllowed : Limits → PageHistory → List PageEvent → Type 0
+AreAllowed l h [] = ⊤
+AreAllowed l h (e ∷ es) = (refusal l h e ≡ None) × AreAllowed l (e ∷ h) es
+
+-- A line of text tells its words and gaps, in order. A step is taken for each byte, and one for each event, and each byte costs
+-- one; nothing else changes, and a line begins behind it. So it is where no line was interrupted that is to go on, and no macro
+-- springs as the line counts.
+abbrev pub TextLinesTellTheirWords : Type 0
+TextLinesTellTheirWords =
+    (l : Limits) (s : State) (t : TextOnLine) (rest : List (Ahead PageEvent)) →
+    BeginsLine s → interrupted_line s.history ≡ None → springs s.history (Text Count) ≡ None → IsTextOnLine t →
+    s.input.ahead ≡ map ByteAhead (text_bytes t) ++ rest →
+    IsWithin l s → s.input.charge + length (text_bytes t) ≤ l.bytes → AreAllowed l s.history (text_events t) →
+    after l (length (text_bytes t) + length (text_events t)) s
+    ≡ record s {
+      input = record s.input { ahead = rest; charge = s.input.charge + length (text_bytes t) };
+      history = behind_all (text_events t) s.history;
+    }
+
+-- and so it is where the line stands in the source itself, with nothing ahead of it
+abbrev pub TextLinesOfTheSourceTellTheirWords : Type 0
+TextLinesOfTheSourceTellTheirWords =
+    (l : Limits) (s : State) (t : TextOnLine) (tape : Tape) →
+    BeginsLine s → interrupted_line s.history ≡ None → springs s.history (Text Count) ≡ None → IsTextOnLine t → s.input.ahead ≡ [] →
+    s.tape ≡ items_then (map OneByte (text_bytes t)) tape →
+    IsWithin l s → s.input.charge + length (text_bytes t) ≤ l.bytes → AreAllowed l s.history (text_events t) →
+    after l (length (text_bytes t) + length (text_events t)) s
+    ≡ record s { tape = tape; input = lines_taken (text_bytes t) s.input; history = behind_all (text_events t) s.history }
+
+-- the bytes of a line of blanks alone
+abbrev pub blank_bytes : ℕ → List ℕ
+blank_bytes n = replicate n blank ++ newline ∷ []
+
+-- it breaks, where its first blank stands and at its end, and is a blank line
+abbrev pub blank_events : ℕ → List PageEvent
+blank_events zero = Text WordEnd ∷ Text Break ∷ Space 1 ∷ []
+blank_events (suc n) = Text WordEnd ∷ Text Break ∷ Text WordEnd ∷ Text Break ∷ Space 1 ∷ []
+
+-- a line of blanks alone, and an empty one, breaks and is a blank line; it isn't counted
+abbrev pub BlankLinesSpace : Type 0
+BlankLinesSpace =
+    (l : Limits) (s : State) (n : ℕ) (rest : List (Ahead PageEvent)) →
+    BeginsLine s → interrupted_line s.history ≡ None → n ≤ most_leading → s.input.ahead ≡ map ByteAhead (blank_bytes n) ++ rest →
+    IsWithin l s → s.input.charge + length (blank_bytes n) ≤ l.bytes → AreAllowed l s.history (blank_events n) →
+    after l (length (blank_bytes n) + length (blank_events n)) s
+    ≡ record s {
+      input = record s.input { ahead = rest; charge = s.input.charge + length (blank_bytes n) };
+      history = behind_all (blank_events n) s.history;
+    }
+
+-- and so it is where the line stands in the source itself, with nothing ahead of it
+abbrev pub BlankLinesOfTheSourceSpace : Type 0
+BlankLinesOfTheSourceSpace =
+    (l : Limits) (s : State) (n : ℕ) (tape : Tape) →
+    BeginsLine s → interrupted_line s.history ≡ None → n ≤ most_leading → s.input.ahead ≡ [] →
+    s.tape ≡ items_then (map OneByte (blank_bytes n)) tape →
+    IsWithin l s → s.input.charge + length (blank_bytes n) ≤ l.bytes → AreAllowed l s.history (blank_events n) →
+    after l (length (blank_bytes n) + length (blank_events n)) s
+    ≡ record s { tape = tape; input = lines_taken (blank_bytes n) s.input; history = behind_all (blank_events n) s.history }
