@@ -7,6 +7,7 @@
     bench/make_text.py code MEGABYTES       filling off: lines of source code of 0 to 90 bytes, set in by blanks or by tabs
     bench/make_text.py skipped MEGABYTES    running text as the branch of a condition that is false
     bench/make_text.py macros MEGABYTES     running text with macros, strings and registers of its own
+    bench/make_text.py springs MEGABYTES    running text in which a macro springs behind every third line
     bench/make_text.py loop MEGABYTES       macros that call each other until so many bytes of them were read; writes nothing
     bench/make_text.py tables MEGABYTES     tables of 200 rows of three columns, with a line of text before each
 """
@@ -14,7 +15,7 @@ import functools
 import random
 import sys
 
-KINDS = ("text", "requests", "registers", "code", "skipped", "macros", "loop", "tables")
+KINDS = ("text", "requests", "registers", "code", "skipped", "macros", "springs", "loop", "tables")
 
 MEGABYTE = 1_000_000
 
@@ -92,6 +93,17 @@ UNFILLED = b".nf\n"
 
 # What stands before and behind text that is skipped.
 SKIPPED = (b".if 0 \\{\\\n", b".\\}\n")
+
+# What stands before text in which a macro springs: it sets its trap again, counts in a register, and breaks.
+SPRINGING = b"""\
+.nr sp 0 1
+.de xs
+.it 3 xs
+.if \\\\n+(sp>9 .nr sp 0
+.br
+..
+.it 3 xs
+"""
 
 # The macros of a document that has its own: a heading, a paragraph, an item with a number, and a note.
 MACROS = """\
@@ -280,7 +292,7 @@ def write_document(kind, size, file, number=0):
     if kind == "tables":
         file.write(Writer(number).tables(size))
         return
-    around = {"skipped": SKIPPED, "macros": (MACROS.encode(), b""), "code": (UNFILLED, b"")}
+    around = {"skipped": SKIPPED, "macros": (MACROS.encode(), b""), "springs": (SPRINGING, b""), "code": (UNFILLED, b"")}
     front, behind = around.get(kind, (b"", b""))
     size -= len(front + behind)
     text = new_text(kind, min(size, NEW_TEXT), number)

@@ -225,6 +225,21 @@ LONG.update({
     "exit_within_strings": (b".nr n 0 1\n.ds s \\\\n+n.\\\\*s\n.ds t \\\\*u\n.ds u .ex\n", b"a line\n", b"\\*t\nnever\n", MEGABYTE),
     "exit_before_a_long_input": (b"a line\n.ex\n", b"never\n", b"", 50 * MEGABYTE),
 })
+LONG.update({
+    "input_traps_set": (b"", b".it 9 X\n", b"x\n", 10 * MEGABYTE),
+    "input_traps_that_spring": (b".de X\nx\n..\n", b".it 1 X\na\n", b"", 5 * MEGABYTE),
+    "input_traps_without_macros": (b"", b".it 1 X\na\n", b"", 5 * MEGABYTE),
+    "input_traps_in_each_environment": (b".de X\n.br\n..\n", b".it 1 X\na\n.ev 1\n.it 2 X\n.it 1 X\nb\n.ev\n", b"", 5 * MEGABYTE),
+    "input_traps_behind_interrupted_lines": (b".de X\nx\n..\n", b".it 1 X\na\\c\nb\n", b"", 5 * MEGABYTE),
+    "input_trap_of_many_lines": (b".it 2147483647 X\n", b"a line\n", b"", 10 * MEGABYTE),
+    "input_trap_that_sets_itself": (b".de X\n.it 1 X\nx\n..\n.it 1 X\n", b"a\n", b"", 100),
+    "input_traps_that_set_each_other": (b".de X\n.it 1 Y\nx\n..\n.de Y\n.it 1 X\ny\n..\n.it 1 X\n", b"a\n", b"", 100),
+    "input_traps_that_take_turns": (b".de X\n.it 1 Y\n..\n.de Y\n.it 1 X\nx\n..\n.it 1 X\n", b"a\n", b"", MEGABYTE),
+    "macro_sprung": (b".de X\n", b"A line of a macro.\n", b"..\n.it 1 X\na\nb\n", MEGABYTE // 4),
+    "macro_sprung_past_the_stack": (b".de X\n", b"A line of a macro.\n", b"..\n.it 1 X\na\nb\n", MEGABYTE // 2),
+    "macro_sprung_and_removed_while_it_is_read": (b"", b".de X\n.rm X\nx\n..\n.it 1 X\na\n", b"", MEGABYTE),
+    "macro_sprung_and_renamed_before": (b".de X\nx\n..\n", b".it 1 X\n.rn X Y\na\n.rn Y X\n", b"", MEGABYTE),
+})
 # Documents for which fewer bytes are allowed. A call costs many times what a byte of text does, and in these there is one
 # for each few bytes. Their time is bounded for each byte that is read, those of strings and macros too, and not by the
 # document's length.
@@ -273,6 +288,9 @@ STOPPED_BY = {
     "tab_stops_past_the_stack": "stack",
     "tabs_past_the_line": "line",
     "lines_interrupted_past_the_line": "line",
+    "input_trap_that_sets_itself": "depth",
+    "input_traps_that_set_each_other": "depth",
+    "macro_sprung_past_the_stack": "stack",
 }
 # What long documents begin with, where the program's answer is short to say.
 BEGINS = {
@@ -314,6 +332,16 @@ BEGINS = {
     "exit_within_calls": b"a line a line ",
     "exit_within_strings": b"a line a line ",
     "exit_before_a_long_input": b"a line\n",
+    "input_traps_set": b"x\n",
+    "input_traps_that_spring": b"a x a x ",
+    "input_traps_without_macros": b"a a a ",
+    "input_traps_in_each_environment": b"a\nb\na\nb\n",
+    "input_traps_behind_interrupted_lines": b"ab x ab x ",
+    "input_trap_of_many_lines": b"a line a line ",
+    "input_traps_that_take_turns": b"a a x a x a x ",
+    "macro_sprung": b"a A line of a macro.",
+    "macro_sprung_and_removed_while_it_is_read": b"a x a x ",
+    "macro_sprung_and_renamed_before": b"a a a ",
 }
 
 # Long documents with tables: what stands in front, what is repeated, what stands behind, the bytes of it all, the options,
@@ -440,6 +468,8 @@ AROUND = (
     b".em %s",
     b".em \\%s",
     b".em m%s",
+    b".de m\nx\n..\n.it%s1 m%s\na\\c\nb%s\nc\n.it 1 %s\nd\n",
+    b".de m\nx%s\n%s..\n.it 1 m\na%s\nb\n",
 )
 
 # What random documents are made of, how many there are of each kind, and the options with which each is formatted.
@@ -472,6 +502,11 @@ PIECES_OF_ENDS = (
     2 * [b"\n.em m\n", b"\n.em n\n", b"\n.em\n", b"\n.em "]
     + [b"\n.de m\n", b"\n.de n\n", b"\n..\n", b"\n.m\n", b"\n.if 0 .ex\n", b"\n.el .ex\n", b"\n\\\\..\n", b"\\c\n", b"\n.ev 1\n", b"\n.ev\n"]
 )
+PIECES_OF_SPRINGS = (
+    3 * [b"\n.it 1 m\n", b"\n.it 2 n\n"]
+    + [b"\n.it 1\n", b"\n.it\n", b"\n.it ", b"\n.it 1 br\n", b"\n.it 1 s\n", b"\n.it 0 m\n", b"\n.rm m\n", b"\n.rn m n\n"]
+    + 2 * [b"\n.de m\n", b"\n.de n\n", b"\n..\n", b"\n.ds s ", b"a word\n", b"\\c\n", b"\\{", b"\\}", b"\n.if 1 ", b"\n \\c\n"]
+)
 RANDOM = {
     "random": PIECES,
     "random_conditions": PIECES + 12 * PIECES_OF_CONDITIONS,
@@ -479,6 +514,7 @@ RANDOM = {
     "random_macros": PIECES + 20 * PIECES_OF_MACROS + 5 * PIECES_OF_STRINGS,
     "random_environments": PIECES + 20 * PIECES_OF_ENVIRONMENTS + 2 * PIECES_OF_MACROS,
     "random_ends": PIECES + 20 * PIECES_OF_ENDS + 5 * PIECES_OF_CONDITIONS,
+    "random_springs": PIECES + 20 * PIECES_OF_SPRINGS + 4 * PIECES_OF_ENVIRONMENTS + 4 * PIECES_OF_ENDS,
 }
 RANDOM_DOCUMENTS = 100
 PIECES_OF_TABLES = (

@@ -272,6 +272,42 @@ fn files_are_opened_before_anything_is_read(rt: HostRuntime) {
     }
 }
 
+/// Registers that a limit refuses at the start: nothing is read, so a source that would fail doesn't.
+static REFUSED: [(&[&str], &str); 2] = [
+    (
+        &["roff", "nroff", "-ra1", "--names", "0"],
+        "nroff: line 1: limit names (0) reached\n",
+    ),
+    (
+        &["roff", "both", "-ra1", "-rb2", "--names", "1", "-"],
+        "nroff: line 1: limit names (1) reached\n",
+    ),
+];
+
+#[test]
+fn refused_starts_read_nothing(rt: HostRuntime) {
+    let alloc = rt.alloc();
+    for (words, err) in &REFUSED {
+        let reads = Cell::new(0);
+        let machine = Machine {
+            standard_input: Given {
+                reads: Some(&reads),
+                fails: true,
+                ..Given::new(b"")
+            },
+            ..machine(alloc, words)
+        };
+        let expected = Expected {
+            status: 3,
+            out: b"",
+            err: err.as_bytes(),
+        };
+        let (stdout, stderr) = (Paper::new(alloc), Paper::new(alloc));
+        check(&rt, &machine, stdout, stderr, expected);
+        assert_eq!(rt; reads.get(), 0, "reads of {words:?}");
+    }
+}
+
 /// A command, whether its input fails behind the bytes, the status, and what is told.
 static ENDINGS: [(&[&str], bool, u8, &str); 2] = [
     (&["roff", "nroff"], false, 0, ""),
