@@ -189,6 +189,7 @@ fn split_decimals(behind: &[u8]) -> (usize, &[u8], &[u8])
 }
 
 /// The unit at a text's front, and how many bytes it takes.
+#[inline(always)]
 fn read_unit(text: &[u8], scale: Scale) -> (Ratio, usize)
     ensures value { result ≡ unit_at scale text.now }
     ensures within { result.1 ≤ length text.now }

@@ -48,6 +48,7 @@ impl Operator {
     }
 
     /// What the operator gives of two values, or why it gives nothing.
+    #[inline(always)]
     pub(crate) fn apply(self, left: i32, right: i32) -> Result<i32, NumFault>
         ensures { result ≡ applied self left right }
     {

@@ -1,10 +1,12 @@
 //! Ends of words and of lines of the input, and breaks: the lines that they finish.
 
-ghost use Rattle.std.specs.Prelude.{◌≡◌, option_map};
+ghost use Rattle.std.specs.Prelude.{◌≡◌, ℕ, is_some, option_map};
 ghost use Rattle.std.specs.Borrow.{sem};
-ghost use Rattle.roff_lines.specs.Clauses.{WordEnd, LineEnd, Break, finished_of, shaped};
+ghost use Rattle.roff_lines.specs.Clauses.{WordEnd, LineEnd, Break, History, finished, finished_of};
+ghost use Rattle.roff_lines.specs.Clauses.{shaped};
 
 use super::Env;
+use crate::event::Event;
 use crate::line::Line;
 use crate::shape::Shape;
 use std::mem;
@@ -12,7 +14,7 @@ use std::mem;
 impl Env {
     ghost use Rattle.roff_lines.specs.Env.Kept.{with_line_finished, finished_by_break};
     ghost use Rattle.roff_lines.specs.Env.Kept.{with_input_line_ended, finished_by_line_end};
-    ghost use Rattle.roff_lines.specs.Env.Stands.{Finishes};
+    ghost use Rattle.roff_lines.specs.Env.Stands.{Finishes, Stands};
     ghost use Rattle.roff_lines.specs.Env.Rests.{RestsBehind};
 
     /// Ends the open word, which finishes the pending line if the word doesn't fit there.
@@ -40,6 +42,21 @@ impl Env {
     {
         let shape = self.finish_pending();
         self.lent(shape)
+    }
+
+    /// Whether an event would finish a line.
+    pub fn finishes(&self, event: Event) -> bool
+        ensures { (line_cap : ℕ) (h : History) → Stands line_cap h self.now
+            → result ≡ is_some (finished h event) }
+    {
+        match event {
+            Event::WordEnd => self.is_open && self.has_line && !self.word_fits(),
+            Event::LineEnd => {
+                !self.settings.fills() && (self.has_line || !self.settings.filling)
+            }
+            Event::Break => self.has_line,
+            _ => false,
+        }
     }
 
     /// The finished line, in this shape.

@@ -23,6 +23,7 @@ const MOST_PLACE: u64 = 2147483647;
 
 impl Env {
     ghost use Rattle.roff_lines.specs.Env.Kept.{with_word_ended, finished_by_word, word_finishes};
+    ghost use Rattle.roff_lines.specs.Env.Kept.{word_fits};
     ghost use Rattle.roff_lines.specs.Env.Kept.{begun_blanks, length_with, with_glyph};
     ghost use Rattle.roff_lines.specs.Env.Stands.{Stands, StandsBehind};
 
@@ -157,8 +158,23 @@ impl Env {
         Some(full)
     }
 
+    /// Whether the open word fits behind the pending line.
+    #[inline(always)]
+    pub(super) fn word_fits(&self) -> bool
+        ensures { result ≡ word_fits self.now }
+    {
+        fits(
+            self.settings,
+            self.indent,
+            &self.line,
+            self.blanks,
+            &self.word,
+        )
+    }
+
     /// Puts the open word into the pending line, where that finishes none. Says whether it does; else
     /// the environment is as it was.
+    #[inline(always)]
     pub(super) fn join_word(&mut self) -> bool
         ensures joins { result ≡ not (word_finishes self.old) }
         ensures kept { self.new ≡ (if result then with_word_ended self.old else self.old) }
@@ -171,13 +187,7 @@ impl Env {
             self.indent = indent_of_line(self.temporary_indent, self.settings);
             self.temporary_indent = None;
             self.has_line = true;
-        } else if fits(
-            self.settings,
-            self.indent,
-            &self.line,
-            self.blanks,
-            &self.word,
-        ) {
+        } else if self.word_fits() {
             push_gap(&mut self.line, self.blanks as usize);
             self.line.append(&self.word);
             self.word.clear();
