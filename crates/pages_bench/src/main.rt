@@ -94,11 +94,10 @@ fn pages(alloc: Global, are_written: bool) -> Result<Pages, AllocError> {
         output: u32::MAX,
         ..Limits::DEFAULT
     };
-    let mut ranges = Vec::new(alloc);
+    let mut pages = Pages::new(alloc, limits)?;
     if !are_written {
-        ranges.push((Num(-2), Num(-1)))?;
+        pages.list_pages(Num(-2), Num(-1));
     }
-    let mut pages = Pages::new(alloc, limits, None, ranges)?;
     let _planted = pages.plant(Trap {
         place: 60,
         name: ShortName {

@@ -72,13 +72,15 @@ fn pages_anew(alloc: Global, words: &mut Words<'_>) -> Result<Pages, AllocError>
         output: words.count(),
         ..Limits::DEFAULT
     };
-    let first = words.some_number().map(Num);
-    let mut ranges = Vec::new(alloc);
+    let mut pages = Pages::new(alloc, limits)?;
+    if let Some(first) = words.some_number() {
+        pages.set_next(Num(first));
+    }
     for _ in 0..words.count() {
         let from = Num(words.number());
-        ranges.push((from, Num(words.number())))?;
+        pages.list_pages(from, Num(words.number()));
     }
-    Pages::new(alloc, limits, first, ranges)
+    Ok(pages)
 }
 
 /// Tells an answer, and what the pages answer.

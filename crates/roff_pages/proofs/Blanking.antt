@@ -8,7 +8,7 @@ use Rattle.roff_lines.specs.Words.{is_empty}
 use Rattle.roff_sinks.specs.declared.page_fault.PageFault.{PageFault}
 use Rattle.roff_sinks.specs.Sinks.{Sunk}
 use Rattle.roff_pages.specs.Layout.{Box, Empty, Layout, Diversion, page_place}
-use Rattle.roff_pages.specs.Happenings.{Happening, Does, Eject, EjectLast, EjectOn, Need, Space, is_eject}
+use Rattle.roff_pages.specs.Happenings.{Happening, Does, Eject, EjectTo, EjectLast, EjectOn, Need, Space, ejecting, is_eject}
 use Rattle.roff_pages.specs.Stops.{Target, innermost, is_diverted, next_stop, page_target, target}
 use Rattle.roff_pages.specs.Puts.{appended, blank_lines, boxes_put, ejected_if, needed, puts}
 use Rattle.roff_pages.specs.Turning.{behind_put, next_behind, no_space_behind, with_event}
@@ -168,11 +168,11 @@ eject_last_puts L k s short some_page some_line =
 
 -- an eject puts the way, with a number in any case
 pub eject_puts : (asked : ℕ) (n : Num) (L : Layout) (k : Kept) → StandsAs L k → k.length < 2 ^ 32 → asked < 2 ^ 32 → k.begun ≡ asked
-    → PutsBlank (Does (Eject asked (Some n))) L (way_on k) (way_on k) (Some n) k.no_space
+    → PutsBlank (Does (EjectTo asked n)) L (way_on k) (way_on k) (Some n) k.no_space
 eject_puts asked n L k s short few is =
     let way = way_is L k s short in
     record {
-      puts_is = ap (λ (b : Bool). ejected_if (b && true) (page_target L)) (begun_is L k asked s few is) ∙ ap (λ (n : ℕ). Some (blank_lines n)) (sym way);
+      puts_is = ap (λ (b : Bool). ejected_if b (page_target L)) (begun_is L k asked s few is) ∙ ap (λ (n : ℕ). Some (blank_lines n)) (sym way);
       target_is = refl;
       on_page = refl;
       count_is = omega arith;
@@ -181,13 +181,13 @@ eject_puts asked n L k s short few is =
     }
 
 pub numbered_eject_puts : (asked : ℕ) (number : Option Num) (n : Num) (L : Layout) (k : Kept) → number ≡ Some n → StandsAs L k → k.length < 2 ^ 32 → asked < 2 ^ 32
-    → k.begun ≡ asked → PutsBlank (Does (Eject asked number)) L (way_on k) (way_on k) number k.no_space
+    → k.begun ≡ asked → PutsBlank (Does (ejecting asked number)) L (way_on k) (way_on k) number k.no_space
 numbered_eject_puts asked number n L k e s short few is =
-    subst (λ (m : Option Num). PutsBlank (Does (Eject asked m)) L (way_on k) (way_on k) m k.no_space) (sym e) (eject_puts asked n L k s short few is)
+    subst (λ (m : Option Num). PutsBlank (Does (ejecting asked m)) L (way_on k) (way_on k) m k.no_space) (sym e) (eject_puts asked n L k s short few is)
 
 -- and without one where no-space mode is off
 pub plain_eject_puts : (asked : ℕ) (L : Layout) (k : Kept) → StandsAs L k → k.length < 2 ^ 32 → asked < 2 ^ 32 → k.begun ≡ asked → k.no_space ≡ false
-    → PutsBlank (Does (Eject asked None)) L (way_on k) (way_on k) k.next false
+    → PutsBlank (Does (Eject asked)) L (way_on k) (way_on k) k.next false
 plain_eject_puts asked L k s short few is mode =
     let way = way_is L k s short in
     let off : L.no_space ≡ false = sym s.no_space ∙ mode in
@@ -221,9 +221,14 @@ eject_on_nothing asked L k s few not_it = record {
 }
 
 pub eject_nothing : (asked : ℕ) (number : Option Num) (L : Layout) (k : Kept) → StandsAs L k → asked < 2 ^ 32 → (k.begun ≡ asked → ⊥)
-    → PutsNothing (Does (Eject asked number)) L
-eject_nothing asked number L k s few not_it = record {
-  puts_is = ap (λ (b : Bool). ejected_if (b && (is_some number || not L.no_space)) (page_target L)) (begun_not L k asked s few not_it);
+    → PutsNothing (Does (ejecting asked number)) L
+eject_nothing asked None L k s few not_it = record {
+  puts_is = ap (λ (b : Bool). ejected_if (b && not L.no_space) (page_target L)) (begun_not L k asked s few not_it);
+  stays = refl;
+  on_page = refl;
+}
+eject_nothing asked (Some number) L k s few not_it = record {
+  puts_is = ap (λ (b : Bool). ejected_if b (page_target L)) (begun_not L k asked s few not_it);
   stays = refl;
   on_page = refl;
 }
@@ -233,7 +238,7 @@ unasked : (b : Bool) (t : Target) → ejected_if (b && false) t ≡ None
 unasked true t = refl
 unasked false t = refl
 
-pub eject_inhibited : (asked : ℕ) (L : Layout) (k : Kept) → StandsAs L k → k.no_space ≡ true → PutsNothing (Does (Eject asked None)) L
+pub eject_inhibited : (asked : ℕ) (L : Layout) (k : Kept) → StandsAs L k → k.no_space ≡ true → PutsNothing (Does (Eject asked)) L
 eject_inhibited asked L k s mode = record {
   puts_is = ap (λ (on : Bool). ejected_if (L.begun == asked && not on) (page_target L)) (sym s.no_space ∙ mode) ∙ unasked (L.begun == asked) (page_target L);
   stays = refl;

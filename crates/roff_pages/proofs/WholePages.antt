@@ -6,7 +6,7 @@ use Rattle.std.proofs.lemmas.Bool.{leb-true, leb-false, and_parts, eqb-true, fal
 use Rattle.std.proofs.lemmas.List.{length-replicate, length-append}
 use Rattle.roff_num.specs.declared.short_name.ShortName.{ShortName}
 use Rattle.roff_pages.specs.Layout.{Box, Empty, Layout, page_place}
-use Rattle.roff_pages.specs.Happenings.{LayoutEvent, Happening, Does, Places, Titles, is_eject, Begin, Eject, EjectOn, EjectLast, Length, Offset}
+use Rattle.roff_pages.specs.Happenings.{LayoutEvent, Happening, Does, Places, Titles, is_eject, Begin, Eject, EjectTo, EjectOn, EjectLast, Length, Offset}
 use Rattle.roff_pages.specs.Stops.{Target, next_stop, page_target, target, is_diverted}
 use Rattle.roff_pages.specs.Puts.{Put, boxes_put, puts, appended, ejected_if}
 use Rattle.roff_pages.specs.Turning.{page_begun, turned, with_boxes, next_behind, unput, without_put, behind_put, with_event}
@@ -243,10 +243,15 @@ waits_if x false L waits = λ h. cc
 
 -- each eject waits
 event_waits : (e : LayoutEvent) (L : Layout) → goes_on (Does e) L ≡ true → is_some (springs (Does e) L) ≡ true
-event_waits (Eject asked number) L h =
-    let x = Does (Eject asked number) in
+event_waits (Eject asked) L h =
+    let x = Does (Eject asked) in
     let N : Layout = with_boxes x (boxes_put (page_target L) (ejected_if true (page_target L))) (record L { next = next_behind x L.next }) in
-    waits_if x (L.begun == asked && (is_some number || not L.no_space)) L
+    waits_if x (L.begun == asked && not L.no_space) L
+    (waits_full (nat_le L.length (length N.boxes)) L.is_closing L N _ _ refl (waits_here L)) h
+event_waits (EjectTo asked number) L h =
+    let x = Does (EjectTo asked number) in
+    let N : Layout = with_boxes x (boxes_put (page_target L) (ejected_if true (page_target L))) (record L { next = next_behind x L.next }) in
+    waits_if x (L.begun == asked) L
     (waits_full (nat_le L.length (length N.boxes)) L.is_closing L N _ _ refl (waits_here L)) h
 event_waits (EjectOn asked) L h =
     let x = Does (EjectOn asked) in

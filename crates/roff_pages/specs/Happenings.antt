@@ -1,7 +1,9 @@
 -- What happens to a layout: a line is placed, or a title, or something else.
 pub use Rattle.roff_pages.specs.declared.layout_event.LayoutEvent.{LayoutEvent}
-pub use Rattle.roff_pages.specs.declared.layout_event.LayoutEvent.TheVariants.{ListPages, Begin, Close, Space, Need, Eject, EjectOn, EjectLast, Length, Offset, Next, Number, NoSpace, Plant, Uproot, MoveTrap, RemoveTrap, DiversionTrap, Divert, EndDivert}
-use Rattle.std.specs.Prelude.{Bool, true, false}
+pub use Rattle.roff_pages.specs.declared.layout_event.LayoutEvent.TheVariants.{ListPages, Begin, Close, Space, Need, Eject, EjectTo, EjectOn, EjectLast, Length, Offset, Next, Number, NoSpace, Plant, Uproot, MoveTrap, RemoveTrap, DiversionTrap, NoDiversionTrap, Divert, EndDivert}
+use Rattle.roff_num.specs.declared.num.Num.{Num}
+use Rattle.roff_pages.specs.declared.trap.Trap.{Trap}
+use Rattle.std.specs.Prelude.{ℕ, Bool, true, false, Option, Some, None}
 use Rattle.roff_lines.specs.Lines.{Finished}
 use Rattle.roff_sinks.specs.Titles.{Title}
 
@@ -11,9 +13,20 @@ pub data Happening : Type 0 where
   Places : Finished → Happening
   Titles : Title → Happening
 
+-- a page is ejected, and the next one gets a number, if one is given
+abbrev pub ejecting : ℕ → Option Num → LayoutEvent
+ejecting asked None = Eject asked
+ejecting asked (Some number) = EjectTo asked number
+
+-- the innermost open diversion has this trap from now on, or none
+abbrev pub trapping : Option Trap → LayoutEvent
+trapping None = NoDiversionTrap
+trapping (Some trap) = DiversionTrap trap
+
 -- whether a page is ejected
 abbrev pub is_eject_event : LayoutEvent → Bool
-is_eject_event (Eject asked number) = true
+is_eject_event (Eject asked) = true
+is_eject_event (EjectTo asked number) = true
 is_eject_event (EjectOn asked) = true
 is_eject_event EjectLast = true
 is_eject_event (_) = false

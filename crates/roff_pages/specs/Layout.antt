@@ -63,10 +63,6 @@ first_layout = record {
   is_over = false;
 }
 
--- the same, where the first page's number may be given, and ranges of pages
-abbrev pub started_with : Option Num → List (Num × Num) → Layout
-started_with first ranges = record first_layout { next = first; ranges = ranges }
-
 -- how many lines stand on the page
 abbrev pub page_place : Layout → ℕ
 page_place L = length L.boxes

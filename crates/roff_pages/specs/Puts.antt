@@ -1,9 +1,9 @@
 -- What a happening puts: a box, and blank lines behind it (manual, sections 3, 5.3 and 7.5).
-use Rattle.std.specs.Prelude.{ℕ, ◌+◌, ◌-◌, min, Bool, not, ◌&&◌, ◌||◌, List, [], ◌∷◌, ◌++◌, replicate, nat_lt, Option, Some, None, is_some, if◌then◌else◌, ◌==◌}
+use Rattle.std.specs.Prelude.{ℕ, ◌+◌, ◌-◌, min, Bool, not, ◌&&◌, List, [], ◌∷◌, ◌++◌, replicate, nat_lt, Option, Some, None, if◌then◌else◌, ◌==◌}
 use Rattle.roff_lines.specs.Columns.{printed}
 use Rattle.roff_sinks.specs.Titles.{title_text}
 use Rattle.roff_pages.specs.Layout.{Box, Lined, Empty, Layout}
-use Rattle.roff_pages.specs.Happenings.{LayoutEvent, Happening, Does, Places, Titles, Space, Need, Eject, EjectOn, EjectLast}
+use Rattle.roff_pages.specs.Happenings.{LayoutEvent, Happening, Does, Places, Titles, Space, Need, Eject, EjectTo, EjectOn, EjectLast}
 use Rattle.roff_pages.specs.Stops.{Target, target}
 
 -- what is put: a text, if there is one, and so many blank lines behind it at most
@@ -33,7 +33,8 @@ ejected_if is_asked t = if is_asked then Some (blank_lines (way_to t.place t.sto
 abbrev pub put_by : LayoutEvent → Target → ℕ → Option Put
 put_by (Space k) t begun = if t.no_space then None else Some (blank_lines k)
 put_by (Need k) t begun = Some (blank_lines (needed k t.place t.stop))
-put_by (Eject asked number) t begun = ejected_if (begun == asked && (is_some number || not t.no_space)) t
+put_by (Eject asked) t begun = ejected_if (begun == asked && not t.no_space) t
+put_by (EjectTo asked number) t begun = ejected_if (begun == asked) t
 put_by (EjectOn asked) t begun = ejected_if (begun == asked) t
 put_by EjectLast t begun = ejected_if (not (begun == 0) && not (t.place == 0)) t
 put_by (_) t begun = None

@@ -1,5 +1,5 @@
 -- The layout behind a happening, and where a page ends (manual, sections 3 and 7.4).
-use Rattle.std.specs.Prelude.{ℕ, ◌+◌, Bool, true, false, ◌&&◌, ◌||◌, ℤ, pos, ◌+ℤ◌, List, [], ◌∷◌, ◌++◌, length, max, nat_le, int_lt, int_le, Option, Some, None, if◌then◌else◌, ◌==◌}
+use Rattle.std.specs.Prelude.{ℕ, ◌+◌, Bool, true, false, ◌&&◌, ◌||◌, ℤ, pos, ◌+ℤ◌, List, [], ◌∷◌, ◌++◌, length, max, nat_le, nat_lt, int_lt, int_le, Option, Some, None, if◌then◌else◌, ◌==◌}
 use Rattle.std.specs.List.{list_any}
 use Rattle.std.specs.Ordering.{int_eq}
 use Rattle.roff_num.specs.declared.num.Num.{Num}
@@ -8,7 +8,7 @@ use Rattle.roff_lines.specs.Glyphs.{text_width}
 use Rattle.roff_lines.specs.Words.{is_empty}
 use Rattle.roff_pages.specs.declared.trap.Trap.{Trap}
 use Rattle.roff_pages.specs.Layout.{Box, Lined, Empty, Diversion, Layout, page_place, opened}
-use Rattle.roff_pages.specs.Happenings.{LayoutEvent, Happening, Does, Places, Titles, is_eject, ListPages, Begin, Close, Space, Need, Eject, EjectOn, EjectLast, Length, Offset, Next, Number, NoSpace, Plant, Uproot, MoveTrap, RemoveTrap, DiversionTrap, Divert, EndDivert}
+use Rattle.roff_pages.specs.Happenings.{LayoutEvent, Happening, Does, Places, Titles, is_eject, ListPages, Begin, Close, Space, Need, Eject, EjectTo, EjectOn, EjectLast, Length, Offset, Next, Number, NoSpace, Plant, Uproot, MoveTrap, RemoveTrap, DiversionTrap, NoDiversionTrap, Divert, EndDivert}
 use Rattle.roff_pages.specs.Stops.{is_diverted}
 use Rattle.roff_pages.specs.Puts.{Put, puts, appended}
 
@@ -73,7 +73,7 @@ with_boxes x boxes L = record L {
 
 -- the number that the next page gets: an eject may set it
 abbrev pub next_of_event : LayoutEvent → Option Num → Option Num
-next_of_event (Eject asked (Some n)) next = Some n
+next_of_event (EjectTo asked n) next = Some n
 next_of_event (_) next = next
 
 -- the same of a happening
@@ -155,14 +155,23 @@ abbrev pub innermost_width : List Diversion → ℕ → ℕ
 innermost_width [] width = width
 innermost_width (d ∷ ds) width = greatest_width d.boxes
 
+-- of more ranges of pages than this the others are ignored
+abbrev pub most_ranges : ℕ
+most_ranges = 32
+
+-- with a range more
+abbrev pub with_range : Num × Num → List (Num × Num) → List (Num × Num)
+with_range range ranges = if nat_lt (length ranges) most_ranges then ranges ++ range ∷ [] else ranges
+
 -- behind an event that puts nothing
 abbrev pub without_put : LayoutEvent → Layout → Layout
-without_put (ListPages first last) L = record L { ranges = L.ranges ++ (first, last) ∷ [] }
+without_put (ListPages first last) L = record L { ranges = with_range (first, last) L.ranges }
 without_put Begin L = page_begun L
 without_put Close L = record L { diversions = []; is_closing = true }
 without_put (Space k) L = L
 without_put (Need k) L = L
-without_put (Eject asked number) L = L
+without_put (Eject asked) L = L
+without_put (EjectTo asked number) L = L
 without_put (EjectOn asked) L = L
 without_put EjectLast L = record L { is_over = true }
 without_put (Length k) L = record L { length = k }
@@ -177,7 +186,8 @@ without_put (Plant t) L = record L { traps = with_trap t L.traps }
 without_put (Uproot place) L = record L { traps = without_first (is_given place) L.traps }
 without_put (MoveTrap name place) L = record L { traps = with_first (is_named name) (moved_to place) L.traps }
 without_put (RemoveTrap name) L = record L { traps = without_first (is_named name) L.traps }
-without_put (DiversionTrap trap) L = record L { diversions = with_diversion_trap trap L.diversions }
+without_put (DiversionTrap trap) L = record L { diversions = with_diversion_trap (Some trap) L.diversions }
+without_put NoDiversionTrap L = record L { diversions = with_diversion_trap None L.diversions }
 without_put (Divert name appends) L = record L { diversions = opened name appends ∷ L.diversions }
 without_put EndDivert L = record L {
   diversions = without_innermost L.diversions;

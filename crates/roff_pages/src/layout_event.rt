@@ -8,7 +8,7 @@ use roff_num::{Num, ShortName};
 #[derive(Clone, Copy, Debug, PartialEq, Eq)]
 pub enum LayoutEvent {
     /// The pages of these numbers, and those between them, are written. Without any such range all
-    /// are.
+    /// are, and of more than 32 the others are ignored.
     ListPages(Num, Num),
     /// The first page begins. Those behind it begin by themselves.
     Begin,
@@ -19,9 +19,11 @@ pub enum LayoutEvent {
     Space(u32),
     /// So many lines are to stand together: what is left is spaced where it is less (`ne`).
     Need(u32),
-    /// The page is ejected that is the one of this number in turn, and the next one gets a number,
-    /// if one is given (manual, section 3, the request `bp`).
-    Eject(u32, Option<Num>),
+    /// The page is ejected that is the one of this number in turn, unless no-space mode is on
+    /// (manual, section 3, the request `bp`).
+    Eject(u32),
+    /// The same in no-space mode too; the next page gets this number.
+    EjectTo(u32, Num),
     /// Ejecting the page of this number in turn goes on behind a macro that was sprung.
     EjectOn(u32),
     /// The page is ejected at the end of the closing phase.
@@ -45,8 +47,10 @@ pub enum LayoutEvent {
     MoveTrap(ShortName, i32),
     /// The first trap of this name is removed.
     RemoveTrap(ShortName),
-    /// The innermost open diversion gets this trap, or none (`dt`).
-    DiversionTrap(Option<Trap>),
+    /// The innermost open diversion gets this trap (`dt`).
+    DiversionTrap(Trap),
+    /// The innermost open diversion has no trap any more.
+    NoDiversionTrap,
     /// A diversion is opened under this name (`di`), and whether it is to be appended (`da`).
     Divert(ShortName, bool),
     /// The innermost open diversion ends.

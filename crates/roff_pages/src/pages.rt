@@ -1,7 +1,7 @@
 //! Pages: how the lines on a page, its traps and the open diversions are kept.
 
 ghost use Rattle.std.specs.Prelude.{◌≡◌, ◌-◌, [], IfOk, Some, None, not, min, ◌^◌, ◌*◌};
-ghost use Rattle.roff_pages.specs.Layout.{Layout, started_with, page_place};
+ghost use Rattle.roff_pages.specs.Layout.{Layout, first_layout, page_place};
 
 mod diverted;
 mod diverting;
@@ -13,6 +13,7 @@ mod turning;
 
 use crate::open_diversion::OpenDiversion;
 use crate::trap::Trap;
+use arrayvec::ArrayVec;
 use roff_num::{Limits, Num};
 use roff_sinks::Block;
 use std::alloc::{AllocError, Global};
@@ -30,7 +31,7 @@ pub(crate) const MOST_BEGUN: u64 = 1 << 32;
 #[derive(Drop)]
 pub struct Pages {
     /// The pages that are written; all if there is none.
-    ranges: Vec<(Num, Num)>,
+    ranges: ArrayVec<(Num, Num), 32>,
     /// The number of the next page, if one was set.
     next: Option<Num>,
     /// How many pages were begun.
@@ -81,27 +82,21 @@ impl Model for Pages {
 impl Pages {
     ghost use Rattle.roff_pages.specs.Pages.Stands.{StandsAs};
 
-    /// Pages before the first one begins, which gets this number, if one is given. Those in the
-    /// ranges are written, and all pages if there is none.
+    /// Pages before the first one begins, all of which are written.
     ///
     /// # Errors
     ///
     /// [`AllocError`] if memory for the traps and diversions that the limits let be can't be had.
-    pub fn new(
-        alloc: Global,
-        limits: Limits,
-        first: Option<Num>,
-        ranges: Vec<(Num, Num)>,
-    ) -> Result<Self, AllocError>
-        ensures stands { IfOk result (λ p. StandsAs (started_with first ranges.items) p) }
+    pub fn new(alloc: Global, limits: Limits) -> Result<Self, AllocError>
+        ensures stands { IfOk result (λ p. StandsAs first_layout p) }
         ensures written { IfOk result (λ p. p.written ≡ 0) }
         ensures output { IfOk result (λ p. p.output ≡ limits.output) }
         ensures traps { IfOk result (λ p. p.most_traps ≡ limits.traps) }
         ensures diversions { IfOk result (λ p. p.most_diversions ≡ limits.diversions) }
     {
         Ok(Pages {
-            ranges,
-            next: first,
+            ranges: ArrayVec::new(),
+            next: None,
             begun: 0,
             number: Num(0),
             length: 66,

@@ -19,15 +19,15 @@ pub fn pages()
     // `.pl 4`, `.wh -2v FO`: the footer has a title, and ejects the page
     ensures footers { let foot = title [] (45 ∷ 32 ∷ 1 ∷ 32 ∷ 45 ∷ []) [] 9 in
         written (Does (Length 4) ∷ Does (Plant (footer_at (negsuc 1))) ∷ Does Begin
-        ∷ line (codes "a") ∷ line (codes "b") ∷ foot (codes "1") ∷ Does (Eject 1 None)
-        ∷ line (codes "c") ∷ line (codes "d") ∷ foot (codes "2") ∷ Does (Eject 2 None)
+        ∷ line (codes "a") ∷ line (codes "b") ∷ foot (codes "1") ∷ Does (Eject 1)
+        ∷ line (codes "c") ∷ line (codes "d") ∷ foot (codes "2") ∷ Does (Eject 2)
         ∷ Does Close ∷ Does EjectLast ∷ []) first_layout
         ≡ codes "a\nb\n  - 1 -\n\nc\nd\n  - 2 -\n\n" }
     // ten lines are spaced up to the footer alone, and the last eject goes on behind it
     ensures spaced { let foot = title [] (45 ∷ 32 ∷ 1 ∷ 32 ∷ 45 ∷ []) [] 9 in
         written (Does (Length 4) ∷ Does (Plant (footer_at (negsuc 1))) ∷ Does Begin
-        ∷ Does (Space 10) ∷ foot (codes "1") ∷ Does (Eject 1 None) ∷ line (codes "b")
-        ∷ Does Close ∷ Does EjectLast ∷ foot (codes "2") ∷ Does (Eject 2 None) ∷ []) first_layout
+        ∷ Does (Space 10) ∷ foot (codes "1") ∷ Does (Eject 1) ∷ line (codes "b")
+        ∷ Does Close ∷ Does EjectLast ∷ foot (codes "2") ∷ Does (Eject 2) ∷ []) first_layout
         ≡ codes "\n\n  - 1 -\n\nb\n\n  - 2 -\n\n" }
     // a page whose place is 0 writes nothing at the end
     ensures empty { written (Does Begin ∷ Does Close ∷ Does EjectLast ∷ []) first_layout ≡ [] }
@@ -52,11 +52,11 @@ pub fn traps()
         ∷ Does (Plant (footer_at (pos 2))) ∷ Does Begin ∷ Does (Space 10) ∷ Does (Space 10) ∷ [])
         first_layout ≡ None ∷ None ∷ None ∷ Some footer ∷ Some header ∷ [] }
     ensures eject_over_two { let all = Does (Length 6) ∷ Does (Plant (header_at (pos 4)))
-        ∷ Does (Plant (footer_at (pos 2))) ∷ Does Begin ∷ Does (Eject 1 None) ∷ Does (EjectOn 1)
+        ∷ Does (Plant (footer_at (pos 2))) ∷ Does Begin ∷ Does (Eject 1) ∷ Does (EjectOn 1)
         ∷ Does (EjectOn 1) ∷ Does (EjectOn 1) ∷ [] in sprung all first_layout
         ≡ None ∷ None ∷ None ∷ None ∷ Some footer ∷ Some header ∷ None ∷ None ∷ [] }
     ensures eject_goes_on { let all = Does (Length 6) ∷ Does (Plant (header_at (pos 4)))
-        ∷ Does (Plant (footer_at (pos 2))) ∷ Does Begin ∷ Does (Eject 1 None) ∷ Does (EjectOn 1)
+        ∷ Does (Plant (footer_at (pos 2))) ∷ Does Begin ∷ Does (Eject 1) ∷ Does (EjectOn 1)
         ∷ Does (EjectOn 1) ∷ Does (EjectOn 1) ∷ [] in going_on all first_layout
         ≡ false ∷ false ∷ false ∷ false ∷ true ∷ true ∷ false ∷ false ∷ [] }
     // a line that reaches a trap has no blank lines behind it
@@ -64,7 +64,7 @@ pub fn traps()
         ∷ spaced_line (codes "a") 5 ∷ spaced_line (codes "b") 1 ∷ []) first_layout
         ≡ codes "a\n\nb\n\n" }
     ensures in_a_diversion { sprung (Does (Divert header false)
-        ∷ Does (DiversionTrap (Some (footer_at (pos 2)))) ∷ line (codes "a") ∷ Does (Space 5)
+        ∷ Does (DiversionTrap (footer_at (pos 2))) ∷ line (codes "a") ∷ Does (Space 5)
         ∷ Does (Space 5) ∷ []) first_layout ≡ None ∷ None ∷ None ∷ Some footer ∷ None ∷ [] }
 {}
 
@@ -77,8 +77,8 @@ pub fn ends()
     ensures idle_need { begun (Does Begin ∷ Does (Space 5) ∷ Does (Length 3)
         ∷ Does (Need 0) ∷ []) ≡ 2 }
     ensures inhibited { begun (Does Begin ∷ Does (Space 5) ∷ Does (Length 3) ∷ Does (NoSpace true)
-        ∷ Does (Space 0) ∷ Does (Eject 1 None) ∷ []) ≡ 1 }
-    ensures closing { (behind (Does Begin ∷ Does Close ∷ Does (Eject 1 None) ∷ [])
+        ∷ Does (Space 0) ∷ Does (Eject 1) ∷ []) ≡ 1 }
+    ensures closing { (behind (Does Begin ∷ Does Close ∷ Does (Eject 1) ∷ [])
         first_layout).is_over ≡ true }
     ensures diverted { diverted (Does (Divert header false)
         ∷ spaced_line (97 ∷ 1 ∷ 92 ∷ 0 ∷ []) 1 ∷ Does EndDivert ∷ []) first_layout

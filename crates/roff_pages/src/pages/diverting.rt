@@ -1,7 +1,7 @@
 //! Opening and ending diversions (manual, section 7.3).
 
 ghost use Rattle.std.specs.Prelude.{◌≡◌, ◌+◌, ◌≤◌, length, OnOk, IfErr};
-ghost use Rattle.roff_pages.specs.Happenings.{Does, Close, Divert, EndDivert, DiversionTrap};
+ghost use Rattle.roff_pages.specs.Happenings.{Does, Close, Divert, EndDivert, trapping};
 ghost use Rattle.roff_num.specs.declared.limit.Limit.TheVariants.{Diversions};
 
 use super::Pages;
@@ -69,7 +69,7 @@ impl Pages {
     /// Sets the trap of the innermost open diversion, or removes it; on a page it does nothing. A
     /// trap at or above the present place isn't sprung.
     pub fn diversion_trap(&mut self, trap: Option<Trap>)
-        ensures { Happens (Does (DiversionTrap trap)) self.old self.new }
+        ensures { Happens (Does (trapping trap)) self.old self.new }
     {
         match self.innermost {
             Some(mut diversion) => {

@@ -79,7 +79,7 @@ impl Pages {
     }
 
     /// Counts the lines that may be placed freely from now on.
-    fn look_ahead(&mut self)
+    pub(super) fn look_ahead(&mut self)
         ensures { self.new ≡ self.old }
     {
         self.free = 0;

@@ -117,6 +117,13 @@ impl Pages {
         self.innermost.is_some()
     }
 
+    /// Whether the closing phase has begun.
+    pub fn is_closing(&self) -> bool
+        ensures { (L : Layout) → StandsAs L self.now → result ≡ L.is_closing }
+    {
+        self.is_closing
+    }
+
     /// Whether the last page has ended in the closing phase.
     pub fn is_over(&self) -> bool
         ensures { (L : Layout) → StandsAs L self.now → result ≡ L.is_over }

@@ -1,7 +1,8 @@
 //! What is set: the page's length, offset and number, no-space mode, and the traps.
 
 ghost use Rattle.std.specs.Prelude.{◌≡◌, ◌≤◌, ◌<◌, length, OnOk, IfErr};
-ghost use Rattle.roff_pages.specs.Happenings.{Does, Length, Offset, Next, Number, NoSpace, Plant};
+ghost use Rattle.roff_pages.specs.Happenings.{Does, Length, ListPages, Offset, Next, Number};
+ghost use Rattle.roff_pages.specs.Happenings.{NoSpace, Plant};
 ghost use Rattle.roff_pages.specs.Happenings.{Uproot, MoveTrap, RemoveTrap};
 ghost use Rattle.roff_pages.specs.Turning.{with_trap};
 ghost use Rattle.roff_num.specs.declared.limit.Limit.TheVariants.{Traps};
@@ -14,6 +15,14 @@ use roff_num::{Limit, Num, ShortName};
 
 impl Pages {
     ghost use Rattle.roff_pages.specs.Pages.Stands.{Happens};
+
+    /// The pages of these numbers are written, and those between them. Without any such range all
+    /// are, and of more than 32 the others are ignored.
+    pub fn list_pages(&mut self, first: Num, last: Num)
+        ensures { Happens (Does (ListPages first last)) self.old self.new }
+    {
+        let _ = self.ranges.try_push((first, last));
+    }
 
     /// Sets the page length, in lines. A page that is shorter than its place then ends at the next
     /// line, space or title.

@@ -3,7 +3,7 @@
 ghost use Rattle.std.specs.Prelude.{◌≡◌, ◌<◌, ◌≤◌, ◌^◌, [], OnOk, IfErr, nat_lt, ◌&&◌, ◌==◌};
 ghost use Rattle.std.specs.Prelude.{if◌then◌else◌, replicate};
 ghost use Rattle.roff_pages.specs.Layout.{Empty, Layout};
-ghost use Rattle.roff_pages.specs.Happenings.{Does, Eject, EjectLast, EjectOn, Need, Space};
+ghost use Rattle.roff_pages.specs.Happenings.{Does, EjectLast, EjectOn, Need, Space, ejecting};
 ghost use Rattle.roff_pages.specs.Pages.Printing.{BoxedTo, HappensWriting, IsUnprinted, Printed};
 ghost use Rattle.roff_pages.specs.Pages.Printing.{if_listed};
 ghost use Rattle.roff_pages.specs.Pages.Advancing.{way_on};
@@ -23,6 +23,23 @@ impl Pages {
     ///
     /// [`PageFault`] if the limit on the output would be passed, or the sink fails.
     pub fn space<O: ByteSink>(
+        &mut self,
+        lines: u32,
+        out: &mut O,
+    ) -> Result<Option<ShortName>, PageFault>
+        requires { self.old.diversions ≡ [] }
+        ensures { HappensWriting (Does (Space lines)) self.old self.new
+            (O.sunk out.old) (O.sunk out.new) result }
+    {
+        let sprung = self.space_up_to_stop(lines, out);
+        self.look_ahead();
+        sprung
+    }
+
+    /// Spaces so many lines up to the next stop, and leaves out of account what may be placed
+    /// freely behind them.
+    #[inline(always)]
+    fn space_up_to_stop<O: ByteSink>(
         &mut self,
         lines: u32,
         out: &mut O,
@@ -72,7 +89,7 @@ impl Pages {
         number: Option<Num>,
         out: &mut O,
     ) -> Result<Option<ShortName>, PageFault>
-        ensures { HappensWriting (Does (Eject asked number)) self.old self.new
+        ensures { HappensWriting (Does (ejecting asked number)) self.old self.new
             (O.sunk out.old) (O.sunk out.new) result }
     {
         if self.begun != u64::from(asked) {

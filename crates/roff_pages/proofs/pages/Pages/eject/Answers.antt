@@ -1,7 +1,7 @@
 use Rattle.std.proofs.Common.{◌≡◌, ◌≤◌, ◌<◌, ◌∙◌, false, true, Option, None, Ok, refl, ap, arith, sym, subst}
 use Rattle.std.specs.Prelude.{◌^◌}
 use Rattle.roff_num.specs.declared.num.Num.{Num}
-use Rattle.roff_pages.specs.Happenings.{Does, Eject}
+use Rattle.roff_pages.specs.Happenings.{Does, ejecting}
 use Rattle.roff_pages.specs.Pages.Kept.{Kept}
 use Rattle.roff_pages.specs.Pages.Advancing.{way_on}
 use Rattle.roff_pages.specs.Pages.Printing.{DidTo}
@@ -25,7 +25,7 @@ returns-then-no_space g c =
     let on : k.no_space ≡ true = sym (ap (λ (k : Kept). k.no_space) c.self.view_is) ∙ c.if-no_space.true in
     let out = g.O.ByteSink.sunk c.args.out.now in
     record {
-      did = λ L s. subst (λ (number : Option Num). DidTo L (Does (Eject c.args.asked number)) (Ok None) k k out out) (sym c.in-None.is)
+      did = λ L s. subst (λ (number : Option Num). DidTo L (Does (ejecting c.args.asked number)) (Ok None) k k out out) (sym c.in-None.is)
           (did_nothing _ L k out (eject_inhibited c.args.asked L k s on) s within);
       limits = SameLimits-same k;
     }
@@ -59,7 +59,7 @@ returns-else-no_space g c =
     let out = g.O.ByteSink.sunk c.args.out.now in
     let out_then = g.O.ByteSink.sunk put.new.out in
     record {
-      did = λ L s. subst (λ (number : Option Num). DidTo L (Does (Eject c.args.asked number)) put.result k put.new.self out out_then) (sym c.in-None.is)
+      did = λ L s. subst (λ (number : Option Num). DidTo L (Does (ejecting c.args.asked number)) put.result k put.new.self out out_then) (sym c.in-None.is)
           (did_blank_as _ L (way_on k) (way_on k) c.way-way.result k.next c.self.inside.next false false k put.new.self out out_then put.result
           way next refl (plain_eject_puts c.args.asked L k s c.way-way.ensures.short few is off) (put.ensures.did L s));
       limits = put.ensures.limits;

@@ -2,7 +2,7 @@ use Rattle.std.proofs.Common.{◌≡◌, ◌≤◌, ◌∙◌, false, true, refl
 use Rattle.roff_pages.specs.Pages.Kept.{Kept}
 use Rattle.roff_pages.proofs.Blanking.{did_blank_as, space_nothing, space_puts}
 use Rattle.roff_pages.proofs.PageBoxes.{SameLimits-same, did_nothing}
-use Rattle.roff_pages.proofs.pages.Pages.space.Goals as goal
+use Rattle.roff_pages.proofs.pages.Pages.space_up_to_stop.Goals as goal
 
 pub returns-then-self : goal.returns-then-self
 returns-then-self g c =
