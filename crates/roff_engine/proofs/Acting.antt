@@ -11,7 +11,7 @@ use Rattle.roff_scan.specs.declared.looked.Looked.{Looked}
 use Rattle.roff_scan.specs.declared.looked.Looked.TheVariants.{Nothing, Byte, Closed}
 use Rattle.roff_engine.specs.declared.formatter.Formatter.{Formatter}
 use Rattle.roff_engine.specs.declared.halt.Halt.{Halt}
-use Rattle.roff_engine.specs.declared.halt.Halt.TheVariants.{Limit as Limited, Refused, Output, Messages}
+use Rattle.roff_engine.specs.declared.halt.Halt.TheVariants.{Limit as Limited, Refused, Over, Output, Messages}
 use Rattle.roff_engine.specs.declared.running.Running.{Running as Coded}
 use Rattle.roff_engine.specs.Engine.Outcome.{Beginning, Seen, IsLeftOf, Reaches, OutcomeOf, seen}
 use Rattle.roff_engine.specs.Formatter.Performing.{CameBehind, ComesTo, TakingDone, DoesTaking, Opens, PerformedOne, PerformsOne, acting, behind_event, going, sinks}
@@ -23,8 +23,8 @@ use Rattle.roff_engine.specs.declared.sprung.Sprung.{Sprung}
 use Rattle.roff_num.specs.declared.short_name.ShortName.{ShortName}
 use Rattle.roff_engine.specs.Running.Turning.{DoesItem, Halts, TookFrom, line_told, line_turns, lines_left_in, state_at, turns_at, turns_of_run}
 use Rattle.roff_sinks.specs.Sinks.{Sunk}
-use Rattle.roff_requests.specs.Environments.Standing.{StandFor}
-use Rattle.roff_requests.specs.declared.environments.Environments.{Environments as EnvironmentsOf}
+use Rattle.roff_requests.specs.Composer.Standing.{StandFor}
+use Rattle.roff_requests.specs.declared.composer.Composer.{Composer as ComposerOf}
 use Rattle.roff_run.specs.Output.{PageHistory}
 use Rattle.roff_reader.specs.Reader.State.{ReaderState}
 use Rattle.roff_reader.specs.Reader.Taken.{CameTo, IsReady}
@@ -33,18 +33,20 @@ use Rattle.roff_run.specs.Reading.{interrupted}
 use Rattle.roff_run.specs.Reading.Items.{PageInput, Taking, going_on}
 use Rattle.roff_run.specs.Reading.Units.{settling}
 use Rattle.roff_run.specs.Registers.{AllRegisters, Known}
-use Rattle.roff_run.specs.Run.{State, initial, ahead_taken, known_at, made, step, taken_as, unless_refused, grown}
+use Rattle.roff_run.specs.Run.{State, initial, ahead_taken, ending_as, known_at, made, step, taken_as, unless_refused, grown}
 use Rattle.roff_run.specs.Run.Counts.{counts_in, first_passed}
 use Rattle.roff_run.specs.declared.event.PageEvent.{PageEvent}
 use Rattle.roff_run.specs.declared.line_state.LineState.{LineState}
 use Rattle.roff_run.specs.declared.line_state.LineState.TheVariants.{LineStart, Branch, Braced, Text as InText, Control, Name, Arguments as InArguments, Deciding, StringName, StringText, Skipping, Dropped, Telling, Told, Exiting, Calling, Defining}
 use Rattle.roff_run.specs.declared.phase.Phase.{Phase}
 use Rattle.roff_run.specs.declared.status.Status.{Status}
+use Rattle.roff_run.specs.declared.status.Status.TheVariants.{Done}
 use Rattle.roff_run.proofs.InputCounts.{pushed-settling}
 use Rattle.roff_run.proofs.Keeping.{Keeps-interrupted}
 use Rattle.roff_run.proofs.Leads.{Leads-to}
 use Rattle.roff_run.specs.Environments.{interrupted_line}
 use Rattle.roff_run.specs.TurnsToCome.{begun, lines_left, phases_left, turns_to_come, turns_within}
+use Rattle.roff_engine.proofs.Halting.{rest_over}
 use Rattle.roff_engine.proofs.LinesLeft.{last_left}
 use Rattle.roff_engine.proofs.Springing.{last-none, sprung-last}
 use Rattle.roff_engine.proofs.TurnsLeft.{line_turns-more, lines_left-stands}
@@ -61,6 +63,7 @@ pub line_told-taken : (halt : Halt) (line_before line : ℕ) → ((limit : Limit
 line_told-taken (Limited limit) line_before line taken = refl
 line_told-taken (Refused limit) line_before line taken = absurd (taken limit refl)
 line_told-taken Output line_before line taken = refl
+line_told-taken Over line_before line taken = refl
 line_told-taken Messages line_before line taken = refl
 
 -- what is left of the tape of either state, by whether a limit refuses the step
@@ -74,7 +77,7 @@ module _ (l : Limits) (t : Beginning) (left : Tape) (line_before line : ℕ) (st
     (left_before : IsLeftOf left from.tape) (quiet_before : from.last_message ≡ []) (line_before_is : from.input.line ≡ line_before)
     (left_behind : IsLeftOf left done.tape) (quiet : done.last_message ≡ []) (line_is : done.input.line ≡ line) where
   -- what the code could not do of it halts the run
-  did_halt : (events : List PageEvent) (h : PageHistory) (kept rest : List PageEvent) (halt : Halt) (es : EnvironmentsOf)
+  did_halt : (events : List PageEvent) (h : PageHistory) (kept rest : List PageEvent) (halt : Halt) (es : ComposerOf)
       → TakingDone l t start now from done events h kept rest (Err halt) es
       → Halts l t left (line_told halt line_before line) halt start now
   did_halt events h kept rest (Refused limit) es did = inl (record {
@@ -103,6 +106,14 @@ module _ (l : Limits) (t : Beginning) (left : Tape) (line_before line : ℕ) (st
     rest = left_behind;
     line_is = line_is;
   }
+  did_halt events h kept rest Over es did =
+      let over : State = ending_as Done (acting done did.to_do did.history) in record {
+        state = over;
+        reaches = did.reaches;
+        ended = refl;
+        rest = rest_over l t left over did.reaches.comes refl left_behind;
+        fault = λ wrong. cc;
+      }
   did_halt events h kept rest Messages es did = record {
     is_device = refl;
     state = from;
@@ -139,7 +150,7 @@ no_room events u none = λ some. omega (arith, some, ap (λ (es : List PageEvent
 IsBehind-taken : (t : Beginning) (tape : Tape) (start now : Seen) (old new : Coded) (taken : Taking) (h : PageHistory) (messages : List ℕ) (phase : Phase) (more : List PageEvent) (sprung : Option Sprung)
     → CameTo taken old.formatter.reader.registers new.formatter.reader old.unread new.unread
     → new.limits ≡ old.limits → new.phase ≡ phase → old.unread.limits ≡ old.limits → IsReady old.formatter.reader.registers old.unread
-    → CameBehind old.limits t start now (taken_as taken (ready_to_take tape old h messages phase more)) (taken.effect.events ++ more) h new.formatter.reader.meaning.events [] sprung new.formatter.environments
+    → CameBehind old.limits t start now (taken_as taken (ready_to_take tape old h messages phase more)) (taken.effect.events ++ more) h new.formatter.reader.meaning.events [] sprung new.formatter.composer
     → CountsLast (taken.effect.events ++ more)
     → IsBehind t tape start now sprung new
 IsBehind-taken t tape start now old new taken h messages phase more sprung became limits same kept ready came counts = record {
@@ -147,7 +158,7 @@ IsBehind-taken t tape start now old new taken h messages phase more sprung becam
   history = came.history;
   messages = (taken_as taken (state_at tape old h messages)).messages;
   reaches = rw (limits, became.input, became.reading, became.registers, same) came.reaches;
-  stands = subst (λ (l : Limits). StandFor l came.history new.formatter.environments) (sym limits) came.stands;
+  stands = subst (λ (l : Limits). StandFor l came.history new.formatter.composer) (sym limits) came.stands;
   ready = record {
     cap = rw (became.registers, became.input) ready.cap;
     within = rw (became.registers, became.input) became.within;
@@ -158,7 +169,7 @@ IsBehind-taken t tape start now old new taken h messages phase more sprung becam
 -- no more turns are to come of it than of that state
 turns-behind : (l : Limits) (tape : Tape) (old new : Coded) (taken : Taking) (h behind : PageHistory) (messages : List ℕ) (phase : Phase) (more : List PageEvent)
     → CameTo taken old.formatter.reader.registers new.formatter.reader old.unread new.unread
-    → new.phase ≡ phase → old.unread.limits ≡ old.limits → StandFor l behind new.formatter.environments
+    → new.phase ≡ phase → old.unread.limits ≡ old.limits → StandFor l behind new.formatter.composer
     → lines_left (interrupted_line behind) ≤ most_left (taken.effect.events ++ more) (lines_left (interrupted_line h))
     → turns_of_run new ≤ turns_at old.limits.bytes (taken_as taken (ready_to_take tape old h messages phase more))
 turns-behind l tape old new taken h behind messages phase more became same kept stands few =
@@ -169,9 +180,9 @@ turns-behind l tape old new taken h behind messages phase more became same kept 
     let within : Limits → List PageEvent → ℕ = λ k es.
     4 * (turns_within k.bytes taken.input + begun taken.reading) + line_turns taken.reading (most_left (events ++ es) (lines_left (interrupted_line h))) + phases_left phase in
     let first : turns_of_run new ≡ of there taken.reading left phase =
-    ap (λ (u : PageUnread). of u new.formatter.reader.reading (lines_left_in new.formatter.environments) new.phase) became.input
-    ∙ ap (λ (r : LineState). of there r (lines_left_in new.formatter.environments) new.phase) became.reading
-    ∙ ap (λ (n : ℕ). of there taken.reading n new.phase) (lines_left-stands l behind new.formatter.environments stands)
+    ap (λ (u : PageUnread). of u new.formatter.reader.reading (lines_left_in new.formatter.composer) new.phase) became.input
+    ∙ ap (λ (r : LineState). of there r (lines_left_in new.formatter.composer) new.phase) became.reading
+    ∙ ap (λ (n : ℕ). of there taken.reading n new.phase) (lines_left-stands l behind new.formatter.composer stands)
     ∙ ap (λ (p : Phase). of there taken.reading left p) same in
     let last : within old.unread.limits more ≡ within old.limits (more ++ []) =
     ap (λ (k : Limits). within k more) kept ∙ ap (λ (es : List PageEvent). within old.limits es) (sym (append-nil more)) in
@@ -199,13 +210,13 @@ module _ (f : Known → Taking) (does : State → State) (phase : Phase) (more :
       → DoesTaking f more old.formatter formatter old.unread unread (sinks out_old err_old) (sinks out_new err_new) r
       → (t : Beginning) (tape : Tape) (start : Seen) (failures : ℕ) (from : State)
       → (took : TookFrom t tape start (seen failures out_old err_old) line does from old)
-      → TakingDone old.limits t start (seen failures out_new err_new) from (done tape took.history took.messages) (events_of took.history) took.history formatter.reader.meaning.events [] r formatter.environments
+      → TakingDone old.limits t start (seen failures out_new err_new) from (done tape took.history took.messages) (events_of took.history) took.history formatter.reader.meaning.events [] r formatter.composer
   did {out_old} {err_old} {out_new} {err_new} formatter unread r takes t tape start failures from took =
       let h : PageHistory = took.history in
-      let P : Limits → Type 0 = λ l. StandFor l h old.formatter.environments
+      let P : Limits → Type 0 = λ l. StandFor l h old.formatter.composer
       → Reaches l t start (seen failures out_old err_old) from
       → Opens l from (done tape h took.messages) h took.messages
-      → TakingDone l t start (seen failures out_new err_new) from (done tape h took.messages) (events_of h) h formatter.reader.meaning.events [] r formatter.environments in
+      → TakingDone l t start (seen failures out_new err_new) from (done tape h took.messages) (events_of h) h formatter.reader.meaning.events [] r formatter.composer in
       subst P took.limits
       (λ stands reaches opens. takes.does t start failures from (looked_then old.unread.looked tape) h took.messages phase (is_closed old.unread.looked) [] stands took.ready reaches opens)
       took.stands took.reaches (opened took)
@@ -225,7 +236,7 @@ module _ (f : Known → Taking) (does : State → State) (phase : Phase) (more :
         did_halt old.limits t tape line line_behind start _ from state
         (opened took).opens took.rest took.quiet took.line_is
         (IsLeftOf-looked_then old.unread.looked tape) refl (line_is (known_at took.history old.formatter.reader.registers.all old.unread.input))
-        (events_of took.history) took.history new.formatter.reader.meaning.events [] halt new.formatter.environments (did new.formatter new.unread (Err halt) takes t tape start failures from took) in
+        (events_of took.history) took.history new.formatter.reader.meaning.events [] halt new.formatter.composer (did new.formatter new.unread (Err halt) takes t tape start failures from took) in
         rw limits (ends t tape start halts);
     turns = λ t tape start from took. tt;
   }
@@ -264,7 +275,7 @@ taking_acts {out_old} {err_old} {out_new} {err_new} f does phase more line old m
 -- two things are the same of the states that the run may be at
 abbrev pub DoTheSame : (does other : State → State) → Coded → Type 0
 DoTheSame does other old =
-    (tape : Tape) (h : PageHistory) (messages : List ℕ) → StandFor old.limits h old.formatter.environments
+    (tape : Tape) (h : PageHistory) (messages : List ℕ) → StandFor old.limits h old.formatter.composer
     → does (state_at tape old h messages) ≡ other (state_at tape old h messages)
 
 -- a step that leads to one thing leads to another that is the same
@@ -336,7 +347,7 @@ last_of (Ok name) = Ok (sprung_last name)
 last_of (Err halt) = Err halt
 
 -- what is performed of it, by the answer
-pub TakingDone-performed : (l : Limits) (t : Beginning) (start now : Seen) (from done : State) (e : PageEvent) (h : PageHistory) (kept rest : List PageEvent) (r : Result (Option ShortName) Halt) (es : EnvironmentsOf)
+pub TakingDone-performed : (l : Limits) (t : Beginning) (start now : Seen) (from done : State) (e : PageEvent) (h : PageHistory) (kept rest : List PageEvent) (r : Result (Option ShortName) Halt) (es : ComposerOf)
     → PerformedOne l t start now done e (behind_event e h) rest r es → TakingDone l t start now from done (e ∷ []) h kept rest (last_of r) es
 TakingDone-performed l t start now from done e h kept rest (Ok name) es p = record {
   history = behind_event e h;
@@ -347,14 +358,16 @@ TakingDone-performed l t start now from done e h kept rest (Ok name) es p = reco
 }
 TakingDone-performed l t start now from done e h kept rest (Err (Limited limit)) es p = p
 TakingDone-performed l t start now from done e h kept rest (Err Output) es p = p
+TakingDone-performed l t start now from done e h kept rest (Err Over) es p = p
 TakingDone-performed l t start now from done e h kept rest (Err Messages) es p = absurd p
 TakingDone-performed l t start now from done e h kept rest (Err (Refused limit)) es p = absurd p
 
-pub TakingDone-came : (l : Limits) (t : Beginning) (start now : Seen) (from done : State) (events : List PageEvent) (h : PageHistory) (kept rest : List PageEvent) (r : Result (Option Sprung) Halt) (es : EnvironmentsOf)
+pub TakingDone-came : (l : Limits) (t : Beginning) (start now : Seen) (from done : State) (events : List PageEvent) (h : PageHistory) (kept rest : List PageEvent) (r : Result (Option Sprung) Halt) (es : ComposerOf)
     → ComesTo l t start now done events h kept rest r es → TakingDone l t start now from done events h kept rest r es
 TakingDone-came l t start now from done events h kept rest (Ok sprung) es p = p
 TakingDone-came l t start now from done events h kept rest (Err (Limited limit)) es p = p
 TakingDone-came l t start now from done events h kept rest (Err Output) es p = p
+TakingDone-came l t start now from done events h kept rest (Err Over) es p = p
 TakingDone-came l t start now from done events h kept rest (Err Messages) es p = absurd p
 TakingDone-came l t start now from done events h kept rest (Err (Refused limit)) es p = absurd p
 
@@ -382,7 +395,7 @@ event_does event old new before behind out_old out_new err r input performs = re
       let allowed : first_passed before.limits (grown done) ≡ None =
       within-interrupted before.limits old.reader.registers.all old.reader.reading before.input ready.within in
       let step_is : step before.limits from ≡ done = opens.opens ∙ ap (λ (o : Option Limit). unless_refused before.limits o from done) allowed in
-      TakingDone-performed before.limits t0 start _ from done event h new.reader.meaning.events rest r new.environments
+      TakingDone-performed before.limits t0 start _ from done event h new.reader.meaning.events rest r new.composer
       (performs.one before.limits t0 start failures err done h rest stands (record {
         comes = Leads-to before.limits (initial before.limits t0.start t0.tape) from done reaches.comes step_is;
         text = rw (← opens.wrote) reaches.text;

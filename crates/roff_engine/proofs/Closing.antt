@@ -1,4 +1,4 @@
--- What the end of a phase takes: the last macro is read, or the pending line is placed.
+-- What the end of a phase takes: the last macro is read, or the run closes.
 use Rattle.std.proofs.Common.{◌≡◌, [], ◌++◌, List, Option, None, Result, Ok, append-nil, arith, refl, subst, sym, ap, ◌∙◌}
 use Rattle.roff_num.specs.declared.limit.Limit.{Limit}
 use Rattle.roff_engine.specs.declared.formatter.Formatter.{Formatter}
@@ -10,11 +10,10 @@ use Rattle.roff_engine.proofs.Acting.{OnOk-fact, TakingDone-came}
 use Rattle.roff_sinks.specs.Sinks.{Sunk}
 use Rattle.roff_reader.specs.Reader.State.{ReaderState}
 use Rattle.roff_reader.specs.Reader.Taken.{TakesAs}
-use Rattle.roff_requests.specs.Environments.Standing.{StandFor}
-use Rattle.roff_requests.specs.declared.environments.Environments.{Environments as EnvironmentsOf}
 use Rattle.roff_run.proofs.Leads.{Leads-to}
+use Rattle.roff_run.specs.Events.Lines.{closing_events}
 use Rattle.roff_run.specs.Reading.Items.{PageInput, PageUnread, going_on, meaning_events}
-use Rattle.roff_run.specs.Run.{State, closing_events, initial, step, taken_as, unless_refused}
+use Rattle.roff_run.specs.Run.{State, initial, step, taken_as, unless_refused}
 use Rattle.roff_run.specs.declared.event.PageEvent.{PageEvent}
 use Rattle.roff_run.specs.declared.line_state.LineState.{LineState}
 use Rattle.roff_run.specs.declared.line_state.LineState.TheVariants.{LineStart}
@@ -22,7 +21,7 @@ use Rattle.roff_run.specs.declared.step.Step.{Step}
 
 -- the reader took what only reads on
 pub reads_on_taking : (j : PageInput) (next : LineState) (old : Formatter) (reader : ReaderState) (before behind : PageUnread) (told : Sinks) (m : Step)
-    → TakesAs (λ k. going_on j next) old.environments old.reader reader before behind (Ok m)
+    → TakesAs (λ k. going_on j next) old.composer old.reader reader before behind (Ok m)
     → DoesTaking (λ k. going_on j next) [] old (record old { reader = reader }) before behind told told (Ok None)
 reads_on_taking j next old reader before behind told m takes = record {
   became = λ l h stood ready. (takes.takes l h stood ready).became;
@@ -43,28 +42,30 @@ reads_on_taking j next old reader before behind told m takes = record {
       };
 }
 
--- a line begins, and the pending line is placed
-pub closing_taking : (old mid new : Formatter) (u : PageUnread) (out_old out_new err : Sunk) (r : Result (Option Sprung) Halt)
-    → mid ≡ record old { reader = record old.reader { reading = LineStart } } → PerformsAll closing_events mid new out_old out_new r
+-- a line begins, and the events are performed that close the run
+pub closing_taking : (old new : Formatter) (reader : ReaderState) (u : PageUnread) (out_old out_new err : Sunk) (r : Result (Option Sprung) Halt)
+    → reader.meaning.events ≡ closing_events → reader ≡ record old.reader { reading = LineStart; meaning = reader.meaning }
+    → PerformsAll reader.meaning.events (record old { reader = reader }) new out_old out_new r
     → DoesTaking (λ k. meaning_events u.input LineStart closing_events) [] old new u u (sinks out_old err) (sinks out_new err) r
-closing_taking old mid new u out_old out_new err r is performs =
-    let reader : new.reader ≡ record old.reader { reading = LineStart } = performs.reader ∙ ap (λ (f : Formatter). f.reader) is in
-    let environments : mid.environments ≡ old.environments = ap (λ (f : Formatter). f.environments) is in record {
+closing_taking old new reader u out_old out_new err r kept is performed =
+    let mid : Formatter = record old { reader = reader } in
+    let performs : PerformsAll closing_events mid new out_old out_new r =
+    subst (λ (events : List PageEvent). PerformsAll events mid new out_old out_new r) kept performed in
+    let behind : new.reader ≡ record old.reader { reading = LineStart; meaning = reader.meaning } = performs.reader ∙ is in record {
       became = λ l h stood ready. OnOk-fact r _ (record {
         input = refl;
-        reading = ap (λ (s : ReaderState). s.reading) reader;
-        registers = ap (λ (s : ReaderState). s.registers) reader;
+        reading = ap (λ (s : ReaderState). s.reading) behind;
+        registers = ap (λ (s : ReaderState). s.registers) behind;
         within = ready.within;
       });
       does = λ t0 start failures from tape h messages phase closed rest stood ready reached opens.
           let s : State =
           taken_as (meaning_events u.input LineStart closing_events) (going tape u.input old.reader.reading old.reader.registers.all h messages phase closed rest) in
           let goes : step u.limits from ≡ s = opens.opens ∙ ap (λ (r : Option Limit). unless_refused u.limits r from s) ready.within in
-          let kept : mid.reader.meaning.events ≡ new.reader.meaning.events = ap (λ (s : ReaderState). s.meaning.events) (sym performs.reader) in
-          subst (λ (kept : List PageEvent). TakingDone u.limits t0 start (seen failures out_new err) from s closing_events h kept rest r new.environments) kept
-          (TakingDone-came u.limits t0 start _ from s closing_events h mid.reader.meaning.events rest r new.environments
-          (performs.all u.limits t0 start failures err s h rest
-          (subst (λ (es : EnvironmentsOf). StandFor u.limits h es) (sym environments) stood) (record {
+          let same : reader.meaning.events ≡ new.reader.meaning.events = ap (λ (s : ReaderState). s.meaning.events) (sym performs.reader) in
+          subst (λ (events : List PageEvent). TakingDone u.limits t0 start (seen failures out_new err) from s closing_events h events rest r new.composer) same
+          (TakingDone-came u.limits t0 start _ from s closing_events h reader.meaning.events rest r new.composer
+          (performs.all u.limits t0 start failures err s h rest stood (record {
             comes = Leads-to u.limits (initial u.limits t0.start t0.tape) from s reached.comes goes;
             text = rw (← opens.wrote) reached.text;
             messages = rw (append-nil (messages ++ []), append-nil messages, ← opens.said) reached.messages;

@@ -5,11 +5,11 @@ use Rattle.roff_num.specs.declared.limits.Limits.{Limits}
 use Rattle.roff_source.specs.Tape.{Tape}
 use Rattle.roff_engine.specs.declared.formatter.Formatter.{Formatter}
 use Rattle.roff_engine.specs.declared.halt.Halt.{Halt}
-use Rattle.roff_engine.specs.declared.halt.Halt.TheVariants.{Limit as Limited, Refused, Output, Messages}
+use Rattle.roff_engine.specs.declared.halt.Halt.TheVariants.{Limit as Limited, Refused, Over, Output, Messages}
 use Rattle.roff_engine.specs.Engine.Outcome.{Beginning, Reaches, Seen, seen}
 use Rattle.roff_engine.specs.Formatter.Performing.{TakingDone, MeaningDone, DoesMeaning, DoesTaking, Means, Opens, RefusedAt, Sinks, acting, going}
-use Rattle.roff_requests.specs.Environments.Standing.{StandFor}
-use Rattle.roff_requests.specs.declared.environments.Environments.{Environments as EnvironmentsOf}
+use Rattle.roff_requests.specs.Composer.Standing.{StandFor}
+use Rattle.roff_requests.specs.declared.composer.Composer.{Composer as ComposerOf}
 use Rattle.roff_run.specs.Output.{PageHistory}
 use Rattle.roff_reader.specs.Reader.State.{ReaderState}
 use Rattle.roff_reader.specs.Reader.Taken.{CameTo, IsReady, TakesAs}
@@ -27,12 +27,13 @@ use Rattle.roff_run.specs.declared.phase.Phase.{Phase}
 use Rattle.roff_run.specs.declared.line_state.LineState.{LineState}
 
 -- what was done of a meaning was done of the taking
-did_does : (l : Limits) (t : Beginning) (before now : Seen) (from s : State) (events : List PageEvent) (h : PageHistory) (kept rest : List PageEvent) (r : Result (Option Sprung) Halt) (es : EnvironmentsOf)
+did_does : (l : Limits) (t : Beginning) (before now : Seen) (from s : State) (events : List PageEvent) (h : PageHistory) (kept rest : List PageEvent) (r : Result (Option Sprung) Halt) (es : ComposerOf)
     → MeaningDone l t before now from s events h kept rest r es → TakingDone l t before now from s events h kept rest r es
 did_does l t before now from s events h kept rest (Ok u) es d = d
 did_does l t before now from s events h kept rest (Err (Limited limit)) es d = d
 did_does l t before now from s events h kept rest (Err (Refused limit)) es d = absurd d
 did_does l t before now from s events h kept rest (Err Output) es d = d
+did_does l t before now from s events h kept rest (Err Over) es d = d
 did_does l t before now from s events h kept rest (Err Messages) es d = d
 
 -- what holds of a success anyway
@@ -67,7 +68,7 @@ module _ (l : Limits) (from : State) (tape : Tape) (i : PageInput) (reading : Li
 
 -- a limit refused what the code would take
 pub refused_taking : (t : Known → Taking) (more : List PageEvent) (old new : Formatter) (before behind : PageUnread) (told : Sinks) (limit : Limit)
-    → TakesAs t old.environments old.reader new.reader before behind (Err limit) → DoesTaking t more old new before behind told told (Err (Refused limit))
+    → TakesAs t old.composer old.reader new.reader before behind (Err limit) → DoesTaking t more old new before behind told told (Err (Refused limit))
 refused_taking t more old new before behind told limit takes = record {
   became = λ l h stood ready. tt;
   does = λ t0 start failures from tape h messages phase is_closed rest stood ready reached opens.
@@ -77,27 +78,27 @@ refused_taking t more old new before behind told limit takes = record {
 }
 
 -- the code took something, and has come to what it means
-module _ (t : Known → Taking) (old mid : Formatter) (before behind : PageUnread) (m : Step) (takes : TakesAs t old.environments old.reader mid.reader before behind (Ok m)) (same : mid.environments ≡ old.environments)
+module _ (t : Known → Taking) (old mid : Formatter) (before behind : PageUnread) (m : Step) (takes : TakesAs t old.composer old.reader mid.reader before behind (Ok m)) (same : mid.composer ≡ old.composer)
     (line : ℕ) (is_line : line ≡ behind.input.line) where
   -- where something was done of that, it became what it becomes
   became_taken : (new : Formatter) (r : Result (Option Sprung) Halt) → new.reader ≡ mid.reader
-      → (l : Limits) (h : PageHistory) → StandFor l h old.environments → IsReady old.reader.registers before
+      → (l : Limits) (h : PageHistory) → StandFor l h old.composer → IsReady old.reader.registers before
       → OnOk r (CameTo (t (known_at h old.reader.registers.all before.input)) old.reader.registers new.reader before behind)
   became_taken new r kept l h stood ready = on_ok r (rw kept (takes.takes l h stood ready).became)
 
   -- what it means was done, as far as it was done
   done_taken : (new : Formatter) (told_old told_new : Sinks) (r : Result (Option Sprung) Halt) → DoesMeaning line (messages_of mid.reader.meaning.message m) (events_of mid.reader.meaning.events m) mid new told_old told_new r
       → (t0 : Beginning) (start : Seen) (failures : ℕ) (from : State) (tape : Tape) (h : PageHistory) (messages : List ℕ) (phase : Phase) (is_closed : Bool) (to_do : List PageEvent)
-      → StandFor before.limits h old.environments → IsReady old.reader.registers before
+      → StandFor before.limits h old.composer → IsReady old.reader.registers before
       → Reaches before.limits t0 start (seen failures told_old.out told_old.err) from
       → let state : State = taken_as (t (known_at h old.reader.registers.all before.input)) (going tape before.input old.reader.reading old.reader.registers.all h messages phase is_closed to_do) in
-      Opens before.limits from state h messages → MeaningDone before.limits t0 start (seen failures told_new.out told_new.err) from state (t (known_at h old.reader.registers.all before.input)).effect.events h mid.reader.meaning.events to_do r new.environments
+      Opens before.limits from state h messages → MeaningDone before.limits t0 start (seen failures told_new.out told_new.err) from state (t (known_at h old.reader.registers.all before.input)).effect.events h mid.reader.meaning.events to_do r new.composer
   done_taken new told_old told_new r done t0 start failures from tape h messages phase is_closed to_do stood ready reached opens =
       let k = known_at h old.reader.registers.all before.input in
       let took = takes.takes before.limits h stood ready in
       let state : State = taken_as (t k) (going tape before.input old.reader.reading old.reader.registers.all h messages phase is_closed to_do) in
-      subst (λ (es : List PageEvent). MeaningDone before.limits t0 start (seen failures told_new.out told_new.err) from state es h mid.reader.meaning.events to_do r new.environments) took.events
-      (done.does before.limits t0 start failures from _ h to_do (subst (λ (es : EnvironmentsOf). StandFor before.limits h es) (sym same) stood) reached
+      subst (λ (es : List PageEvent). MeaningDone before.limits t0 start (seen failures told_new.out told_new.err) from state es h mid.reader.meaning.events to_do r new.composer) took.events
+      (done.does before.limits t0 start failures from _ h to_do (subst (λ (es : ComposerOf). StandFor before.limits h es) (sym same) stood) reached
       (means_taken before.limits from tape before.input old.reader.reading old.reader.registers.all h messages phase is_closed to_do (t k) opens
       line _ _ took.became.within (is_line ∙ ap (λ (u : PageUnread). u.input.line) took.became.input) took.messages took.events))
 
@@ -110,9 +111,9 @@ module _ (t : Known → Taking) (old mid : Formatter) (before behind : PageUnrea
         let k = known_at h old.reader.registers.all before.input in
         let state : State = taken_as (t k) (going tape before.input old.reader.reading old.reader.registers.all h messages phase is_closed rest) in
         let kept : mid.reader.meaning.events ≡ new.reader.meaning.events = ap (λ (reader : ReaderState). reader.meaning.events) (sym done.reader) in
-        subst (λ (es : List PageEvent). TakingDone before.limits t0 start (seen failures told_new.out told_new.err) from state es h new.reader.meaning.events rest r new.environments)
+        subst (λ (es : List PageEvent). TakingDone before.limits t0 start (seen failures told_new.out told_new.err) from state es h new.reader.meaning.events rest r new.composer)
         (sym (append-nil (t k).effect.events))
-        (subst (λ (kept : List PageEvent). TakingDone before.limits t0 start (seen failures told_new.out told_new.err) from state (t k).effect.events h kept rest r new.environments) kept
-        (did_does before.limits t0 start _ from _ (t k).effect.events h mid.reader.meaning.events rest r new.environments
+        (subst (λ (kept : List PageEvent). TakingDone before.limits t0 start (seen failures told_new.out told_new.err) from state (t k).effect.events h kept rest r new.composer) kept
+        (did_does before.limits t0 start _ from _ (t k).effect.events h mid.reader.meaning.events rest r new.composer
         (done_taken new told_old told_new r done t0 start failures from tape h messages phase is_closed rest stood ready reached opens)));
   }

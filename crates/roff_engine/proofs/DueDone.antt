@@ -189,8 +189,8 @@ told_due old failures out err told is writes = record {
         limits = at.limits;
       };
   none_due = refl;
-  turns = (let line = due-line old.formatter.reader.reading (Tells false) (lines_left_in old.formatter.environments) is in
-      let few = lines_left_in-few old.formatter.environments in
+  turns = (let line = due-line old.formatter.reader.reading (Tells false) (lines_left_in old.formatter.composer) is in
+      let few = lines_left_in-few old.formatter.composer in
       omega (arith, line, few));
 }
 
@@ -244,7 +244,7 @@ left_due old now is = record {
         limits = at.limits;
       };
   none_due = refl;
-  turns = (let line = due-line old.formatter.reader.reading LeavesInput (lines_left_in old.formatter.environments) is in
-      let few = lines_left_in-few old.formatter.environments in
+  turns = (let line = due-line old.formatter.reader.reading LeavesInput (lines_left_in old.formatter.composer) is in
+      let few = lines_left_in-few old.formatter.composer in
       omega (arith, line, few));
 }

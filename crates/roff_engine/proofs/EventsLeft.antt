@@ -4,7 +4,7 @@ use Rattle.std.specs.Prelude.{drop, slice_get}
 use Rattle.roff_lines.specs.declared.event.Event.TheVariants.{Print, Tab, WordEnd, Gap, LineEnd, Count, Break, Interrupt as Interrupted, Resume, Set}
 use Rattle.roff_run.specs.Springs.{may_spring}
 use Rattle.roff_run.specs.declared.event.PageEvent.{PageEvent}
-use Rattle.roff_run.specs.declared.event.PageEvent.TheVariants.{Text, Space, Interrupt, Environment, Back, InputTrap as SetsTrap}
+use Rattle.roff_run.specs.declared.event.PageEvent.TheVariants.{Text, Page, Interrupt, Environment, Back, InputTrap as SetsTrap}
 use Rattle.roff_run.specs.Springs.{CountsLast}
 
 -- of nothing, nothing is left
@@ -50,7 +50,7 @@ counts-drop (Text Break ∷ events) (suc i) counts = counts-drop events i counts
 counts-drop (Text Interrupted ∷ events) (suc i) counts = counts-drop events i counts
 counts-drop (Text Resume ∷ events) (suc i) counts = counts-drop events i counts
 counts-drop (Text (Set param) ∷ events) (suc i) counts = counts-drop events i counts
-counts-drop (Space lines ∷ events) (suc i) counts = counts-drop events i counts
+counts-drop (Page e ∷ events) (suc i) counts = counts-drop events i counts
 counts-drop (Interrupt untold ∷ events) (suc i) counts = counts-drop events i counts
 counts-drop (Environment number ∷ events) (suc i) counts = counts-drop events i counts
 counts-drop (Back ∷ events) (suc i) counts = counts-drop events i counts
@@ -68,7 +68,7 @@ none-behind (Text Break) others may counts = absurd (cc)
 none-behind (Text Interrupted) others may counts = absurd (cc)
 none-behind (Text Resume) others may counts = absurd (cc)
 none-behind (Text (Set param)) others may counts = absurd (cc)
-none-behind (Space lines) others may counts = absurd (cc)
+none-behind (Page e) others may counts = absurd (cc)
 none-behind (Interrupt untold) others may counts = absurd (cc)
 none-behind (Environment number) others may counts = absurd (cc)
 none-behind Back others may counts = absurd (cc)
@@ -94,7 +94,7 @@ counts_last-one (Text Break) = tt
 counts_last-one (Text Interrupted) = tt
 counts_last-one (Text Resume) = tt
 counts_last-one (Text (Set param)) = tt
-counts_last-one (Space lines) = tt
+counts_last-one (Page e) = tt
 counts_last-one (Interrupt untold) = tt
 counts_last-one (Environment number) = tt
 counts_last-one Back = tt

@@ -14,7 +14,7 @@ use Rattle.roff_reader.proofs.TakesAs.{few_names}
 use Rattle.roff_reader.specs.Reader.Springs.{Springs, SpringsBody, SpringsNothing, sprung_input}
 use Rattle.roff_reader.specs.Reader.State.{ReaderState}
 use Rattle.roff_reader.specs.Reader.Taken.{IsReady}
-use Rattle.roff_requests.specs.Environments.Standing.{StandFor}
+use Rattle.roff_requests.specs.Composer.Standing.{StandFor}
 use Rattle.roff_run.specs.Environments.{PageHistory}
 use Rattle.roff_run.proofs.InputCounts.{NoMore, first_passed-few_names, first_passed-no_more}
 use Rattle.roff_run.proofs.KeepingText.{free_ahead-called}
@@ -176,7 +176,7 @@ pub record IsSprung (t : Beginning) (tape : Tape) (start now : Seen) (name : Sho
   pub history : PageHistory
   pub messages : List ℕ
   pub reaches : Reaches run.limits t start now (record (state_at tape run history messages) { sprung = Some name })
-  pub stands : StandFor run.limits history run.formatter.environments
+  pub stands : StandFor run.limits history run.formatter.composer
   pub ready : IsReady run.formatter.reader.registers run.unread
   pub limits : run.unread.limits ≡ run.limits
 
@@ -324,7 +324,7 @@ turns-read (ABody body) events old reader unread springs =
     let i : PageInput = sprung_input body old.formatter.reader.reading mid.unread.input in
     let changed = changed-Ok (input_refusal mid.unread.limits i) i mid.unread unread springs.input in
     let reads : ReaderState = record old.formatter.reader { reading = in_sprung old.formatter.reader.reading } in
-    let left : ℕ = lines_left_in old.formatter.environments in
+    let left : ℕ = lines_left_in old.formatter.composer in
     let there : Coded = with_read mid reads (record mid.unread { input = i }) in
     let few : turns_of_run there ≤ turns_of_run old =
     (let text : List ℕ = called_text (body_named (name_bytes body) mid.unread.input) in
@@ -333,7 +333,7 @@ turns-read (ABody body) events old reader unread springs =
       free_ahead-called text (back_of old.formatter.reader.reading) mid.unread.input.ahead,
       free_ahead-back events old.unread.input.ahead,
       begun-behind_return 0 old.formatter.reader.reading,
-      line_turns-sprung old.formatter.reader.reading left (lines_left_in-few old.formatter.environments),
+      line_turns-sprung old.formatter.reader.reading left (lines_left_in-few old.formatter.composer),
     )) in
     subst (λ (u : PageUnread). turns_of_run (with_read mid reader u) ≤ turns_of_run old) (sym changed.1)
     (subst (λ (r : ReaderState). turns_of_run (with_read mid r (record mid.unread { input = i })) ≤ turns_of_run old) (sym springs.reads) few)

@@ -1,16 +1,20 @@
 -- How a run ends that is halted, and how that is told.
-use Rattle.std.proofs.Common.{◌≡◌, ◌∙◌, ◌⊎◌, ℕ, List, [], Result, Ok, Err, inl, inr, refl, subst, sym, ap, append-nil}
+use Rattle.std.proofs.Common.{◌≡◌, ◌∙◌, ◌⊎◌, ℕ, true, List, [], ◌∷◌, Some, Result, Ok, Err, inl, inr, refl, subst, sym, ap, append-nil}
 use Rattle.roff_num.specs.declared.limit.Limit.{Limit}
 use Rattle.roff_num.specs.declared.limits.Limits.{Limits}
 use Rattle.roff_num.specs.LimitValues.{value_of}
-use Rattle.roff_source.specs.Tape.{Tape}
-use Rattle.roff_run.specs.declared.status.Status.TheVariants.{Device, Limit as Limited}
+use Rattle.roff_source.specs.Tape.{Tape, Ended, Ending, Item, behind_front}
+use Rattle.roff_run.specs.declared.status.Status.TheVariants.{Device, Done, Limit as Limited}
 use Rattle.roff_run.specs.declared.message.Message.TheVariants.{LimitReached, WriteFailed}
 use Rattle.roff_run.specs.Messages.{message_line}
 use Rattle.roff_engine.specs.declared.halt.Halt.{Halt}
 use Rattle.roff_engine.specs.declared.halt.Halt.TheVariants.{Limit as ByLimit, Refused}
 use Rattle.roff_engine.specs.Engine.Outcome.{AppendsBetween, Beginning, Seen, IsLeftOf, IsRest, Completes, OutputFails, MessagesFail, StartFails, seen}
+use Rattle.roff_run.specs.Results.{last_state}
 use Rattle.roff_run.specs.Run.{Leads, State, initial, reported, stopped_by}
+use Rattle.roff_laws.specs.Statuses.{HasMet, Tells}
+use Rattle.roff_laws.proofs.Endings.{no_other_state_is_last}
+use Rattle.roff_laws.proofs.StatusesTell.{each_status_tells}
 use Rattle.roff_engine.specs.Running.Turning.{LimitStops, OutputStopsAt, StartStops, Halts}
 use Rattle.roff_sinks.specs.Sinks.{CountsFault, Sunk, Writes, Fails, Puts}
 use Rattle.std.specs.Io.KnownBytes.{Appends}
@@ -23,6 +27,28 @@ use Rattle.roff_engine.proofs.Performed.{between, faults_of_err}
 rest_told : (limit : Limit) (left : Tape) (s : State) → IsLeftOf left s.tape → IsRest (Limited limit) left s
 rest_told limit left s (inl all) = inl all
 rest_told limit left s (inr looked) = inr (tt, looked)
+
+-- behind the end of a tape nothing is left but it
+behind-met : (items : List Item) (ending : Ending) → items ≡ []
+    → let t : Tape = record { items = items; ending = ending } in behind_front t ≡ t
+behind-met [] ending none = refl
+behind-met (item ∷ items) ending none = cc
+
+-- what is left where the run's input had ended, or was left
+rest_done : (left : Tape) (s : State) → HasMet Ended s.tape ⊎ (s.is_closed ≡ true) → IsLeftOf left s.tape → IsRest Done left s
+rest_done left s (inl met) (inl all) = inl all
+rest_done left s (inl met) (inr behind) = inl (behind ∙ behind-met s.tape.items s.tape.ending met.items)
+rest_done left s (inr closed) (inl all) = inl all
+rest_done left s (inr closed) (inr behind) = inr (closed, behind)
+
+-- and where the last page ended, which it does behind that alone
+pub rest_over : (l : Limits) (t : Beginning) (left : Tape) (s : State) → Leads l (initial l t.start t.tape) s → s.ended ≡ Some Done
+    → IsLeftOf left s.tape → IsRest Done left s
+rest_over l t left s leads ended rest =
+    let last : s ≡ last_state l t.start t.tape = no_other_state_is_last l t.start t.tape s leads (rw ended refl) in
+    let told : Tells l Done s =
+    subst (λ (s : State). Tells l Done s) (sym last) (each_status_tells l t.start t.tape Done (ap (λ (s : State). s.ended) (sym last) ∙ ended)) in
+    rest_done left s told.0 rest
 
 -- a limit stops the run, whether it took the item or not, or before its first step
 abbrev pub AtLimit : Limits → Beginning → Tape → ℕ → Limit → Seen → Seen → Type 0
@@ -78,7 +104,8 @@ module _ (l : Limits) (t : Beginning) (left : Tape) (line : ℕ) (before : Seen)
         state = last;
         reaches = record {
           comes = subst (λ (s : State). Leads l (initial l t.start t.tape) s) stops.stops (Leads-refl l (initial l t.start t.tape));
-          text = rw stops.history (subst (λ (s : Sunk). Appends s.contents out.contents []) stops.out (Appends-nothing out.contents));
+          text = subst (λ (bytes : List ℕ). Appends before.out.contents out.contents bytes) (sym stops.text)
+              (subst (λ (s : Sunk). Appends s.contents out.contents []) stops.out (Appends-nothing out.contents));
           messages = rw (stops.messages, stops.line_is) (subst (λ (s : Sunk). Appends s.contents new.contents (message_line line (LimitReached limit (value_of l limit)))) stops.err told.written);
           faults = faults_of_err before failures out old new told.failures
               (record { source = stops.source; out = ap (λ (s : Sunk). s.failures) stops.out; err = ap (λ (s : Sunk). s.failures) stops.err });

@@ -1,4 +1,7 @@
 pub mod Performed
+pub mod Placed
+pub mod FirstPages
+pub mod DoneFirst
 pub mod LinesLeft
 pub mod Springing
 pub mod DoesTakings
@@ -13,6 +16,7 @@ pub mod Items
 pub mod Turns
 pub mod Waiting
 pub mod WholeRuns
+pub mod NumberedPages
 pub mod Starting
 pub mod Outcomes
 pub mod TwoRuns

@@ -1,57 +1,89 @@
 -- How many interrupted lines are left in the environment in force behind some events.
-use Rattle.std.proofs.Common.{◌≤◌, Bool, true, false, List, [], ◌∷◌, ◌++◌, arith}
+use Rattle.std.proofs.Common.{◌≡◌, ◌≤◌, ℕ, zero, suc, Bool, true, false, List, [], ◌∷◌, ◌++◌, Option, Some, None, refl, arith}
 use Rattle.roff_lines.specs.declared.event.Event.TheVariants.{Print, Tab, WordEnd, Gap, LineEnd, Count, Break, Interrupt as Interrupted, Resume, Set}
 use Rattle.roff_run.proofs.LinesLeft.{left_by-fewer, lines_left-event, most_left-fewer}
 use Rattle.roff_run.specs.Environments.{PageHistory, interrupted_line, text_of}
 use Rattle.roff_run.specs.declared.event.PageEvent.{PageEvent}
-use Rattle.roff_run.specs.declared.event.PageEvent.TheVariants.{Text, Space, Interrupt, Environment, Back, InputTrap as SetsTrap}
-use Rattle.roff_run.specs.TurnsToCome.{behind_all, lines_left}
+use Rattle.roff_run.specs.declared.event.PageEvent.TheVariants.{Text, Page, Interrupt, Environment, Back, InputTrap as SetsTrap}
+use Rattle.roff_run.specs.TurnsToCome.{lines_left}
 use Rattle.roff_num.specs.declared.limits.Limits.{Limits}
-use Rattle.roff_requests.specs.Environments.Standing.{StandFor}
-use Rattle.roff_requests.specs.declared.environments.Environments.{Environments as EnvironmentsOf}
+use Rattle.roff_requests.specs.Composer.Standing.{StandFor}
+use Rattle.roff_requests.specs.declared.composer.Composer.{Composer as ComposerOf}
 use Rattle.roff_run.specs.Run.{State}
 use Rattle.roff_engine.specs.Engine.Outcome.{Beginning, Seen, Reaches}
-use Rattle.roff_engine.specs.Formatter.Performing.{acting, behind_event, behind_own}
+use Rattle.roff_engine.specs.Formatter.Performing.{acting, behind_event, behind_events, behind_next}
 use Rattle.roff_run.specs.TurnsToCome.{left_by, most_left}
-use Rattle.roff_run.specs.Springs.{own_word_end}
+use Rattle.roff_run.specs.Springs.{begins, next, own_word_end, page_begin_or, word_end_of}
 use Rattle.roff_lines.specs.Words.{has_open_word}
 
--- behind all of some events no more are left than any leaves
-pub lines_left-all : (events : List PageEvent) (h : PageHistory) → lines_left (interrupted_line (behind_all events h)) ≤ most_left events (lines_left (interrupted_line h))
+-- what comes before an event, if anything does, leaves as many
+abbrev LeavesAll : Option PageEvent → Type 0
+LeavesAll None = Unit {0}
+LeavesAll (Some first) = (lines : ℕ) → left_by first lines ≡ lines
+
+-- the end of an open word does
+leaves-own : (b : Bool) → LeavesAll (own_word_end b)
+leaves-own false = tt
+leaves-own true = λ lines. refl
+
+leaves-word_end : (h : PageHistory) (e : PageEvent) → LeavesAll (word_end_of h e)
+leaves-word_end h (Text (Print glyph)) = tt
+leaves-word_end h (Text Tab) = tt
+leaves-word_end h (Text WordEnd) = tt
+leaves-word_end h (Text (Gap columns)) = leaves-own (has_open_word (text_of h))
+leaves-word_end h (Text LineEnd) = leaves-own (has_open_word (text_of h))
+leaves-word_end h (Text Count) = tt
+leaves-word_end h (Text Break) = leaves-own (has_open_word (text_of h))
+leaves-word_end h (Text Interrupted) = tt
+leaves-word_end h (Text Resume) = tt
+leaves-word_end h (Text (Set param)) = tt
+leaves-word_end h (Page e) = tt
+leaves-word_end h (Interrupt untold) = tt
+leaves-word_end h (Environment number) = tt
+leaves-word_end h Back = tt
+leaves-word_end h (SetsTrap trap) = tt
+
+-- and so does the first page's beginning
+leaves-page : (does : Bool) (other : Option PageEvent) → LeavesAll other → LeavesAll (page_begin_or does other)
+leaves-page true other leaves = λ lines. refl
+leaves-page false other leaves = leaves
+
+leaves-first : (h : PageHistory) (e : PageEvent) (own : Option PageEvent) → LeavesAll own
+    → LeavesAll (elim own [ None ↦ page_begin_or (begins h e) None | Some own ↦ page_begin_or (begins h own) (Some own) ])
+leaves-first h e None leaves = leaves-page (begins h e) None tt
+leaves-first h e (Some own) leaves = leaves-page (begins h own) (Some own) leaves
+
+-- so no more are left behind what comes before an event
+lines_left-first : (n : ℕ) (e : PageEvent) (h : PageHistory) (first : Option PageEvent) → LeavesAll first
+    → ((g : PageHistory) → lines_left (interrupted_line (behind_next n e g)) ≤ lines_left (interrupted_line g))
+    → lines_left (interrupted_line (elim first [ None ↦ h | Some first ↦ behind_next n e (first ∷ h) ])) ≤ lines_left (interrupted_line h)
+lines_left-first n e h None leaves more = omega arith
+lines_left-first n e h (Some first) leaves more =
+    omega (arith, more (first ∷ h), lines_left-event first h, leaves (lines_left (interrupted_line h)))
+
+lines_left-next : (n : ℕ) (e : PageEvent) (h : PageHistory) → lines_left (interrupted_line (behind_next n e h)) ≤ lines_left (interrupted_line h)
+lines_left-next zero e h = omega arith
+lines_left-next (suc n) e h =
+    lines_left-first n e h (next h e) (leaves-first h e (word_end_of h e) (leaves-word_end h e)) (λ g. lines_left-next n e g)
+
+-- nor behind the event
+pub lines_left-behind : (e : PageEvent) (h : PageHistory) → lines_left (interrupted_line (behind_event e h)) ≤ left_by e (lines_left (interrupted_line h))
+lines_left-behind e h =
+    let before : PageHistory = behind_next 2 e h in
+    let fewer = left_by-fewer e (lines_left (interrupted_line before)) (lines_left (interrupted_line h)) (lines_left-next 2 e h) in
+    omega (arith, lines_left-event e before, fewer)
+
+-- behind all of some events, each with what comes before it, no more are left than any leaves
+pub lines_left-all : (events : List PageEvent) (h : PageHistory)
+    → lines_left (interrupted_line (behind_events events h)) ≤ most_left events (lines_left (interrupted_line h))
 lines_left-all [] h = omega arith
 lines_left-all (e ∷ events) h =
-    let more : most_left events (lines_left (interrupted_line (e ∷ h))) ≤ most_left events (left_by e (lines_left (interrupted_line h))) =
-    most_left-fewer events (lines_left (interrupted_line (e ∷ h))) (left_by e (lines_left (interrupted_line h))) (lines_left-event e h) in
-    omega (arith, more, lines_left-all events (e ∷ h))
-
--- the end of a word leaves as many
-lines_left-own : (b : Bool) (e : PageEvent) (h : PageHistory) → lines_left (interrupted_line (behind_own (own_word_end b) e h)) ≤ left_by e (lines_left (interrupted_line h))
-lines_left-own false e h = lines_left-event e h
-lines_left-own true e h =
-    let fewer : left_by e (lines_left (interrupted_line (Text WordEnd ∷ h))) ≤ left_by e (lines_left (interrupted_line h)) =
-    left_by-fewer e (lines_left (interrupted_line (Text WordEnd ∷ h))) (lines_left (interrupted_line h)) (lines_left-event (Text WordEnd) h) in
-    omega (arith, lines_left-event e (Text WordEnd ∷ h), fewer)
-
--- nor more are left behind an event with what comes before it
-pub lines_left-behind : (e : PageEvent) (h : PageHistory) → lines_left (interrupted_line (behind_event e h)) ≤ left_by e (lines_left (interrupted_line h))
-lines_left-behind (Text (Print glyph)) h = lines_left-event (Text (Print glyph)) h
-lines_left-behind (Text Tab) h = lines_left-event (Text Tab) h
-lines_left-behind (Text WordEnd) h = lines_left-event (Text WordEnd) h
-lines_left-behind (Text (Gap columns)) h = lines_left-own (has_open_word (text_of h)) (Text (Gap columns)) h
-lines_left-behind (Text LineEnd) h = lines_left-own (has_open_word (text_of h)) (Text LineEnd) h
-lines_left-behind (Text Count) h = lines_left-event (Text Count) h
-lines_left-behind (Text Break) h = lines_left-own (has_open_word (text_of h)) (Text Break) h
-lines_left-behind (Text Interrupted) h = lines_left-event (Text Interrupted) h
-lines_left-behind (Text Resume) h = lines_left-event (Text Resume) h
-lines_left-behind (Text (Set param)) h = lines_left-event (Text (Set param)) h
-lines_left-behind (Space height) h = lines_left-event (Space height) h
-lines_left-behind (Interrupt untold) h = lines_left-event (Interrupt untold) h
-lines_left-behind (Environment number) h = lines_left-event (Environment number) h
-lines_left-behind Back h = lines_left-event Back h
-lines_left-behind (SetsTrap trap) h = lines_left-event (SetsTrap trap) h
+    let behind : PageHistory = behind_event e h in
+    let more = most_left-fewer events (lines_left (interrupted_line behind)) (left_by e (lines_left (interrupted_line h))) (lines_left-behind e h) in
+    omega (arith, more, lines_left-all events behind)
 
 -- the definition has performed some of these events, and these are left
-pub record CameSoFar (l : Limits) (t : Beginning) (before now : Seen) (s : State) (events : List PageEvent) (h : PageHistory) (left rest : List PageEvent) (es : EnvironmentsOf) : Type 0 where
+pub record CameSoFar (l : Limits) (t : Beginning) (before now : Seen) (s : State) (events : List PageEvent) (h : PageHistory) (left rest : List PageEvent) (es : ComposerOf) : Type 0 where
   pub history : PageHistory
   pub reaches : Reaches l t before now (acting s (left ++ rest) history)
   pub stands : StandFor l history es

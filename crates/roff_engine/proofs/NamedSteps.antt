@@ -7,7 +7,7 @@ use Rattle.roff_run.specs.Environments.{PageHistory}
 use Rattle.roff_run.specs.Events.Lines.{print_event}
 use Rattle.roff_run.specs.Reading.TextLines.{leading_glyph}
 use Rattle.roff_run.specs.declared.event.PageEvent.TheVariants.{Text}
-use Rattle.roff_engine.specs.Formatter.Performing.{Flows}
+use Rattle.roff_engine.specs.Formatter.Performing.{Flows, behind_event}
 use Rattle.roff_engine.specs.Formatter.Sprung.{quiet_events}
 use Rattle.roff_run.specs.Events.Steps.{events_of, messages_of}
 use Rattle.roff_run.specs.declared.event.PageEvent.{PageEvent}
@@ -48,13 +48,13 @@ quiet-events LineEnd others = absurd (others refl)
 quiet-events BlankLine others = refl
 quiet-events Meaning others = refl
 
--- before which nothing comes
+-- before which no word end comes
 flows-leading : (leading : ℕ) (e : PageEvent) (h : PageHistory) → ((g : PageHistory) → Flows (e ∷ []) g) → Flows (leading_glyph leading ++ e ∷ []) h
 flows-leading leading e h flows = by_test (leading == 0)
   where
     by_test : (b : Bool) → Flows ((if b then [] else Text (Print (Blanks leading)) ∷ []) ++ e ∷ []) h
     by_test true = flows h
-    by_test false = (refl, refl, flows (Text (Print (Blanks leading)) ∷ h))
+    by_test false = (refl, refl, flows (behind_event (Text (Print (Blanks leading))) h))
 
 pub quiet-flows : (step : Step) (h : PageHistory) → Flows (quiet_events step) h
 quiet-flows Nothing h = tt

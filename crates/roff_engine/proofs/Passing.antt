@@ -3,7 +3,7 @@ use Rattle.std.proofs.Common.{◌≡◌, ℕ, ◌≤◌, List, [], ◌∷◌, �
 use Rattle.std.specs.Io.KnownBytes.{Appends}
 use Rattle.std.specs.List.{AllByRecursion}
 use Rattle.roff_source.specs.Tape.{Tape, items_then}
-use Rattle.roff_requests.specs.Environments.Standing.{StandFor}
+use Rattle.roff_requests.specs.Composer.Standing.{StandFor}
 use Rattle.roff_run.specs.Output.{PageHistory, written}
 use Rattle.roff_reader.specs.Reader.Taken.{IsReady}
 use Rattle.roff_run.specs.Reading.Items.{PageUnread}
@@ -24,7 +24,7 @@ all_by P Q makes (b ∷ bytes) are = (makes b are.0, all_by P Q makes bytes are.
 -- the code is at its place where the run of the definition leads on, and nothing is written or reported
 pub IsAt-leads : (whole : Beginning) (before behind : Tape) (start now : Seen) (old : Coded) (f : Formatter) (u : PageUnread) (h : PageHistory) (at : IsAt whole before start now old)
     → Leads old.limits (state_at before old at.history at.messages) (state_at behind (record old { formatter = f; unread = u }) h at.messages)
-    → written h ≡ written at.history → StandFor old.limits h f.environments → IsReady f.reader.registers u → u.limits ≡ old.limits
+    → written h ≡ written at.history → StandFor old.limits h f.composer → IsReady f.reader.registers u → u.limits ≡ old.limits
     → IsAt whole behind start now (record old { formatter = f; unread = u })
 IsAt-leads whole before behind start now old f u h at leads nothing stands ready limits = record {
   history = h;

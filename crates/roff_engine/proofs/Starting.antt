@@ -6,19 +6,27 @@ use Rattle.roff_num.specs.declared.limit.Limit.TheVariants.{Names}
 use Rattle.roff_num.specs.declared.limits.Limits.{Limits}
 use Rattle.roff_num.specs.declared.num.Num.{Num}
 use Rattle.roff_engine.specs.Engine.Outcome.{Outcome, Seen}
-use Rattle.roff_engine.specs.Running.Starting.{Begins, HasRoom, IsRefused, SetsSome, with_capped}
+use Rattle.roff_engine.specs.Formatter.Performing.{going}
+use Rattle.roff_engine.specs.Formatter.Setting.{Gives}
+use Rattle.roff_engine.specs.Running.Starting.{Begins, HasRoom, IsRefused, SetsSome}
 use Rattle.roff_engine.specs.Running.Turning.{StartStops, state_at}
+use Rattle.roff_engine.specs.declared.formatter.Formatter.{Formatter}
 use Rattle.roff_engine.specs.declared.running.Running.{Running as Coded}
+use Rattle.roff_engine.proofs.NumberedPages.{written-given}
 use Rattle.roff_reader.proofs.TakesAs.{few_names}
+use Rattle.roff_reader.specs.Reader.State.{ReaderState}
+use Rattle.roff_reader.specs.Reader.Taken.{IsReady}
+use Rattle.roff_requests.specs.Composer.Standing.{StandFor}
 use Rattle.roff_run.proofs.InputCounts.{first_passed-few_names}
+use Rattle.roff_run.specs.Output.{PageHistory, written}
 use Rattle.roff_run.specs.Reading.Items.{PageInput}
 use Rattle.roff_run.specs.Registers.{AllRegisters, Change, changed_by}
-use Rattle.roff_run.specs.Registers.Capped.{Capped, admitted, after as behind_change, is_past_cap, with_change}
+use Rattle.roff_run.specs.Registers.Capped.{Capped, is_past_cap, with_change}
 use Rattle.roff_run.specs.Run.{State, initial, stopped_by, unless_refused, with_registers}
-use Rattle.roff_run.specs.Starts.{given_change}
+use Rattle.roff_run.specs.Starts.{given_change, history_given}
 use Rattle.roff_run.specs.declared.start.Start.{Start}
 use Rattle.roff_run.specs.declared.status.Status.{Status}
-use Rattle.roff_scan.specs.Looking.{looked_then}
+use Rattle.roff_scan.specs.Looking.{is_closed, looked_then}
 use Rattle.roff_scan.specs.declared.looked.Looked.{Looked}
 use Rattle.roff_scan.specs.declared.looked.Looked.TheVariants.{Nothing}
 use Rattle.roff_source.specs.Tape.{Tape}
@@ -39,28 +47,59 @@ admitted_err false limit r is err = cc
 
 -- so far these registers of all that are given were set, and the others are to be
 pub record SetSoFar (old now : Coded) (given rest : List (ℕ × Num)) : Type 0 where
-  pub some : SetsSome old now
-  pub goes_on : HasRoom old → (tape : Tape) → with_registers old.limits given (state_at tape old [] []) ≡ with_registers old.limits rest (state_at tape now [] [])
+  pub history : PageHistory
+  pub some : SetsSome old now history
+  pub goes_on : HasRoom old → (tape : Tape) → with_registers old.limits given (state_at tape old [] []) ≡ with_registers old.limits rest (state_at tape now history [])
+  pub stands : (l : Limits) → StandFor l [] old.formatter.composer → StandFor l history now.formatter.composer
 
 -- none was set yet
 pub SetSoFar-none : (old : Coded) (given : List (ℕ × Num)) → SetSoFar old old given given
-SetSoFar-none old given = record { some = record { sets = refl; room = λ room. room }; goes_on = λ room tape. refl }
+SetSoFar-none old given = record {
+  history = [];
+  some = record { sets = refl; reader = refl; room = λ room. room; quiet = refl };
+  goes_on = λ room tape. refl;
+  stands = λ l stood. stood;
+}
+
+-- a reader in which registers alone changed since, and again
+same_reader : (first now new : ReaderState) (rs : Capped) → now ≡ record first { registers = now.registers } → new ≡ record now { registers = rs }
+    → new ≡ record first { registers = new.registers }
+same_reader first now new rs was is =
+    is ∙ ap (λ (r : ReaderState). record r { registers = rs }) was
+    ∙ ap (λ (r : ReaderState). record first { registers = r.registers }) (sym is)
 
 -- the next one, and those behind it
 module _ (old now : Coded) (given rest : List (ℕ × Num)) (next : ℕ × Num) (far : SetSoFar old now given (next ∷ rest)) where
-  -- the change, and the registers before it and behind it
+  -- the change, the registers before it, and those behind it
   abbrev change : Change
   change = given_change next.0 next.1
 
   abbrev rs : Capped
   rs = now.formatter.reader.registers
 
+  abbrev changed : Capped
+  changed = with_change change rs
+
   abbrev behind : AllRegisters
   behind = changed_by change rs.all
 
-  -- the run behind it
-  abbrev over : Coded
-  over = with_capped now (with_change change rs)
+  -- the reader with these registers
+  abbrev reading : Capped → ReaderState
+  reading registers = record now.formatter.reader { registers = registers }
+
+  -- the run with a formatter, and the state at which it stands with a reader
+  abbrev over : Formatter → Coded
+  over f = record now { formatter = f }
+
+  abbrev at : Tape → PageHistory → ReaderState → State
+  at tape h r = going (looked_then now.unread.looked tape) now.unread.input r.reading r.registers.all h [] now.phase (is_closed now.unread.looked) []
+
+  -- the states of the definition before it, and behind it and the others
+  abbrev before : Tape → State
+  before tape = at tape far.history (reading rs)
+
+  abbrev others : Tape → State
+  others tape = with_registers old.limits rest (at tape (history_given next far.history) (reading changed))
 
   limits : now.limits ≡ old.limits
   limits = ap (λ (run : Coded). run.limits) far.some.sets
@@ -72,16 +111,13 @@ module _ (old now : Coded) (given rest : List (ℕ × Num)) (next : ℕ × Num) 
       room.ready.cap ∙ ap (λ (l : Limits). l.names) room.limits ∙ ap (λ (l : Limits). l.names) limits
 
   -- where it is set or refused the definition does that
-  by : (past : Bool) → is_past_cap (with_change change rs) ≡ past → HasRoom old → (tape : Tape)
-      → with_registers old.limits given (state_at tape old [] [])
-      ≡ (if past then stopped_by old.limits Names (state_at tape now [] []) else with_registers old.limits rest (state_at tape over [] []))
+  by : (past : Bool) → is_past_cap changed ≡ past → HasRoom old → (tape : Tape)
+      → with_registers old.limits given (state_at tape old [] []) ≡ (if past then stopped_by old.limits Names (before tape) else others tape)
   by past is had tape =
-      let s : State = state_at tape now [] [] in
-      let others : State = with_registers old.limits rest (state_at tape over [] []) in
       let counted : nat_lt old.limits.names (length behind.named) ≡ past = ap (λ (n : ℕ). nat_lt n (length behind.named)) (sym (cap had)) ∙ is in
       far.goes_on had tape
-      ∙ ap (λ (b : Bool). unless_refused old.limits (if b then Some Names else None) s others) counted
-      ∙ by_past past s others
+      ∙ ap (λ (b : Bool). unless_refused old.limits (if b then Some Names else None) (before tape) (others tape)) counted
+      ∙ by_past past (before tape) (others tape)
     where
       by_past : (past : Bool) (s others : State)
           → unless_refused old.limits (if past then Some Names else None) s others ≡ (if past then stopped_by old.limits Names s else others)
@@ -89,54 +125,71 @@ module _ (old now : Coded) (given rest : List (ℕ × Num)) (next : ℕ × Num) 
       by_past false s others = refl
 
   -- no count is above its limit where it is set
-  room-set : is_past_cap (with_change change rs) ≡ false → HasRoom old → HasRoom over
-  room-set is had =
+  ready-set : is_past_cap changed ≡ false → HasRoom old → IsReady changed now.unread
+  ready-set is had =
       let room : HasRoom now = far.some.room had in
       let l : Limits = now.unread.limits in
       let i : PageInput = now.unread.input in
       let few : nat_lt l.names (length behind.named) ≡ false = ap (λ (n : ℕ). nat_lt n (length behind.named)) (sym room.ready.cap) ∙ is in
       record {
-        ready = record {
-          cap = room.ready.cap;
-          within = first_passed-few_names l behind i few ∙ sym (first_passed-few_names l rs.all i (few_names rs now.unread room.ready)) ∙ room.ready.within;
-        };
-        limits = room.limits;
+        cap = room.ready.cap;
+        within = first_passed-few_names l behind i few ∙ sym (first_passed-few_names l rs.all i (few_names rs now.unread room.ready)) ∙ room.ready.within;
       }
 
-  -- it was set
-  pub set_next : (new : Coded) (r : Result (Unit {0}) Limit) → r ≡ admitted change rs → r ≡ Ok tt → new ≡ with_capped now (behind_change change rs) → SetSoFar old new given rest
-  set_next new r answer ok is =
-      let few : is_past_cap (with_change change rs) ≡ false = admitted_ok (is_past_cap (with_change change rs)) r answer ok in
-      let there : new ≡ over = is ∙ ap (λ (past : Bool). with_capped now (if past then rs else with_change change rs)) few in
-      subst (λ (run : Coded). SetSoFar old run given rest) (sym there) (record {
-        some = record {
-          sets = ap (λ (run : Coded). with_capped run (with_change change rs)) far.some.sets;
-          room = room-set few;
-        };
-        goes_on = by false few;
-      })
+  -- behind it, in a formatter with these registers
+  module _ (f : Formatter) (r : Result (Unit {0}) Limit) (gives : Gives next.0 next.1 now.formatter f r) where
+    -- what else is read stays
+    some-behind : (h : PageHistory) (registers : Capped) → f.reader ≡ reading registers
+        → (HasRoom old → IsReady registers now.unread) → written h ≡ [] → SetsSome old (over f) h
+    some-behind h registers is ready quiet = record {
+      sets = ap (λ (run : Coded). record run { formatter = f }) far.some.sets;
+      reader = same_reader old.formatter.reader now.formatter.reader f.reader registers far.some.reader is;
+      room = λ had. record {
+        ready = subst (λ (r : ReaderState). IsReady r.registers now.unread) (sym is) (ready had);
+        limits = (far.some.room had).limits;
+      };
+      quiet = quiet;
+    }
 
-  -- or it was refused
-  pub refused_next : (new : Coded) (limit : Limit) (r : Result (Unit {0}) Limit) → r ≡ admitted change rs → r ≡ Err limit → new ≡ with_capped now (behind_change change rs) → IsRefused old new given limit
-  refused_next new limit r answer err is =
-      let past = admitted_err (is_past_cap (with_change change rs)) limit r answer err in
-      let there : new ≡ now = is ∙ ap (λ (past : Bool). with_capped now (if past then rs else with_change change rs)) past.0 in
-      subst (λ (run : Coded). IsRefused old run given limit) (sym there)
-      (subst (λ (n : Limit). IsRefused old now given n) (sym past.1) (record { some = far.some; stops = by true past.0 }))
+    -- it was set
+    pub set_next : r ≡ Ok tt → SetSoFar old (over f) given rest
+    set_next ok =
+        let few : is_past_cap changed ≡ false = admitted_ok (is_past_cap changed) r gives.answer ok in
+        let h : PageHistory = history_given next far.history in
+        let is : f.reader ≡ reading changed = gives.reader ∙ ap (λ (past : Bool). reading (if past then rs else changed)) few in
+        record {
+          history = h;
+          some = some-behind h changed is (ready-set few) (written-given next far.history far.some.quiet);
+          goes_on = λ had tape. by false few had tape ∙ ap (λ (r : ReaderState). with_registers old.limits rest (at tape h r)) (sym is);
+          stands = λ l stood. gives.stands l far.history (far.stands l stood);
+        }
+
+    -- or it was refused
+    pub refused_next : (limit : Limit) → r ≡ Err limit → IsRefused old (over f) given limit
+    refused_next limit err =
+        let past = admitted_err (is_past_cap changed) limit r gives.answer err in
+        let is : f.reader ≡ reading rs =
+        gives.reader ∙ ap (λ (past : Bool). reading (if past then rs else changed)) past.0 in
+        subst (λ (n : Limit). IsRefused old (over f) given n) (sym past.1) (record {
+          history = far.history;
+          some = some-behind far.history rs is (λ had. (far.some.room had).ready) far.some.quiet;
+          stops = λ had tape. by true past.0 had tape ∙ ap (λ (r : ReaderState). stopped_by old.limits Names (at tape far.history r)) (sym is);
+        })
 
 -- all were set
 pub Begins-all : (old new : Coded) (given rest : List (ℕ × Num)) → length rest ≡ 0 → SetSoFar old new given rest → Begins old new given
-Begins-all old new given [] none far = record { some = far.some; goes_on = far.goes_on }
+Begins-all old new given [] none far = record { history = far.history; some = far.some; goes_on = far.goes_on; stands = far.stands }
 Begins-all old new given (next ∷ rest) none far = absurd (omega (arith, none))
 
--- a limit refused one, where nothing of the source was looked at: nothing happened yet
-pub stops_at_start : (run : Coded) (given : Start) (tape : Tape) (limit : Limit) (line : ℕ) (now : Seen) → run.unread.looked ≡ Nothing
-    → initial run.limits given tape ≡ stopped_by run.limits limit (state_at tape run [] []) → line ≡ run.unread.input.line
+-- a limit refused one, where nothing of the source was looked at: nothing was read or written yet
+pub stops_at_start : (run : Coded) (given : Start) (tape : Tape) (h : PageHistory) (limit : Limit) (line : ℕ) (now : Seen)
+    → run.unread.looked ≡ Nothing → written h ≡ []
+    → initial run.limits given tape ≡ stopped_by run.limits limit (state_at tape run h []) → line ≡ run.unread.input.line
     → StartStops run.limits (record { start = given; tape = tape }) tape line limit now now
-stops_at_start run given tape limit line now unread stops line_is = record {
-  state = state_at tape run [] [];
+stops_at_start run given tape h limit line now unread quiet stops line_is = record {
+  state = state_at tape run h [];
   stops = stops;
-  history = refl;
+  text = quiet;
   messages = refl;
   source = omega arith;
   out = refl;
@@ -150,11 +203,13 @@ stops_at_start run given tape limit line now unread stops line_is = record {
 pub begin_refused : (old mid : Coded) (given : Start) (tape : Tape) (limit : Limit) (status : Status) (now behind : Seen)
     → IsRefused old mid given.registers.items limit → HasRoom old → old.unread.looked ≡ Nothing
     → initial old.limits given tape ≡ with_registers old.limits given.registers.items (state_at tape old [] [])
-    → (mid.unread.looked ≡ Nothing → initial mid.limits given tape ≡ stopped_by mid.limits limit (state_at tape mid [] []) → Outcome mid.limits given tape tape status now behind)
+    → ((h : PageHistory) → mid.unread.looked ≡ Nothing → written h ≡ [] → initial mid.limits given tape ≡ stopped_by mid.limits limit (state_at tape mid h [])
+    → Outcome mid.limits given tape tape status now behind)
     → Outcome old.limits given tape tape status now behind
 begin_refused old mid given tape limit status now behind refused had unread is ends =
+    let h : PageHistory = refused.history in
     let same : mid.limits ≡ old.limits = ap (λ (run : Coded). run.limits) refused.some.sets in
     let looked : mid.unread.looked ≡ old.unread.looked = ap (λ (run : Coded). run.unread.looked) refused.some.sets in
     subst (λ (l : Limits). Outcome l given tape tape status now behind) same
-    (ends (looked ∙ unread)
-    (subst (λ (l : Limits). initial l given tape ≡ stopped_by l limit (state_at tape mid [] [])) (sym same) (is ∙ refused.stops had tape)))
+    (ends h (looked ∙ unread) refused.some.quiet
+    (subst (λ (l : Limits). initial l given tape ≡ stopped_by l limit (state_at tape mid h [])) (sym same) (is ∙ refused.stops had tape)))

@@ -104,7 +104,7 @@ turns-reads old reading input from [] read =
     let none : stage_of old.formatter.reader.reading old.unread.input ≡ stage_of reading input = Turned-none _ _ _ [] refl read.turned in
     let few = turns-read old reading input from [] read in
     turns_of_run-no_more old (reads old reading input) (omega (arith, few)) refl
-    (ap (λ (p : Stage). line_turns p.reading (lines_left_in old.formatter.environments)) (sym none))
+    (ap (λ (p : Stage). line_turns p.reading (lines_left_in old.formatter.composer)) (sym none))
 turns-reads old reading input from (b ∷ bytes) read =
     let few = turns-read old reading input from (b ∷ bytes) read in
     let fewer = turns_of_run-fewer old (reads old reading input) (omega (arith, few)) refl in

@@ -34,7 +34,7 @@ use Rattle.roff_engine.proofs.Items.{end_passed, moved, return_passed, returned,
 use Rattle.roff_run.proofs.InFront.{Given-asked, IsEnding, in_front, items_asked, over_unread, over_unread-ending, shown_step}
 use Rattle.roff_run.proofs.Readings.{begun-behind_return}
 use Rattle.roff_run.proofs.TurnsToCome.{IsTaken, turns_to_come-taking, turns_within-byte}
-use Rattle.roff_requests.specs.Environments.Standing.{StandFor}
+use Rattle.roff_requests.specs.Composer.Standing.{StandFor}
 use Rattle.roff_engine.proofs.TurnsLeft.{input_ends-fewer, turns_at-fewer, turns_at-run, turns_of_run-fewer}
 
 -- fewer turns are to come of the run that goes on
@@ -49,7 +49,7 @@ turns_of u l i limits input =
 -- what is done with an item leaves fewer turns than there were before the item, if the run goes on
 abbrev pub LeavesFewer : (State → State) → Coded → PageUnread → Result (Unit {0}) Status → Type 0
 LeavesFewer doing old left r =
-    (tape : Tape) (h : PageHistory) (ms : List ℕ) → StandFor old.limits h old.formatter.environments
+    (tape : Tape) (h : PageHistory) (ms : List ℕ) → StandFor old.limits h old.formatter.composer
     → OnOk r (turns_at old.unread.limits.bytes (doing (state_at tape (moved old left) h ms)) < turns_of_run old)
 
 -- where a run goes on, this holds
@@ -227,7 +227,7 @@ module _ {gave gives : Tape → Type 0} {left : PageUnread} (old : Coded) (faile
   -- the end of the input
   pub front_ended : (new : Coded) (after : Seen) (r : Result (Unit {0}) Status) → Takes gave gives old.unread left (ShowsEnding Ended)
       → (MayEnd (moved old left) → DoesItem left.input.line input_ends (moved old left) new (seen failures out err) after r)
-      → ((l : Limits) (h : PageHistory) → StandFor l h old.formatter.environments → OnOk r (MayGoOn (moved old left) h)) → FrontTurn gave gives noted notes old new (seen failed out err) after r
+      → ((l : Limits) (h : PageHistory) → StandFor l h old.formatter.composer → OnOk r (MayGoOn (moved old left) h)) → FrontTurn gave gives noted notes old new (seen failed out err) after r
   front_ended new after r call acts goes_on =
       let leaves = leaves_front old call in
       let ends = ends_front old call Ended refl in

@@ -8,12 +8,13 @@ use Rattle.roff_engine.specs.declared.running.Running.{Running as Coded}
 use Rattle.roff_engine.specs.Running.Turning.{input_ends, line_turns, lines_left_in, state_at, turns_at, turns_left, turns_of_run}
 use Rattle.roff_run.specs.TurnsToCome.{most_left}
 use Rattle.roff_run.proofs.LinesLeft.{left_behind, left-few}
-use Rattle.roff_requests.specs.Environments.Standing.{StandFor}
-use Rattle.roff_requests.specs.declared.environments.Environments.{Environments as EnvironmentsOf}
+use Rattle.roff_requests.specs.Composer.Standing.{StandFor}
+use Rattle.roff_requests.specs.declared.composer.Composer.{Composer as ComposerOf}
 use Rattle.roff_run.specs.Environments.{PageHistory, interrupted_line, line_left, environments, text_of}
 use Rattle.roff_lines.specs.Events.{is_interrupted}
+use Rattle.roff_run.specs.Events.Lines.{closing_events}
 use Rattle.roff_run.specs.Reading.Ends.{is_unfinished}
-use Rattle.roff_run.specs.Run.{State, closing_events, escape_ends, input_ended, known, phase_ended}
+use Rattle.roff_run.specs.Run.{State, escape_ends, input_ended, known, phase_ended}
 use Rattle.roff_run.specs.TurnsToCome.{begun, lines_left, phases_left, turns_within, unended}
 use Rattle.roff_run.specs.declared.line_state.LineState.{LineState}
 use Rattle.roff_run.specs.declared.line_state.LineState.TheVariants.{LineStart, Branch, Braced, Text as InText, Control, Name, Arguments as InArguments, Deciding, StringName, StringText, Skipping, Dropped, Telling, Told, Exiting, Calling, Defining}
@@ -29,10 +30,10 @@ left-by true line = refl
 left-by false line = refl
 
 -- the code counts those that the history for which its environments stand has
-pub lines_left-stands : (l : Limits) (h : PageHistory) (es : EnvironmentsOf) → StandFor l h es → lines_left_in es ≡ lines_left (interrupted_line h)
+pub lines_left-stands : (l : Limits) (h : PageHistory) (es : ComposerOf) → StandFor l h es → lines_left_in es ≡ lines_left (interrupted_line h)
 lines_left-stands l h es stood =
     let as_one : Bool → ℕ = λ b. if b then 1 else 0 in
-    ap as_one stood.in_force.lines.is_interrupted
+    ap as_one stood.environments.in_force.lines.is_interrupted
     ∙ left-by (is_interrupted (text_of h)) (line_left (text_of h) (environments h).in_force.untold)
 
 -- a line that ends with the input counts no more than this
@@ -100,19 +101,19 @@ pub line_turns-less : (reading : LineState) (left : ℕ) → left ≤ 1 → line
 line_turns-less reading left few = omega (arith, line_turns-few reading left few, unended-few reading)
 
 -- the code has one environment in force
-pub lines_left_in-few : (es : EnvironmentsOf) → lines_left_in es ≤ 1
-lines_left_in-few es = by_flag es.in_force.lines.is_interrupted
+pub lines_left_in-few : (es : ComposerOf) → lines_left_in es ≤ 1
+lines_left_in-few es = by_flag es.environments.in_force.lines.is_interrupted
   where
     by_flag : (b : Bool) → (if b then 1 else 0) ≤ 1
     by_flag true = omega arith
     by_flag false = omega arith
 
 -- as many turns are to come of a run as of the state that it is at
-pub turns_at-run : (tape : Tape) (run : Coded) (h : PageHistory) (messages : List ℕ) (l : Limits) → StandFor l h run.formatter.environments
+pub turns_at-run : (tape : Tape) (run : Coded) (h : PageHistory) (messages : List ℕ) (l : Limits) → StandFor l h run.formatter.composer
     → turns_at run.unread.limits.bytes (state_at tape run h messages) ≡ turns_of_run run
 turns_at-run tape run h messages l stood =
     let reading : LineState = run.formatter.reader.reading in
-    ap (λ (left : ℕ). 4 * turns_left run + line_turns reading left + phases_left run.phase) (sym (lines_left-stands l h run.formatter.environments stood))
+    ap (λ (left : ℕ). 4 * turns_left run + line_turns reading left + phases_left run.phase) (sym (lines_left-stands l h run.formatter.composer stood))
 
 -- fewer are to come of a state in the same phase of whose input fewer are
 pub turns_at-fewer : (bytes : ℕ) (run : Coded) (s : State) → turns_within bytes s.input + begun s.reading < turns_left run → s.phase ≡ run.phase
@@ -126,14 +127,14 @@ turns_at-fewer bytes run s fewer same =
 -- and of a run in the same phase
 pub turns_of_run-fewer : (old new : Coded) → turns_left new < turns_left old → new.phase ≡ old.phase → turns_of_run new < turns_of_run old
 turns_of_run-fewer old new fewer same =
-    let left : ℕ = lines_left_in new.formatter.environments in
-    let few : line_turns new.formatter.reader.reading left ≤ 3 = line_turns-less new.formatter.reader.reading left (lines_left_in-few new.formatter.environments) in
+    let left : ℕ = lines_left_in new.formatter.composer in
+    let few : line_turns new.formatter.reader.reading left ≤ 3 = line_turns-less new.formatter.reader.reading left (lines_left_in-few new.formatter.composer) in
     let phases : phases_left new.phase ≡ phases_left old.phase = ap phases_left same in
     omega (arith, fewer, few, phases)
 
 -- no more of one that reads the same kind of line in the same phase
 pub turns_of_run-no_more : (old new : Coded) → turns_left new ≤ turns_left old → new.phase ≡ old.phase
-    → line_turns new.formatter.reader.reading (lines_left_in new.formatter.environments) ≡ line_turns old.formatter.reader.reading (lines_left_in old.formatter.environments)
+    → line_turns new.formatter.reader.reading (lines_left_in new.formatter.composer) ≡ line_turns old.formatter.reader.reading (lines_left_in old.formatter.composer)
     → turns_of_run new ≤ turns_of_run old
 turns_of_run-no_more old new few same lines =
     let phases : phases_left new.phase ≡ phases_left old.phase = ap phases_left same in

@@ -3,11 +3,12 @@ use Rattle.std.proofs.Common.{◌≡◌, ℕ, ◌<◌, true, false, List, [], �
 use Rattle.std.specs.Prelude.{IsSome, nat_lt}
 use Rattle.std.proofs.lemmas.Bool.{le-ltb}
 use Rattle.roff_num.specs.declared.limits.Limits.{Limits}
+use Rattle.std.specs.Io.KnownBytes.{Appends}
 use Rattle.roff_source.specs.BlockRead.{SomeTape}
 use Rattle.roff_source.specs.Tape.{Tape, items_then}
 use Rattle.roff_scan.specs.Looking.{is_closed, looked_then}
 use Rattle.roff_run.specs.declared.status.Status.{Status}
-use Rattle.roff_requests.specs.Environments.Standing.{StandFor}
+use Rattle.roff_requests.specs.Composer.Standing.{StandFor}
 use Rattle.roff_run.specs.Output.{PageHistory}
 use Rattle.roff_reader.specs.Reader.State.{ReaderState, fresh_reader}
 use Rattle.roff_reader.specs.Reader.Taken.{IsReady}
@@ -18,7 +19,6 @@ use Rattle.roff_run.specs.declared.phase.Phase.{Phase}
 use Rattle.roff_run.specs.declared.phase.Phase.TheVariants.{Reading}
 use Rattle.roff_run.specs.declared.start.Start.{Start}
 use Rattle.roff_sinks.specs.Sinks.{Sunk}
-use Rattle.roff_requests.specs.declared.environments.Environments.{Environments as EnvironmentsOf}
 use Rattle.roff_run.specs.Run.Counts.{counts_in, first_passed}
 use Rattle.roff_run.specs.Reading.Ends.{due}
 use Rattle.roff_run.specs.declared.line_state.Due.{Due}
@@ -85,8 +85,8 @@ pub initial-fresh : (run : Coded) (given : Start) → run.phase ≡ Reading → 
 initial-fresh run given first fresh tape = ap (with_registers run.limits given.registers.items) (sym (blank-fresh tape run first fresh))
 
 -- registers were given to a run: it stands where the definition begins
-begun : (old new : Coded) (given : Start) → old.phase ≡ Reading → IsFresh old.limits old.formatter old.unread → Begins old new given.registers.items
-    → (tape : Tape) → initial old.limits given tape ≡ state_at tape new [] []
+begun : (old new : Coded) (given : Start) → old.phase ≡ Reading → IsFresh old.limits old.formatter old.unread → (begins : Begins old new given.registers.items)
+    → (tape : Tape) → initial old.limits given tape ≡ state_at tape new begins.history []
 begun old new given first fresh begins tape = initial-fresh old given first fresh tape ∙ begins.goes_on (HasRoom-fresh old fresh) tape
 
 -- so no limit refused one of them
@@ -98,30 +98,29 @@ not_refused old new given first fresh begins tape refused =
 
 -- and it has come to its first turn
 pub started : (old new : Coded) (given : Start) (failures : ℕ) (out err : Sunk) (gives : Tape → Type 0) → old.phase ≡ Reading
-    → StandFor old.limits [] old.formatter.environments → IsFresh old.limits old.formatter old.unread
+    → StandFor old.limits [] old.formatter.composer → IsFresh old.limits old.formatter old.unread
     → Begins old new given.registers.items → HasCome given gives gives (seen failures out err) (seen failures out err) new
 started old new given failures out err gives first stands fresh begins =
     let had : HasRoom old = HasRoom-fresh old fresh in
     let room : HasRoom new = begins.some.room had in
     let same : new.limits ≡ old.limits = ap (λ (run : Coded). run.limits) begins.some.sets in
-    let environments : new.formatter.environments ≡ old.formatter.environments = ap (λ (run : Coded). run.formatter.environments) begins.some.sets in
+    let h : PageHistory = begins.history in
     record {
       taken = [];
       before = λ tape may. may;
       at = λ tape may.
-          let is : initial old.limits given tape ≡ state_at tape new [] [] = begun old new given first fresh begins tape in
+          let is : initial old.limits given tape ≡ state_at tape new h [] = begun old new given first fresh begins tape in
           record {
-            history = [];
+            history = h;
             messages = [];
             reaches = record {
-              comes = subst (λ (l : Limits). Leads l (initial l given tape) (state_at tape new [] [])) (sym same)
+              comes = subst (λ (l : Limits). Leads l (initial l given tape) (state_at tape new h [])) (sym same)
                   (subst (λ (s : State). Leads old.limits (initial old.limits given tape) s) is (Leads-refl old.limits (initial old.limits given tape)));
-              text = Appends-nothing out.contents;
+              text = subst (λ (text : List ℕ). Appends out.contents out.contents text) (sym begins.some.quiet) (Appends-nothing out.contents);
               messages = Appends-nothing err.contents;
               faults = record { source = omega arith; out = refl; err = refl };
             };
-            stands = subst (λ (l : Limits). StandFor l [] new.formatter.environments) (sym same)
-                (subst (λ (es : EnvironmentsOf). StandFor old.limits [] es) (sym environments) stands);
+            stands = subst (λ (l : Limits). StandFor l h new.formatter.composer) (sym same) (begins.stands old.limits stands);
             ready = room.ready;
             limits = room.limits;
           };

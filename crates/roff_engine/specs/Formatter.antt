@@ -1,4 +1,6 @@
 -- What the code of the formatter does, as the definition has it.
 pub mod Sprung
 pub mod Performing
+pub mod Paging
+pub mod Setting
 pub mod Telling

@@ -33,7 +33,7 @@ impl Model for Engine {
     ghost view = { λ e. record { limits = e.limits; start = e.start } };
 
     ghost invariant = { λ e.
-        StandFor e.limits [] e.formatter.environments × IsFresh e.limits e.formatter e.unread };
+        StandFor e.limits [] e.formatter.composer × IsFresh e.limits e.formatter e.unread };
 }
 
 impl Engine {

@@ -1,38 +1,52 @@
 //! The formatter: what each item of the input does.
 
 ghost use Rattle.std.specs.Prelude.{◌≡◌, [], IfOk};
-ghost use Rattle.roff_engine.specs.Clauses.{fresh_reader, StandFor};
+ghost use Rattle.roff_engine.specs.Clauses.{fresh_reader, Gives, StandFor};
 
 mod ending;
+mod first_page;
 mod fronts;
+mod paging;
 mod performing;
 mod taking;
 mod text_events;
 
-use roff_num::Limits;
+use roff_num::{Limit, Limits, Num};
 use roff_reader::Reader;
-use roff_requests::Environments;
-use roff_sinks::Block;
+use roff_requests::Composer;
 use std::alloc::{AllocError, Global};
 
-/// What is read, the environments, and the block through which lines are written.
+/// What is read, and the environments and pages in which lines are filled and placed.
 #[derive(Drop)]
 pub(crate) struct Formatter {
     pub(crate) reader: Reader,
-    environments: Environments,
-    block: Block,
+    composer: Composer,
 }
 
 impl Formatter {
     /// A formatter before the first line, with room for what these limits allow.
     pub(crate) fn new(alloc: Global, limits: Limits) -> Result<Self, AllocError>
-        ensures stands { IfOk result (λ f. StandFor limits [] f.environments) }
+        ensures stands { IfOk result (λ f. StandFor limits [] f.composer) }
         ensures reader { IfOk result (λ f. f.reader ≡ fresh_reader limits.names) }
     {
         Ok(Formatter {
             reader: Reader::new(alloc, limits.names)?,
-            environments: Environments::new(alloc, limits)?,
-            block: Block::new(alloc)?,
+            composer: Composer::new(alloc, limits)?,
         })
+    }
+
+    /// Sets a register that is given to a run, of a name of one byte, to a value: of the page
+    /// number's the page has it.
+    ///
+    /// # Errors
+    ///
+    /// [`Limit::Names`] if more names than may would have a register; nothing changed then.
+    pub(crate) fn give(&mut self, name: u8, value: Num) -> Result<(), Limit>
+        ensures { Gives name value self.old self.new result }
+    {
+        if name == b'%' {
+            self.composer.pages.set_number(value);
+        }
+        self.reader.give(name, value)
     }
 }

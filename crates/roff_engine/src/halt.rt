@@ -15,6 +15,8 @@ pub(crate) enum Halt {
     Limit(Limit),
     /// An item would pass a limit, and so isn't taken.
     Refused(Limit),
+    /// The last page has ended, and the run with it.
+    Over,
     /// The output failed.
     Output,
     /// The message sink failed.
@@ -40,6 +42,7 @@ impl Halt {
                 let _ = report(Message::WriteFailed, line, err);
                 Status::Device
             }
+            Halt::Over => Status::Done,
             Halt::Messages => Status::Device,
         }
     }

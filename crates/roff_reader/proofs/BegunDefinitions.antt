@@ -3,7 +3,7 @@ use Rattle.std.proofs.Common.{◌≡◌, ℕ, ◌≤◌, Bool, true, List, lengt
 use Rattle.std.specs.Prelude.{is_some}
 use Rattle.std.specs.Option.{option_flatten}
 use Rattle.std.proofs.lemmas.List.{length-take}
-use Rattle.roff_requests.specs.declared.environments.Environments.{Environments as EnvironmentsOf}
+use Rattle.roff_requests.specs.declared.composer.Composer.{Composer as ComposerOf}
 use Rattle.roff_num.specs.declared.limit.Limit.{Limit}
 use Rattle.roff_arguments.proofs.KeptArguments.{held-finished, held-only_kept}
 use Rattle.roff_arguments.specs.Arguments.{finished}
@@ -56,7 +56,7 @@ definition_begun-finished : (i : PageInput) (name : Option ShortName) (appends :
 definition_begun-finished i None appends end = refl
 definition_begun-finished i (Some name) appends end = refl
 
-pub TakesAs-behind_line : (name : Option ShortName) (appends : Bool) (end : Option ShortName) (es : EnvironmentsOf) (old new : ReaderState) (before mid behind : PageUnread)
+pub TakesAs-behind_line : (name : Option ShortName) (appends : Bool) (end : Option ShortName) (es : ComposerOf) (old new : ReaderState) (before mid behind : PageUnread)
     (result : Result Step Limit) → mid ≡ line_finished before → TakesAs (λ k. definition_begun mid.input name appends end) es old new mid behind result
     → TakesAs (λ k. definition_begun before.input name appends end) es old new before behind result
 TakesAs-behind_line name appends end es old new before mid behind result finishes takes =

@@ -2,7 +2,7 @@
 use Rattle.std.proofs.Common.{◌≡◌, ◌<◌, ◌≤◌, ℕ, ◌-◌, Bool, true, false, List, [], ◌∷◌, length, Result, Ok, Err, refl, sym, subst, ap, ◌==◌, arith}
 use Rattle.std.specs.Prelude.{◌&&◌, get_or, if◌then◌else◌, nat_le}
 use Rattle.std.proofs.lemmas.Bool.{le-leb, leb-true, lt-leb}
-use Rattle.roff_requests.specs.declared.environments.Environments.{Environments as EnvironmentsOf}
+use Rattle.roff_requests.specs.declared.composer.Composer.{Composer as ComposerOf}
 use Rattle.roff_num.specs.declared.limit.Limit.{Limit}
 use Rattle.roff_scan.specs.Unread.{changing}
 use Rattle.roff_escape.specs.declared.open_escape.CopyUnit.{CopyUnit}
@@ -53,7 +53,7 @@ pub call_unit-quote : (i : PageInput) (name : ShortName) (unit : CopyUnit) → u
 call_unit-quote i name unit is =
     subst (λ (u : CopyUnit). going_on (holding_call u i) (Calling name) ≡ call_unit i name u) (sym is) refl
 
-module _ (unit : CopyUnit) (name : ShortName) (es : EnvironmentsOf) (old new : ReaderState) (u behind : PageUnread) where
+module _ (unit : CopyUnit) (name : ShortName) (es : ComposerOf) (old new : ReaderState) (u behind : PageUnread) where
   -- a unit is held while fewer than nine arguments are whole
   holding_few : length u.input.arguments.whole < 9 → going_on (holding unit u.input) (Calling name) ≡ going_on (holding_call unit u.input) (Calling name)
   holding_few few =
@@ -74,7 +74,7 @@ module _ (unit : CopyUnit) (name : ShortName) (es : EnvironmentsOf) (old new : R
       (TakesAs-not_changed (holding unit u.input) (Calling name) es old new u behind limit changes)
 
 -- behind nine arguments nothing is held
-pub TakesAs-call_full : (unit : CopyUnit) (name : ShortName) (es : EnvironmentsOf) (old new : ReaderState) (u : PageUnread) (m : Step) → 9 ≤ length u.input.arguments.whole
+pub TakesAs-call_full : (unit : CopyUnit) (name : ShortName) (es : ComposerOf) (old new : ReaderState) (u : PageUnread) (m : Step) → 9 ≤ length u.input.arguments.whole
     → new ≡ record old { reading = Calling name } → m ≡ Nothing
     → TakesAs (λ k. going_on (holding_call unit u.input) (Calling name)) es old new u u (Ok m)
 TakesAs-call_full unit name es old new u m full came none =
@@ -103,7 +103,7 @@ argument_named-other (digit ∷ []) arguments not =
     unless_both (nat_le 49 digit) (nat_le digit 57) (get_or arguments (digit - 49) []) (λ above below. not refl (leb-true 49 digit above) (leb-true digit 57 below))
 argument_named-other (first ∷ second ∷ others) arguments not = refl
 
-module _ (unit : CopyUnit) (name : ShortName) (es : EnvironmentsOf) (old new : ReaderState) (u mid behind : PageUnread) (result : Result Step Limit) where
+module _ (unit : CopyUnit) (name : ShortName) (es : ComposerOf) (old new : ReaderState) (u mid behind : PageUnread) (result : Result Step Limit) where
   -- a quote behind a call's name, as it is read where the line is
   pub TakesAs-call_quote : mid ≡ u → unit ≡ Byte 34 → TakesAs (λ k. going_on (holding_call unit mid.input) (Calling name)) es old new mid behind result
       → TakesAs (λ k. call_unit u.input name unit) es old new u behind result

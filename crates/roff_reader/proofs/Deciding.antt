@@ -1,8 +1,10 @@
 -- A condition that decides, as the definition takes it: its result is kept, if it is to be, and its branch comes.
-use Rattle.std.proofs.Common.{◌≡◌, ℕ, ◌-◌, ◌≤◌, Bool, true, false, List, length, Option, Some, None, Result, Ok, Err, refl, sym, subst, ap, ◌∙◌, arith}
+use Rattle.std.proofs.Common.{◌≡◌, ℕ, ◌-◌, ◌≤◌, Bool, true, false, not, List, length, Option, Some, None, Result, Ok, Err, refl, sym, subst, ap, ◌∙◌, arith}
+use mathlib.Core.Bool.{beq}
 use Rattle.std.specs.Prelude.{nat_lt, nat_le, ◌&&◌, if◌then◌else◌, ◌==◌}
 use Rattle.std.proofs.lemmas.Bool.{lt-ltb, ltb-true}
-use Rattle.roff_requests.specs.declared.environments.Environments.{Environments as EnvironmentsOf}
+use Rattle.roff_requests.specs.Composer.Standing.{StandFor}
+use Rattle.roff_requests.specs.declared.composer.Composer.{Composer as ComposerOf}
 use Rattle.roff_num.specs.declared.limit.Limit.{Limit}
 use Rattle.roff_num.specs.declared.limit.Limit.TheVariants.{Names, Stack, Depth, Store, Diversions, Conditions}
 use Rattle.roff_num.specs.declared.limits.Limits.{Limits}
@@ -23,7 +25,8 @@ use Rattle.roff_escape.specs.declared.open_escape.Decision.{Decision}
 use Rattle.roff_escape.specs.declared.open_escape.Found.{Found}
 use Rattle.roff_escape.specs.declared.open_escape.Found.TheVariants.{GoesOn, Unit as OneUnit, Holds, Escape, Asks, Motion, Measures, Tells, Decides}
 use Rattle.roff_reader.specs.Reader.State.{ReaderState}
-use Rattle.roff_reader.specs.Reader.Taken.{Takes, TakesAs, Took}
+use Rattle.roff_reader.specs.Reader.Taken.{TakesAs, Took}
+use Rattle.roff_run.specs.Environments.{PageHistory}
 use Rattle.roff_run.specs.Reading.Items.{PageUnread}
 use Rattle.roff_run.specs.Reading.Beginnings.{at_start, beginning_found, first_escape, first_taking, going_on_told, line_begun, line_begun_as}
 use Rattle.roff_run.specs.Reading.Branches.{condition_found, decided, is_so, with_result_if, skipping_taking}
@@ -40,7 +43,7 @@ use Rattle.roff_run.specs.declared.step.Step.TheVariants.{Nothing}
 use Rattle.roff_run.specs.declared.line_state.LineState.TheVariants.{Branch, Deciding}
 use Rattle.roff_run.specs.declared.line_state.TextLine.{TextLine}
 use Rattle.roff_run.proofs.InputCounts.{first_passed-few_names}
-use Rattle.roff_reader.proofs.TakesAs.{few_names-of, passed_none, passed_one}
+use Rattle.roff_reader.proofs.TakesAs.{TakesAs-asked, few_names-of, passed_none, passed_one}
 
 -- a taking behind which a result is kept too
 abbrev with_kept : Bool → Taking → Taking
@@ -168,7 +171,7 @@ abbrev passed_by : Limits → AllRegisters → Taking → Option Limit
 passed_by l rs t = first_passed l (counts_in (changed_by_all t.effect.changes rs) t.input)
 
 -- a branch whose beginning a limit refuses
-pub TakesAs-not_begun : (keeps so : Bool) (freed : Option ℕ) (es : EnvironmentsOf) (old new : ReaderState) (before behind : PageUnread) (limit : Limit)
+pub TakesAs-not_begun : (keeps so : Bool) (freed : Option ℕ) (es : ComposerOf) (old new : ReaderState) (before behind : PageUnread) (limit : Limit)
     → TakesAs (λ k. decided k before.input so freed) es old new before behind (Err limit)
     → TakesAs (λ k. decided k (with_result_if keeps so before.input) so freed) es old new before behind (Err limit)
 TakesAs-not_begun false so freed es old new before behind limit begins = begins
@@ -199,7 +202,7 @@ passed_by-kept so t old before mid begun =
     ∙ ap (λ (u : PageUnread). input_refusal u.limits (with_result so u.input)) (sym begun.came)
 
 -- a branch began, and a limit refuses to keep the result
-pub TakesAs-not_kept : (so : Bool) (freed : Option ℕ) (es : EnvironmentsOf) (old new : ReaderState) (before mid behind : PageUnread) (m : Step) (limit : Limit)
+pub TakesAs-not_kept : (so : Bool) (freed : Option ℕ) (es : ComposerOf) (old new : ReaderState) (before mid behind : PageUnread) (m : Step) (limit : Limit)
     → TakesAs (λ k. decided k before.input so freed) es old new before mid (Ok m) → (Err limit, behind) ≡ changing (with_result so mid.input) mid
     → TakesAs (λ k. decided k (with_result so before.input) so freed) es old new before behind (Err limit)
 TakesAs-not_kept so freed es old new before mid behind m limit begins keeps = record {
@@ -213,7 +216,7 @@ TakesAs-not_kept so freed es old new before mid behind m limit begins keeps = re
 }
 
 -- or the result is kept
-pub TakesAs-kept : (so : Bool) (freed : Option ℕ) (es : EnvironmentsOf) (old new : ReaderState) (before mid behind : PageUnread) (m : Step) (done : Unit {0})
+pub TakesAs-kept : (so : Bool) (freed : Option ℕ) (es : ComposerOf) (old new : ReaderState) (before mid behind : PageUnread) (m : Step) (done : Unit {0})
     → TakesAs (λ k. decided k before.input so freed) es old new before mid (Ok m) → (Ok done, behind) ≡ changing (with_result so mid.input) mid
     → TakesAs (λ k. decided k (with_result so before.input) so freed) es old new before behind (Ok m)
 TakesAs-kept so freed es old new before mid behind m done begins keeps = record {
@@ -236,17 +239,21 @@ TakesAs-kept so freed es old new before mid behind m done begins keeps = record 
       });
 }
 
--- what a condition decides by these registers, that it decides
-pub TakesAs-decides : (keeps so : Bool) (decision : Decision) (freed : Option ℕ) (es : EnvironmentsOf) (old new : ReaderState) (before behind : PageUnread) (result : Result Step Limit)
-    → ((k : Known) → k.registers ≡ old.registers.all → so ≡ is_so k decision)
+-- whether a page is odd, where a condition asks for odd pages or for even ones
+pub odd_as_asked : (is_odd asks_odd : Bool) → beq is_odd asks_odd ≡ (if asks_odd then is_odd else not is_odd)
+odd_as_asked true true = refl
+odd_as_asked true false = refl
+odd_as_asked false true = refl
+odd_as_asked false false = refl
+
+-- what a condition decides by what is known of the run, that it decides
+pub TakesAs-decides : (keeps so : Bool) (decision : Decision) (freed : Option ℕ) (es : ComposerOf) (old new : ReaderState) (before behind : PageUnread) (result : Result Step Limit)
+    → ((l : Limits) (h : PageHistory) (rs : AllRegisters) (i : PageInput) → StandFor l h es → so ≡ is_so (known_at h rs i) decision)
     → TakesAs (λ k. decided k (with_result_if keeps so before.input) so freed) es old new before behind result
     → TakesAs (λ k. condition_found k before.input keeps (Decides decision freed)) es old new before behind result
-TakesAs-decides keeps so decision freed es old new before behind result asked decides = record {
-  takes = λ l h stands ready.
-      let k : Known = known_at h old.registers.all before.input in
-      subst (λ (is : Bool). Takes (decided k (with_result_if keeps is before.input) is freed) old.registers new before behind result) (asked k refl)
-      (decides.takes l h stands ready);
-}
+TakesAs-decides keeps so decision freed es old new before behind result asked decides =
+    TakesAs-asked (λ k is. decided k (with_result_if keeps is before.input) is freed) (λ k. is_so k decision) so es old new before behind result
+    asked decides
 
 -- anything of a condition but its decision is read as behind a request's name
 pub condition_found-undecided : (k : Known) (i : PageInput) (keeps : Bool) (found : Found) → ((decision : Decision) (freed : Option ℕ) → found ≡ Decides decision freed → ⊥)

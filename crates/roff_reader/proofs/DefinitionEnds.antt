@@ -29,7 +29,7 @@ use Rattle.roff_run.specs.declared.request.LineReading.{LineReading}
 use Rattle.roff_run.specs.declared.request.LineReading.TheVariants.{ByArguments, ByCondition, ByElse, ByLastLine, ByMessage, ByString, ByLines}
 use Rattle.roff_run.specs.declared.request.LinesFor.TheVariants.{Macro, Nobody}
 use Rattle.roff_run.specs.declared.request.Request.{Request}
-use Rattle.roff_run.specs.declared.request.Request.TheVariants.{Abort, Adjust, AppendString, AssignFormat, Break, DefineString, Else, EndMacro, Exit, Fill, If, IfElse, Indent, LineLength, NoAdjust, NoFill, NumberRegister, RemoveNames, RemoveRegisters, Rename, Space as SpaceDown, TellMessage, WithoutEffect, LeftOut, AppendMacro, DefineMacro, Ignore, Centre, Environment as SwitchEnvironment, InputTrap, LineSpacing, TabStops, TemporaryIndent}
+use Rattle.roff_run.specs.declared.request.Request.TheVariants.{Abort, Adjust, AppendString, AssignFormat, Break, DefineString, Else, EndMacro, Exit, Fill, If, IfElse, Indent, LineLength, NoAdjust, NoFill, NumberRegister, PageLength, RemoveNames, RemoveRegisters, Rename, Space as SpaceDown, TellMessage, WithoutEffect, LeftOut, AppendMacro, DefineMacro, Ignore, Centre, Environment as SwitchEnvironment, InputTrap, LineSpacing, TabStops, TemporaryIndent}
 
 -- what names stand for, how many did at first, and the texts in the making
 pub record NamesAndTexts : Type 0 where
@@ -88,6 +88,7 @@ CallsNothing-request k breaks LineSpacing = record { calls = refl; registers = �
 CallsNothing-request k breaks NoAdjust = record { calls = refl; registers = λ rs. refl }
 CallsNothing-request k breaks NoFill = record { calls = refl; registers = λ rs. refl }
 CallsNothing-request k breaks NumberRegister = record { calls = refl; registers = λ rs. refl }
+CallsNothing-request k breaks PageLength = record { calls = refl; registers = λ rs. refl }
 CallsNothing-request k breaks RemoveNames = record { calls = refl; registers = λ rs. refl }
 CallsNothing-request k breaks RemoveRegisters = record { calls = refl; registers = λ rs. refl }
 CallsNothing-request k breaks Rename = record { calls = refl; registers = λ rs. refl }

@@ -1,7 +1,7 @@
 -- The line that ends a definition: its text enters a name first, and what limit refuses that refuses the whole step.
 use Rattle.std.proofs.Common.{◌≡◌, ℕ, ◌+◌, ◌-◌, Bool, true, false, List, ◌++◌, length, Option, Some, None, Result, Ok, Err, refl, sym, subst, ap, ◌∙◌, arith}
 use Rattle.std.specs.Prelude.{nat_lt, sum_by, if◌then◌else◌}
-use Rattle.roff_requests.specs.declared.environments.Environments.{Environments as EnvironmentsOf}
+use Rattle.roff_requests.specs.declared.composer.Composer.{Composer as ComposerOf}
 use Rattle.roff_num.specs.declared.limit.Limit.{Limit}
 use Rattle.roff_num.specs.declared.limit.Limit.TheVariants.{Conditions, Depth, Diversions, Names, Stack, Store}
 use Rattle.roff_num.specs.declared.limits.Limits.{Limits}
@@ -113,7 +113,7 @@ refused-behind l name appends i behind limit within same refused =
     ∙ refused_by_texts _ _ _ (ahead_refusal l (string_entered name appends i)) (ahead_refusal l behind) limit none refused
 
 -- nor is the step that goes on behind it
-pub TakesAs-not_entered : (name : Option ShortName) (appends : Bool) (end : Option ShortName) (b : ℕ) (es : EnvironmentsOf) (old new : ReaderState) (before behind : PageUnread)
+pub TakesAs-not_entered : (name : Option ShortName) (appends : Bool) (end : Option ShortName) (b : ℕ) (es : ComposerOf) (old new : ReaderState) (before behind : PageUnread)
     (limit : Limit) → ends_mark b ≡ true → InputCameTo (string_entered name appends before.input) before behind (Err limit)
     → TakesAs (λ k. behind_definition k (string_entered name appends before.input) end b) es old new before behind (Err limit)
 TakesAs-not_entered name appends end b es old new before behind limit ends refused = record {
@@ -130,7 +130,7 @@ TakesAs-not_entered name appends end b es old new before behind limit ends refus
 }
 
 -- what is taken once the text has entered its name
-pub TakesAs-entered : (t : Known → PageInput → Taking) (name : Option ShortName) (appends : Bool) (es : EnvironmentsOf) (old new : ReaderState) (before mid behind : PageUnread)
+pub TakesAs-entered : (t : Known → PageInput → Taking) (name : Option ShortName) (appends : Bool) (es : ComposerOf) (old new : ReaderState) (before mid behind : PageUnread)
     (done : Unit {0}) (result : Result Step Limit) → InputCameTo (string_entered name appends before.input) before mid (Ok done)
     → TakesAs (λ k. t k mid.input) es old new mid behind result
     → TakesAs (λ k. t k (string_entered name appends before.input)) es old new before behind result
@@ -151,7 +151,7 @@ NoMore-beginning : (i : PageInput) → NoMore (beginning_line i) i
 NoMore-beginning i = record { bytes = omega arith; texts = omega arith; results = omega arith; stored = omega arith; names = omega arith; open_texts = omega arith }
 
 -- what is taken once a line begins
-pub TakesAs-line_begun : (t : Known → PageInput → Taking) (es : EnvironmentsOf) (old new : ReaderState) (before mid behind : PageUnread) (result : Result Step Limit)
+pub TakesAs-line_begun : (t : Known → PageInput → Taking) (es : ComposerOf) (old new : ReaderState) (before mid behind : PageUnread) (result : Result Step Limit)
     → mid ≡ record before { input = beginning_line before.input } → TakesAs (λ k. t k mid.input) es old new mid behind result
     → TakesAs (λ k. t k (beginning_line before.input)) es old new before behind result
 TakesAs-line_begun t es old new before mid behind result begins takes =

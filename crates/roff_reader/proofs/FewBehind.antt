@@ -7,7 +7,7 @@ use Rattle.roff_run.specs.Events.Lines.{line_events, print_event}
 use Rattle.roff_run.specs.Reading.TextLines.{leading_glyph}
 use Rattle.roff_run.specs.Springs.{AreFewBehind}
 use Rattle.roff_run.specs.declared.event.LineEvents.{LineEvents}
-use Rattle.roff_run.specs.declared.event.LineEvents.TheVariants.{Nothing, LineEnd, Break, BlankLine, Gap, Interrupt, Tab, Leading, Printed, Blanks as PrintedBlanks, Two, Three, Four}
+use Rattle.roff_run.specs.declared.event.LineEvents.TheVariants.{Nothing, LineEnd, Break, BlankLine, Closing, Number, Gap, Interrupt, Tab, Leading, Printed, Blanks as PrintedBlanks, Two, Three, Four}
 use Rattle.roff_run.specs.declared.event.PageEvent.{PageEvent}
 use Rattle.roff_run.specs.declared.event.PageEvent.TheVariants.{Text}
 use Rattle.roff_run.proofs.PutBack.{few-short}
@@ -31,6 +31,8 @@ few-line Nothing = tt
 few-line LineEnd = few-short (line_events LineEnd) (omega arith)
 few-line Break = few-short (line_events Break) (omega arith)
 few-line BlankLine = few-short (line_events BlankLine) (omega arith)
+few-line Closing = few-short (line_events Closing) (omega arith)
+few-line (Number n) = few-short (line_events (Number n)) (omega arith)
 few-line Gap = few-short (line_events Gap) (omega arith)
 few-line (Interrupt untold) = few-short (line_events (Interrupt untold)) (omega arith)
 few-line (Tab leading) = few-leading leading _ (λ may. absurd (cc), tt)

@@ -6,8 +6,8 @@ use Rattle.roff_num.specs.declared.limits.Limits.{Limits}
 use Rattle.roff_run.specs.Environments.{interrupted_line}
 use Rattle.roff_run.specs.Events.Lines.{line_events}
 use Rattle.roff_run.specs.Events.Steps.{events_of, messages_of}
-use Rattle.roff_requests.specs.Environments.Standing.{StandFor}
-use Rattle.roff_requests.specs.declared.environments.Environments.{Environments as EnvironmentsOf}
+use Rattle.roff_requests.specs.Composer.Standing.{StandFor}
+use Rattle.roff_requests.specs.declared.composer.Composer.{Composer as ComposerOf}
 use Rattle.roff_num.specs.declared.limit.Limit.{Limit}
 use Rattle.roff_source.specs.Bytes.{blank, is_dropped, newline}
 use Rattle.roff_scan.specs.Unread.{EndsDecided, changing, input_refusal}
@@ -48,7 +48,7 @@ use Rattle.roff_run.proofs.InputCounts.{NoMore, first_passed-few_names, first_pa
 use Rattle.roff_reader.proofs.TakesAs.{TakesAs-where, TakesAs-as, passed_none, passed_one, few_names, keeps-meaning, TakesAs-asked, TakesAs-ended_at}
 
 -- This is read on, and some messages and events are meant.
-pub TakesAs-said : (t : Known → Taking) (behind : LineState) (messages : List Message) (events : List PageEvent) (es : EnvironmentsOf) (old new : ReaderState) (u : PageUnread) (m : Step)
+pub TakesAs-said : (t : Known → Taking) (behind : LineState) (messages : List Message) (events : List PageEvent) (es : ComposerOf) (old new : ReaderState) (u : PageUnread) (m : Step)
     → ((k : Known) → t k ≡ record { input = u.input; reading = behind; effect = saying messages events })
     → new ≡ record old { reading = behind; meaning = new.meaning }
     → messages_of new.meaning.message m ≡ messages → events_of new.meaning.events m ≡ events → TakesAs t es old new u u (Ok m)
@@ -68,7 +68,7 @@ TakesAs-said t behind messages events es old new u m as_defined came says means 
 }
 
 -- this is read on, and nothing is meant
-pub TakesAs-meant : (t : Known → Taking) (behind : LineState) (es : EnvironmentsOf) (old new : ReaderState) (u : PageUnread) (m : Step)
+pub TakesAs-meant : (t : Known → Taking) (behind : LineState) (es : ComposerOf) (old new : ReaderState) (u : PageUnread) (m : Step)
     → ((k : Known) → t k ≡ going_on u.input behind) → new ≡ record old { reading = behind } → m ≡ Nothing
     → TakesAs t es old new u u (Ok m)
 TakesAs-meant t behind es old new u m as_defined came none =
@@ -76,7 +76,7 @@ TakesAs-meant t behind es old new u m as_defined came none =
     (ap (messages_of new.meaning.message) none) (ap (events_of new.meaning.events) none)
 
 -- a step of a text line
-pub TakesAs-stepped : (t : PageInput → Taking) (step : TextStep) (es : EnvironmentsOf) (old new : ReaderState) (u : PageUnread) (m : Step)
+pub TakesAs-stepped : (t : PageInput → Taking) (step : TextStep) (es : ComposerOf) (old new : ReaderState) (u : PageUnread) (m : Step)
     → ((i : PageInput) → step_at i step ≡ t i) → new ≡ record old { reading = step.reading; meaning = new.meaning }
     → messages_of new.meaning.message m ≡ option_to_list step.message → events_of new.meaning.events m ≡ line_events step.events
     → TakesAs (λ k. t u.input) es old new u u (Ok m)
@@ -85,7 +85,7 @@ TakesAs-stepped t step es old new u m as_defined came says means =
     (λ k. sym (as_defined u.input)) came says means
 
 -- the input changes, and this is read on
-pub TakesAs-changed : (i : PageInput) (place : LineState) (es : EnvironmentsOf) (old new : ReaderState) (before behind : PageUnread) (m : Step) (done : Unit {0})
+pub TakesAs-changed : (i : PageInput) (place : LineState) (es : ComposerOf) (old new : ReaderState) (before behind : PageUnread) (m : Step) (done : Unit {0})
     → (Ok done, behind) ≡ changing i before → new ≡ record old { reading = place } → m ≡ Nothing
     → TakesAs (λ k. going_on i place) es old new before behind (Ok m)
 TakesAs-changed i place es old new before behind m done changes came none = record {
@@ -104,7 +104,7 @@ TakesAs-changed i place es old new before behind m done changes came none = reco
 }
 
 -- the input changes so that no more is counted, and this is read on
-pub TakesAs-gone_on : (i : PageInput) (place : LineState) (es : EnvironmentsOf) (old new : ReaderState) (before behind : PageUnread) → NoMore i before.input
+pub TakesAs-gone_on : (i : PageInput) (place : LineState) (es : ComposerOf) (old new : ReaderState) (before behind : PageUnread) → NoMore i before.input
     → behind ≡ record before { input = i } → new ≡ record old { reading = place } → TakesAs (λ k. going_on i place) es old new before behind (Ok Nothing)
 TakesAs-gone_on i place es old new before behind less is came = record {
   takes = λ l h stands ready. record {
@@ -120,7 +120,7 @@ TakesAs-gone_on i place es old new before behind less is came = record {
 }
 
 -- or a limit refuses the change
-pub TakesAs-not_changed : (i : PageInput) (place : LineState) (es : EnvironmentsOf) (old new : ReaderState) (before behind : PageUnread) (limit : Limit)
+pub TakesAs-not_changed : (i : PageInput) (place : LineState) (es : ComposerOf) (old new : ReaderState) (before behind : PageUnread) (limit : Limit)
     → (Err limit, behind) ≡ changing i before → TakesAs (λ k. going_on i place) es old new before behind (Err limit)
 TakesAs-not_changed i place es old new before behind limit changes = record {
   takes = λ l h stands ready.
@@ -130,7 +130,7 @@ TakesAs-not_changed i place es old new before behind limit changes = record {
 
 -- a step that begins a text line, by the interrupted line that the environments have
 pub TakesAs-begun : (t : PageInput → TextLine → Taking) (step : TextStep) (interrupted : Option TextLine) (line : TextLine)
-    (es : EnvironmentsOf) (old new : ReaderState) (u : PageUnread) (m : Step)
+    (es : ComposerOf) (old new : ReaderState) (u : PageUnread) (m : Step)
     → ((l : Limits) (h : PageHistory) → StandFor l h es → interrupted ≡ interrupted_line h) → line ≡ line_begun_as interrupted
     → ((i : PageInput) → step_at i step ≡ t i line) → new ≡ record old { reading = step.reading; meaning = new.meaning }
     → messages_of new.meaning.message m ≡ option_to_list step.message → events_of new.meaning.events m ≡ going_on_told interrupted ++ line_events step.events
@@ -227,7 +227,7 @@ pub taking-of : (k : Known) (r : LineState) (i : PageInput) (b : ℕ) (c : Bool)
 taking-of k r i b c is = ap (λ (dropped : Bool). if dropped then going_on (interrupted r i) r else undropped_taking k r i b) is
 
 -- a byte that isn't dropped
-pub TakesAs-undropped : (b : ℕ) (es : EnvironmentsOf) (old new : ReaderState) (before behind : PageUnread) (result : Result Step Limit) → false ≡ is_dropped b
+pub TakesAs-undropped : (b : ℕ) (es : ComposerOf) (old new : ReaderState) (before behind : PageUnread) (result : Result Step Limit) → false ≡ is_dropped b
     → TakesAs (λ k. undropped_taking k old.reading before.input b) es old new before behind result
     → TakesAs (λ k. taking k old.reading before.input b) es old new before behind result
 TakesAs-undropped b es old new before behind result is takes =
@@ -272,7 +272,7 @@ string_line_ended-going i appends None = refl
 string_line_ended-going i appends (Some name) = refl
 
 -- a line ends, and then an interrupted one
-pub TakesAs-last_line : (t : Taking) (es : EnvironmentsOf) (old mid new : ReaderState)
+pub TakesAs-last_line : (t : Taking) (es : ComposerOf) (old mid new : ReaderState)
     (before behind : PageUnread) (ends m : Step)
     → t ≡ going_on t.input LineStart → TakesAs (λ k. t) es old mid before behind (Ok ends)
     → ((u : PageUnread) → TakesAs (λ k. last_line_ended k u.input) es mid new u u (Ok m))
@@ -303,7 +303,7 @@ TakesAs-last_line t es old mid new before behind ends m goes_on line interrupted
     }
 
 -- or a limit refuses the first
-pub TakesAs-no_last_line : (t : Taking) (es : EnvironmentsOf) (old new : ReaderState) (before behind : PageUnread) (limit : Limit)
+pub TakesAs-no_last_line : (t : Taking) (es : ComposerOf) (old new : ReaderState) (before behind : PageUnread) (limit : Limit)
     → t ≡ going_on t.input LineStart → TakesAs (λ k. t) es old new before behind (Err limit)
     → TakesAs (λ k. last_line_ended k t.input) es old new before behind (Err limit)
 TakesAs-no_last_line t es old new before behind limit goes_on refused =
@@ -339,7 +339,7 @@ message_found-no_unit k i aborts is_front (Tells remark) no_unit no_escape = ref
 message_found-no_unit k i aborts is_front (Decides decision freed) no_unit no_escape = refl
 
 -- a condition that is read and asks nothing more decides
-pub TakesAs-decided : (so : Bool) (es : EnvironmentsOf) (old new : ReaderState) (before behind : PageUnread) → old.reading ≡ Deciding false
+pub TakesAs-decided : (so : Bool) (es : ComposerOf) (old new : ReaderState) (before behind : PageUnread) → old.reading ≡ Deciding false
     → EndsDecided (Some so) before behind → new ≡ record old { reading = branch_of so }
     → TakesAs (λ k. escape_ended k old.reading before.input) es old new before behind (Ok Nothing)
 TakesAs-decided so es old new before behind deciding ends came =

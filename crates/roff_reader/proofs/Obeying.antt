@@ -3,8 +3,8 @@ use Rattle.std.proofs.Common.{◌≡◌, ℕ, ◌≤◌, Bool, true, false, List
 use Rattle.std.proofs.lemmas.Bool.{le-ltb, ltb-false}
 use Rattle.std.specs.Prelude.{reverse, nat_lt, if◌then◌else◌}
 use Rattle.roff_num.specs.declared.limits.Limits.{Limits}
-use Rattle.roff_requests.specs.Environments.Standing.{StandFor}
-use Rattle.roff_requests.specs.declared.environments.Environments.{Environments as EnvironmentsOf}
+use Rattle.roff_requests.specs.Composer.Standing.{StandFor}
+use Rattle.roff_requests.specs.declared.composer.Composer.{Composer as ComposerOf}
 use Rattle.roff_num.specs.declared.limit.Limit.{Limit}
 use Rattle.roff_num.specs.declared.limit.Limit.TheVariants.{Names}
 use Rattle.roff_arguments.specs.Arguments.{finished, no_arguments, only_kept}
@@ -55,7 +55,7 @@ abbrev pub texts_read : PageUnread → List (List ℕ)
 texts_read u = reverse u.input.arguments.whole
 
 -- a request was obeyed by what it means with its arguments
-pub record Obeys (es : EnvironmentsOf) (rs : AllRegisters) (u : PageUnread) (breaks : Bool) (request : Request) (e : CodedEffect) : Type 0 where
+pub record Obeys (es : ComposerOf) (rs : AllRegisters) (u : PageUnread) (breaks : Bool) (request : Request) (e : CodedEffect) : Type 0 where
   pub effect_is : (l : Limits) (h : PageHistory) → StandFor l h es
       → effect_of (texts_read u) e ≡ request_effect (known_at h rs u.input) breaks request (texts_read u)
 
@@ -82,7 +82,7 @@ few_behind : (changes : List Change) (old : Capped) (u : PageUnread) (passes : B
 few_behind changes old u passes cap is = ap (λ (n : ℕ). nat_lt n (length (changed_by_all changes old.all).named)) (sym cap) ∙ is
 
 -- a request was obeyed, its changes made, and its arguments released
-pub TakesAs-obeyed : (es : EnvironmentsOf) (old new : ReaderState) (before mid change behind : PageUnread) (breaks : Bool) (request : Request) (e : CodedEffect) (m : Step)
+pub TakesAs-obeyed : (es : ComposerOf) (old new : ReaderState) (before mid change behind : PageUnread) (breaks : Bool) (request : Request) (e : CodedEffect) (m : Step)
     → mid ≡ line_finished before → Obeys es old.registers.all mid breaks request e
     → ChangedTo (changes_of (texts_read mid) e.changes) old.registers new.registers
     → change ≡ called (calls_of (texts_read mid) e.changes) mid → behind ≡ released change
@@ -124,7 +124,7 @@ TakesAs-obeyed es old new before mid change behind breaks request e m finishes o
 }
 
 -- or more names than may would have a register
-pub TakesAs-not_obeyed : (es : EnvironmentsOf) (old new : ReaderState) (before mid behind : PageUnread) (breaks : Bool) (request : Request) (e : CodedEffect) (limit : Limit)
+pub TakesAs-not_obeyed : (es : ComposerOf) (old new : ReaderState) (before mid behind : PageUnread) (breaks : Bool) (request : Request) (e : CodedEffect) (limit : Limit)
     → mid ≡ line_finished before → Obeys es old.registers.all mid breaks request e
     → Refused (changes_of (texts_read mid) e.changes) old.registers limit
     → TakesAs (λ k. line_ended k before.input breaks request) es old new before behind (Err limit)

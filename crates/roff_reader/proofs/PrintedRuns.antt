@@ -1,17 +1,21 @@
 -- Runs over bytes of a text line that are told behind a glyph: a step for each, and one for each of its events.
-use Rattle.std.proofs.Common.{◌≡◌, ℕ, ◌+◌, ◌≤◌, Bool, true, false, List, [], ◌∷◌, ◌++◌, length, Option, Some, None, refl, sym, ap, subst, ◌∙◌, arith}
-use Rattle.std.specs.Prelude.{map, ◌==◌, if◌then◌else◌}
+use Rattle.std.proofs.Common.{◌≡◌, ℕ, ◌+◌, ◌≤◌, Bool, true, false, not, List, [], ◌∷◌, ◌++◌, length, Option, Some, None, refl, sym, ap, subst, ◌∙◌, arith}
+use Rattle.std.specs.Prelude.{map, ◌&&◌, ◌==◌, option_map, if◌then◌else◌}
 use Rattle.std.specs.List.{AllByRecursion}
 use Rattle.std.proofs.lemmas.Bool.{le-ltb}
 use Rattle.std.proofs.lemmas.List.{append-nil}
 use Rattle.roff_num.specs.declared.limit.Limit.{Limit}
+use Rattle.roff_num.specs.declared.limit.Limit.TheVariants.{Line}
 use Rattle.roff_num.specs.declared.limits.Limits.{Limits}
 use Rattle.roff_lines.specs.Events.{History}
 use Rattle.roff_lines.specs.declared.event.Event.{Event}
 use Rattle.roff_lines.specs.declared.event.Event.TheVariants.{Print, WordEnd, Gap}
 use Rattle.roff_lines.specs.Lines.{Finished, finished, pending_length}
-use Rattle.roff_lines.specs.Telling.{QuietlyTold, bytes_told}
+use Rattle.roff_lines.specs.Telling.{QuietlyTold, bytes_told, finished_by_byte}
 use Rattle.roff_lines.specs.declared.glyph.Glyph.TheVariants.{Printed}
+use Rattle.roff_pages.specs.Happenings.{Places}
+use Rattle.roff_pages.specs.Layout.{Layout}
+use Rattle.roff_pages.specs.Queries.{takes_text}
 use Rattle.roff_escape.specs.OpenEscape.{OpenEscape}
 use Rattle.roff_escape.specs.Waiting.{is_ended_by}
 use Rattle.roff_ahead.specs.Input.{Ahead, ByteAhead}
@@ -22,16 +26,17 @@ use Rattle.roff_run.proofs.Leads.{Leads-refl, Leads-trans}
 use Rattle.roff_run.proofs.PlainRuns.{behind_byte, behind_bytes, behind_bytes-counts, counted}
 use Rattle.roff_reader.proofs.TurnedRuns.{free_ahead-behind}
 use Rattle.roff_run.specs.Environments.{Environments, environments}
-use Rattle.roff_run.specs.Output.{PageHistory, finished_bytes, text_of, written}
+use Rattle.roff_run.specs.Layouts.{happens, laid_out, layout_of}
+use Rattle.roff_run.specs.Output.{PageHistory, text_laid, text_of, written}
 use Rattle.roff_run.specs.Reading.Ends.{due}
 use Rattle.roff_run.specs.Reading.Items.{PageInput, Taking, meaning_events}
 use Rattle.roff_run.specs.Registers.{AllRegisters}
 use Rattle.roff_run.specs.declared.event.PageEvent.{PageEvent}
 use Rattle.roff_run.specs.declared.event.PageEvent.TheVariants.{Text}
-use Rattle.roff_run.specs.Run.{State, Leads, byte_taken, known_at, made, performed, performing, sprung_at, step, taken_as, unless_refused}
-use Rattle.roff_run.specs.Springs.{next, springs}
+use Rattle.roff_run.specs.Run.{State, Leads, byte_taken, known_at, done_if, made, performed, performing, sprung_at, step, taken_as, unless_refused}
+use Rattle.roff_run.specs.Springs.{begins, needs_page, next, page_begin_or, springs}
 use Rattle.roff_num.specs.declared.short_name.ShortName.{ShortName}
-use Rattle.roff_run.specs.Run.Counts.{counts_in, first_passed, refusal}
+use Rattle.roff_run.specs.Run.Counts.{counts_in, first_passed, refusal, written_counted}
 use Rattle.roff_run.specs.TurnsToCome.{turns_within}
 use Rattle.roff_run.specs.Telling.{Prints, byte_events, byte_told, page_told}
 use Rattle.roff_run.specs.declared.line_state.LineState.{LineState}
@@ -64,11 +69,25 @@ quiet-byte : (cap : ℕ) (b : ℕ) (bytes : List ℕ) (h : PageHistory) → Quie
     → QuietlyTold cap bytes (text_of (byte_told b h))
 quiet-byte cap b bytes h quiet = subst (λ (text : History). QuietlyTold cap bytes text) (sym (text_of-byte b h)) quiet
 
+-- a byte that finishes no line leaves the layout as it was
+layout-byte : (is_blank : Bool) (b : ℕ) (h : PageHistory) → (if is_blank then finished (text_of h) WordEnd else None) ≡ None
+    → layout_of (if is_blank then Text (Gap 1) ∷ Text WordEnd ∷ h else Text (Print (Printed b)) ∷ h) ≡ layout_of h
+layout-byte true b h quiet = ap (λ (line : Option Finished). laid_out (option_map Places line) (layout_of h)) quiet
+layout-byte false b h quiet = refl
+
+-- and so do several
+pub layout-told : (cap : ℕ) (bytes : List ℕ) (h : PageHistory) → QuietlyTold cap bytes (text_of h) → layout_of (page_told bytes h) ≡ layout_of h
+layout-told cap [] h quiet = refl
+layout-told cap (b ∷ bytes) h quiet =
+    layout-told cap bytes (byte_told b h) (quiet-byte cap b bytes h quiet.2) ∙ layout-byte (b == 32) b h quiet.0
+
 -- a byte that finishes no line writes nothing
 written-byte : (is_blank : Bool) (b : ℕ) (h : PageHistory) → (if is_blank then finished (text_of h) WordEnd else None) ≡ None
     → written (if is_blank then Text (Gap 1) ∷ Text WordEnd ∷ h else Text (Print (Printed b)) ∷ h) ≡ written h
 written-byte true b h quiet =
-    append-nil (written (Text WordEnd ∷ h)) ∙ ap (λ (line : Option Finished). written h ++ finished_bytes line) quiet ∙ append-nil (written h)
+    append-nil (written (Text WordEnd ∷ h))
+    ∙ ap (λ (line : Option Finished). written h ++ text_laid (option_map Places line) (layout_of h)) quiet
+    ∙ append-nil (written h)
 written-byte false b h quiet = append-nil (written h)
 
 -- and so it is of several
@@ -77,9 +96,29 @@ written-told cap [] h quiet = refl
 written-told cap (b ∷ bytes) h quiet =
     written-told cap bytes (byte_told b h) (quiet-byte cap b bytes h quiet.2) ∙ written-byte (b == 32) b h quiet.0
 
--- an event of the text is refused by no limit where the pending line stays within its own
-allowed : (l : Limits) (h : PageHistory) (e : Event) → pending_length (e ∷ text_of h) ≤ l.line → refusal l h (Text e) ≡ None
-allowed l h e within = rw (le-ltb l.line (pending_length (e ∷ text_of h)) within) refl
+-- where a run goes on whose layout takes text: a page was begun, or a diversion is open
+pub record TakesText (h : PageHistory) : Type 0 where
+  pub takes : takes_text (layout_of h) ≡ true
+  pub goes_on : (layout_of h).is_over ≡ false
+
+-- and so it is behind what leaves the layout as it was
+TakesText-same : (h now : PageHistory) → layout_of now ≡ layout_of h → TakesText h → TakesText now
+TakesText-same h now same takes = record {
+  takes = ap (λ (L : Layout). takes_text L) same ∙ takes.takes;
+  goes_on = ap (λ (L : Layout). L.is_over) same ∙ takes.goes_on;
+}
+
+-- no page begins there
+unbegun : (h : PageHistory) (e : PageEvent) → TakesText h → page_begin_or (begins h e) None ≡ None
+unbegun h e takes = ap (λ (does : Bool). page_begin_or (not does && needs_page h e) None) takes.takes
+
+-- an event of the text that finishes no line is refused by no limit where the pending line stays within its own
+allowed : (l : Limits) (h : PageHistory) (e : Event) → finished (text_of h) e ≡ None → pending_length (e ∷ text_of h) ≤ l.line
+    → refusal l h (Text e) ≡ None
+allowed l h e quiet within =
+    ap (λ (passed : Bool). if passed then Some Line else first_passed l (written_counted h (happens h (Text e))))
+    (le-ltb l.line (pending_length (e ∷ text_of h)) within)
+    ∙ ap (λ (line : Option Finished). first_passed l (written_counted h (option_map Places line))) quiet
 
 -- a run that reads this on, with these registers and messages
 module _ (l : Limits) (reading : LineState) (rs : AllRegisters) (messages : List ℕ) (phase : Phase) (closed : Bool) where
@@ -100,29 +139,38 @@ module _ (l : Limits) (reading : LineState) (rs : AllRegisters) (messages : List
     last_message = [];
   }
 
-  -- a step at an event that no limit refuses, before which nothing comes, and which springs nothing
+  -- a step at an event that no limit refuses, before which nothing comes, and which springs nothing and ends no run
   step-event : (tape : Tape) (input : PageInput) (h : PageHistory) (e : PageEvent) (rest : List PageEvent) → next h e ≡ None → springs h e ≡ None
-      → refusal l h e ≡ None → step l (told_at tape input h (e ∷ rest)) ≡ told_at tape input (e ∷ h) rest
-  step-event tape input h e rest none unsprung may =
+      → refusal l h e ≡ None → (layout_of (e ∷ h)).is_over ≡ false → step l (told_at tape input h (e ∷ rest)) ≡ told_at tape input (e ∷ h) rest
+  step-event tape input h e rest none unsprung may goes_on =
       let before : State = told_at tape input h (e ∷ rest) in
+      let behind : State = record before { history = e ∷ h } in
       ap (λ (own : Option PageEvent). performing l own e rest before) none
       ∙ ap (λ (r : Option Limit). unless_refused l r before (performed e rest before)) may
-      ∙ ap (λ (sprung : Option ShortName). sprung_at sprung rest (record before { history = e ∷ h })) unsprung
+      ∙ ap (λ (is_over : Bool). done_if is_over behind (sprung_at (springs h e) rest behind)) goes_on
+      ∙ ap (λ (sprung : Option ShortName). sprung_at sprung rest behind) unsprung
 
   -- the steps at the events of a byte
   leads-events : (is_blank : Bool) (b : ℕ) (tape : Tape) (input : PageInput) (h : PageHistory)
       → pending_length (if is_blank then Gap 1 ∷ WordEnd ∷ text_of h else Print (Printed b) ∷ text_of h) ≤ l.line
+      → (if is_blank then finished (text_of h) WordEnd else None) ≡ None → TakesText h
       → Leads l (told_at tape input h (if is_blank then Text WordEnd ∷ Text (Gap 1) ∷ [] else Text (Print (Printed b)) ∷ []))
       (told_at tape input (if is_blank then Text (Gap 1) ∷ Text WordEnd ∷ h else Text (Print (Printed b)) ∷ h) [])
-  leads-events true b tape input h within = record {
-    steps = 2;
-    there = ap (step l) (step-event tape input h (Text WordEnd) (Text (Gap 1) ∷ []) refl refl (allowed l h WordEnd within))
-        ∙ step-event tape input (Text WordEnd ∷ h) (Text (Gap 1)) [] refl refl (allowed l (Text WordEnd ∷ h) (Gap 1) within);
-  }
-  leads-events false b tape input h within = record {
-    steps = 1;
-    there = step-event tape input h (Text (Print (Printed b))) [] refl refl (allowed l h (Print (Printed b)) within);
-  }
+  leads-events true b tape input h within quiet takes =
+      let ended : PageHistory = Text WordEnd ∷ h in
+      let behind : TakesText ended = TakesText-same h ended (layout-byte true b h quiet) takes in
+      record {
+        steps = 2;
+        there = ap (step l)
+            (step-event tape input h (Text WordEnd) (Text (Gap 1) ∷ []) (unbegun h (Text WordEnd) takes) refl (allowed l h WordEnd quiet within) behind.goes_on)
+            ∙ step-event tape input ended (Text (Gap 1)) [] (unbegun ended (Text (Gap 1)) behind) refl (allowed l ended (Gap 1) refl within) behind.goes_on;
+      }
+  leads-events false b tape input h within quiet takes =
+      let e : PageEvent = Text (Print (Printed b)) in
+      record {
+        steps = 1;
+        there = step-event tape input h e [] (unbegun h e takes) refl (allowed l h (Print (Printed b)) refl within) takes.goes_on;
+      }
 
   -- what a byte means is to be done
   taken_as-told : (tape : Tape) (input : PageInput) (h : PageHistory) (events : List PageEvent)
@@ -134,9 +182,9 @@ module _ (l : Limits) (reading : LineState) (rs : AllRegisters) (messages : List
   -- a byte that was taken, and is told
   leads-byte : (b : ℕ) (before : State) (tape : Tape) (input : PageInput) (h : PageHistory)
       → step l before ≡ made l before (byte_taken b (told_at tape input h [])) → input.escapes ≡ [] → first_passed l (counts_in rs input) ≡ None
-      → Prints reading b → pending_length (bytes_told (b ∷ []) (text_of h)) ≤ l.line
+      → Prints reading b → pending_length (bytes_told (b ∷ []) (text_of h)) ≤ l.line → finished_by_byte b (text_of h) ≡ None → TakesText h
       → Leads l before (told_at tape input (byte_told b h) [])
-  leads-byte b before tape input h taken none_half within prints short =
+  leads-byte b before tape input h taken none_half within prints short quiet takes =
       let here : State = told_at tape input h [] in
       let done : State = told_at tape input h (byte_events b) in
       let there : step l before ≡ done =
@@ -144,7 +192,7 @@ module _ (l : Limits) (reading : LineState) (rs : AllRegisters) (messages : List
       ∙ ap (λ (t : Taking). made l before (taken_as t here)) (prints (known_at h rs input) input none_half)
       ∙ ap (made l before) (taken_as-told tape input h (byte_events b))
       ∙ ap (λ (r : Option Limit). unless_refused l r before done) within in
-      Leads-trans l before done _ (record { steps = 1; there = there }) (leads-events (b == 32) b tape input h short)
+      Leads-trans l before done _ (record { steps = 1; there = there }) (leads-events (b == 32) b tape input h short quiet takes)
 
   -- where it has come to, with these bytes next, from there
   abbrev pub told_from : Origin → List ℕ → Tape → PageInput → PageHistory → State
@@ -173,17 +221,18 @@ module _ (l : Limits) (reading : LineState) (rs : AllRegisters) (messages : List
 
   -- the steps at such bytes, wherever they come from
   pub leads-told : (from : Origin) (tape : Tape) (bytes : List ℕ) (i : PageInput) (h : PageHistory) → IsOpenFor from closed → due reading ≡ None → i.escapes ≡ [] → Fits from bytes i
-      → i.charge + length bytes ≤ l.bytes → AllByRecursion (λ b. Prints reading b) bytes → QuietlyTold l.line bytes (text_of h)
+      → i.charge + length bytes ≤ l.bytes → AllByRecursion (λ b. Prints reading b) bytes → QuietlyTold l.line bytes (text_of h) → TakesText h
       → Leads l (told_from from bytes tape i h) (told_from from [] tape (behind_bytes from bytes i) (page_told bytes h)) × Fits from [] (behind_bytes from bytes i)
-  leads-told from tape [] i h is_open none_due none_half fits few prints quiet = (Leads-refl l (told_from from [] tape i h), fits)
-  leads-told from tape (b ∷ bytes) i h is_open none_due none_half fits few prints quiet =
+  leads-told from tape [] i h is_open none_due none_half fits few prints quiet takes = (Leads-refl l (told_from from [] tape i h), fits)
+  leads-told from tape (b ∷ bytes) i h is_open none_due none_half fits few prints quiet takes =
       let before : State = told_from from (b ∷ bytes) tape i h in
       let next : PageInput = behind_byte from b i in
       let behind : Fits from bytes next = fits-byte from b bytes i fits in
-      let there = leads-told from tape bytes next (byte_told b h) is_open none_due none_half behind (omega (arith, few)) prints.1 (quiet-byte l.line b bytes h quiet.2) in (
+      let there = leads-told from tape bytes next (byte_told b h) is_open none_due none_half behind (omega (arith, few)) prints.1 (quiet-byte l.line b bytes h quiet.2)
+      (TakesText-same h (byte_told b h) (layout-byte (b == 32) b h quiet.0) takes) in (
         Leads-trans l before (told_from from bytes tape next (byte_told b h)) _
             (leads-byte b before (tape_at from bytes tape) (record next { ahead = ahead_at from bytes }) h (taken-from from tape b bytes i h is_open none_due none_half (omega (arith, few)))
-            none_half behind prints.0 quiet.1) there.0,
+            none_half behind prints.0 quiet.1 quiet.0 takes) there.0,
         there.1,
       )
 

@@ -4,7 +4,7 @@ use Rattle.std.specs.Prelude.{nat_lt, get_or, sum_by, if◌then◌else◌}
 use Rattle.std.proofs.lemmas.Bool.{cases_Bool, le-ltb, lt-ltb}
 use Rattle.std.proofs.lemmas.List.{length-append, length-reverse, length-set}
 use Rattle.std.proofs.lemmas.List.Sums.{sum_by-append, sum_by-set}
-use Rattle.roff_requests.specs.declared.environments.Environments.{Environments as EnvironmentsOf}
+use Rattle.roff_requests.specs.declared.composer.Composer.{Composer as ComposerOf}
 use Rattle.roff_num.specs.declared.limit.Limit.{Limit}
 use Rattle.roff_num.specs.declared.limit.Limit.TheVariants.{Stack, Depth, Diversions, Store, Names, Conditions}
 use Rattle.roff_num.specs.declared.limits.Limits.{Limits}
@@ -166,7 +166,7 @@ InputCameTo-refused_grown name unit before behind limit room refused = record {
 }
 
 -- the same of a byte, by whether it is dropped in front
-byte-not_begun : (is_blank is_quote : Bool) (name : Option ShortName) (appends : Bool) (b : ℕ) (es : EnvironmentsOf) (old new : ReaderState) (before behind : PageUnread)
+byte-not_begun : (is_blank is_quote : Bool) (name : Option ShortName) (appends : Bool) (b : ℕ) (es : ComposerOf) (old new : ReaderState) (before behind : PageUnread)
     (limit : Limit) → stored before.input + length (first_by name is_blank is_quote b) ≤ before.limits.store
     → InputCameTo (string_begun name before.input) before behind (Err limit)
     → let i : PageInput = string_begun name before.input in
@@ -184,7 +184,7 @@ byte-not_begun false false (Some name) appends b es old new before behind limit 
     (InputCameTo-refused_grown name (Byte b) before behind limit room refused)
 
 -- where a text can't be begun, its first unit isn't read
-pub TakesAs-not_begun : (name : Option ShortName) (appends : Bool) (unit : CopyUnit) (es : EnvironmentsOf) (old new : ReaderState) (before behind : PageUnread)
+pub TakesAs-not_begun : (name : Option ShortName) (appends : Bool) (unit : CopyUnit) (es : ComposerOf) (old new : ReaderState) (before behind : PageUnread)
     (limit : Limit) → (unit ≡ Byte 10 → ⊥) → stored before.input + length (first_text name unit) ≤ before.limits.store
     → InputCameTo (string_begun name before.input) before behind (Err limit)
     → TakesAs (λ k. string_unit (string_begun name before.input) name appends true unit) es old new before behind (Err limit)
@@ -203,13 +203,13 @@ refused-first : (l : Limits) (rs : AllRegisters) (i : PageInput) → nat_lt l.na
     → first_passed l (counts_in rs i) ≡ Some Store
 refused-first l rs i few full = rw (few, lt-ltb l.store (stored i) full) refl
 
-TakesAs-full : (i : PageInput) (place : LineState) (es : EnvironmentsOf) (old new : ReaderState) (before behind : PageUnread)
+TakesAs-full : (i : PageInput) (place : LineState) (es : ComposerOf) (old new : ReaderState) (before behind : PageUnread)
     → before.limits.store < stored i → TakesAs (λ k. going_on i place) es old new before behind (Err Store)
 TakesAs-full i place es old new before behind full = record {
   takes = λ l h stands ready. refused-first before.limits old.registers.all i (few_names old.registers before ready) full;
 }
 
-byte-full : (is_blank is_quote : Bool) (name : Option ShortName) (appends : Bool) (b : ℕ) (es : EnvironmentsOf) (old new : ReaderState) (before behind : PageUnread)
+byte-full : (is_blank is_quote : Bool) (name : Option ShortName) (appends : Bool) (b : ℕ) (es : ComposerOf) (old new : ReaderState) (before behind : PageUnread)
     → stored before.input ≤ before.limits.store → before.limits.store < stored before.input + length (first_by name is_blank is_quote b)
     → let i : PageInput = string_begun name before.input in
     TakesAs
@@ -224,7 +224,7 @@ byte-full false false (Some name) appends b es old new before behind within full
     TakesAs-full _ (StringText (Some name) appends false) es old new before behind (omega (arith, full, stored-grown (b ∷ []) before.input))
 
 -- so the first unit isn't read
-pub TakesAs-no_room : (name : Option ShortName) (appends : Bool) (unit : CopyUnit) (es : EnvironmentsOf) (old new : ReaderState) (before behind : PageUnread)
+pub TakesAs-no_room : (name : Option ShortName) (appends : Bool) (unit : CopyUnit) (es : ComposerOf) (old new : ReaderState) (before behind : PageUnread)
     → (unit ≡ Byte 10 → ⊥) → stored before.input ≤ before.limits.store → before.limits.store < stored before.input + length (first_text name unit)
     → TakesAs (λ k. string_unit (string_begun name before.input) name appends true unit) es old new before behind (Err Store)
 TakesAs-no_room None appends (Kept b) es old new before behind no_newline within full = absurd (omega (arith, within, full))
@@ -290,7 +290,7 @@ no_name i unit l limit none refused (inr same) =
     let passes = input_refusal-no_more l (holding unit i) i (NoMore-held i unit same) none in cc
 
 -- where a unit of a name is refused, the name isn't whole behind it
-pub TakesAs-not_held : (appends : Bool) (unit : CopyUnit) (es : EnvironmentsOf) (old new : ReaderState) (before behind : PageUnread) (limit : Limit)
+pub TakesAs-not_held : (appends : Bool) (unit : CopyUnit) (es : ComposerOf) (old new : ReaderState) (before behind : PageUnread) (limit : Limit)
     → ((unit ≡ Byte 34 → ⊥) → before.input.arguments.place ≡ BehindQuote → ⊥) → name_read before.input ≡ None
     → InputCameTo (holding unit before.input) before behind (Err limit)
     → TakesAs (λ k. string_name_behind (holding unit before.input) appends (name_read (holding unit before.input))) es old new before behind (Err limit)

@@ -2,7 +2,7 @@
 use Rattle.std.proofs.Common.{◌≡◌, ℕ, Bool, true, false, [], Option, Some, None, Result, Ok, Err, inl, inr, refl, sym, subst, ap, ◌∙◌, ◌==◌}
 use Rattle.std.specs.Prelude.{is_some, option_map, ◌&&◌}
 use Rattle.std.proofs.lemmas.Bool.{cases_Bool, eqb-true}
-use Rattle.roff_requests.specs.declared.environments.Environments.{Environments as EnvironmentsOf}
+use Rattle.roff_requests.specs.declared.composer.Composer.{Composer as ComposerOf}
 use Rattle.roff_num.specs.declared.limit.Limit.{Limit}
 use Rattle.roff_escape.specs.OpenEscape.{unit_bytes}
 use Rattle.roff_ahead.specs.Input.{holding_plain}
@@ -77,7 +77,7 @@ pub refused_none : (r : Capped) (u : PageUnread) → IsReady r u → input_refus
 refused_none r u ready = sym (first_passed-few_names u.limits r.all u.input (few_names r u ready)) ∙ ready.within
 
 -- the input became this, and this is read on
-pub TakesAs-became : (i : PageInput) (place : LineState) (es : EnvironmentsOf) (old new : ReaderState) (before behind : PageUnread) (m : Step) (done : Unit {0})
+pub TakesAs-became : (i : PageInput) (place : LineState) (es : ComposerOf) (old new : ReaderState) (before behind : PageUnread) (m : Step) (done : Unit {0})
     → InputCameTo i before behind (Ok done) → new ≡ record old { reading = place } → m ≡ Nothing
     → TakesAs (λ k. going_on i place) es old new before behind (Ok m)
 TakesAs-became i place es old new before behind m done became came none = record {
@@ -96,7 +96,7 @@ TakesAs-became i place es old new before behind m done became came none = record
 }
 
 -- or a limit refuses it
-pub TakesAs-not_became : (i : PageInput) (place : LineState) (es : EnvironmentsOf) (old new : ReaderState) (before behind : PageUnread) (limit : Limit)
+pub TakesAs-not_became : (i : PageInput) (place : LineState) (es : ComposerOf) (old new : ReaderState) (before behind : PageUnread) (limit : Limit)
     → InputCameTo i before behind (Err limit) → TakesAs (λ k. going_on i place) es old new before behind (Err limit)
 TakesAs-not_became i place es old new before behind limit became = record {
   takes = λ l h stands ready.
@@ -173,7 +173,7 @@ InputCameTo-new name appends kind before behind result same no_body changes =
     (no_second appends _ (is_body-kind (entry_of (name_bytes name) before.input.names) kind same no_body)) changes
 
 -- what is taken once the input became another
-pub TakesAs-elsewhere : (t : PageInput → Taking) (i : PageInput) (es : EnvironmentsOf) (old new : ReaderState) (before mid behind : PageUnread) (done : Unit {0})
+pub TakesAs-elsewhere : (t : PageInput → Taking) (i : PageInput) (es : ComposerOf) (old new : ReaderState) (before mid behind : PageUnread) (done : Unit {0})
     (result : Result Step Limit) → InputCameTo i before mid (Ok done) → TakesAs (λ k. t mid.input) es old new mid behind result
     → TakesAs (λ k. t i) es old new before behind result
 TakesAs-elsewhere t i es old new before mid behind done result became takes = record {

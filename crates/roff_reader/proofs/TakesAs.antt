@@ -3,8 +3,8 @@ use Rattle.std.proofs.Common.{◌≡◌, ℕ, ◌≤◌, Bool, true, false, cond
 use Rattle.std.specs.Prelude.{nat_lt, ◌&&◌, drop, is_some, if◌then◌else◌}
 use Rattle.roff_num.specs.declared.limits.Limits.{Limits}
 use Rattle.roff_run.specs.Events.Steps.{events_of, messages_of}
-use Rattle.roff_requests.specs.Environments.Standing.{StandFor}
-use Rattle.roff_requests.specs.declared.environments.Environments.{Environments as EnvironmentsOf}
+use Rattle.roff_requests.specs.Composer.Standing.{StandFor}
+use Rattle.roff_requests.specs.declared.composer.Composer.{Composer as ComposerOf}
 use Rattle.roff_num.specs.declared.limit.Limit.{Limit}
 use Rattle.roff_num.specs.declared.limit.Limit.TheVariants.{Names}
 use Rattle.roff_num.specs.Ranges.{is_in_range}
@@ -30,9 +30,9 @@ use Rattle.roff_run.specs.Reading.ControlLines.{line_taking}
 use Rattle.roff_run.specs.Reading.Escapes.{interpolating}
 use Rattle.roff_run.specs.Reading.Items.{PageInput, Taking, going_on}
 use Rattle.roff_run.specs.Reading.Units.{settling}
-use Rattle.roff_run.specs.Registers.{AllRegisters, Known, changed_by_all, is_page, is_read_only, known_behind, step_changes, step_messages, stepped_page, text_of_register}
+use Rattle.roff_run.specs.Registers.{AllRegisters, Known, changed_by_all, is_page, is_read_only, known_stepped, page_stepped, step_changes, step_messages, text_of_register}
 use Rattle.roff_run.specs.Registers.Capped.{Capped}
-use Rattle.roff_requests.specs.Registers.Coded.{known_of}
+use Rattle.roff_run.specs.Requests.Effects.{page_numbered}
 use Rattle.roff_run.specs.Requests.{row_of}
 use Rattle.roff_run.specs.Run.{known_at}
 use Rattle.roff_run.specs.Run.Counts.{counts_in, first_passed}
@@ -40,7 +40,6 @@ use Rattle.roff_run.specs.declared.step.Step.{Step}
 use Rattle.roff_run.specs.declared.step.Step.TheVariants.{Nothing}
 use Rattle.roff_reader.specs.Reader.State.{MeaningKept}
 use Rattle.roff_run.specs.declared.line_state.LineState.{LineState}
-use Rattle.roff_requests.specs.declared.registers.Facts.{Facts}
 use Rattle.roff_run.specs.declared.request.LineReading.{LineReading}
 use Rattle.roff_run.specs.declared.request.Request.{Request}
 use Rattle.roff_reader.specs.ControlFronts.{half_begun}
@@ -86,7 +85,7 @@ NoMore-without_last i =
     record { bytes = omega arith; texts = omega arith; results = omega arith; stored = omega arith; names = omega arith; open_texts = omega arith }
 
 -- what something reads, with what is half read then
-pub TakesAs-read : (t : Known → PageInput → Found → Taking) (r : Reads) (es : EnvironmentsOf) (old new : ReaderState) (before mid behind : PageUnread)
+pub TakesAs-read : (t : Known → PageInput → Found → Taking) (r : Reads) (es : ComposerOf) (old new : ReaderState) (before mid behind : PageUnread)
     (found : Found) (result : Result Step Limit) → (found, mid) ≡ reading r before → texts_held r.1 ≤ texts_held before.input.escapes
     → TakesAs (λ k. t k mid.input found) es old new mid behind result
     → TakesAs (λ k. t k (with_escapes r.1 before.input) r.0) es old new before behind result
@@ -103,7 +102,7 @@ TakesAs-read t r es old new before mid behind found result reads fewer takes =
     }
 
 -- the same from where something else is read of the line
-pub TakesAs-set : (t : Known → Taking) (es : EnvironmentsOf) (old set new : ReaderState) (before behind : PageUnread) (result : Result Step Limit)
+pub TakesAs-set : (t : Known → Taking) (es : ComposerOf) (old set new : ReaderState) (before behind : PageUnread) (result : Result Step Limit)
     → set.registers ≡ old.registers → TakesAs t es set new before behind result → TakesAs t es old new before behind result
 TakesAs-set t es old set new before behind result same takes = record {
   takes = λ l h stands ready.
@@ -112,13 +111,13 @@ TakesAs-set t es old set new before behind result same takes = record {
 }
 
 -- what is taken where this is being read
-pub TakesAs-where : (t : Known → LineState → Taking) (place : LineState) (es : EnvironmentsOf) (old new : ReaderState) (before behind : PageUnread) (result : Result Step Limit)
+pub TakesAs-where : (t : Known → LineState → Taking) (place : LineState) (es : ComposerOf) (old new : ReaderState) (before behind : PageUnread) (result : Result Step Limit)
     → old.reading ≡ place → TakesAs (λ k. t k place) es old new before behind result → TakesAs (λ k. t k old.reading) es old new before behind result
 TakesAs-where t place es old new before behind result is takes =
     subst (λ (r : LineState). TakesAs (λ k. t k r) es old new before behind result) (sym is) takes
 
 -- what is taken as one of two that are equal is taken as the other
-pub TakesAs-as : (s t : Known → Taking) (es : EnvironmentsOf) (old new : ReaderState) (before behind : PageUnread) (result : Result Step Limit)
+pub TakesAs-as : (s t : Known → Taking) (es : ComposerOf) (old new : ReaderState) (before behind : PageUnread) (result : Result Step Limit)
     → ((k : Known) → s k ≡ t k) → TakesAs s es old new before behind result → TakesAs t es old new before behind result
 TakesAs-as s t es old new before behind result same takes = record {
   takes = λ l h stands ready.
@@ -127,7 +126,7 @@ TakesAs-as s t es old new before behind result same takes = record {
 }
 
 -- what is taken once no quote follows the quote before
-pub TakesAs-settled : (t : Known → PageInput → Taking) (es : EnvironmentsOf) (old new : ReaderState) (before mid behind : PageUnread) (result : Result Step Limit)
+pub TakesAs-settled : (t : Known → PageInput → Taking) (es : ComposerOf) (old new : ReaderState) (before mid behind : PageUnread) (result : Result Step Limit)
     → mid ≡ record before { input = settling before.input } → TakesAs (λ k. t k mid.input) es old new mid behind result
     → TakesAs (λ k. t k (settling before.input)) es old new before behind result
 TakesAs-settled t es old new before mid behind result settles takes =
@@ -149,7 +148,7 @@ known_at-same h rs now before newlines calls =
     ∙ ap (λ (calls : List (List (List ℕ))). known_at h rs (record now { newlines = before.newlines; calls = calls })) calls
 
 -- what is taken once the input is another one, of no more counts, as many newlines and the same calls
-pub TakesAs-less : (i : PageInput) (t : Known → Taking) (es : EnvironmentsOf) (old new : ReaderState) (before behind : PageUnread) (result : Result Step Limit)
+pub TakesAs-less : (i : PageInput) (t : Known → Taking) (es : ComposerOf) (old new : ReaderState) (before behind : PageUnread) (result : Result Step Limit)
     → NoMore i before.input → i.newlines ≡ before.input.newlines → i.calls ≡ before.input.calls
     → TakesAs t es old new (record before { input = i }) behind result → TakesAs t es old new before behind result
 TakesAs-less i t es old new before behind result less newlines calls takes = record {
@@ -163,7 +162,7 @@ TakesAs-less i t es old new before behind result less newlines calls takes = rec
 }
 
 -- what the first byte behind a name does, by how the line of its request is read
-pub TakesAs-line : (line : LineReading) (breaks : Bool) (request : Request) (b : ℕ) (es : EnvironmentsOf) (old new : ReaderState) (before behind : PageUnread) (result : Result Step Limit)
+pub TakesAs-line : (line : LineReading) (breaks : Bool) (request : Request) (b : ℕ) (es : ComposerOf) (old new : ReaderState) (before behind : PageUnread) (result : Result Step Limit)
     → (row_of request).line ≡ line → TakesAs (λ k. line_taking k before.input breaks request line b) es old new before behind result
     → TakesAs (λ k. line_taking k before.input breaks request (row_of request).line b) es old new before behind result
 TakesAs-line line breaks request b es old new before behind result is takes =
@@ -197,7 +196,7 @@ length-step_changes : (step : Option Direction) (name : List ℕ) (rs : AllRegis
 length-step_changes None name rs = refl
 length-step_changes (Some direction) name rs =
     one_of (SameNames rs) (is_read_only name) _ _ refl
-    (one_of (SameNames rs) (is_page name) (record rs { page = stepped_page direction rs.page }) (record rs { named = with_step direction name rs.named }) refl
+    (one_of (SameNames rs) (is_page name) rs (record rs { named = with_step direction name rs.named }) refl
     (length-stepped name _ rs.named (is_some (entry_of name rs.named)) (is_in_range (next_value direction (register_of name rs.named))) refl))
 
 -- no count is above its limit, so no more names than may have a register
@@ -217,34 +216,33 @@ passed-stepped step name r u i ready =
     first_passed-few_names u.limits (changed_by_all (step_changes step name) r.all) i names
 
 -- what a register's text is, as it is known at a history
-pub record KnowsText (es : EnvironmentsOf) (rs : AllRegisters) (i : PageInput) (step : Option Direction) (name text : List ℕ) : Type 0 where
-  pub facts : Facts
-  pub known : (l : Limits) (h : PageHistory) (all : AllRegisters) → StandFor l h es → known_of facts all ≡ known_at h all i
-  pub text_is : text ≡ text_of_register (known_behind (step_changes step name) (known_of facts rs)) name
-
-text_at : (es : EnvironmentsOf) (rs : AllRegisters) (i : PageInput) (step : Option Direction) (name text : List ℕ) → KnowsText es rs i step name text
-    → (l : Limits) (h : PageHistory) → StandFor l h es
-    → text ≡ text_of_register (known_behind (step_changes step name) (known_at h rs i)) name
-text_at es rs i step name text knows l h stands =
-    knows.text_is ∙ ap (λ (k : Known). text_of_register (known_behind (step_changes step name) k) name) (knows.known l h rs stands)
+pub record KnowsText (es : ComposerOf) (rs : AllRegisters) (i : PageInput) (step : Option Direction) (name text : List ℕ) : Type 0 where
+  pub text_is : (l : Limits) (h : PageHistory) → StandFor l h es → text ≡ text_of_register (known_stepped step name (known_at h rs i)) name
 
 -- a register is read in the place of its escape
-pub TakesAs-interpolated : (es : EnvironmentsOf) (old new : ReaderState) (registers : Capped) (before behind : PageUnread) (step : Option Direction) (name text : List ℕ) (m : Step) (done : Unit {0})
+pub TakesAs-interpolated : (es : ComposerOf) (old new : ReaderState) (registers : Capped) (before behind : PageUnread) (step : Option Direction) (name text : List ℕ) (m : Step) (done : Unit {0})
     → KnowsText es old.registers.all before.input step name text
     → registers ≡ record old.registers { all = changed_by_all (step_changes step name) old.registers.all }
     → new ≡ record old { registers = registers; meaning = new.meaning }
-    → messages_of new.meaning.message m ≡ step_messages step name old.registers.all → events_of new.meaning.events m ≡ []
+    → ((l : Limits) (h : PageHistory) → StandFor l h es → messages_of new.meaning.message m ≡ step_messages step name (known_at h old.registers.all before.input))
+    → ((l : Limits) (h : PageHistory) → StandFor l h es
+    → events_of new.meaning.events m ≡ page_numbered (page_stepped step name (known_at h old.registers.all before.input)))
     → (Ok done, behind) ≡ changing (pushing text before.input) before
     → TakesAs (λ k. interpolating k before.input old.reading step name) es old new before behind (Ok m)
 TakesAs-interpolated es old new registers before behind step name text m done knows changed came messages events pushes = record {
   takes = λ l h stands ready.
-      let known : text ≡ text_of_register (known_behind (step_changes step name) (known_at h old.registers.all before.input)) name =
-      text_at es old.registers.all before.input step name text knows l h stands in
+      let k : Known = known_at h old.registers.all before.input in
+      let known : text ≡ text_of_register (known_stepped step name k) name = knows.text_is l h stands in
       let passed = passed_none (input_refusal before.limits (pushing text before.input)) (pushing text before.input) before behind done pushes in
       let at : List ℕ → Taking = λ t. record {
         input = pushing t before.input;
         reading = old.reading;
-        effect = record { messages = step_messages step name old.registers.all; changes = step_changes step name; calls = []; events = [] };
+        effect = record {
+          messages = step_messages step name k;
+          changes = step_changes step name;
+          calls = [];
+          events = page_numbered (page_stepped step name k);
+        };
       } in
       subst (λ (t : List ℕ). Took (at t) old.registers new before behind m) known
       (record {
@@ -254,27 +252,26 @@ TakesAs-interpolated es old new registers before behind step name text m done kn
           registers = ap (λ (s : ReaderState). s.registers) came ∙ changed;
           within = passed-stepped step name old.registers before (pushing text before.input) ready ∙ passed.1;
         };
-        messages = messages;
-        events = events;
+        messages = messages l h stands;
+        events = events l h stands;
       });
 }
 
 -- or its text doesn't fit
-pub TakesAs-not_interpolated : (es : EnvironmentsOf) (old new : ReaderState) (before behind : PageUnread) (step : Option Direction) (name text : List ℕ) (limit : Limit)
+pub TakesAs-not_interpolated : (es : ComposerOf) (old new : ReaderState) (before behind : PageUnread) (step : Option Direction) (name text : List ℕ) (limit : Limit)
     → KnowsText es old.registers.all before.input step name text
     → (Err limit, behind) ≡ changing (pushing text before.input) before
     → TakesAs (λ k. interpolating k before.input old.reading step name) es old new before behind (Err limit)
 TakesAs-not_interpolated es old new before behind step name text limit knows pushes = record {
   takes = λ l h stands ready.
-      let known : text ≡ text_of_register (known_behind (step_changes step name) (known_at h old.registers.all before.input)) name =
-      text_at es old.registers.all before.input step name text knows l h stands in
+      let known : text ≡ text_of_register (known_stepped step name (known_at h old.registers.all before.input)) name = knows.text_is l h stands in
       let refused = passed_one (input_refusal before.limits (pushing text before.input)) (pushing text before.input) before behind limit pushes in
       subst (λ (t : List ℕ). first_passed before.limits (counts_in (changed_by_all (step_changes step name) old.registers.all) (pushing t before.input)) ≡ Some limit) known
       (passed-stepped step name old.registers before (pushing text before.input) ready ∙ refused);
 }
 
 -- a byte that isn't one of the line is taken
-pub TakesAs-interrupted : (es : EnvironmentsOf) (old : ReaderState) (u behind : PageUnread) → behind ≡ record u { input = interrupted old.reading u.input }
+pub TakesAs-interrupted : (es : ComposerOf) (old : ReaderState) (u behind : PageUnread) → behind ≡ record u { input = interrupted old.reading u.input }
     → TakesAs (λ k. going_on (interrupted old.reading u.input) old.reading) es old old u behind (Ok Nothing)
 TakesAs-interrupted es old u behind came = record {
   takes = λ l h stands ready. record {
@@ -294,7 +291,7 @@ pub keeps-meaning : (behind : LineState) (old new : ReaderState) → new ≡ rec
 keeps-meaning behind old new came = came ∙ ap (λ (m : MeaningKept). record old { reading = behind; meaning = m }) (sym (ap (λ (s : ReaderState). s.meaning) came))
 
 -- what asks something of the run, from the answer that the environments give
-pub TakesAs-asked : {A : Type 0} (t : Known → A → Taking) (asked : Known → A) (answer : A) (es : EnvironmentsOf) (old new : ReaderState)
+pub TakesAs-asked : {A : Type 0} (t : Known → A → Taking) (asked : Known → A) (answer : A) (es : ComposerOf) (old new : ReaderState)
     (before behind : PageUnread) (result : Result Step Limit)
     → ((l : Limits) (h : PageHistory) (rs : AllRegisters) (i : PageInput) → StandFor l h es → answer ≡ asked (known_at h rs i))
     → TakesAs (λ k. t k answer) es old new before behind result
@@ -306,7 +303,7 @@ TakesAs-asked t asked answer es old new before behind result answers takes = rec
 }
 
 -- how a byte is read, by the place on the line
-module _ (found_at : Known → PageInput → Found → Taking) (place : Known → Surroundings) (answer : Surroundings) (es : EnvironmentsOf)
+module _ (found_at : Known → PageInput → Found → Taking) (place : Known → Surroundings) (answer : Surroundings) (es : ComposerOf)
     (answers : (l : Limits) (h : PageHistory) (rs : AllRegisters) (i : PageInput) → StandFor l h es → answer ≡ place (known_at h rs i))
     (old new : ReaderState) (before mid behind : PageUnread) (found : Found) (result : Result Step Limit) where
   -- a byte of the line

@@ -22,8 +22,8 @@ use Rattle.roff_run.specs.declared.line_state.LineState.{LineState}
 use Rattle.roff_run.specs.declared.line_state.TextLine.{TextLine}
 use Rattle.roff_run.specs.declared.message.Message.{Message}
 use Rattle.roff_run.specs.declared.step.Step.{Step}
-use Rattle.roff_requests.specs.Environments.Standing.{StandFor}
-use Rattle.roff_requests.specs.declared.environments.Environments.{Environments as EnvironmentsOf}
+use Rattle.roff_requests.specs.Composer.Standing.{StandFor}
+use Rattle.roff_requests.specs.declared.composer.Composer.{Composer as ComposerOf}
 use Rattle.roff_reader.specs.Reader.State.{ReaderState}
 use Rattle.roff_reader.specs.Reader.Taken.{TakesAs}
 use Rattle.roff_reader.proofs.Placed.{kept-placed}
@@ -45,7 +45,7 @@ plain-found k r i b placed none_half no_escape =
     ∙ kept-placed k i r b placed
 
 -- a byte of a text line, or the first of one: what its step means, whatever is kept
-pub TakesAs-named : (t : Known → Taking) (behind : LineState) (es : EnvironmentsOf) (old new : ReaderState) (u : PageUnread) (m : Step)
+pub TakesAs-named : (t : Known → Taking) (behind : LineState) (es : ComposerOf) (old new : ReaderState) (u : PageUnread) (m : Step)
     → ((kept : List PageEvent) (k : Known) → t k ≡ meaning_events u.input behind (events_of kept m))
     → ((kept : Option Message) → messages_of kept m ≡ []) → new ≡ record old { reading = behind } → TakesAs t es old new u u (Ok m)
 TakesAs-named t behind es old new u m as_defined quiet came =
@@ -53,7 +53,7 @@ TakesAs-named t behind es old new u m as_defined quiet came =
     (keeps-meaning behind old new came) (quiet new.meaning.message) refl
 
 -- the first byte of a text line, if it is no dot and no apostrophe, by the interrupted line that the environments have
-pub begins-text : (b : ℕ) (u : PageUnread) (es : EnvironmentsOf) (old new : ReaderState) (m : Step) → (b == dot) ≡ false → (b == apostrophe) ≡ false
+pub begins-text : (b : ℕ) (u : PageUnread) (es : ComposerOf) (old new : ReaderState) (m : Step) → (b == dot) ≡ false → (b == apostrophe) ≡ false
     → (interrupted : Option TextLine)
     → ((l : Limits) (h : PageHistory) (rs : AllRegisters) (i : PageInput) → StandFor l h es → interrupted ≡ interrupted_line h)
     → TakesAs (λ k. behind_events (going_on_told interrupted) (text_taking u.input (line_begun_as interrupted) b)) es old new u u (Ok m)

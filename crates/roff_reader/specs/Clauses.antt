@@ -1,7 +1,7 @@
 -- The words of the clauses in `src/`, each with the file that it stands in.
 pub use Rattle.roff_run.specs.Environments.{PageHistory}
-pub use Rattle.roff_requests.specs.Environments.Standing.{StandFor}
-pub use Rattle.roff_requests.specs.declared.environments.Environments.{Environments as EnvironmentsOf}
+pub use Rattle.roff_requests.specs.Composer.Standing.{StandFor}
+pub use Rattle.roff_requests.specs.declared.composer.Composer.{Composer as ComposerOf}
 pub use Rattle.roff_reader.specs.Reader.State.{fresh_reader}
 pub use Rattle.roff_reader.specs.Reader.Taken.{Changed, InputCameTo, TakesAs}
 pub use Rattle.roff_run.specs.Reading.Items.{PageUnread}
@@ -29,7 +29,7 @@ pub use Rattle.roff_ahead.specs.Input.Calls.{arguments_given}
 pub use Rattle.roff_run.specs.Definitions.{ends_mark}
 pub use Rattle.roff_escape.specs.OpenEscape.{unit_bytes}
 pub use Rattle.roff_run.specs.Registers.{AllRegisters, Known, Remove, changed_by, value_in_force}
-pub use Rattle.roff_requests.specs.Registers.Coded.{known_of}
+pub use Rattle.roff_requests.specs.Registers.Coded.{AreOf}
 pub use Rattle.roff_requests.specs.Request.Coded.{calls_of, changes_of, effect_of, name_in, register_named}
 pub use Rattle.roff_run.specs.Requests.{request_effect, called_by, row_of}
 pub use Rattle.roff_run.specs.Requests.Naming.{removals}

@@ -1,8 +1,10 @@
 //! Reading: what each item of the input means, before it is done.
 
-ghost use Rattle.std.specs.Prelude.{◌≡◌, ◌==◌, ◌≤◌, ◌∷◌, [], IfOk, IfSome, false, slice_get, true};
+ghost use Rattle.std.specs.Prelude.{◌≡◌, ◌==◌, ◌≤◌, ◌∷◌, [], IfOk, IfSome, None, false, slice_get};
+ghost use Rattle.std.specs.Prelude.{true};
 ghost use Rattle.std.specs.Option.{option_to_list};
 ghost use Rattle.roff_source.specs.Bytes.{backslash, is_dropped};
+ghost use Rattle.roff_run.specs.Events.Lines.{closing_events};
 ghost use Rattle.roff_run.specs.Events.Steps.{events_of, messages_of};
 ghost use Rattle.roff_run.specs.declared.step.Step.TheVariants.{Nothing};
 ghost use Rattle.roff_reader.specs.Clauses.{LineStart, TakesAs, fresh_reader};
@@ -35,7 +37,7 @@ mod waiting;
 
 use crate::meaning::Meaning;
 use roff_num::{Limit, Limits, Name, Num};
-use roff_requests::{Environments, RunRegisters};
+use roff_requests::{Composer, RunRegisters};
 use roff_run::{Due, LineEvents, LineState, Message, PageEvent, Request, Step};
 use roff_scan::{Unread, is_dropped};
 use roff_store::Entry;
@@ -87,11 +89,11 @@ impl Reader {
     pub fn read(
         &mut self,
         byte: u8,
-        environments: &Environments,
+        composer: &Composer,
         unread: &mut Unread<PageEvent>,
     ) -> Result<Step, Limit>
         ensures { TakesAs (λ k. taking k self.old.reading unread.old.input byte)
-            environments.now self.old self.new unread.old unread.new result }
+            composer.now self.old self.new unread.old unread.new result }
     {
         if self.goes_on_with(byte, unread) {
             return Ok(Step::Glyph(byte, 0));
@@ -100,9 +102,9 @@ impl Reader {
             return Ok(Step::Gap);
         }
         if is_read_alone(byte, unread) {
-            return self.read_alone(byte, environments, unread);
+            return self.read_alone(byte, composer, unread);
         }
-        self.read_any(byte, environments, unread)
+        self.read_any(byte, composer, unread)
     }
 
     /// The same of any byte.
@@ -110,17 +112,17 @@ impl Reader {
     fn read_any(
         &mut self,
         byte: u8,
-        environments: &Environments,
+        composer: &Composer,
         unread: &mut Unread<PageEvent>,
     ) -> Result<Step, Limit>
         ensures { TakesAs (λ k. taking k self.old.reading unread.old.input byte)
-            environments.now self.old self.new unread.old unread.new result }
+            composer.now self.old self.new unread.old unread.new result }
     {
         if is_dropped(byte) {
             self.interrupt(unread);
             return Ok(Step::Nothing);
         }
-        self.read_undropped(byte, environments, unread)
+        self.read_undropped(byte, composer, unread)
     }
 
     /// What is due before anything more is taken.
@@ -182,6 +184,17 @@ impl Reader {
             LineState::Calling { .. } => unread.settle(),
             _ => {}
         }
+    }
+
+    /// The run closes: a line begins, and the events that close it are kept.
+    pub fn close(&mut self)
+        ensures kept { self.new.meaning.events ≡ closing_events }
+        ensures message { self.new.meaning.message ≡ None }
+        ensures others { self.new
+            ≡ record self.old { reading = LineStart; meaning = self.new.meaning } }
+    {
+        self.reading = LineState::LineStart;
+        self.meaning.keep_line(None, false, LineEvents::Closing);
     }
 
     /// The event at an index of the meaning that is kept, if there are so many: 35 at most.

@@ -4,3 +4,6 @@ pub mod RegisterTables
 pub mod Numbering
 pub mod EventsAt
 pub mod FewBehind
+pub mod Heights
+pub mod PageLengths
+pub mod PageSteps

@@ -1,4 +1,5 @@
 pub mod Events
 pub mod Request
 pub mod Environments
+pub mod Composer
 pub mod Registers

@@ -124,7 +124,7 @@ impl Left {
 }
 
 impl Environments {
-    ghost use Rattle.roff_requests.specs.Environments.Standing.{Becomes, StandFor};
+    ghost use Rattle.roff_requests.specs.Environments.Standing.{Becomes, StandBy};
 
     /// Three in which nothing has happened; the one of number 0 is in force.
     ///
@@ -132,7 +132,7 @@ impl Environments {
     ///
     /// [`AllocError`] if the memory for the limits can't be had.
     pub fn new(alloc: Global, limits: Limits) -> Result<Self, AllocError>
-        ensures { IfOk result (λ es. StandFor limits [] es) }
+        ensures { IfOk result (λ es. StandBy limits (environments []) es) }
     {
         Ok(Environments {
             number: EnvironmentNumber::Zero,
@@ -145,7 +145,7 @@ impl Environments {
 
     /// Whether one was left that may be gone back to.
     pub fn has_left(&self) -> bool
-        ensures { (l : LimitsOf) (h : PageHistory) → StandFor l h self.now
+        ensures { (l : LimitsOf) (h : PageHistory) → StandBy l (environments h) self.now
             → result ≡ not (is_empty (environments h).left) }
     {
         !self.left.is_empty()
@@ -153,7 +153,7 @@ impl Environments {
 
     /// The interrupted line of the one in force that the next text line goes on with.
     pub fn interrupted_line(&self) -> Option<TextLine>
-        ensures { (l : LimitsOf) (h : PageHistory) → StandFor l h self.now
+        ensures { (l : LimitsOf) (h : PageHistory) → StandBy l (environments h) self.now
             → result ≡ interrupted_line h }
     {
         if !self.in_force.lines.is_interrupted() {
@@ -187,7 +187,7 @@ impl Environments {
     #[inline(always)]
     pub fn count(&mut self) -> Option<ShortName>
         ensures counted { Becomes (with_event Count) self.old self.new }
-        ensures reached { (l : LimitsOf) (h : PageHistory) → StandFor l h self.old
+        ensures reached { (l : LimitsOf) (h : PageHistory) → StandBy l (environments h) self.old
             → result ≡ springs h (Text Count) }
     {
         self.in_force.lines.count();
@@ -223,7 +223,7 @@ impl Environments {
     /// [`Limit::Environments`] if more would be left than may; the environments are then as they were.
     pub fn switch_to(&mut self, number: EnvironmentNumber) -> Result<(), Limit>
         ensures stands { OnOk result (Becomes (switched_to number) self.old self.new) }
-        ensures limit { (l : LimitsOf) (h : PageHistory) → StandFor l h self.old
+        ensures limit { (l : LimitsOf) (h : PageHistory) → StandBy l (environments h) self.old
             → (IsErr result ↔ (l.environments < length (environments h).left + 1)) }
         ensures error { IsOkUnless result Limit.Environments }
     {

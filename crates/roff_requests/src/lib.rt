@@ -1,13 +1,15 @@
 //! What requests do, in code: their effects, the number registers, the events of a line, and the
-//! three environments.
+//! three environments with the pages.
 #![tactic(auto)]
 
+mod composer;
 mod environments;
 mod events;
 mod number;
 mod registers;
 mod requests;
 
+pub use composer::Composer;
 pub use environments::{Environment, Environments, Left};
 pub use events::{RequestEvents, RequestedEvents, are_none};
 pub use registers::{Facts, RunRegisters};

@@ -2,9 +2,13 @@
 
 ghost use Rattle.std.specs.Prelude.{◌≡◌, ◌+ℤ◌};
 ghost use Rattle.roff_num.specs.Ranges.{in_range};
-ghost use Rattle.roff_run.specs.Numbers.{rounded_in_range, value_beside, value_in};
+ghost use Rattle.roff_run.specs.Numbers.{height_beside, height_in, rounded_in_range, value_beside};
+ghost use Rattle.roff_run.specs.Numbers.{value_in};
 
 use roff_num::{NumFault, Scale, eval, round_h, round_v};
+
+/// The basic units of a line.
+pub(crate) const LINE: u32 = 40;
 
 /// The value of an argument, in basic units where it is a length. What follows the expression in it
 /// is passed over.
@@ -16,6 +20,20 @@ pub(crate) fn value_in(scale: Scale, text: &[u8]) -> Result<i32, NumFault>
     ensures { result ≡ value_in scale text.now }
 {
     match eval(text, 0, scale, Some(0)) {
+        Ok((value, _)) => Ok(value.0),
+        Err(fault) => Err(fault),
+    }
+}
+
+/// The value of a height down the page, in basic units, where this is the place.
+///
+/// # Errors
+///
+/// The expression's first fault.
+pub(crate) fn height_in(place: i32, text: &[u8]) -> Result<i32, NumFault>
+    ensures { result ≡ height_in place text.now }
+{
+    match eval(text, 0, Scale::Lines, Some(place)) {
         Ok((value, _)) => Ok(value.0),
         Err(fault) => Err(fault),
     }
@@ -39,6 +57,28 @@ pub(crate) fn value_beside(in_force: i64, scale: Scale, text: &[u8]) -> Result<i
             Err(fault) => Err(fault),
         },
         _ => value_in(scale, text),
+    }
+}
+
+/// The value of a height beside the one in force, where this is the place: a sign in front adds to
+/// that, or takes from it.
+///
+/// # Errors
+///
+/// The expression's first fault, or [`NumFault::Range`] for the sum.
+pub(crate) fn height_beside(place: i32, in_force: i64, text: &[u8]) -> Result<i32, NumFault>
+    ensures { result ≡ height_beside place in_force text.now }
+{
+    match text.split_first() {
+        Some((b'+', unsigned)) => match height_in(place, unsigned) {
+            Ok(value) => sum_in_range(in_force, i64::from(value)),
+            Err(fault) => Err(fault),
+        },
+        Some((b'-', unsigned)) => match height_in(place, unsigned) {
+            Ok(value) => sum_in_range(in_force, -i64::from(value)),
+            Err(fault) => Err(fault),
+        },
+        _ => height_in(place, text),
     }
 }
 

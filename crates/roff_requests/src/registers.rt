@@ -1,41 +1,33 @@
 //! The number registers of a run: those that a document sets, the page number, and the read-only
 //! ones (manual, section 8).
 
-ghost use Rattle.std.specs.Prelude.{◌≡◌, [], ◌∷◌, Ok, IfOk, IfSome, if◌then◌else◌};
+ghost use Rattle.std.specs.Prelude.{◌≡◌, [], ◌∷◌, Ok, IfOk, IfSome, if◌then◌else◌, false};
 ghost use Rattle.std.specs.Option.{option_to_list};
 ghost use Rattle.roff_num.specs.Ranges.{is_in_range};
 ghost use Rattle.roff_num.specs.RegisterText.{register_text};
 ghost use Rattle.roff_store.specs.Registers.{next_value};
-ghost use Rattle.roff_run.specs.Registers.{is_page, stepped_page};
+ghost use Rattle.roff_run.specs.Registers.{is_page, number_in_range};
 ghost use Rattle.roff_run.specs.declared.message.Message.TheVariants.{BadNumber};
 
 mod read_only;
 
+use crate::composer::Composer;
 use read_only::{is_read_only, query_of};
-use roff_lines::Settings;
 use roff_num::{Direction, Format, Limit, Name, Num, NumText, ShortName, write_num};
-use roff_run::{Message, TextLine};
+use roff_run::Message;
 use roff_store::{RegTable, Register};
 use std::alloc::{AllocError, Global};
 use std::marker::Model;
 
 /// What is known of a run beside its registers.
-#[derive(Clone, Copy, Debug)]
-pub struct Facts {
-    /// The settings in force.
-    pub settings: Settings,
+#[derive(Clone, Copy)]
+pub struct Facts<'a> {
+    /// The environments and the pages.
+    pub composer: &'a Composer,
     /// How many newlines were taken of the source.
     pub newlines: u32,
-    /// The width of the last finished line, in columns.
-    pub last_width: u32,
     /// How many arguments the innermost body has that a line called.
     pub arguments: usize,
-    /// The place on the line of the input, in columns.
-    pub place: u32,
-    /// The interrupted line that the next text line goes on with.
-    pub interrupted: Option<TextLine>,
-    /// Whether an environment was left that may be gone back to.
-    pub has_left: bool,
 }
 
 /// A change that a request makes.
@@ -63,16 +55,19 @@ pub struct Interpolated {
     pub text: NumText,
     /// What is said of its step.
     pub message: Option<Message>,
+    /// The number that the page gets by it, if it gets one.
+    pub number: Option<Num>,
 }
 
-/// The registers that can be set: those by name, and the page number `%`; and the macro that is read
-/// behind the input.
+/// The registers that can be set: those by name, and of the page number `%`, whose value is the
+/// pages', the increment and the format; and the macro that is read behind the input.
 ///
 /// All memory is reserved as they are made.
 #[derive(Drop)]
 pub struct RunRegisters {
     named: RegTable,
-    page: Register,
+    page_increment: Num,
+    page_format: Format,
     last_macro: Option<ShortName>,
 }
 
@@ -89,72 +84,88 @@ impl Model for RunRegisters {
 }
 
 impl RunRegisters {
-    ghost use Rattle.roff_run.specs.Registers.{Remove, SetTo, FormatAs, StepBy, ReadLast, changed_by_all, is_page, is_page_odd, known_behind, no_registers, settable, step_changes, step_messages, text_of_register, value_in_force};
+    ghost use Rattle.roff_run.specs.Registers.{Remove, SetTo, FormatAs, StepBy, ReadLast, is_page};
+    ghost use Rattle.roff_run.specs.Registers.{known_stepped, no_registers, page_register};
+    ghost use Rattle.roff_run.specs.Registers.{page_stepped, settable, step_messages};
+    ghost use Rattle.roff_run.specs.Registers.{text_of_register, value_in_force};
     ghost use Rattle.roff_run.specs.Registers.Capped.{admitted, after, with_change};
-    ghost use Rattle.roff_requests.specs.Registers.Coded.{change_of, known_of};
+    ghost use Rattle.roff_requests.specs.Registers.Coded.{AreOf, change_of};
     ghost use Rattle.roff_run.specs.Registers.{Known};
     ghost use Rattle.roff_run.specs.Starts.{given_change};
 
-    /// No register is set, and the page number is 0; so many names may have one.
+    /// No register is set; so many names may have one.
     pub fn new(alloc: Global, cap: u32) -> Result<Self, AllocError>
         ensures { IfOk result (λ r. r ≡ record { all = no_registers; cap = cap }) }
     {
         Ok(RunRegisters {
             named: RegTable::new(alloc, cap)?,
-            page: Register::default(),
+            page_increment: Num(0),
+            page_format: Format::Decimal(1),
             last_macro: None,
         })
     }
 
     /// The register that a name reads as, if it isn't read-only.
-    pub(crate) fn settable(&self, name: &Name) -> Register
-        ensures { result ≡ settable name.now self.now.all }
+    pub(crate) fn settable(&self, name: &Name, facts: Facts<'_>) -> Register
+        ensures { (k : Known) → AreOf k facts.entry → k.registers ≡ self.now.all
+            → result ≡ settable name.now k }
     {
         if is_page(name) {
-            self.page
+            self.page(facts)
         } else {
             self.named.get(name).unwrap_or_default()
         }
     }
 
-    /// Whether the page number is odd.
-    pub fn is_page_odd(&self) -> bool
-        ensures { result ≡ is_page_odd self.now.all }
+    /// The page number's register.
+    fn page(&self, facts: Facts<'_>) -> Register
+        ensures { (k : Known) → AreOf k facts.entry → k.registers ≡ self.now.all
+            → result ≡ page_register k }
     {
-        self.page.value.0.unsigned_abs() % 2 == 1
+        Register {
+            value: facts.composer.pages.number(),
+            increment: self.page_increment,
+            format: self.page_format,
+        }
     }
 
     /// The text of a register.
-    pub fn text(&self, name: &Name, facts: Facts) -> NumText
-        ensures { result.items ≡ text_of_register (known_of facts self.now.all) name.now }
+    pub fn text(&self, name: &Name, facts: Facts<'_>) -> NumText
+        ensures { (k : Known) → AreOf k facts.entry → k.registers ≡ self.now.all
+            → result.items ≡ text_of_register k name.now }
     {
         match query_of(name) {
-            Some(query) => written(Num(facts.answer(query) as i32), Format::Decimal(1)),
+            Some(query) => written(Num(facts.answer(query)), Format::Decimal(1)),
             None => {
-                let register = self.settable(name);
+                let register = self.settable(name, facts);
                 written(register.value, register.format)
             }
         }
     }
 
     /// The value in force under a name, of a read-only register too.
-    pub fn value_in_force(&self, name: &Name, facts: Facts) -> Num
-        ensures { result ≡ value_in_force (known_of facts self.now.all) name.now }
+    pub fn value_in_force(&self, name: &Name, facts: Facts<'_>) -> Num
+        ensures { (k : Known) → AreOf k facts.entry → k.registers ≡ self.now.all
+            → result ≡ value_in_force k name.now }
     {
         match query_of(name) {
-            Some(query) => Num(facts.answer(query) as i32),
-            None => self.settable(name).value,
+            Some(query) => Num(facts.answer(query)),
+            None => self.settable(name, facts).value,
         }
     }
 
-    /// The value in force under a name that isn't that of a read-only register.
+    /// The value in force under a name that is neither that of a read-only register nor the page
+    /// number's.
     pub fn set_value(&self, name: &Name) -> Option<Num>
         ensures { IfSome result (λ value. (k : Known) → k.registers ≡ self.now.all
             → value ≡ value_in_force k name.now) }
     {
+        if is_page(name) {
+            return None;
+        }
         match query_of(name) {
             Some(_) => None,
-            None => Some(self.settable(name).value),
+            None => Some(self.named.get(name).unwrap_or_default().value),
         }
     }
 
@@ -224,40 +235,40 @@ impl RunRegisters {
     /// Steps a register, and then gives its text (`\n`).
     pub fn interpolate(
         &mut self,
-        direction: Option<Direction>,
+        direction: Direction,
         name: &Name,
-        facts: Facts,
+        facts: Facts<'_>,
     ) -> Interpolated
-        ensures registers { let changes = step_changes direction name.now in
-            self.new ≡ record self.old { all = changed_by_all changes self.old.all } }
-        ensures message { option_to_list result.message
-            ≡ step_messages direction name.now self.old.all }
-        ensures text { let changes = step_changes direction name.now in
-            result.text.items
-            ≡ text_of_register (known_behind changes (known_of facts self.old.all)) name.now }
+        ensures registers { self.new ≡ with_change (StepBy name.now direction) self.old }
+        ensures message { (k : Known) → AreOf k facts.entry → k.registers ≡ self.old.all
+            → option_to_list result.message ≡ step_messages (Some direction) name.now k }
+        ensures number { (k : Known) → AreOf k facts.entry → k.registers ≡ self.old.all
+            → result.number ≡ page_stepped (Some direction) name.now k }
+        ensures text { (k : Known) → AreOf k facts.entry → k.registers ≡ self.old.all
+            → result.text.items
+            ≡ text_of_register (known_stepped (Some direction) name.now k) name.now }
     {
-        let message = match direction {
-            None => None,
-            Some(direction) => self.step(direction, name),
-        };
+        if is_page(name) {
+            return step_page(direction, self.page(facts));
+        }
+        let message = self.step(direction, name);
         Interpolated {
             text: self.text(name, facts),
             message,
+            number: None,
         }
     }
 
-    /// Steps a register, unless it is read-only, and says where the step is out of range and so not
-    /// made.
-    pub fn step(&mut self, direction: Direction, name: &Name) -> Option<Message>
+    /// Steps a register that isn't the page number's, unless it is read-only, and says where the
+    /// step is out of range and so not made.
+    fn step(&mut self, direction: Direction, name: &Name) -> Option<Message>
+        requires named { is_page name.now ≡ false }
         ensures registers { self.new ≡ with_change (StepBy name.now direction) self.old }
-        ensures message { option_to_list result
-            ≡ step_messages (Some direction) name.now self.old.all }
+        ensures message { (k : Known) → k.registers ≡ self.old.all
+            → option_to_list result ≡ step_messages (Some direction) name.now k }
     {
         if is_read_only(name) {
             return None;
-        }
-        if is_page(name) {
-            return step_page(direction, &mut self.page);
         }
         match self.named.step(name, direction) {
             Ok(_) => None,
@@ -270,13 +281,16 @@ impl RunRegisters {
         ensures answer { result ≡ admitted (SetTo name.now value increment) self.old }
         ensures registers { self.new ≡ after (SetTo name.now value increment) self.old }
     {
-        let RunRegisters { named, page, .. } = self;
+        let RunRegisters {
+            named,
+            page_increment,
+            ..
+        } = self;
         if is_read_only(name) {
             return Ok(());
         }
         if is_page(name) {
-            page.value = value;
-            page.increment = increment;
+            *page_increment = increment;
             return Ok(());
         }
         named.set(name, value, increment)
@@ -287,12 +301,16 @@ impl RunRegisters {
         ensures answer { result ≡ admitted (FormatAs name.now format) self.old }
         ensures registers { self.new ≡ after (FormatAs name.now format) self.old }
     {
-        let RunRegisters { named, page, .. } = self;
+        let RunRegisters {
+            named,
+            page_format,
+            ..
+        } = self;
         if is_read_only(name) {
             return Ok(());
         }
         if is_page(name) {
-            page.format = format;
+            *page_format = format;
             return Ok(());
         }
         named.set_format(name, format)
@@ -300,28 +318,36 @@ impl RunRegisters {
 }
 
 /// Whether a name is the page number's.
-fn is_page(name: &Name) -> bool
+pub(crate) fn is_page(name: &Name) -> bool
     ensures { result ≡ is_page name.now }
 {
     name.as_bytes() == b"%".as_slice()
 }
 
-/// Steps the page number, and says where the step is out of range and so not made.
-fn step_page(direction: Direction, page: &mut Register) -> Option<Message>
-    ensures page { page.new ≡ stepped_page direction page.old }
-    ensures message { option_to_list result
-        ≡ (if is_in_range (next_value direction page.old) then [] else BadNumber ∷ []) }
+/// What the escape `\n` gives where it steps the page number: a step out of range isn't made.
+fn step_page(direction: Direction, page: Register) -> Interpolated
+    ensures number { result.number ≡ number_in_range (next_value direction page) }
+    ensures message { option_to_list result.message
+        ≡ (if is_in_range (next_value direction page) then [] else BadNumber ∷ []) }
+    ensures text { result.text.items ≡ register_text page.format
+        (if is_in_range (next_value direction page) then next_value direction page
+        else page.value.0) }
 {
     let value = match direction {
         Direction::Up => page.value.0.checked_add(page.increment.0),
         Direction::Down => page.value.0.checked_sub(page.increment.0),
     };
     match value {
-        Some(value) => {
-            page.value = Num(value);
-            None
-        }
-        None => Some(Message::BadNumber),
+        Some(value) => Interpolated {
+            text: written(Num(value), page.format),
+            message: None,
+            number: Some(Num(value)),
+        },
+        None => Interpolated {
+            text: written(page.value, page.format),
+            message: Some(Message::BadNumber),
+            number: None,
+        },
     }
 }
 

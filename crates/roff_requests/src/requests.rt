@@ -10,6 +10,7 @@ mod effects;
 mod lengths;
 mod naming;
 mod numbering;
+mod paging;
 mod spacing;
 mod springing;
 mod switching;
@@ -71,10 +72,11 @@ fn does(request: Request, known: RequestFacts, given: Given<'_>) -> Response
         Request::NoAdjust => Response::setting(Param::Adjusting(false)),
         Request::NoFill => Response::setting(Param::Filling(false)),
         Request::NumberRegister => numbering::set_register(known, given),
+        Request::PageLength => paging::page_length(known, given.first),
         Request::RemoveNames => Response::changing(Changes::RemoveNamesGiven),
         Request::Rename => naming::rename(given.first, given.second),
         Request::RemoveRegisters => Response::changing(Changes::RemoveGiven),
-        Request::Space => spacing::space_down(given.first),
+        Request::Space => spacing::space_down(known, given.first),
         Request::TabStops => Response::SetsStops,
         Request::TemporaryIndent => lengths::temporary_indent(known, given.first),
         Request::TellMessage => Response::nothing(),

@@ -1,31 +1,35 @@
 -- No event of a request is one by which a text line counts.
 --
 use Rattle.roff_num.specs.declared.num.Scale.TheVariants.{Units}
-use Rattle.roff_run.specs.Numbers.{value_in}
+use Rattle.roff_run.specs.Numbers.{value_beside, value_in}
 -- Each request has its lemma here, with a line for each of its cases.
 use Rattle.std.proofs.Common.{ℕ, ℤ, Bool, true, false, List, [], ◌∷◌, map, Option, Some, None, pos}
 use Rattle.std.specs.Prelude.{negsuc, pos, take, ◌&&◌, Result, Ok, Err, if◌then◌else◌, ◌==◌, length}
 use Rattle.roff_lines.specs.declared.settings.AdjustMode.{AdjustMode}
 use Rattle.roff_lines.specs.declared.settings.Param.{Param}
 use Rattle.roff_num.specs.declared.format.Format.{Format}
+use Rattle.roff_num.specs.declared.num.Num.{Num}
 use Rattle.roff_num.specs.declared.num.NumFault.{NumFault}
 use Rattle.roff_num.specs.declared.short_name.ShortName.{ShortName}
 use Rattle.roff_run.specs.Environments.{environment_numbered}
-use Rattle.roff_run.specs.Registers.{Known}
-use Rattle.roff_run.specs.Requests.{PageEvent, Response, Ignored, Obeyed, request_effect, row_of}
+use Rattle.roff_run.specs.Registers.{Known, value_in_force}
+use Rattle.roff_run.specs.Requests.{Page, PageEvent, Response, Ignored, Obeyed, request_effect, row_of}
 use Rattle.roff_run.specs.Requests.Adjustment.{adjusting_in, centre, centring, mode_wanted}
-use Rattle.roff_run.specs.Requests.Effects.{behind_break, meant_by}
+use Rattle.roff_run.specs.Requests.Effects.{behind_break, happens, meant_by, page_numbered}
 use Rattle.roff_run.specs.Requests.Lengths.{length_set, length_wanted, line_length, indent, setting_length, temporary_indent}
 use Rattle.roff_run.specs.Requests.Naming.{rename}
-use Rattle.roff_run.specs.Requests.Numbering.{assign_format, format_as, if_named, set_register, set_to}
+use Rattle.roff_run.specs.Requests.Numbering.{assign_format, format_as, if_named, increment_given, name_given, number, number_of_page, set_register, set_to}
+use Rattle.roff_run.specs.Requests.Paging.{lines_on_page, lines_set, page_length, page_of}
 use Rattle.roff_run.specs.Requests.Spacing.{line_spacing, space_down, spaced, spacing}
 use Rattle.roff_run.specs.Requests.Springing.{input_trap, trap_set}
 use Rattle.roff_run.specs.Requests.Switching.{switch, switching_by, switching_to}
 use Rattle.roff_run.specs.Requests.Tabs.{most_stops, setting_stops, stop_places, stop_set}
+use Rattle.roff_pages.specs.declared.layout_event.LayoutEvent.TheVariants.{Length}
 use Rattle.roff_run.specs.Springs.{CountsLast}
+use Rattle.roff_run.specs.declared.message.Message.TheVariants.{PageTooShort}
 use Rattle.roff_run.specs.declared.environment_number.EnvironmentNumber.{EnvironmentNumber}
 use Rattle.roff_run.specs.declared.request.Request.{Request}
-use Rattle.roff_run.specs.declared.request.Request.TheVariants.{Abort, Adjust, AppendMacro, AppendString, AssignFormat, Break as BreakRequest, Centre, DefineMacro, DefineString, Else, EndMacro, Environment, Exit, Fill, If, IfElse, Ignore, Indent, InputTrap, LineLength, LineSpacing, NoAdjust, NoFill, NumberRegister, RemoveNames, RemoveRegisters, Rename, Space as SpaceDown, TabStops, TemporaryIndent, TellMessage, WithoutEffect, LeftOut}
+use Rattle.roff_run.specs.declared.request.Request.TheVariants.{Abort, Adjust, AppendMacro, AppendString, AssignFormat, Break as BreakRequest, Centre, DefineMacro, DefineString, Else, EndMacro, Environment, Exit, Fill, If, IfElse, Ignore, Indent, InputTrap, LineLength, LineSpacing, NoAdjust, NoFill, NumberRegister, PageLength, RemoveNames, RemoveRegisters, Rename, Space as SpaceDown, TabStops, TemporaryIndent, TellMessage, WithoutEffect, LeftOut}
 
 -- what a request does
 abbrev counts_by : Response → Type 0
@@ -69,9 +73,21 @@ counts_by-spaced (Ok (pos height)) = tt
 counts_by-spaced (Ok (negsuc height)) = tt
 counts_by-spaced (Err fault) = tt
 
-counts_by-space_down : (as_given : List (List ℕ)) → counts_by (space_down as_given)
-counts_by-space_down [] = tt
-counts_by-space_down (text ∷ others) = counts_by-spaced _
+counts_by-space_down : (k : Known) (as_given : List (List ℕ)) → counts_by (space_down k as_given)
+counts_by-space_down k [] = tt
+counts_by-space_down k (text ∷ others) = counts_by-spaced _
+
+-- nor does the page length
+counts_by-lines_on_page : (lines : ℕ) → counts_by (lines_on_page lines)
+counts_by-lines_on_page lines = counts_by-if (lines == 0) (Ignored (PageTooShort ∷ [])) (happens [] (Page (Length lines) ∷ [])) tt tt
+
+counts_by-page_of : (lines : Result ℕ NumFault) → counts_by (page_of lines)
+counts_by-page_of (Ok lines) = counts_by-lines_on_page lines
+counts_by-page_of (Err fault) = tt
+
+counts_by-page_length : (k : Known) (as_given : List (List ℕ)) → counts_by (page_length k as_given)
+counts_by-page_length k [] = counts_by-lines_on_page 66
+counts_by-page_length k (text ∷ others) = counts_by-page_of (lines_set k text)
 
 counts_by-spacing : (lines : Result ℤ NumFault) → counts_by (spacing lines)
 counts_by-spacing (Ok lines) = tt
@@ -116,15 +132,21 @@ counts_by-input_trap (text ∷ others) = counts_by-trap_set _ _
 counts_by-named : (text : List ℕ) (r : Response) → counts_by r → counts_by (if_named text r)
 counts_by-named text r counts = counts_by-if (length text == 0) (Ignored []) r tt counts
 
+pub counts-numbered : (n : Option Num) → CountsLast (page_numbered n)
+counts-numbered None = tt
+counts-numbered (Some n) = tt
+
 counts_by-set_to : (name : List ℕ) (value increment : Result ℤ NumFault) → counts_by (set_to name value increment)
 counts_by-set_to name (Err fault) increment = tt
 counts_by-set_to name (Ok value) (Err fault) = tt
-counts_by-set_to name (Ok value) (Ok increment) = tt
+counts_by-set_to name (Ok value) (Ok increment) = counts-numbered (number_of_page name (number value))
 
 counts_by-set_register : (k : Known) (as_given : List (List ℕ)) → counts_by (set_register k as_given)
 counts_by-set_register k [] = tt
 counts_by-set_register k (name ∷ []) = tt
-counts_by-set_register k (name ∷ value ∷ others) = counts_by-named name _ (counts_by-set_to _ _ _)
+counts_by-set_register k (name ∷ value ∷ others) =
+    counts_by-named name _
+    (counts_by-set_to (name_given name) (value_beside (value_in_force k (name_given name)).0 Units value) (increment_given others))
 
 counts_by-format_as : (name : List ℕ) (format : Option Format) → counts_by (format_as name format)
 counts_by-format_as name None = tt
@@ -166,10 +188,11 @@ counts_by-request k LineSpacing as_given = counts_by-line_spacing k as_given
 counts_by-request k NoAdjust as_given = tt
 counts_by-request k NoFill as_given = tt
 counts_by-request k NumberRegister as_given = counts_by-set_register k as_given
+counts_by-request k PageLength as_given = counts_by-page_length k as_given
 counts_by-request k RemoveNames as_given = tt
 counts_by-request k Rename as_given = counts_by-rename as_given
 counts_by-request k RemoveRegisters as_given = tt
-counts_by-request k SpaceDown as_given = counts_by-space_down as_given
+counts_by-request k SpaceDown as_given = counts_by-space_down k as_given
 counts_by-request k TabStops as_given = counts_by-stops (stop_places (pos 0) (take most_stops as_given))
 counts_by-request k TemporaryIndent as_given = counts_by-temporary_indent k as_given
 counts_by-request k TellMessage as_given = tt

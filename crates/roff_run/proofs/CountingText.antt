@@ -22,7 +22,8 @@ use Rattle.roff_run.specs.Reading.Escapes.{asking}
 use Rattle.roff_run.specs.Reading.Items.{PageInput, Taking}
 use Rattle.roff_run.specs.Reading.TextLines.{blank_line, blank_taking, character_printed, character_taking, escape_meant, escape_taking, glyph_taking, leading_blank_events, leading_glyph, name_taking, text_found, text_line_end, text_taking}
 use Rattle.roff_run.specs.Reading.Units.{no_unit_found}
-use Rattle.roff_run.specs.Registers.{Known}
+use Rattle.roff_run.specs.Registers.{Known, page_stepped}
+use Rattle.roff_run.proofs.CountingRequests.{counts-numbered}
 use Rattle.roff_run.specs.Requests.{PageEvent, Text}
 use Rattle.roff_run.specs.Springs.{CountsLast}
 use Rattle.roff_run.specs.declared.line_state.LineState.{LineState}
@@ -170,7 +171,7 @@ Counts-first_escape k i (Defining name appends end matched) b = Counts-if (b == 
 -- what a name asks for
 Counts-asking : (k : Known) (i : PageInput) (reading : LineState) (purpose : NameUse) (name : Option (List ℕ)) → Counts (asking k i reading purpose name)
 Counts-asking k i reading purpose None = tt
-Counts-asking k i reading (Register step) (Some name) = tt
+Counts-asking k i reading (Register step) (Some name) = counts-numbered (page_stepped step name k)
 Counts-asking k i reading OfText (Some name) = tt
 Counts-asking k i reading Argument (Some name) = tt
 Counts-asking k i reading Character (Some name) = tt

@@ -34,7 +34,7 @@ use Rattle.roff_run.specs.Reading.ControlLines.{dropped_taking}
 use Rattle.roff_run.specs.Reading.Escapes.{argument_named, asking, measuring, putting_nothing}
 use Rattle.roff_run.specs.Reading.Items.{PageInput, Taking, going_on}
 use Rattle.roff_run.specs.Reading.TextLines.{glyph_taking, blank_taking, text_taking, escape_meant, escape_taking, character_printed, character_taking, name_taking, text_found}
-use Rattle.roff_run.specs.Registers.{Known, known_behind, step_changes, text_of_register}
+use Rattle.roff_run.specs.Registers.{Known, known_stepped, text_of_register}
 use Rattle.roff_run.specs.Requests.{PageEvent}
 use Rattle.roff_run.specs.TurnsToCome.{begun, endings_of, free_ahead}
 
@@ -222,8 +222,8 @@ free_ahead-called (b ∷ text) back items = free_ahead-called text back items
 
 -- nor is one of a register's text
 free_ahead-register : (k : Known) (step : Option Direction) (name : List ℕ) (items : List (Ahead PageEvent))
-    → free_ahead (map ByteAhead (text_of_register (known_behind (step_changes step name) k) name) ++ EndAhead ∷ items) ≡ free_ahead items
-free_ahead-register k step name items = free_ahead-pushed (text_of_register (known_behind (step_changes step name) k) name) items
+    → free_ahead (map ByteAhead (text_of_register (known_stepped step name k) name) ++ EndAhead ∷ items) ≡ free_ahead items
+free_ahead-register k step name items = free_ahead-pushed (text_of_register (known_stepped step name k) name) items
 
 -- nor is one of a width's digits
 pub Keeps-measuring : (most : ℕ) (i j : PageInput) (reading : LineState) (width : ℕ) → Keeps most i j reading → KeepsBy most i (measuring j reading width)
@@ -289,7 +289,7 @@ Keeps-asking most k i j reading (Register step) (Some name) keeps =
       newlines = keeps.newlines;
       line = keeps.line;
       free = free_ahead-register k step name j.ahead ∙ keeps.free;
-      few = λ room within few. few-text room (text_of_register (known_behind (step_changes step name) k) name) j.ahead (few-more room 5 j.ahead within (keeps.few room within few));
+      few = λ room within few. few-text room (text_of_register (known_stepped step name k) name) j.ahead (few-more room 5 j.ahead within (keeps.few room within few));
       escapes = keeps.escapes;
     }
 Keeps-asking most k i j reading OfText (Some name) keeps =

@@ -8,7 +8,7 @@ use Rattle.roff_lines.specs.declared.event.Event.TheVariants.{Print, Tab, WordEn
 use Rattle.roff_run.specs.Environments.{PageHistory, environments, interrupted_line, line_left, text_of}
 use Rattle.roff_run.specs.Reading.Ends.{interrupted_end, is_left}
 use Rattle.roff_run.specs.Reading.TextLines.{blank_line, text_line_end}
-use Rattle.roff_run.specs.Requests.{PageEvent, Text, Space, Interrupt, Environment, Back, SetsTrap}
+use Rattle.roff_run.specs.Requests.{PageEvent, Text, Page, Interrupt, Environment, Back, SetsTrap}
 use Rattle.roff_run.specs.TurnsToCome.{left_by, lines_left, most_left}
 use Rattle.roff_run.specs.declared.line_state.TextLine.{TextLine}
 use Rattle.roff_run.specs.declared.phase.Phase.{Phase}
@@ -31,7 +31,7 @@ left_by-few (Text Break) lines few = few
 left_by-few (Text Interrupted) lines few = omega arith
 left_by-few (Text Resume) lines few = omega arith
 left_by-few (Text (Set param)) lines few = few
-left_by-few (Space height) lines few = few
+left_by-few (Page e) lines few = few
 left_by-few (Interrupt untold) lines few = omega arith
 left_by-few (Environment number) lines few = omega arith
 left_by-few Back lines few = omega arith
@@ -57,7 +57,7 @@ left_by-fewer (Text Break) few many fewer = fewer
 left_by-fewer (Text Interrupted) few many fewer = omega arith
 left_by-fewer (Text Resume) few many fewer = omega arith
 left_by-fewer (Text (Set param)) few many fewer = fewer
-left_by-fewer (Space height) few many fewer = fewer
+left_by-fewer (Page e) few many fewer = fewer
 left_by-fewer (Interrupt untold) few many fewer = omega arith
 left_by-fewer (Environment number) few many fewer = omega arith
 left_by-fewer Back few many fewer = omega arith
@@ -92,7 +92,7 @@ lines_left-event (Text Break) h = same_lines h Break refl
 lines_left-event (Text Interrupted) h = lines_left-few (interrupted_line (Text Interrupted ∷ h))
 lines_left-event (Text Resume) h = omega arith
 lines_left-event (Text (Set param)) h = same_lines h (Set param) refl
-lines_left-event (Space height) h = omega arith
+lines_left-event (Page e) h = omega arith
 lines_left-event (Interrupt untold) h = lines_left-few (interrupted_line (Interrupt untold ∷ h))
 lines_left-event (Environment number) h = lines_left-few (interrupted_line (Environment number ∷ h))
 lines_left-event Back h = lines_left-few (interrupted_line (Back ∷ h))

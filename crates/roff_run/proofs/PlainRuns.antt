@@ -20,7 +20,7 @@ use Rattle.roff_run.specs.Environments.{environments}
 use Rattle.roff_run.specs.Reading.Ends.{due}
 use Rattle.roff_run.specs.Reading.Items.{PageInput, Taking}
 use Rattle.roff_run.specs.Requests.{PageEvent}
-use Rattle.roff_run.specs.Run.{State, after, byte_taken, known, made, step, taken_as}
+use Rattle.roff_run.specs.Run.{State, after, byte_taken, known, made, step, taken_as, output}
 use Rattle.roff_run.specs.Stages.{Stage, Turns, input_at}
 use Rattle.roff_run.specs.declared.line_state.LineState.{LineState}
 
@@ -119,6 +119,7 @@ pub record HasRoom (l : Limits) (s : State) (names : Named Entry) (from : Origin
   pub conditions : length i.results ≤ l.conditions
   pub registers : length s.registers.named ≤ l.names
   pub environments : EnvironmentsWithin l (environments s.history)
+  pub output : length (output s) ≤ l.output
 
 -- behind a byte too
 stack_room-behind : (l : Limits) (from : Origin) (most : Most) (p q : Stage) (b : ℕ) (bytes : List ℕ) (i : PageInput)
@@ -142,6 +143,7 @@ HasRoom-behind l s names from most p q b bytes i grows room = record {
   conditions = room.conditions;
   registers = room.registers;
   environments = room.environments;
+  output = room.output;
 }
 
 -- so the states on the way are within the limits
@@ -162,6 +164,7 @@ IsWithin-HasRoom l s names from most p bytes i small room = record {
   conditions = room.conditions;
   names = room.registers;
   environments = room.environments;
+  output = room.output;
 }
 
 -- a run takes one step for each byte of a path, and there is room behind it for the others
@@ -274,6 +277,7 @@ HasRoom-start l s names from most p bytes i within charged held_few stored_few t
   conditions = within.conditions;
   registers = within.names;
   environments = within.environments;
+  output = within.output;
 }
 
 -- where bytes were taken no more stands ahead than did

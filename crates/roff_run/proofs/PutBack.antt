@@ -5,7 +5,7 @@ use Rattle.roff_ahead.specs.Input.{Ahead, DoAhead, bytes_ahead, ends_ahead}
 use Rattle.roff_lines.specs.declared.event.Event.TheVariants.{Print, Tab, WordEnd, Gap, LineEnd, Count, Break, Interrupt as Interrupted, Resume, Set}
 use Rattle.roff_num.specs.declared.short_name.ShortName.{ShortName}
 use Rattle.roff_run.specs.Environments.{PageHistory}
-use Rattle.roff_run.specs.Requests.{PageEvent, Text, Space, Interrupt, Environment, Back, SetsTrap}
+use Rattle.roff_run.specs.Requests.{PageEvent, Text, Page, Interrupt, Environment, Back, SetsTrap}
 use Rattle.roff_run.specs.Springs.{AreFewBehind, may_spring, springs}
 use Rattle.roff_run.specs.TurnsToCome.{free_ahead}
 
@@ -38,7 +38,7 @@ may_spring-springs h (Text Break) name sprung = absurd (cc)
 may_spring-springs h (Text Interrupted) name sprung = absurd (cc)
 may_spring-springs h (Text Resume) name sprung = absurd (cc)
 may_spring-springs h (Text (Set param)) name sprung = absurd (cc)
-may_spring-springs h (Space lines) name sprung = absurd (cc)
+may_spring-springs h (Page e) name sprung = absurd (cc)
 may_spring-springs h (Interrupt untold) name sprung = absurd (cc)
 may_spring-springs h (Environment number) name sprung = absurd (cc)
 may_spring-springs h Back name sprung = absurd (cc)

@@ -10,7 +10,7 @@ use Rattle.roff_lines.specs.declared.event.Event.TheVariants.{Count, Interrupt a
 pub use Rattle.roff_run.specs.declared.environment_number.EnvironmentNumber.{EnvironmentNumber}
 pub use Rattle.roff_run.specs.declared.environment_number.EnvironmentNumber.TheVariants.{Zero, One, Two}
 use Rattle.roff_run.specs.declared.event.PageEvent.{PageEvent}
-use Rattle.roff_run.specs.declared.event.PageEvent.TheVariants.{Text, Space, Interrupt, Environment, Back, InputTrap as SetsTrap}
+use Rattle.roff_run.specs.declared.event.PageEvent.TheVariants.{Text, Interrupt, Environment, Back, InputTrap as SetsTrap, Page}
 pub use Rattle.roff_run.specs.declared.event.InputTrap.{InputTrap}
 use Rattle.roff_num.specs.declared.short_name.ShortName.{ShortName}
 use Rattle.roff_run.specs.declared.line_state.TextLine.{TextLine}
@@ -128,11 +128,11 @@ gone_back (number ∷ left) es = turned_to number (record es { left = left })
 abbrev pub environments : PageHistory → Environments
 environments [] = first_environments
 environments (Text e ∷ h) = with_event e (environments h)
-environments (Space lines ∷ h) = environments h
 environments (Interrupt untold ∷ h) = with_interruption untold (environments h)
 environments (Environment number ∷ h) = switched_to number (environments h)
 environments (Back ∷ h) = gone_back (environments h).left (environments h)
 environments (SetsTrap trap ∷ h) = with_input_trap trap (environments h)
+environments (Page e ∷ h) = environments h
 
 -- what happened in the environment in force
 abbrev pub text_of : PageHistory → History

@@ -8,6 +8,7 @@ pub mod Definitions
 pub mod Reading
 pub mod Telling
 pub mod TextLine
+pub mod Layouts
 pub mod Output
 pub mod Springs
 pub mod Starts

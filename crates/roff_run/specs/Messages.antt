@@ -2,7 +2,7 @@
 use Rattle.std.specs.Prelude.{ℕ, Bool, true, false, List, [], ◌∷◌, ◌++◌, codes, decimal, Option, Some, None}
 use Rattle.roff_num.specs.LimitNames.{limit_name}
 use Rattle.roff_run.specs.declared.message.Message.{Message}
-use Rattle.roff_run.specs.declared.message.Message.TheVariants.{LimitReached, BadNumber, BadFormat, BackwardMotion, LeftOut, UnknownCharacter, NoSuchEnvironment, DefinitionNotEnded, ReadFailed, WriteFailed}
+use Rattle.roff_run.specs.declared.message.Message.TheVariants.{LimitReached, BadNumber, BadFormat, PageTooShort, BackwardMotion, LeftOut, UnknownCharacter, NoSuchEnvironment, DefinitionNotEnded, ReadFailed, WriteFailed}
 use Rattle.roff_run.specs.declared.message.CharacterName.{CharacterName}
 use Rattle.roff_run.specs.declared.message.CharacterName.TheVariants.{Nothing, One, Two}
 use Rattle.roff_source.specs.Bytes.{newline, backslash}
@@ -28,6 +28,7 @@ message_text (LimitReached limit value) =
     codes "limit " ++ limit_name limit ++ codes " (" ++ decimal value ++ codes ") reached"
 message_text BadNumber = codes "bad number"
 message_text BadFormat = codes "bad format"
+message_text PageTooShort = codes "page length too small"
 message_text BackwardMotion = codes "backward motion"
 message_text (LeftOut name) = codes "left out: " ++ name
 message_text (UnknownCharacter name) = codes "unknown character: " ++ name_bytes name

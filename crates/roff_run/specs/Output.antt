@@ -1,24 +1,20 @@
 -- What a history writes.
-use Rattle.std.specs.Prelude.{ℕ, List, [], ◌∷◌, ◌++◌, replicate, Option, Some, None}
-use Rattle.roff_lines.specs.Lines.{Finished, finished}
-use Rattle.roff_lines.specs.Columns.{line_bytes}
-use Rattle.roff_source.specs.Bytes.{newline}
-use Rattle.roff_run.specs.Requests.{PageEvent, Text, Space, Interrupt, Environment, Back, SetsTrap}
+use Rattle.std.specs.Prelude.{ℕ, List, [], ◌∷◌, ◌++◌, Option, Some, None}
+use Rattle.roff_pages.specs.Happenings.{Happening}
+use Rattle.roff_pages.specs.DeviceText.{device_text}
+use Rattle.roff_pages.specs.Layout.{Layout}
+use Rattle.roff_run.specs.Requests.{PageEvent}
 pub use Rattle.roff_run.specs.Environments.{PageHistory, text_of}
+pub use Rattle.roff_run.specs.Layouts.{happens, layout_of}
 
--- what is written of a line that an event finishes, if it finishes one
-abbrev pub finished_bytes : Option Finished → List ℕ
-finished_bytes None = []
-finished_bytes (Some line) = line_bytes line
+-- what is written of what happens to a layout, if something does
+abbrev pub text_laid : Option Happening → Layout → List ℕ
+text_laid None L = []
+text_laid (Some x) L = device_text x L
 
--- what an event writes behind a history: the line that it finishes, or blank lines
+-- what an event writes behind a history
 abbrev pub written_by : PageHistory → PageEvent → List ℕ
-written_by h (Text e) = finished_bytes (finished (text_of h) e)
-written_by h (Space lines) = replicate lines newline
-written_by h (Interrupt untold) = []
-written_by h (Environment number) = []
-written_by h Back = []
-written_by h (SetsTrap trap) = []
+written_by h e = text_laid (happens h e) (layout_of h)
 
 -- what a history has written, event by event
 abbrev pub written : PageHistory → List ℕ

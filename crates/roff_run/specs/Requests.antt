@@ -4,12 +4,12 @@ use Rattle.roff_store.specs.Named.{Named, entry_of}
 use Rattle.roff_store.specs.Texts.{Entry, Body, Request as RequestEntry}
 use Rattle.roff_lines.specs.declared.settings.Param.TheVariants.{Filling, Adjusting}
 pub use Rattle.roff_run.specs.declared.event.PageEvent.{PageEvent}
-pub use Rattle.roff_run.specs.declared.event.PageEvent.TheVariants.{Text, Space, Interrupt, Environment, Back, InputTrap as SetsTrap}
+pub use Rattle.roff_run.specs.declared.event.PageEvent.TheVariants.{Text, Interrupt, Environment, Back, InputTrap as SetsTrap, Page}
 pub use Rattle.roff_run.specs.Registers.{Known}
 use Rattle.roff_run.specs.declared.request.LineReading.{LineReading}
 use Rattle.roff_run.specs.declared.request.LineReading.TheVariants.{ByArguments, ByCondition, ByElse, ByLastLine, ByMessage, ByString, ByLines}
 use Rattle.roff_run.specs.declared.request.Request.{Request}
-use Rattle.roff_run.specs.declared.request.Request.TheVariants.{Abort, Adjust, AppendString, AssignFormat, Break, DefineString, Else, EndMacro, Exit, Fill, If, IfElse, Indent, InputTrap, LineLength, NoAdjust, NoFill, NumberRegister, RemoveNames, RemoveRegisters, Rename, Space as SpaceDown, TellMessage, WithoutEffect, LeftOut, AppendMacro, DefineMacro, Ignore, Centre, Environment as SwitchEnvironment, LineSpacing, TabStops, TemporaryIndent}
+use Rattle.roff_run.specs.declared.request.Request.TheVariants.{Abort, Adjust, AppendString, AssignFormat, Break, DefineString, Else, EndMacro, Exit, Fill, If, IfElse, Indent, InputTrap, LineLength, NoAdjust, NoFill, NumberRegister, PageLength, RemoveNames, RemoveRegisters, Rename, Space as SpaceDown, TellMessage, WithoutEffect, LeftOut, AppendMacro, DefineMacro, Ignore, Centre, Environment as SwitchEnvironment, LineSpacing, TabStops, TemporaryIndent}
 use Rattle.roff_run.specs.declared.request.Called.{Called}
 use Rattle.roff_run.specs.declared.request.Called.TheVariants.{Request as ARequest, Body as ABody, Nothing as Unknown}
 use Rattle.roff_run.specs.declared.request.LinesFor.TheVariants.{Macro, Nobody}
@@ -19,6 +19,7 @@ pub use Rattle.roff_run.specs.Requests.Effects.{Effect, doing, saying, Response,
 use Rattle.roff_run.specs.Requests.Adjustment.{adjust, centre}
 use Rattle.roff_run.specs.Requests.Spacing.{space_down, line_spacing}
 use Rattle.roff_run.specs.Requests.Lengths.{line_length, indent, temporary_indent}
+use Rattle.roff_run.specs.Requests.Paging.{page_length}
 use Rattle.roff_run.specs.Requests.Tabs.{tab_stops}
 use Rattle.roff_run.specs.Requests.Switching.{switch}
 use Rattle.roff_run.specs.Requests.Naming.{end_macro, remove_names, rename}
@@ -28,6 +29,7 @@ pub mod Effects
 pub mod Adjustment
 pub mod Spacing
 pub mod Lengths
+pub mod Paging
 pub mod Tabs
 pub mod Switching
 pub mod Numbering
@@ -75,10 +77,11 @@ row_of LineSpacing = row (codes "ls") ByArguments false line_spacing  -- section
 row_of NoAdjust = row (codes "na") ByArguments false (always (setting (Adjusting false)))  -- section 4
 row_of NoFill = row (codes "nf") ByArguments true (always (setting (Filling false)))  -- section 4
 row_of NumberRegister = row (codes "nr") ByArguments false set_register  -- section 8
+row_of PageLength = row (codes "pl") ByArguments false page_length  -- section 3
 row_of RemoveNames = row (codes "rm") ByArguments false (λ known. remove_names)  -- section 7
 row_of Rename = row (codes "rn") ByArguments false (λ known. rename)  -- section 7
 row_of RemoveRegisters = row (codes "rr") ByArguments false (λ known. remove_registers)  -- section 8
-row_of SpaceDown = row (codes "sp") ByArguments true (λ known. space_down)  -- section 5
+row_of SpaceDown = row (codes "sp") ByArguments true space_down  -- section 5
 row_of TabStops = row (codes "ta") ByArguments false (λ known. tab_stops)  -- section 9
 row_of TemporaryIndent = row (codes "ti") ByArguments true temporary_indent  -- section 6
 row_of TellMessage = row (codes "tm") (ByMessage false) false (always nothing)  -- section 20
@@ -111,7 +114,7 @@ abbrev pub built : List Request
 built =
     Abort ∷ Adjust ∷ AssignFormat ∷ AppendMacro ∷ AppendString ∷ Break ∷ Centre ∷ DefineMacro ∷ DefineString ∷ Else
     ∷ EndMacro ∷ SwitchEnvironment ∷ Exit ∷ Fill ∷ IfElse ∷ If ∷ Ignore ∷ Indent ∷ InputTrap ∷ LineLength ∷ LineSpacing ∷ NoAdjust ∷ NoFill
-    ∷ NumberRegister ∷ RemoveNames ∷ Rename ∷ RemoveRegisters ∷ SpaceDown ∷ TabStops ∷ TemporaryIndent ∷ TellMessage ∷ []
+    ∷ NumberRegister ∷ PageLength ∷ RemoveNames ∷ Rename ∷ RemoveRegisters ∷ SpaceDown ∷ TabStops ∷ TemporaryIndent ∷ TellMessage ∷ []
 
 -- those that do nothing, or nothing but say that they are left out
 abbrev pub others : List Request

@@ -1,6 +1,5 @@
 -- The run: a machine of small steps over the source's tape.
 use Rattle.std.specs.Prelude.{◌≡◌, ℕ, zero, suc, ◌+◌, Bool, true, false, List, [], ◌∷◌, ◌++◌, nat_lt, Option, Some, None, if◌then◌else◌}
-use Rattle.roff_lines.specs.declared.event.Event.TheVariants.{WordEnd, Break}
 use Rattle.roff_num.specs.declared.limit.Limit.{Limit}
 use Rattle.roff_num.specs.declared.limit.Limit.TheVariants.{Bytes}
 use Rattle.roff_num.specs.declared.limits.Limits.{Limits}
@@ -18,7 +17,7 @@ use Rattle.roff_ahead.specs.Shown.{Sighted, SeesByte, SeesNothing, SeesNote, See
 use Rattle.roff_arguments.specs.Arguments.{no_arguments}
 use Rattle.roff_escape.specs.OpenEscape.{OpenEscape}
 use Rattle.roff_run.specs.Messages.{told_line}
-use Rattle.roff_run.specs.Output.{written}
+use Rattle.roff_run.specs.Output.{layout_of, written}
 use Rattle.roff_run.specs.Reading.{taking, escape_ended, interrupted}
 use Rattle.roff_run.specs.Reading.Calls.{last_called}
 use Rattle.roff_run.specs.Reading.Ends.{end_taking, due, is_unfinished}
@@ -27,7 +26,8 @@ use Rattle.roff_run.specs.Reading.Messages.{message_text_read}
 use Rattle.roff_run.specs.Reading.Returns.{back_of, behind_return, in_sprung}
 use Rattle.roff_run.specs.Reading.Waiting.{waiting_in}
 use Rattle.roff_run.specs.Registers.{AllRegisters}
-use Rattle.roff_run.specs.Requests.{PageEvent, Text, called_by}
+use Rattle.roff_run.specs.Events.Lines.{closing_events}
+use Rattle.roff_run.specs.Requests.{PageEvent, called_by}
 use Rattle.roff_run.specs.Springs.{next, springs}
 use Rattle.roff_run.specs.declared.request.Called.{Called}
 use Rattle.roff_run.specs.declared.request.Called.TheVariants.{Body as ABody}
@@ -39,7 +39,7 @@ use Rattle.roff_run.specs.declared.status.Status.TheVariants.{Aborted, Done, Dev
 use Rattle.roff_run.specs.declared.phase.Phase.{Phase}
 use Rattle.roff_run.specs.declared.phase.Phase.TheVariants.{Reading, LastMacro, Closing}
 use Rattle.roff_run.specs.declared.start.Start.{Start}
-use Rattle.roff_run.specs.Starts.{with_given}
+use Rattle.roff_run.specs.Starts.{history_given, with_given}
 use Rattle.roff_run.specs.Run.Counts.{passes_bytes, first_passed, refusal, names_counted, counts_in}
 pub use Rattle.roff_run.specs.Run.States.{State, first_input, first_unread, blank_state, known_at, known, ending_as, ending_with, stopped_by, meaning, unless_refused}
 pub mod Counts
@@ -50,7 +50,8 @@ abbrev pub with_registers : Limits → List (ℕ × Num) → State → State
 with_registers l [] s = s
 with_registers l (given ∷ others) s =
     let behind : AllRegisters = with_given given s.registers in
-    unless_refused l (first_passed l (names_counted behind)) s (with_registers l others (record s { registers = behind }))
+    unless_refused l (first_passed l (names_counted behind)) s
+    (with_registers l others (record s { registers = behind; history = history_given given s.history }))
 
 -- before the first step: what is given to the run stands
 abbrev pub initial : Limits → Start → Tape → State
@@ -61,9 +62,15 @@ abbrev pub sprung_at : Option ShortName → List PageEvent → State → State
 sprung_at None left s = record s { to_do = left }
 sprung_at (Some name) left s = record s { to_do = []; sprung = Some name; input = putting_all_back left s.input }
 
+-- where the last page has ended the run is done
+abbrev pub done_if : Bool → State → State → State
+done_if is_over behind goes_on = if is_over then ending_as Done behind else goes_on
+
 -- an event happened, and these are left
 abbrev pub performed : PageEvent → List PageEvent → State → State
-performed e left s = sprung_at (springs s.history e) left (record s { history = e ∷ s.history })
+performed e left s =
+    let behind : State = record s { history = e ∷ s.history } in
+    done_if (layout_of behind.history).is_over behind (sprung_at (springs s.history e) left behind)
 
 -- an event is performed, or refused by a limit; where something comes before it, that is, and the event is left
 abbrev pub performing : Limits → Option PageEvent → PageEvent → List PageEvent → State → State
@@ -94,12 +101,8 @@ byte_taken b s = taken_as (taking (known s) s.reading s.input b) s
 abbrev pub escape_ends : State → State
 escape_ends s = taken_as (escape_ended (known s) s.reading s.input) s
 
--- the events that finish the last line
-abbrev pub closing_events : List PageEvent
-closing_events = Text WordEnd ∷ Text Break ∷ []
-
--- A phase ends at a line's beginning: behind the input the last macro is read, and behind that the pending line is placed; then
--- the run is done.
+-- A phase ends at a line's beginning: behind the input the last macro is read, and behind that the pending line is placed and
+-- the last page ejected; then the run is done.
 abbrev pub phase_ended : Phase → State → State
 phase_ended Reading s = taken_as (going_on (last_called s.registers.last_macro s.input) LineStart) (record s { phase = LastMacro })
 phase_ended LastMacro s = taken_as (meaning_events s.input LineStart closing_events) (record s { phase = Closing })

@@ -6,7 +6,7 @@ use Rattle.roff_scan.specs.Unread.{Unread}
 use Rattle.roff_escape.specs.declared.open_escape.ConditionPart.TheVariants.{Decided}
 use Rattle.roff_run.specs.Reading.Items.{PageInput}
 use Rattle.roff_lines.specs.declared.event.Event.TheVariants.{Interrupt as Interrupted, Resume}
-use Rattle.roff_run.specs.Requests.{PageEvent, Text, Space, SetsTrap}
+use Rattle.roff_run.specs.Requests.{PageEvent, Text, Page, SetsTrap}
 use Rattle.roff_run.specs.Environments.{PageHistory}
 use Rattle.roff_run.specs.declared.line_state.TextLine.{TextLine}
 use Rattle.roff_run.specs.declared.phase.Phase.{Phase}
@@ -83,8 +83,8 @@ abbrev pub left_by : PageEvent → ℕ → ℕ
 left_by (Text Resume) lines = 0
 left_by (Text Interrupted) lines = 1
 left_by (Text e) lines = lines
-left_by (Space height) lines = lines
 left_by (SetsTrap trap) lines = lines
+left_by (Page e) lines = lines
 left_by (_) lines = 1
 
 -- and behind any of these, as the first few of them may be performed, and the others put back

@@ -3,7 +3,7 @@ use Rattle.std.specs.Prelude.{◌+◌, ◌≤◌, length}
 use Rattle.roff_lines.specs.Lines.{pending_length}
 use Rattle.roff_num.specs.declared.limits.Limits.{Limits}
 use Rattle.roff_run.specs.Environments.{Environments, environments}
-use Rattle.roff_run.specs.Run.{State}
+use Rattle.roff_run.specs.Run.{State, output}
 use Rattle.roff_ahead.specs.Input.{pushed, depth, result_count}
 use Rattle.roff_ahead.specs.Input.Names.{names_added, stored}
 
@@ -25,3 +25,4 @@ pub record IsWithin (l : Limits) (s : State) : Type 0 where
   pub conditions : result_count s.input ≤ l.conditions
   pub names : length s.registers.named ≤ l.names
   pub environments : EnvironmentsWithin l (environments s.history)
+  pub output : length (output s) ≤ l.output

@@ -6,7 +6,8 @@ ghost use Rattle.roff_run.specs.Reading.TextLines.{leading_glyph};
 
 use crate::environment_number::EnvironmentNumber;
 use roff_lines::{Event, Glyph};
-use roff_num::ShortName;
+use roff_num::{Num, ShortName};
+use roff_pages::LayoutEvent;
 
 /// An input-line trap: a macro that springs behind so many text lines.
 #[derive(Clone, Copy, Debug, PartialEq, Eq)]
@@ -22,8 +23,6 @@ pub struct InputTrap {
 pub enum PageEvent {
     /// Something happens to the text.
     Text(Event),
-    /// So many blank lines are written.
-    Space(u32),
     /// The line of the input is interrupted; so many leading blanks of it aren't told yet.
     Interrupt(u32),
     /// The environment is left for this one.
@@ -32,6 +31,8 @@ pub enum PageEvent {
     Back,
     /// The environment's input-line trap is this one from now on, or it has none.
     InputTrap(Option<InputTrap>),
+    /// Something happens to the layout of pages.
+    Page(LayoutEvent),
 }
 
 impl Default for PageEvent {
@@ -51,6 +52,10 @@ pub enum LineEvents {
     Break,
     /// A break, and a blank line.
     BlankLine,
+    /// The run closes: the pending line is placed, and the last page is ejected.
+    Closing,
+    /// The page gets this number.
+    Number(Num),
     /// A gap of one blank behind the open word.
     Gap,
     /// The line is interrupted; so many leading blanks of it aren't told yet.
@@ -98,10 +103,22 @@ impl LineEvents {
                 &[
                     PageEvent::Text(Event::WordEnd),
                     PageEvent::Text(Event::Break),
-                    PageEvent::Space(1),
+                    PageEvent::Page(LayoutEvent::Space(1)),
                 ],
                 index,
             ),
+            LineEvents::Closing => nth(
+                &[
+                    PageEvent::Page(LayoutEvent::Close),
+                    PageEvent::Text(Event::WordEnd),
+                    PageEvent::Text(Event::Break),
+                    PageEvent::Page(LayoutEvent::EjectLast),
+                ],
+                index,
+            ),
+            LineEvents::Number(number) => {
+                nth(&[PageEvent::Page(LayoutEvent::Number(number))], index)
+            }
             LineEvents::Gap => nth(
                 &[
                     PageEvent::Text(Event::WordEnd),

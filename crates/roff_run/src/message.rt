@@ -18,6 +18,8 @@ pub enum Message {
     BadNumber,
     /// An argument that should be a format isn't one.
     BadFormat,
+    /// A page length below one line.
+    PageTooShort,
     /// A space below 0.
     BackwardMotion,
     /// Something of the manual that isn't built, by the two bytes that stand for it.
@@ -78,6 +80,7 @@ impl Message {
             }
             Message::BadNumber => append(text, b"bad number"),
             Message::BadFormat => append(text, b"bad format"),
+            Message::PageTooShort => append(text, b"page length too small"),
             Message::BackwardMotion => append(text, b"backward motion"),
             Message::LeftOut(name) => {
                 append(text, b"left out: ");

@@ -19,6 +19,12 @@ pub enum Query {
     ColumnWidth,
     /// How many arguments the innermost body has that a line called.
     Arguments,
+    /// The place on the page.
+    PagePlace,
+    /// The page length.
+    PageLength,
+    /// How far the next trap or the page's end is.
+    WayToTrap,
     /// What nothing sets yet: 0.
     Later,
 }

@@ -59,6 +59,8 @@ pub enum Request {
     NoFill,
     /// `nr`: a number register's value and increment.
     NumberRegister,
+    /// `pl`: the page length.
+    PageLength,
     /// `rm`: strings, macros and requests go.
     RemoveNames,
     /// `rr`: number registers go.
@@ -142,7 +144,7 @@ pub struct Row {
 }
 
 /// The requests that are built, in the order of their names.
-static BUILT: [Request; 31] = [
+static BUILT: [Request; 32] = [
     Request::Abort,
     Request::Adjust,
     Request::AssignFormat,
@@ -167,6 +169,7 @@ static BUILT: [Request; 31] = [
     Request::NoAdjust,
     Request::NoFill,
     Request::NumberRegister,
+    Request::PageLength,
     Request::RemoveNames,
     Request::Rename,
     Request::RemoveRegisters,
@@ -201,7 +204,7 @@ static LEFT_OUT: [[u8; 2]; 24] = [
 
 impl Request {
     /// How many there are.
-    pub const COUNT: u16 = 70;
+    pub const COUNT: u16 = 71;
 
     /// The request of this place in the table, if there is one.
     pub fn numbered(number: usize) -> Option<Request>
@@ -247,6 +250,7 @@ impl Request {
             Request::NoAdjust => Row { name: *b"na", line: ByArguments, breaks: false },
             Request::NoFill => Row { name: *b"nf", line: ByArguments, breaks: true },
             Request::NumberRegister => Row { name: *b"nr", line: ByArguments, breaks: false },
+            Request::PageLength => Row { name: *b"pl", line: ByArguments, breaks: false },
             Request::RemoveNames => Row { name: *b"rm", line: ByArguments, breaks: false },
             Request::Rename => Row { name: *b"rn", line: ByArguments, breaks: false },
             Request::RemoveRegisters => Row { name: *b"rr", line: ByArguments, breaks: false },

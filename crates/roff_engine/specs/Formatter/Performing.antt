@@ -1,35 +1,36 @@
 -- How far the code performs events, over the states of the definition.
-use Rattle.std.specs.Prelude.{◌≡◌, ◌≤◌, ℕ, Bool, true, false, List, [], ◌∷◌, ◌++◌, Option, Some, None, IfSome, Result, Ok, Err, OnOk}
+use Rattle.std.specs.Prelude.{◌≡◌, ◌≤◌, ℕ, zero, suc, Bool, true, false, List, [], ◌∷◌, ◌++◌, Option, Some, None, IfSome, Result, Ok, Err, OnOk}
 use Rattle.std.specs.Io.KnownBytes.{Appends}
 use Rattle.roff_num.specs.declared.limit.Limit.{Limit}
 use Rattle.roff_num.specs.declared.limits.Limits.{Limits}
 use Rattle.roff_source.specs.Tape.{Tape}
-use Rattle.roff_requests.specs.Environments.Standing.{StandFor}
-use Rattle.roff_requests.specs.declared.environments.Environments.{Environments as EnvironmentsOf}
+use Rattle.roff_requests.specs.Composer.Standing.{StandFor}
+use Rattle.roff_requests.specs.declared.composer.Composer.{Composer as ComposerOf}
 use Rattle.roff_engine.specs.declared.formatter.Formatter.{Formatter}
 use Rattle.roff_engine.specs.declared.halt.Halt.{Halt}
-use Rattle.roff_engine.specs.declared.halt.Halt.TheVariants.{Limit as Limited, Refused, Output, Messages}
+use Rattle.roff_engine.specs.declared.halt.Halt.TheVariants.{Limit as Limited, Refused, Over, Output, Messages}
 use Rattle.roff_engine.specs.Engine.Outcome.{Beginning, Seen, AppendsBetween, OutputStops, Reaches, seen}
 use Rattle.roff_run.specs.Messages.{message_lines}
 use Rattle.roff_run.specs.Output.{PageHistory, text_of, written}
 use Rattle.roff_run.specs.Environments.{interrupted_line}
-use Rattle.roff_run.specs.Springs.{may_spring, next, own_word_end, springs}
+use Rattle.roff_run.specs.Springs.{may_spring, next, own_word_end, springs, word_end_of}
 use Rattle.roff_lines.specs.Words.{has_open_word}
 use Rattle.roff_lines.specs.declared.event.Event.TheVariants.{WordEnd}
+use Rattle.roff_run.specs.declared.status.Status.TheVariants.{Done}
 use Rattle.roff_num.specs.declared.short_name.ShortName.{ShortName}
 use Rattle.roff_run.specs.Springs.{CountsLast}
 use Rattle.roff_engine.specs.Formatter.Sprung.{behind_sprung, rest_left}
 use Rattle.roff_run.specs.TurnsToCome.{most_left}
 use Rattle.roff_engine.specs.declared.sprung.Sprung.{Sprung}
 use Rattle.roff_run.specs.declared.event.PageEvent.TheVariants.{Text}
-use Rattle.roff_run.specs.TurnsToCome.{behind_all, lines_left}
+use Rattle.roff_run.specs.TurnsToCome.{lines_left}
 use Rattle.roff_run.specs.Reading.Items.{PageInput, Taking}
 use Rattle.roff_run.specs.Registers.{AllRegisters, Known}
 use Rattle.roff_run.specs.declared.event.PageEvent.{PageEvent}
 use Rattle.roff_run.specs.declared.message.Message.{Message}
 use Rattle.roff_run.specs.declared.line_state.LineState.{LineState}
 use Rattle.roff_run.specs.declared.phase.Phase.{Phase}
-use Rattle.roff_run.specs.Run.{State, Leads, initial, sprung_at, step, stopped_by, made, taken_as, known_at, output, reported}
+use Rattle.roff_run.specs.Run.{State, Leads, ending_as, initial, sprung_at, step, stopped_by, made, taken_as, known_at, output, reported}
 use Rattle.roff_reader.specs.Reader.Taken.{CameTo, IsReady}
 use Rattle.roff_run.specs.Reading.Items.{PageUnread}
 use Rattle.roff_sinks.specs.Sinks.{CountsFault, Sunk}
@@ -38,26 +39,32 @@ use Rattle.roff_sinks.specs.Sinks.{CountsFault, Sunk}
 abbrev pub acting : State → List PageEvent → PageHistory → State
 acting s to_do history = record s { to_do = to_do; sprung = None; history = history; ended = None }
 
--- nothing comes before any of these events, one behind another, and none springs anything
+-- the history behind what comes before an event, as far as so many events do
+abbrev pub behind_next : ℕ → PageEvent → PageHistory → PageHistory
+behind_next zero e h = h
+behind_next (suc n) e h = elim (next h e) [ None ↦ h | Some first ↦ behind_next n e (first ∷ h) ]
+
+-- and behind the event: the end of a word and the first page's beginning may come before it, and nothing else
+abbrev pub behind_event : PageEvent → PageHistory → PageHistory
+behind_event e h = e ∷ behind_next 2 e h
+
+-- and behind some events, each with what comes before it
+abbrev pub behind_events : List PageEvent → PageHistory → PageHistory
+behind_events [] h = h
+behind_events (e ∷ events) h = behind_events events (behind_event e h)
+
+-- one behind another, before none of these events the end of a word comes, and none springs anything
 abbrev pub Flows : List PageEvent → PageHistory → Type 0
 Flows [] h = Unit {0}
-Flows (e ∷ events) h = (next h e ≡ None) × (springs h e ≡ None) × Flows events (e ∷ h)
+Flows (e ∷ events) h = (word_end_of h e ≡ None) × (springs (behind_next 2 e h) e ≡ None) × Flows events (behind_event e h)
 
--- the history behind an event, and what comes before it
-abbrev pub behind_own : Option PageEvent → PageEvent → PageHistory → PageHistory
-behind_own None e h = e ∷ h
-behind_own (Some own) e h = e ∷ own ∷ h
-
--- and that behind the end of a word, if one was open
+-- and that behind the end of a word, if one was open, with what comes before it
 abbrev pub behind_word : Bool → PageHistory → PageHistory
 behind_word false h = h
-behind_word true h = Text WordEnd ∷ h
-
-abbrev pub behind_event : PageEvent → PageHistory → PageHistory
-behind_event e h = behind_own (next h e) e h
+behind_word true h = behind_event (Text WordEnd) h
 
 -- the events were performed: the definition comes to the state behind them, of this history, for which the environment stands
-pub record AllPerformed (l : Limits) (t : Beginning) (before now : Seen) (s : State) (behind : PageHistory) (rest : List PageEvent) (es : EnvironmentsOf) : Type 0 where
+pub record AllPerformed (l : Limits) (t : Beginning) (before now : Seen) (s : State) (behind : PageHistory) (rest : List PageEvent) (es : ComposerOf) : Type 0 where
   pub reaches : Reaches l t before now (acting s rest behind)
   pub stands : StandFor l behind es
 
@@ -78,37 +85,45 @@ pub record FailedAt (l : Limits) (t : Beginning) (before now : Seen) (s : State)
   pub messages : Appends before.err.contents now.err.contents (reported s)
   pub messages_stay : now.err.failures ≡ before.err.failures
 
+-- the definition comes to a state with whose next event the last page ends, and the run with it
+pub record OverAt (l : Limits) (t : Beginning) (before now : Seen) (s : State) : Type 0 where
+  pub to_do : List PageEvent
+  pub history : PageHistory
+  pub reaches : Reaches l t before now (ending_as Done (acting s to_do history))
+
 -- how far the code performed the events in front of `rest`, behind which the history is this, by its answer
-abbrev pub Performs : Limits → Beginning → Seen → Seen → State → PageHistory → List PageEvent → Result (Unit {0}) Halt → EnvironmentsOf → Type 0
+abbrev pub Performs : Limits → Beginning → Seen → Seen → State → PageHistory → List PageEvent → Result (Unit {0}) Halt → ComposerOf → Type 0
 Performs l t before now s behind rest (Ok done) es = AllPerformed l t before now s behind rest es
 Performs l t before now s behind rest (Err (Limited limit)) es = StoppedAt l t before now s limit
 Performs l t before now s behind rest (Err Output) es = FailedAt l t before now s
+Performs l t before now s behind rest (Err Over) es = OverAt l t before now s
 Performs l t before now s behind rest (Err Messages) es = ⊥
 Performs l t before now s behind rest (Err (Refused limit)) es = ⊥
 
--- An environment and a sink performed some events, as far as the answer says: for each state of a run that has these events in
--- front of others to do, where nothing comes before them, and nothing springs.
-pub record PerformsEvents (events : List PageEvent) (old new : EnvironmentsOf) (out_old out_new : Sunk) (result : Result (Unit {0}) Halt) : Type 0 where
+-- An environment, pages and a sink performed some events, each with what comes before it, as far as the answer says: for each state
+-- of a run that has these events in front of others to do, of which none springs anything.
+pub record PerformsEvents (events : List PageEvent) (old new : ComposerOf) (out_old out_new : Sunk) (result : Result (Unit {0}) Halt) : Type 0 where
   pub performs : (l : Limits) (t : Beginning) (before : Seen) (failures : ℕ) (err : Sunk) (s : State) (h : PageHistory) (rest : List PageEvent)
       → StandFor l h old → Flows events h → Reaches l t before (seen failures out_old err) (acting s (events ++ rest) h)
-      → Performs l t before (seen failures out_new err) s (behind_all events h) rest result new
+      → Performs l t before (seen failures out_new err) s (behind_events events h) rest result new
 
 -- a formatter did that, and changed nothing else: what is read stays as it was
 pub record PerformsOnly (events : List PageEvent) (old new : Formatter) (out_old out_new : Sunk) (result : Result (Unit {0}) Halt) : Type 0 where
-  pub events_performed : PerformsEvents events old.environments new.environments out_old out_new result
+  pub events_performed : PerformsEvents events old.composer new.composer out_old out_new result
   pub reader : new.reader ≡ old.reader
 
 -- an event was performed, and this sprang
-pub record OnePerformed (l : Limits) (t : Beginning) (before now : Seen) (s : State) (e : PageEvent) (behind : PageHistory) (sprung : Option ShortName) (rest : List PageEvent) (es : EnvironmentsOf) : Type 0 where
+pub record OnePerformed (l : Limits) (t : Beginning) (before now : Seen) (s : State) (e : PageEvent) (behind : PageHistory) (sprung : Option ShortName) (rest : List PageEvent) (es : ComposerOf) : Type 0 where
   pub reaches : Reaches l t before now (sprung_at sprung rest (acting s [] behind))
   pub stands : StandFor l behind es
   pub springs : IfSome sprung (λ name. may_spring e ≡ true)
 
 -- how far the code performed an event
-abbrev pub PerformedOne : Limits → Beginning → Seen → Seen → State → PageEvent → PageHistory → List PageEvent → Result (Option ShortName) Halt → EnvironmentsOf → Type 0
+abbrev pub PerformedOne : Limits → Beginning → Seen → Seen → State → PageEvent → PageHistory → List PageEvent → Result (Option ShortName) Halt → ComposerOf → Type 0
 PerformedOne l t before now s e behind rest (Ok sprung) es = OnePerformed l t before now s e behind sprung rest es
 PerformedOne l t before now s e behind rest (Err (Limited limit)) es = StoppedAt l t before now s limit
 PerformedOne l t before now s e behind rest (Err Output) es = FailedAt l t before now s
+PerformedOne l t before now s e behind rest (Err Over) es = OverAt l t before now s
 PerformedOne l t before now s e behind rest (Err Messages) es = ⊥
 PerformedOne l t before now s e behind rest (Err (Refused limit)) es = ⊥
 
@@ -116,32 +131,32 @@ PerformedOne l t before now s e behind rest (Err (Refused limit)) es = ⊥
 -- of others to do.
 pub record PerformsOne (e : PageEvent) (old new : Formatter) (out_old out_new : Sunk) (result : Result (Option ShortName) Halt) : Type 0 where
   pub one : (l : Limits) (t : Beginning) (before : Seen) (failures : ℕ) (err : Sunk) (s : State) (h : PageHistory) (rest : List PageEvent)
-      → StandFor l h old.environments → Reaches l t before (seen failures out_old err) (acting s (e ∷ rest) h)
-      → PerformedOne l t before (seen failures out_new err) s e (behind_event e h) rest result new.environments
+      → StandFor l h old.composer → Reaches l t before (seen failures out_old err) (acting s (e ∷ rest) h)
+      → PerformedOne l t before (seen failures out_new err) s e (behind_event e h) rest result new.composer
   pub reader : new.reader ≡ old.reader
 
--- The end of the open word, where it comes before an event, was performed: for each state of a run that has that event in front of
--- others to do.
+-- The end of the open word, where it comes before an event, was performed, with what comes before it: for each state of a run that
+-- has that event in front of others to do.
 pub record EndsWordFirst (old new : Formatter) (out_old out_new : Sunk) (result : Result (Unit {0}) Halt) : Type 0 where
   pub first : (l : Limits) (t : Beginning) (before : Seen) (failures : ℕ) (err : Sunk) (s : State) (h : PageHistory) (e : PageEvent) (rest : List PageEvent)
-      → StandFor l h old.environments → next h e ≡ Some (Text WordEnd)
+      → StandFor l h old.composer → word_end_of h e ≡ Some (Text WordEnd)
       → Reaches l t before (seen failures out_old err) (acting s (e ∷ rest) h)
-      → Performs l t before (seen failures out_new err) s (Text WordEnd ∷ h) (e ∷ rest) result new.environments
+      → Performs l t before (seen failures out_new err) s (behind_event (Text WordEnd) h) (e ∷ rest) result new.composer
   pub reader : new.reader ≡ old.reader
 
 -- The open word, if there was one, has ended where it comes before an event: for each state of a run that has that in front of
 -- others to do, and before which it comes where one is open.
 pub record EndsOpenWord (old new : Formatter) (out_old out_new : Sunk) (result : Result (Unit {0}) Halt) : Type 0 where
   pub ends : (l : Limits) (t : Beginning) (before : Seen) (failures : ℕ) (err : Sunk) (s : State) (h : PageHistory) (e : PageEvent) (rest : List PageEvent)
-      → StandFor l h old.environments → next h e ≡ own_word_end (has_open_word (text_of h))
+      → StandFor l h old.composer → word_end_of h e ≡ own_word_end (has_open_word (text_of h))
       → Reaches l t before (seen failures out_old err) (acting s (e ∷ rest) h)
-      → Performs l t before (seen failures out_new err) s (behind_word (has_open_word (text_of h)) h) (e ∷ rest) result new.environments
+      → Performs l t before (seen failures out_new err) s (behind_word (has_open_word (text_of h)) h) (e ∷ rest) result new.composer
   pub reader : new.reader ≡ old.reader
 
 -- The events in front were performed up to one that sprang this, or all of them; what is left of those that the reader keeps is put
 -- back, with what was to be done behind them. No more interrupted lines are left than any of them leaves.
 -- Where a text line that counts is the last of them, nothing is left.
-pub record CameBehind (l : Limits) (t : Beginning) (before now : Seen) (s : State) (events : List PageEvent) (h : PageHistory) (kept rest : List PageEvent) (sprung : Option Sprung) (es : EnvironmentsOf) : Type 0 where
+pub record CameBehind (l : Limits) (t : Beginning) (before now : Seen) (s : State) (events : List PageEvent) (h : PageHistory) (kept rest : List PageEvent) (sprung : Option Sprung) (es : ComposerOf) : Type 0 where
   pub history : PageHistory
   pub reaches : Reaches l t before now (behind_sprung sprung kept rest (acting s [] history))
   pub stands : StandFor l history es
@@ -149,10 +164,11 @@ pub record CameBehind (l : Limits) (t : Beginning) (before now : Seen) (s : Stat
   pub last : CountsLast events → rest_left sprung kept ≡ []
 
 -- how far the code came with these events, by its answer
-abbrev pub ComesTo : Limits → Beginning → Seen → Seen → State → List PageEvent → PageHistory → List PageEvent → List PageEvent → Result (Option Sprung) Halt → EnvironmentsOf → Type 0
+abbrev pub ComesTo : Limits → Beginning → Seen → Seen → State → List PageEvent → PageHistory → List PageEvent → List PageEvent → Result (Option Sprung) Halt → ComposerOf → Type 0
 ComesTo l t before now s events h kept rest (Ok sprung) es = CameBehind l t before now s events h kept rest sprung es
 ComesTo l t before now s events h kept rest (Err (Limited limit)) es = StoppedAt l t before now s limit
 ComesTo l t before now s events h kept rest (Err Output) es = FailedAt l t before now s
+ComesTo l t before now s events h kept rest (Err Over) es = OverAt l t before now s
 ComesTo l t before now s events h kept rest (Err Messages) es = ⊥
 ComesTo l t before now s events h kept rest (Err (Refused limit)) es = ⊥
 
@@ -160,8 +176,8 @@ ComesTo l t before now s events h kept rest (Err (Refused limit)) es = ⊥
 -- front of others to do.
 pub record PerformsAll (events : List PageEvent) (old new : Formatter) (out_old out_new : Sunk) (result : Result (Option Sprung) Halt) : Type 0 where
   pub all : (l : Limits) (t : Beginning) (before : Seen) (failures : ℕ) (err : Sunk) (s : State) (h : PageHistory) (rest : List PageEvent)
-      → StandFor l h old.environments → Reaches l t before (seen failures out_old err) (acting s (events ++ rest) h)
-      → ComesTo l t before (seen failures out_new err) s events h old.reader.meaning.events rest result new.environments
+      → StandFor l h old.composer → Reaches l t before (seen failures out_old err) (acting s (events ++ rest) h)
+      → ComesTo l t before (seen failures out_new err) s events h old.reader.meaning.events rest result new.composer
   pub reader : new.reader ≡ old.reader
 
 -- One step from a state takes an item that means these messages, which are told on this line, and these events,
@@ -182,7 +198,7 @@ pub record LostAt (l : Limits) (t : Beginning) (before now : Seen) (from : State
   pub output_stays : now.out.failures ≡ before.out.failures
 
 -- how far the code did what an item means, by its answer
-abbrev pub MeaningDone : Limits → Beginning → Seen → Seen → State → State → List PageEvent → PageHistory → List PageEvent → List PageEvent → Result (Option Sprung) Halt → EnvironmentsOf → Type 0
+abbrev pub MeaningDone : Limits → Beginning → Seen → Seen → State → State → List PageEvent → PageHistory → List PageEvent → List PageEvent → Result (Option Sprung) Halt → ComposerOf → Type 0
 MeaningDone l t before now from s events h kept rest (Err Messages) es = LostAt l t before now from
 MeaningDone l t before now from s events h kept rest result es = ComesTo l t before now s events h kept rest result es
 
@@ -198,9 +214,9 @@ sinks out err = record { out = out; err = err }
 -- A formatter did what an item means, as far as it answers: for each state of a run whose next step means that.
 pub record DoesMeaning (line : ℕ) (messages : List Message) (events : List PageEvent) (old new : Formatter) (told_old told_new : Sinks) (result : Result (Option Sprung) Halt) : Type 0 where
   pub does : (l : Limits) (t : Beginning) (before : Seen) (failures : ℕ) (from s : State) (h : PageHistory) (rest : List PageEvent)
-      → StandFor l h old.environments → Reaches l t before (seen failures told_old.out told_old.err) from
+      → StandFor l h old.composer → Reaches l t before (seen failures told_old.out told_old.err) from
       → Means l from s h line messages events rest
-      → MeaningDone l t before (seen failures told_new.out told_new.err) from s events h old.reader.meaning.events rest result new.environments
+      → MeaningDone l t before (seen failures told_new.out told_new.err) from s events h old.reader.meaning.events rest result new.composer
   pub reader : new.reader ≡ old.reader
 
 -- a state of a run that hasn't ended, by all that it has
@@ -235,19 +251,19 @@ pub record RefusedAt (l : Limits) (t : Beginning) (before now : Seen) (from : St
   pub stops : step l from ≡ stopped_by l limit from
 
 -- how far the code did a taking, from this state to that, by its answer
-abbrev pub TakingDone : Limits → Beginning → Seen → Seen → State → State → List PageEvent → PageHistory → List PageEvent → List PageEvent → Result (Option Sprung) Halt → EnvironmentsOf → Type 0
+abbrev pub TakingDone : Limits → Beginning → Seen → Seen → State → State → List PageEvent → PageHistory → List PageEvent → List PageEvent → Result (Option Sprung) Halt → ComposerOf → Type 0
 TakingDone l t before now from done events h kept rest (Err (Refused limit)) es = RefusedAt l t before now from limit
 TakingDone l t before now from done events h kept rest result es = MeaningDone l t before now from done events h kept rest result es
 
 -- The code did what the definition takes, and performed some events more, as far as it answers: for each state of a
 -- run from which one step leads to the taking's, with these events and others to do behind its own.
 pub record DoesTaking (t : Known → Taking) (more : List PageEvent) (old new : Formatter) (before behind : PageUnread) (told_old told_new : Sinks) (result : Result (Option Sprung) Halt) : Type 0 where
-  pub became : (l : Limits) (h : PageHistory) → StandFor l h old.environments → IsReady old.reader.registers before
+  pub became : (l : Limits) (h : PageHistory) → StandFor l h old.composer → IsReady old.reader.registers before
       → OnOk result (CameTo (t (known_at h old.reader.registers.all before.input)) old.reader.registers new.reader before behind)
   pub does : (t0 : Beginning) (start : Seen) (failures : ℕ) (from : State) (tape : Tape) (h : PageHistory) (messages : List ℕ) (phase : Phase) (is_closed : Bool) (rest : List PageEvent)
-      → StandFor before.limits h old.environments → IsReady old.reader.registers before
+      → StandFor before.limits h old.composer → IsReady old.reader.registers before
       → Reaches before.limits t0 start (seen failures told_old.out told_old.err) from
       → let known : Known = known_at h old.reader.registers.all before.input in
       let state : State = going tape before.input old.reader.reading old.reader.registers.all h messages phase is_closed (more ++ rest) in
       Opens before.limits from (taken_as (t known) state) h messages
-      → TakingDone before.limits t0 start (seen failures told_new.out told_new.err) from (taken_as (t known) state) ((t known).effect.events ++ more) h new.reader.meaning.events rest result new.environments
+      → TakingDone before.limits t0 start (seen failures told_new.out told_new.err) from (taken_as (t known) state) ((t known).effect.events ++ more) h new.reader.meaning.events rest result new.composer

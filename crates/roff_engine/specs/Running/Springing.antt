@@ -2,7 +2,7 @@
 use Rattle.std.specs.Prelude.{◌≡◌, ◌≤◌, ℕ, ◌+◌, List, [], length, Option, OnOk, Result}
 use Rattle.roff_ahead.specs.Input.{events_ahead, most_events, putting_all_back}
 use Rattle.roff_run.specs.Reading.Items.{PageUnread}
-use Rattle.roff_requests.specs.Environments.Standing.{StandFor}
+use Rattle.roff_requests.specs.Composer.Standing.{StandFor}
 use Rattle.roff_reader.specs.Reader.Taken.{IsReady}
 use Rattle.roff_run.specs.Environments.{PageHistory}
 use Rattle.roff_run.specs.declared.event.PageEvent.{PageEvent}
@@ -24,7 +24,7 @@ pub record IsBehind (t : Beginning) (tape : Tape) (start now : Seen) (sprung : O
   pub history : PageHistory
   pub messages : List ℕ
   pub reaches : Reaches run.limits t start now (behind_sprung sprung run.formatter.reader.meaning.events [] (state_at tape run history messages))
-  pub stands : StandFor run.limits history run.formatter.environments
+  pub stands : StandFor run.limits history run.formatter.composer
   pub ready : IsReady run.formatter.reader.registers run.unread
   pub limits : run.unread.limits ≡ run.limits
   pub room : HasRoom (rest_left sprung run.formatter.reader.meaning.events) run.unread

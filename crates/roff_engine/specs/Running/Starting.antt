@@ -1,37 +1,40 @@
 -- What is given to a run before anything is read.
 use Rattle.std.specs.Prelude.{◌≡◌, ℕ, List, [], Result, Ok, Err}
 use Rattle.roff_num.specs.declared.limit.Limit.{Limit}
+use Rattle.roff_num.specs.declared.limits.Limits.{Limits}
 use Rattle.roff_num.specs.declared.num.Num.{Num}
 use Rattle.roff_engine.specs.declared.running.Running.{Running as Coded}
 use Rattle.roff_engine.specs.Running.Turning.{state_at}
 use Rattle.roff_reader.specs.Reader.Taken.{IsReady}
-use Rattle.roff_run.specs.Registers.Capped.{Capped}
+use Rattle.roff_requests.specs.Composer.Standing.{StandFor}
+use Rattle.roff_run.specs.Output.{PageHistory, written}
 use Rattle.roff_run.specs.Run.{stopped_by, with_registers}
 use Rattle.roff_source.specs.Tape.{Tape}
-
--- a run with these registers
-abbrev pub with_capped : Coded → Capped → Coded
-with_capped run rs = record run { formatter = record run.formatter { reader = record run.formatter.reader { registers = rs } } }
 
 -- no count of what is read is above its limit, and the unread input has the run's limits
 pub record HasRoom (run : Coded) : Type 0 where
   pub ready : IsReady run.formatter.reader.registers run.unread
   pub limits : run.unread.limits ≡ run.limits
 
--- registers were set, and nothing else changed
-pub record SetsSome (old new : Coded) : Type 0 where
-  pub sets : new ≡ with_capped old new.formatter.reader.registers
+-- registers were set, and the page got numbers, behind which the history is this: nothing else changed, and nothing is written
+pub record SetsSome (old new : Coded) (history : PageHistory) : Type 0 where
+  pub sets : new ≡ record old { formatter = new.formatter }
+  pub reader : new.formatter.reader ≡ record old.formatter.reader { registers = new.formatter.reader.registers }
   pub room : HasRoom old → HasRoom new
+  pub quiet : written history ≡ []
 
 -- those that are given were set, one after another: the run stands where they leave the definition's
 pub record Begins (old new : Coded) (given : List (ℕ × Num)) : Type 0 where
-  pub some : SetsSome old new
-  pub goes_on : HasRoom old → (tape : Tape) → with_registers old.limits given (state_at tape old [] []) ≡ state_at tape new [] []
+  pub history : PageHistory
+  pub some : SetsSome old new history
+  pub goes_on : HasRoom old → (tape : Tape) → with_registers old.limits given (state_at tape old [] []) ≡ state_at tape new history []
+  pub stands : (l : Limits) → StandFor l [] old.formatter.composer → StandFor l history new.formatter.composer
 
 -- a limit refused one of them
 pub record IsRefused (old new : Coded) (given : List (ℕ × Num)) (limit : Limit) : Type 0 where
-  pub some : SetsSome old new
-  pub stops : HasRoom old → (tape : Tape) → with_registers old.limits given (state_at tape old [] []) ≡ stopped_by old.limits limit (state_at tape new [] [])
+  pub history : PageHistory
+  pub some : SetsSome old new history
+  pub stops : HasRoom old → (tape : Tape) → with_registers old.limits given (state_at tape old [] []) ≡ stopped_by old.limits limit (state_at tape new history [])
 
 -- they were set, or one was refused
 abbrev pub SetsGiven : Coded → Coded → List (ℕ × Num) → Result (Unit {0}) Limit → Type 0

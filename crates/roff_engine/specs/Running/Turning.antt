@@ -3,20 +3,20 @@ use Rattle.std.specs.Prelude.{◌≡◌, ◌⊎◌, ℕ, ◌*◌, ◌+◌, ◌<�
 use Rattle.std.specs.Io.KnownBytes.{Appends}
 use Rattle.roff_num.specs.declared.limit.Limit.{Limit}
 use Rattle.roff_num.specs.declared.limits.Limits.{Limits}
-use Rattle.roff_requests.specs.declared.environments.Environments.{Environments as EnvironmentsOf}
+use Rattle.roff_requests.specs.declared.composer.Composer.{Composer as ComposerOf}
 use Rattle.roff_run.specs.declared.start.Start.{Start}
 use Rattle.roff_source.specs.Tape.{Tape, Item, items_then}
 use Rattle.roff_source.specs.declared.source.ByteSource as byte_source
 use Rattle.roff_scan.specs.Looking.{is_closed, looked_then}
 use Rattle.roff_scan.specs.declared.looked.Looked.TheVariants.{Nothing}
-use Rattle.roff_requests.specs.Environments.Standing.{StandFor}
+use Rattle.roff_requests.specs.Composer.Standing.{StandFor}
 use Rattle.roff_engine.specs.declared.formatter.Formatter.{Formatter}
 use Rattle.roff_engine.specs.declared.running.Running.{Running as Coded}
 use Rattle.roff_run.specs.declared.status.Status.{Status}
-use Rattle.roff_run.specs.declared.status.Status.TheVariants.{Device}
+use Rattle.roff_run.specs.declared.status.Status.TheVariants.{Device, Done}
 use Rattle.roff_engine.specs.declared.halt.Halt.{Halt}
-use Rattle.roff_engine.specs.declared.halt.Halt.TheVariants.{Limit as Limited, Refused, Output, Messages}
-use Rattle.roff_engine.specs.Engine.Outcome.{Beginning, Seen, seen, IsLeftOf, Reaches, OutputStops, MessagesFail, OutcomeOf}
+use Rattle.roff_engine.specs.declared.halt.Halt.TheVariants.{Limit as Limited, Refused, Over, Output, Messages}
+use Rattle.roff_engine.specs.Engine.Outcome.{Beginning, Completes, Seen, seen, IsLeftOf, Reaches, OutputStops, MessagesFail, OutcomeOf}
 use Rattle.roff_engine.specs.Formatter.Performing.{Opens, going}
 use Rattle.roff_run.specs.TurnsToCome.{most_left}
 use Rattle.roff_sinks.specs.Sinks.{Sunk}
@@ -29,7 +29,7 @@ use Rattle.roff_run.specs.declared.line_state.LineState.TheVariants.{LineStart, 
 use Rattle.roff_run.specs.declared.phase.Phase.TheVariants.{Closing}
 use Rattle.roff_run.specs.Reading.Ends.{due, is_unfinished}
 use Rattle.roff_run.specs.Environments.{PageHistory, interrupted_line}
-use Rattle.roff_run.specs.Run.{State, first_unread, escape_ends, initial, input_ended, known, known_at, step, stopped_by, reported}
+use Rattle.roff_run.specs.Run.{State, first_unread, escape_ends, initial, input_ended, known, known_at, step, stopped_by, output, reported}
 
 -- the state of a run that reads on, where the source still gives this tape
 abbrev pub state_at : Tape → Coded → PageHistory → List ℕ → State
@@ -45,8 +45,8 @@ abbrev pub turns_left : Coded → ℕ
 turns_left run = turns_to_come run.unread + begun run.formatter.reader.reading
 
 -- whether an interrupted line is to go on in the environment in force
-abbrev pub lines_left_in : EnvironmentsOf → ℕ
-lines_left_in es = if es.in_force.lines.is_interrupted then 1 else 0
+abbrev pub lines_left_in : ComposerOf → ℕ
+lines_left_in coded = if coded.environments.in_force.lines.is_interrupted then 1 else 0
 
 -- what a line that ends with the input counts beside turns: where one begins, one that was interrupted and is to go on
 abbrev pub line_turns : LineState → ℕ → ℕ
@@ -57,7 +57,7 @@ line_turns (_) left = 2
 -- how many turns are to come at the most of a run whose source has no notes
 abbrev pub turns_of_run : Coded → ℕ
 turns_of_run run =
-    4 * turns_left run + line_turns run.formatter.reader.reading (lines_left_in run.formatter.environments) + phases_left run.phase
+    4 * turns_left run + line_turns run.formatter.reader.reading (lines_left_in run.formatter.composer) + phases_left run.phase
 
 -- and where it has so many
 abbrev pub turns_with : Coded → ℕ → ℕ
@@ -81,7 +81,7 @@ pub record IsAt (t : Beginning) (tape : Tape) (start now : Seen) (run : Coded) :
   pub history : PageHistory
   pub messages : List ℕ
   pub reaches : Reaches run.limits t start now (state_at tape run history messages)
-  pub stands : StandFor run.limits history run.formatter.environments
+  pub stands : StandFor run.limits history run.formatter.composer
   pub ready : IsReady run.formatter.reader.registers run.unread
   pub limits : run.unread.limits ≡ run.limits
 
@@ -100,7 +100,7 @@ pub record LimitStops (l : Limits) (t : Beginning) (left : Tape) (line : ℕ) (l
 pub record StartStops (l : Limits) (t : Beginning) (left : Tape) (line : ℕ) (limit : Limit) (before now : Seen) : Type 0 where
   pub state : State
   pub stops : initial l t.start t.tape ≡ stopped_by l limit state
-  pub history : state.history ≡ []
+  pub text : output state ≡ []
   pub messages : state.messages ≡ []
   pub source : before.failures ≤ now.failures
   pub out : now.out ≡ before.out
@@ -129,6 +129,7 @@ abbrev pub Halts : Limits → Beginning → Tape → ℕ → Halt → Seen → S
 Halts l t left line (Limited limit) before now = LimitStops l t left line limit before now
 Halts l t left line (Refused limit) before now = LimitStops l t left line limit before now ⊎ StartStops l t left line limit before now
 Halts l t left line Output before now = OutputStopsAt l t left line before now
+Halts l t left line Over before now = Completes l t left Done before now
 Halts l t left line Messages before now = MessagesFail l t left Device before now
 
 -- the run goes on, with this tape to come, or it ended, with this tape left
@@ -143,7 +144,7 @@ pub record TookFrom (t : Beginning) (tape : Tape) (start now : Seen) (line : ℕ
   pub messages : List ℕ
   pub reaches : Reaches run.limits t start now from
   pub opens : Opens run.limits from (does (state_at tape run history messages)) history messages
-  pub stands : StandFor run.limits history run.formatter.environments
+  pub stands : StandFor run.limits history run.formatter.composer
   pub ready : IsReady run.formatter.reader.registers run.unread
   pub limits : run.unread.limits ≡ run.limits
   pub quiet : from.last_message ≡ []

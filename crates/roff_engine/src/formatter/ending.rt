@@ -14,7 +14,7 @@ ghost use Rattle.roff_run.specs.Run.{known_at};
 use super::Formatter;
 use crate::halt::Halt;
 use crate::sprung::Sprung;
-use roff_run::{PageEvent, Phase, Step};
+use roff_run::{PageEvent, Phase};
 use roff_scan::Unread;
 use roff_sinks::ByteSink;
 
@@ -31,7 +31,7 @@ impl Formatter {
             (sinks (O.sunk out.old) (E.sunk err.old))
             (sinks (O.sunk out.new) (E.sunk err.new)) result }
     {
-        match self.reader.end_escape(&self.environments, unread) {
+        match self.reader.end_escape(&self.composer, unread) {
             Ok(step) => self.perform(step, unread.line(), out, err),
             Err(limit) => Err(Halt::Refused(limit)),
         }
@@ -49,7 +49,7 @@ impl Formatter {
             (sinks (O.sunk out.old) (E.sunk err.old))
             (sinks (O.sunk out.new) (E.sunk err.new)) result }
     {
-        match self.reader.end_line_of_input(&self.environments, unread) {
+        match self.reader.end_line_of_input(&self.composer, unread) {
             Ok(step) => self.perform(step, unread.line(), out, err),
             Err(limit) => Err(Halt::Refused(limit)),
         }
@@ -57,12 +57,12 @@ impl Formatter {
 
     /// Whether a line is to end where the input does, in this phase of the run.
     pub(crate) fn is_unfinished(&self, phase: Phase) -> bool
-        ensures { (l : LimitsOf) (h : PageHistory) (rs : AllRegisters) (i : PageInput) → StandFor l h self.now.environments
-            → result ≡ is_unfinished phase (known_at h rs i) self.now.reader.reading }
+        ensures { (l : LimitsOf) (h : PageHistory) (rs : AllRegisters) (i : PageInput)
+            → StandFor l h self.now.composer → result ≡ is_unfinished phase (known_at h rs i) self.now.reader.reading }
     {
         let left = match phase {
-            Phase::Reading => self.environments.interrupted_line().is_some(),
-            Phase::LastMacro => self.environments.interrupted_line().is_some(),
+            Phase::Reading => self.composer.environments.interrupted_line().is_some(),
+            Phase::LastMacro => self.composer.environments.interrupted_line().is_some(),
             Phase::Closing => false,
         };
         self.reader.is_unfinished(left)
@@ -83,13 +83,13 @@ impl Formatter {
         }
     }
 
-    /// The run closes: the pending line is placed.
+    /// The run closes: the pending line is placed, and the last page is ejected.
     pub(crate) fn finish<O: ByteSink>(&mut self, out: &mut O) -> Result<Option<Sprung>, Halt>
         ensures { (u : PageUnread) (err : Sunk) → DoesTaking
             (λ k. meaning_events u.input LineStart closing_events) [] self.old self.new u u
             (sinks (O.sunk out.old) err) (sinks (O.sunk out.new) err) result }
     {
-        self.reader.begin_next_line();
-        self.perform_line(Step::Break, out)
+        self.reader.close();
+        self.perform_each(out)
     }
 }

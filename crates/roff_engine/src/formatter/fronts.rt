@@ -11,15 +11,18 @@ use roff_scan::text_in_front;
 const MOST_AT_ONCE: usize = 128;
 
 impl Formatter {
-    /// Tells bytes of plain text, of those that stand in front: as many as no limit refuses, and
-    /// none that finishes a line. How many they are.
+    /// Tells bytes of plain text, of those that stand in front: as many as no limit refuses, none
+    /// that finishes a line, and none with which the first page begins. How many they are.
     #[inline(always)]
     pub(crate) fn text_front(&mut self, front: &[u8]) -> usize
         ensures { TellsFront front.now result self.old self.new }
     {
+        if !self.composer.pages.takes_text() {
+            return 0;
+        }
         let near = told_at_once(front);
         let (text, _) = near.split_at(text_in_front(near));
-        self.environments.in_force.lines.text(text)
+        self.composer.environments.in_force.lines.text(text)
     }
 }
 

@@ -58,7 +58,8 @@ impl Formatter {
 
     /// Performs the events of the meaning that the reader keeps, one after another, up to one that
     /// springs a macro.
-    fn perform_each<O: ByteSink>(&mut self, out: &mut O) -> Result<Option<Sprung>, Halt>
+    #[inline(always)]
+    pub(super) fn perform_each<O: ByteSink>(&mut self, out: &mut O) -> Result<Option<Sprung>, Halt>
         ensures { PerformsAll self.old.reader.meaning.events self.old self.new
             (O.sunk out.old) (O.sunk out.new) result }
     {
@@ -121,20 +122,20 @@ impl Formatter {
     {
         match event {
             PageEvent::Text(event) => self.perform_text(event, out),
-            PageEvent::Space(lines) => none_named(self.space(lines, out)),
             PageEvent::Interrupt(untold) => {
-                self.environments.interrupt(untold);
+                self.composer.environments.interrupt(untold);
                 Ok(None)
             }
             PageEvent::Environment(number) => none_named(self.switch_to(number)),
             PageEvent::Back => {
-                self.environments.switch_back();
+                self.composer.environments.switch_back();
                 Ok(None)
             }
             PageEvent::InputTrap(trap) => {
-                self.environments.set_input_trap(trap);
+                self.composer.environments.set_input_trap(trap);
                 Ok(None)
             }
+            PageEvent::Page(event) => none_named(self.perform_on_page(event, out)),
         }
     }
 
@@ -153,18 +154,18 @@ impl Formatter {
             Event::WordEnd => none_named(self.end_word(out)),
             Event::Gap(blanks) => none_named(self.gap_behind_own(blanks, out)),
             Event::LineEnd => none_named(self.line_end_behind_own(out)),
-            Event::Count => Ok(self.environments.count()),
+            Event::Count => Ok(self.composer.environments.count()),
             Event::Break => none_named(self.break_behind_own(out)),
             Event::Interrupt => {
-                self.environments.in_force.lines.interrupt();
+                self.composer.environments.in_force.lines.interrupt();
                 Ok(None)
             }
             Event::Resume => {
-                self.environments.in_force.lines.resume();
+                self.composer.environments.in_force.lines.resume();
                 Ok(None)
             }
             Event::Set(param) => {
-                self.environments.in_force.lines.set(param);
+                self.composer.environments.in_force.lines.set(param);
                 Ok(None)
             }
         }
@@ -175,7 +176,7 @@ impl Formatter {
         ensures { (told : Sunk) →
             PerformsOnly (Environment number ∷ []) self.old self.new told told result }
     {
-        match self.environments.switch_to(number) {
+        match self.composer.environments.switch_to(number) {
             Ok(()) => Ok(()),
             Err(limit) => Err(Halt::Limit(limit)),
         }

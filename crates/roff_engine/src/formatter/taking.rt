@@ -25,7 +25,7 @@ impl Formatter {
             (sinks (O.sunk out.old) (E.sunk err.old))
             (sinks (O.sunk out.new) (E.sunk err.new)) result }
     {
-        match self.reader.read(byte, &self.environments, unread) {
+        match self.reader.read(byte, &self.composer, unread) {
             Ok(step) => self.perform(step, unread.line(), out, err),
             Err(limit) => Err(Halt::Refused(limit)),
         }

@@ -1,18 +1,22 @@
 //! The events of the text, and those of a text line one behind another.
 
-ghost use Rattle.std.specs.Prelude.{[], ◌∷◌, ◌++◌, IsOkUnless, option_map};
+ghost use Rattle.std.specs.Prelude.{[], ◌∷◌, ◌++◌, option_map};
 ghost use Rattle.roff_run.specs.Reading.TextLines.{blank_line, leading_glyph};
 ghost use Rattle.roff_engine.specs.Clauses.{finished_of, Gap, Print, WordEnd, LineEnd, Break};
-ghost use Rattle.roff_engine.specs.Clauses.{finished_bytes};
 ghost use Rattle.roff_lines.specs.declared.event.Event.TheVariants.{Count};
-ghost use Rattle.roff_engine.specs.Clauses.{EndsOpenWord, EndsWordFirst, PerformsAll, PerformsOne, PerformsOnly};
-ghost use Rattle.roff_engine.specs.Clauses.{Text, Space, Puts, Sunk, Tab, none_sprung};
+ghost use Rattle.roff_pages.specs.Happenings.{Places};
+ghost use Rattle.roff_pages.specs.declared.layout_event.LayoutEvent.TheVariants.{Space};
+ghost use Rattle.roff_engine.specs.Clauses.{EndsOpenWord, EndsWordFirst, PerformsAll};
+ghost use Rattle.roff_engine.specs.Clauses.{PerformsOne, PerformsOnly, PutsFinished, PutsOnPage};
+ghost use Rattle.roff_engine.specs.Clauses.{Page, Text, Sunk, Tab, none_sprung};
 
 use super::Formatter;
+use super::paging::done_on;
 use crate::halt::Halt;
 use crate::sprung::Sprung;
-use roff_lines::{Glyph, Line};
-use roff_sinks::{Block, ByteSink};
+use roff_lines::{Event, Glyph, Line};
+use roff_pages::Pages;
+use roff_sinks::ByteSink;
 
 impl Formatter {
     /// Prints a glyph behind so many leading blanks.
@@ -64,7 +68,7 @@ impl Formatter {
             (O.sunk out.old) (O.sunk out.new) result }
     {
         match self.end_word_and_line(out) {
-            Ok(()) => Ok(Sprung::last(self.environments.count())),
+            Ok(()) => Ok(Sprung::last(self.composer.environments.count())),
             Err(halt) => Err(halt),
         }
     }
@@ -95,7 +99,7 @@ impl Formatter {
     /// Breaks, and writes a blank line.
     #[inline(always)]
     fn break_and_space<O: ByteSink>(&mut self, out: &mut O) -> Result<(), Halt>
-        ensures { PerformsOnly (Text Break ∷ Space 1 ∷ []) self.old self.new
+        ensures { PerformsOnly (Text Break ∷ Page (Space 1) ∷ []) self.old self.new
             (O.sunk out.old) (O.sunk out.new) result }
     {
         match self.brk(out) {
@@ -110,7 +114,8 @@ impl Formatter {
         ensures { (told : Sunk) →
             PerformsOnly (Text (Print glyph) ∷ []) self.old self.new told told result }
     {
-        match self.environments.in_force.lines.glyph(glyph) {
+        self.begin_first();
+        match self.composer.environments.in_force.lines.glyph(glyph) {
             Ok(()) => Ok(()),
             Err(limit) => Err(Halt::Limit(limit)),
         }
@@ -121,7 +126,8 @@ impl Formatter {
         ensures { (told : Sunk) →
             PerformsOnly (Text Tab ∷ []) self.old self.new told told result }
     {
-        match self.environments.in_force.lines.tab() {
+        self.begin_first();
+        match self.composer.environments.in_force.lines.tab() {
             Ok(()) => Ok(()),
             Err(limit) => Err(Halt::Limit(limit)),
         }
@@ -135,7 +141,7 @@ impl Formatter {
     {
         match self.end_word(out) {
             Ok(()) => {
-                self.environments.in_force.lines.gap(1);
+                self.composer.environments.in_force.lines.gap(1);
                 Ok(())
             }
             Err(halt) => Err(halt),
@@ -146,7 +152,7 @@ impl Formatter {
     fn end_open_word<O: ByteSink>(&mut self, out: &mut O) -> Result<(), Halt>
         ensures { EndsOpenWord self.old self.new (O.sunk out.old) (O.sunk out.new) result }
     {
-        if !self.environments.in_force.lines.has_open_word() {
+        if !self.composer.environments.in_force.lines.has_open_word() {
             return Ok(());
         }
         self.end_word(out)
@@ -163,7 +169,7 @@ impl Formatter {
     {
         match self.end_open_word(out) {
             Ok(()) => {
-                self.environments.in_force.lines.gap(blanks);
+                self.composer.environments.in_force.lines.gap(blanks);
                 Ok(())
             }
             Err(halt) => Err(halt),
@@ -199,8 +205,9 @@ impl Formatter {
             (O.sunk out.old) (O.sunk out.new) result }
         ensures own { EndsWordFirst self.old self.new (O.sunk out.old) (O.sunk out.new) result }
     {
-        let line = self.environments.in_force.lines.end_word();
-        put_finished(&mut self.block, line, out)
+        self.begin_first_for(Event::WordEnd);
+        let line = self.composer.environments.in_force.lines.end_word();
+        put_finished(&mut self.composer.pages, line, out)
     }
 
     /// Ends a line of the input, and writes the line that it finishes.
@@ -208,8 +215,9 @@ impl Formatter {
         ensures { PerformsOnly (Text LineEnd ∷ []) self.old self.new
             (O.sunk out.old) (O.sunk out.new) result }
     {
-        let line = self.environments.in_force.lines.end_line();
-        put_finished(&mut self.block, line, out)
+        self.begin_first_for(Event::LineEnd);
+        let line = self.composer.environments.in_force.lines.end_line();
+        put_finished(&mut self.composer.pages, line, out)
     }
 
     /// Finishes the pending line, and writes it.
@@ -217,38 +225,38 @@ impl Formatter {
         ensures { PerformsOnly (Text Break ∷ []) self.old self.new
             (O.sunk out.old) (O.sunk out.new) result }
     {
-        let line = self.environments.in_force.lines.brk();
-        put_finished(&mut self.block, line, out)
-    }
-
-    /// Writes blank lines.
-    pub(super) fn space<O: ByteSink>(&mut self, lines: u32, out: &mut O) -> Result<(), Halt>
-        ensures { PerformsOnly (Space lines ∷ []) self.old self.new
-            (O.sunk out.old) (O.sunk out.new) result }
-    {
-        match self.block.put_blank_lines(lines, out) {
-            Ok(()) => Ok(()),
-            Err(_) => Err(Halt::Output),
-        }
+        self.begin_first_for(Event::Break);
+        let line = self.composer.environments.in_force.lines.brk();
+        put_finished(&mut self.composer.pages, line, out)
     }
 }
 
-/// Writes the line that an event finished, if it finished one.
+/// Places the line that an event finished, if it finished one.
 #[inline(always)]
 fn put_finished<O: ByteSink>(
-    block: &mut Block,
+    pages: &mut Pages,
     line: Option<Line<'_>>,
     out: &mut O,
 ) -> Result<(), Halt>
-    ensures puts { Puts (O.sunk out.old) (O.sunk out.new)
-        (finished_bytes (option_map finished_of line.entry)) result }
-    ensures halt { IsOkUnless result Halt.Output }
+    ensures { PutsFinished (option_map finished_of line.entry) pages.old pages.new
+        (O.sunk out.old) (O.sunk out.new) result }
 {
     match line {
         None => Ok(()),
-        Some(line) => match block.put_line(line, out) {
-            Ok(()) => Ok(()),
-            Err(_) => Err(Halt::Output),
-        },
+        Some(line) => place_line(pages, line, out),
     }
+}
+
+/// Places a line, with which the last page may end.
+#[inline(always)]
+fn place_line<O: ByteSink>(pages: &mut Pages, line: Line<'_>, out: &mut O) -> Result<(), Halt>
+    ensures { PutsOnPage (Places (finished_of line.entry)) pages.old pages.new
+        (O.sunk out.old) (O.sunk out.new) result }
+{
+    let placed = if pages.is_diverting() {
+        Ok(pages.divert_line(line))
+    } else {
+        pages.place(line, out)
+    };
+    done_on(pages, placed)
 }

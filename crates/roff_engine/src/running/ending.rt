@@ -47,7 +47,7 @@ impl Running {
             (seen failures (O.sunk out.old) (E.sunk err.old))
             (seen failures (O.sunk out.new) (E.sunk err.new)) result }
         ensures goes_on { (l : LimitsOf) (h : PageHistory)
-            → StandFor l h self.old.formatter.environments → OnOk result (MayGoOn self.old h) }
+            → StandFor l h self.old.formatter.composer → OnOk result (MayGoOn self.old h) }
     {
         if self.unread.has_open_escape() {
             return self.end_escape(out, err);

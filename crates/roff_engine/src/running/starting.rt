@@ -2,6 +2,7 @@
 
 ghost use Rattle.std.specs.Prelude.{◌≡◌, ℕ, [], IfErr, OnOk};
 ghost use Rattle.roff_engine.specs.Clauses.{Outcome, Sunk, Tape, seen};
+ghost use Rattle.roff_run.specs.Output.{PageHistory, written};
 ghost use Rattle.roff_run.specs.Run.{initial, stopped_by, with_registers};
 ghost use Rattle.roff_run.specs.declared.start.Start.{Start as StartOf};
 ghost use Rattle.roff_scan.specs.declared.looked.Looked.TheVariants.{Nothing};
@@ -44,7 +45,7 @@ impl Running {
     {
         let mut rest = given;
         while let Some((first, others)) = rest.split_first() {
-            match self.formatter.reader.give(first.0, first.1) {
+            match self.formatter.give(first.0, first.1) {
                 Ok(()) => rest = others,
                 Err(limit) => return Err(limit),
             }
@@ -55,9 +56,10 @@ impl Running {
     /// A limit refused what is given: the status of the run.
     #[inline(never)]
     fn refuse<E: ByteSink>(&self, limit: Limit, err: &mut E) -> Status
-        ensures { (given : StartOf) (tape : Tape) (failures : ℕ) (out : Sunk)
-            → self.now.unread.looked ≡ Nothing → initial self.now.limits given tape
-            ≡ stopped_by self.now.limits limit (state_at tape self.now [] [])
+        ensures { (given : StartOf) (tape : Tape) (h : PageHistory) (failures : ℕ) (out : Sunk)
+            → self.now.unread.looked ≡ Nothing → written h ≡ []
+            → initial self.now.limits given tape
+            ≡ stopped_by self.now.limits limit (state_at tape self.now h [])
             → Outcome self.now.limits given tape tape result
             (seen failures out (E.sunk err.old)) (seen failures out (E.sunk err.new)) }
     {

@@ -6,8 +6,8 @@ use Rattle.roff_num.specs.declared.limits.Limits.{Limits}
 use Rattle.roff_scan.specs.Unread.{input_refusal}
 use Rattle.roff_run.specs.Environments.{PageHistory}
 use Rattle.roff_run.specs.Events.Steps.{events_of, messages_of}
-use Rattle.roff_requests.specs.Environments.Standing.{StandFor}
-use Rattle.roff_requests.specs.declared.environments.Environments.{Environments as EnvironmentsOf}
+use Rattle.roff_requests.specs.Composer.Standing.{StandFor}
+use Rattle.roff_requests.specs.declared.composer.Composer.{Composer as ComposerOf}
 use Rattle.roff_run.specs.Registers.{Change, Known, changed_by_all}
 use Rattle.roff_run.specs.Registers.Capped.{Capped, is_past_cap}
 use Rattle.roff_run.specs.Run.{known_at}
@@ -69,8 +69,8 @@ pub record IsReady (r : Capped) (u : PageUnread) : Type 0 where
   pub cap : r.cap ≡ u.limits.names
   pub within : first_passed u.limits (counts_in r.all u.input) ≡ None
 
--- The code took what the definition takes, by what is known of the run, wherever the environments stand for a history.
-pub record TakesAs (t : Known → Taking) (es : EnvironmentsOf) (old new : ReaderState) (before behind : PageUnread)
+-- The code took what the definition takes, by what is known of the run, wherever the environments and the pages stand for a history.
+pub record TakesAs (t : Known → Taking) (es : ComposerOf) (old new : ReaderState) (before behind : PageUnread)
     (result : Result Step Limit) : Type 0 where
   pub takes : (l : Limits) (h : PageHistory) → StandFor l h es → IsReady old.registers before
       → Takes (t (known_at h old.registers.all before.input)) old.registers new before behind result

@@ -1,13 +1,14 @@
 //! The arguments of requests, and the names that they give.
 
 ghost use Rattle.std.specs.Prelude.{◌≡◌};
-ghost use Rattle.roff_reader.specs.Clauses.{EnvironmentsOf, TakesAs, arguments_found, going_on, holding, listed};
+ghost use Rattle.roff_reader.specs.Clauses.{ComposerOf, TakesAs, arguments_found, going_on};
+ghost use Rattle.roff_reader.specs.Clauses.{holding, listed};
 ghost use Rattle.roff_reader.specs.Clauses.{row_of, no_unit_found, unit_found, arguments_ended};
 ghost use Rattle.roff_reader.specs.Clauses.{name_at as name_given_at};
 
 use super::Reader;
 use roff_num::{Limit, ShortName};
-use roff_requests::Environments;
+use roff_requests::Composer;
 use roff_run::{LineReading, LineState, PageEvent, Request, Step};
 use roff_scan::{ArgumentList, CopyUnit, Found, Unread};
 
@@ -18,21 +19,21 @@ impl Reader {
         breaks: bool,
         request: Request,
         found: Found,
-        environments: &Environments,
+        composer: &Composer,
         unread: &mut Unread<PageEvent>,
     ) -> Result<Step, Limit>
         ensures { TakesAs (λ k. arguments_found k unread.old.input breaks request found)
-            environments.now self.old self.new unread.old unread.new result }
+            composer.now self.old self.new unread.old unread.new result }
     {
         match found {
-            Found::Unit(unit) => self.read_unit(breaks, request, unit, environments, unread),
+            Found::Unit(unit) => self.read_unit(breaks, request, unit, composer, unread),
             Found::Escape(byte) => {
-                self.read_unit(breaks, request, CopyUnit::Kept(byte), environments, unread)
+                self.read_unit(breaks, request, CopyUnit::Kept(byte), composer, unread)
             }
             _ => {
                 unread.settle();
                 let reading = LineState::Arguments { breaks, request };
-                self.read_in_arguments(reading, found, environments, unread)
+                self.read_in_arguments(reading, found, composer, unread)
             }
         }
     }
@@ -44,14 +45,14 @@ impl Reader {
         breaks: bool,
         request: Request,
         unit: CopyUnit,
-        environments: &Environments,
+        composer: &Composer,
         unread: &mut Unread<PageEvent>,
     ) -> Result<Step, Limit>
         ensures { TakesAs (λ k. unit_found k unread.old.input breaks request unit)
-            environments.now self.old self.new unread.old unread.new result }
+            composer.now self.old self.new unread.old unread.new result }
     {
         match unit {
-            CopyUnit::Byte(b'\n') => self.end_arguments(breaks, request, environments, unread),
+            CopyUnit::Byte(b'\n') => self.end_arguments(breaks, request, composer, unread),
             _ => self.hold(unit, LineState::Arguments { breaks, request }, unread),
         }
     }
@@ -61,16 +62,16 @@ impl Reader {
         &mut self,
         breaks: bool,
         request: Request,
-        environments: &Environments,
+        composer: &Composer,
         unread: &mut Unread<PageEvent>,
     ) -> Result<Step, Limit>
         ensures { TakesAs (λ k. arguments_ended k unread.old.input breaks request
             (row_of request).line)
-            environments.now self.old self.new unread.old unread.new result }
+            composer.now self.old self.new unread.old unread.new result }
     {
         match request.row().line {
             LineReading::ByLines(lines) => self.begin_lines(lines, unread),
-            _ => self.obey(breaks, request, environments, unread),
+            _ => self.obey(breaks, request, composer, unread),
         }
     }
 
@@ -81,7 +82,7 @@ impl Reader {
         reading: LineState,
         unread: &mut Unread<PageEvent>,
     ) -> Result<Step, Limit>
-        ensures { (es : EnvironmentsOf)
+        ensures { (es : ComposerOf)
             → TakesAs (λ k. going_on (holding unit unread.old.input) reading)
             es self.old self.new unread.old unread.new result }
     {
@@ -95,17 +96,17 @@ impl Reader {
         &mut self,
         reading: LineState,
         found: Found,
-        environments: &Environments,
+        composer: &Composer,
         unread: &mut Unread<PageEvent>,
     ) -> Result<Step, Limit>
         ensures { TakesAs (λ k. no_unit_found k unread.old.input reading found)
-            environments.now self.old self.new unread.old unread.new result }
+            composer.now self.old self.new unread.old unread.new result }
     {
         match found {
             Found::Holds(unit) => self.hold_text(unit, reading, unread),
             Found::Asks(purpose, name) => {
                 self.reading = reading;
-                self.ask(purpose, name, environments, unread)
+                self.ask(purpose, name, composer, unread)
             }
             Found::Measures(width) => self.measure(width, reading, unread),
             Found::Tells(remark) => Ok(self.tell(remark, reading)),

@@ -18,7 +18,7 @@ ghost use Rattle.roff_source.specs.Bytes.{is_text_byte};
 use super::Reader;
 use super::calls::CALL_ARGUMENTS;
 use roff_num::Limit;
-use roff_requests::Environments;
+use roff_requests::Composer;
 use roff_run::{LineState, PageEvent, Step};
 use roff_scan::{CopyUnit, Unread};
 
@@ -53,25 +53,23 @@ impl Reader {
     pub(super) fn read_alone(
         &mut self,
         byte: u8,
-        environments: &Environments,
+        composer: &Composer,
         unread: &mut Unread<PageEvent>,
     ) -> Result<Step, Limit>
         requires no_escape { (byte == backslash) ≡ false }
         requires none_half { unread.old.input.escapes ≡ [] }
         ensures { TakesAs (λ k. undropped_taking k self.old.reading unread.old.input byte)
-            environments.now self.old self.new unread.old unread.new result }
+            composer.now self.old self.new unread.old unread.new result }
     {
         let unit = CopyUnit::Byte(byte);
         match self.reading {
-            LineState::LineStart => {
-                Ok(self.begin_with(LineState::LineStart, byte, environments))
-            }
+            LineState::LineStart => { Ok(self.begin_with(LineState::LineStart, byte, composer)) }
             LineState::Text(line) => Ok(self.step_on(line.taking(byte))),
             LineState::Arguments { breaks, request } => {
-                self.read_unit(breaks, request, unit, environments, unread)
+                self.read_unit(breaks, request, unit, composer, unread)
             }
             LineState::Calling { name } => self.read_unit_of_call(name, unit, unread),
-            _ => self.read_undropped(byte, environments, unread),
+            _ => self.read_undropped(byte, composer, unread),
         }
     }
 
@@ -80,22 +78,18 @@ impl Reader {
     pub(super) fn read_undropped(
         &mut self,
         byte: u8,
-        environments: &Environments,
+        composer: &Composer,
         unread: &mut Unread<PageEvent>,
     ) -> Result<Step, Limit>
         ensures { TakesAs (λ k. undropped_taking k self.old.reading unread.old.input byte)
-            environments.now self.old self.new unread.old unread.new result }
+            composer.now self.old self.new unread.old unread.new result }
     {
         match self.reading {
             LineState::Control { breaks } => Ok(self.read_on(LineState::behind_control(
                 breaks, byte,
             ))),
             LineState::Name { breaks, first } => self.end_name(
-                breaks,
-                first,
-                byte,
-                environments,
-                unread,
+                breaks, first, byte, composer, unread,
             ),
             LineState::Skipping {
                 opened,
@@ -105,7 +99,7 @@ impl Reader {
             LineState::Dropped => Ok(self.read_on(LineState::behind_dropped(byte))),
             LineState::Told { aborts } => Ok(self.read_on(LineState::Told { aborts })),
             LineState::Exiting => Ok(self.read_on(LineState::Exiting)),
-            _ => self.read_placed(byte, environments, unread),
+            _ => self.read_placed(byte, composer, unread),
         }
     }
 
@@ -114,15 +108,15 @@ impl Reader {
     fn read_placed(
         &mut self,
         byte: u8,
-        environments: &Environments,
+        composer: &Composer,
         unread: &mut Unread<PageEvent>,
     ) -> Result<Step, Limit>
         requires { has_place self.old.reading ≡ true }
         ensures { TakesAs (λ k. undropped_taking k self.old.reading unread.old.input byte)
-            environments.now self.old self.new unread.old unread.new result }
+            composer.now self.old self.new unread.old unread.new result }
     {
-        let place = self.place(environments);
+        let place = self.place(composer);
         let found = unread.read_byte(place, byte);
-        self.read_found(found, environments, unread)
+        self.read_found(found, composer, unread)
     }
 }

@@ -1,6 +1,6 @@
 //! Lines that call bodies.
 
-ghost use Rattle.roff_reader.specs.Clauses.{EnvironmentsOf, LineStart, TakesAs, call_found, call_unit};
+ghost use Rattle.roff_reader.specs.Clauses.{ComposerOf, LineStart, TakesAs, call_found, call_unit};
 ghost use Rattle.roff_reader.specs.Clauses.{called_by, called_last, going_on, last_called};
 ghost use Rattle.roff_reader.specs.Reader.Springs.{Springs};
 ghost use Rattle.roff_run.specs.declared.request.Called.TheVariants as Called;
@@ -8,7 +8,7 @@ ghost use Rattle.roff_run.specs.declared.request.Called.TheVariants as Called;
 use super::Reader;
 use super::control_lines::called_by;
 use roff_num::{Limit, ShortName};
-use roff_requests::Environments;
+use roff_requests::Composer;
 use roff_run::{Called, LineState, PageEvent, Step};
 use roff_scan::{CopyUnit, Found, Unread};
 
@@ -21,18 +21,18 @@ impl Reader {
         &mut self,
         name: ShortName,
         found: Found,
-        environments: &Environments,
+        composer: &Composer,
         unread: &mut Unread<PageEvent>,
     ) -> Result<Step, Limit>
         ensures { TakesAs (λ k. call_found k unread.old.input name found)
-            environments.now self.old self.new unread.old unread.new result }
+            composer.now self.old self.new unread.old unread.new result }
     {
         match found {
             Found::Unit(unit) => self.read_unit_of_call(name, unit, unread),
             Found::Escape(byte) => self.read_unit_of_call(name, CopyUnit::Kept(byte), unread),
             _ => {
                 unread.settle();
-                self.read_in_arguments(LineState::Calling { name }, found, environments, unread)
+                self.read_in_arguments(LineState::Calling { name }, found, composer, unread)
             }
         }
     }
@@ -45,7 +45,7 @@ impl Reader {
         unit: CopyUnit,
         unread: &mut Unread<PageEvent>,
     ) -> Result<Step, Limit>
-        ensures { (es : EnvironmentsOf)
+        ensures { (es : ComposerOf)
             → TakesAs (λ k. call_unit unread.old.input name unit)
             es self.old self.new unread.old unread.new result }
     {
@@ -69,7 +69,7 @@ impl Reader {
     ///
     /// A limit that it would pass; what was changed then is of no more use.
     pub fn read_last_macro(&mut self, unread: &mut Unread<PageEvent>) -> Result<Step, Limit>
-        ensures { (es : EnvironmentsOf) → TakesAs (λ k. going_on
+        ensures { (es : ComposerOf) → TakesAs (λ k. going_on
             (last_called self.old.registers.all.last_macro unread.old.input) LineStart)
             es self.old self.new unread.old unread.new result }
     {
@@ -81,7 +81,7 @@ impl Reader {
 
     /// What a name stands for is read as the body of a call without arguments, if it is one.
     fn read_last(&mut self, name: ShortName, unread: &mut Unread<PageEvent>) -> Result<Step, Limit>
-        ensures { (es : EnvironmentsOf) → TakesAs (λ k. going_on
+        ensures { (es : ComposerOf) → TakesAs (λ k. going_on
             (called_last (called_by name unread.old.input.names) unread.old.input) LineStart)
             es self.old self.new unread.old unread.new result }
     {
@@ -98,7 +98,7 @@ impl Reader {
         name: ShortName,
         unread: &mut Unread<PageEvent>,
     ) -> Result<Step, Limit>
-        ensures { (es : EnvironmentsOf) → TakesAs (λ k. going_on
+        ensures { (es : ComposerOf) → TakesAs (λ k. going_on
             (called_last (Called.Body name) unread.old.input) LineStart)
             es self.old self.new unread.old unread.new result }
     {

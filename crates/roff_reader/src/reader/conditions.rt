@@ -1,15 +1,17 @@
 //! Conditions: whether one is so, and its branch.
 
 ghost use Rattle.std.specs.Prelude.{◌≡◌, true, false, Ok};
-ghost use Rattle.roff_reader.specs.Clauses.{EnvironmentsOf, escape_ended};
+ghost use Rattle.roff_reader.specs.Clauses.{ComposerOf, escape_ended};
 ghost use Rattle.roff_run.specs.declared.step.Step.TheVariants.{Nothing};
-ghost use Rattle.roff_run.specs.Registers.{Known};
+ghost use Rattle.roff_num.specs.declared.limits.Limits.{Limits};
+ghost use Rattle.roff_reader.specs.Clauses.{AllRegisters, PageHistory, PageInput, StandFor};
+ghost use Rattle.roff_reader.specs.Clauses.{known_at};
 ghost use Rattle.roff_reader.specs.Clauses.{TakesAs, condition_found, decided, is_so, condition_begun};
 
 use super::Reader;
 use super::places::at_start;
 use roff_num::Limit;
-use roff_requests::Environments;
+use roff_requests::Composer;
 use roff_run::{LineState, PageEvent, Step};
 use roff_scan::{Decision, Found, Surroundings, Unread};
 
@@ -19,19 +21,19 @@ impl Reader {
         &mut self,
         keeps: bool,
         byte: u8,
-        environments: &Environments,
+        composer: &Composer,
         unread: &mut Unread<PageEvent>,
     ) -> Result<Step, Limit>
         ensures { TakesAs (λ k. condition_begun k unread.old.input keeps byte)
-            environments.now self.old self.new unread.old unread.new result }
+            composer.now self.old self.new unread.old unread.new result }
     {
         if byte == b'\n' {
             let found = Found::Decides(Decision::Is(false), Some(byte));
-            return self.read_condition(keeps, found, environments, unread);
+            return self.read_condition(keeps, found, composer, unread);
         }
         unread.begin_condition();
         let found = unread.read_byte(Surroundings::Arguments, byte);
-        self.read_condition(keeps, found, environments, unread)
+        self.read_condition(keeps, found, composer, unread)
     }
 
     /// Something of a condition.
@@ -40,23 +42,23 @@ impl Reader {
         &mut self,
         keeps: bool,
         found: Found,
-        environments: &Environments,
+        composer: &Composer,
         unread: &mut Unread<PageEvent>,
     ) -> Result<Step, Limit>
         ensures { TakesAs (λ k. condition_found k unread.old.input keeps found)
-            environments.now self.old self.new unread.old unread.new result }
+            composer.now self.old self.new unread.old unread.new result }
     {
         match found {
             Found::Decides(decision, freed) => {
-                let so = self.is_so(decision);
+                let so = is_so(decision, composer);
                 // The limit on results is the last that is looked at.
-                let step = self.begin_branch(so, freed, environments, unread)?;
+                let step = self.begin_branch(so, freed, composer, unread)?;
                 if keeps {
                     unread.keep_result(so)?;
                 }
                 Ok(step)
             }
-            _ => self.read_in_arguments(LineState::Deciding { keeps }, found, environments, unread),
+            _ => self.read_in_arguments(LineState::Deciding { keeps }, found, composer, unread),
         }
     }
 
@@ -64,7 +66,7 @@ impl Reader {
     /// its branch or skips it. Whether there was one; else nothing happens.
     #[inline(always)]
     pub(super) fn decides(&mut self, unread: &mut Unread<PageEvent>) -> bool
-        ensures decides { result ≡ true → (es : EnvironmentsOf)
+        ensures decides { result ≡ true → (es : ComposerOf)
             → TakesAs (λ k. escape_ended k self.old.reading unread.old.input)
             es self.old self.new unread.old unread.new (Ok Nothing) }
         ensures unchanged { result ≡ false → (self.new ≡ self.old) × (unread.new ≡ unread.old) }
@@ -81,36 +83,36 @@ impl Reader {
         }
     }
 
-    /// Whether a condition is so that asks this.
-    fn is_so(&self, decision: Decision) -> bool
-        ensures { (k : Known) → k.registers ≡ self.now.registers.all
-            → result ≡ is_so k decision }
-    {
-        match decision {
-            Decision::Is(so) => so,
-            Decision::OnPages(odd) => self.registers.is_page_odd() == odd,
-        }
-    }
-
     /// A condition decided: its branch is read or skipped, and its first byte may be there.
     pub(super) fn begin_branch(
         &mut self,
         so: bool,
         freed: Option<u8>,
-        environments: &Environments,
+        composer: &Composer,
         unread: &mut Unread<PageEvent>,
     ) -> Result<Step, Limit>
         ensures { TakesAs (λ k. decided k unread.old.input so freed)
-            environments.now self.old self.new unread.old unread.new result }
+            composer.now self.old self.new unread.old unread.new result }
     {
         let branch = LineState::branch(so);
         match freed {
             None => Ok(self.read_on(branch)),
             Some(byte) if so => {
-                let found = unread.read_byte(at_start(environments), byte);
-                self.begin_line(branch, found, environments, unread)
+                let found = unread.read_byte(at_start(composer), byte);
+                self.begin_line(branch, found, composer, unread)
             }
             Some(byte) => Ok(self.read_on(LineState::behind_skipped(0, 0, false, byte))),
         }
+    }
+}
+
+/// Whether a condition is so that asks this.
+fn is_so(decision: Decision, composer: &Composer) -> bool
+    ensures { (l : Limits) (h : PageHistory) (rs : AllRegisters) (i : PageInput)
+        → StandFor l h composer.now → result ≡ is_so (known_at h rs i) decision }
+{
+    match decision {
+        Decision::Is(so) => so,
+        Decision::OnPages(odd) => composer.is_page_odd() == odd,
     }
 }

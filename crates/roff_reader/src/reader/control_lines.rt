@@ -4,12 +4,13 @@ ghost use Rattle.std.specs.Prelude.{◌≡◌, None, Ok, IfSome};
 ghost use Rattle.roff_run.specs.Reading.ControlLines.{behind_called};
 ghost use Rattle.roff_run.specs.declared.step.Step.TheVariants.{Nothing};
 ghost use Rattle.roff_reader.specs.ControlFronts.{LeadsTo, LeadsToElse, input_begun};
-ghost use Rattle.roff_reader.specs.Clauses.{EnvironmentsOf, NameOf, TakesAs, behind_name, undropped_taking};
+ghost use Rattle.roff_reader.specs.Clauses.{ComposerOf, NameOf, TakesAs, behind_name};
+ghost use Rattle.roff_reader.specs.Clauses.{undropped_taking};
 ghost use Rattle.roff_reader.specs.Clauses.{line_taking, row_of, name_ended_taking, called_by};
 
 use super::Reader;
 use roff_num::{Limit, ShortName};
-use roff_requests::Environments;
+use roff_requests::Composer;
 use roff_run::{Called, LineReading, LineState, PageEvent, Request, Step, ends_name};
 use roff_scan::{Surroundings, Unread};
 use roff_store::Kind;
@@ -21,18 +22,18 @@ impl Reader {
         breaks: bool,
         first: u8,
         byte: u8,
-        environments: &Environments,
+        composer: &Composer,
         unread: &mut Unread<PageEvent>,
     ) -> Result<Step, Limit>
         ensures { TakesAs (λ k. undropped_taking k (NameOf breaks first) unread.old.input byte)
-            environments.now self.old self.new unread.old unread.new result }
+            composer.now self.old self.new unread.old unread.new result }
     {
         if ends_name(byte) {
             let name = ShortName {
                 first,
                 second: None,
             };
-            return self.read_behind_name(breaks, name, byte, environments, unread);
+            return self.read_behind_name(breaks, name, byte, composer, unread);
         }
         let name = ShortName {
             first,
@@ -48,23 +49,17 @@ impl Reader {
         breaks: bool,
         name: ShortName,
         byte: u8,
-        environments: &Environments,
+        composer: &Composer,
         unread: &mut Unread<PageEvent>,
     ) -> Result<Step, Limit>
         ensures { TakesAs (λ k. name_ended_taking k unread.old.input breaks name byte)
-            environments.now self.old self.new unread.old unread.new result }
+            composer.now self.old self.new unread.old unread.new result }
     {
         match called_by(name, unread) {
-            Called::Request(request) => self.read_first(
-                breaks,
-                request,
-                byte,
-                environments,
-                unread,
-            ),
+            Called::Request(request) => self.read_first(breaks, request, byte, composer, unread),
             Called::Body(name) => {
                 let found = unread.read_byte(Surroundings::Arguments, byte);
-                self.read_call(name, found, environments, unread)
+                self.read_call(name, found, composer, unread)
             }
             Called::Nothing => Ok(self.read_on(LineState::behind_dropped(byte))),
         }
@@ -76,43 +71,40 @@ impl Reader {
         breaks: bool,
         request: Request,
         byte: u8,
-        environments: &Environments,
+        composer: &Composer,
         unread: &mut Unread<PageEvent>,
     ) -> Result<Step, Limit>
         ensures { TakesAs (λ k. line_taking k unread.old.input breaks request
             (row_of request).line byte)
-            environments.now self.old self.new unread.old unread.new result }
+            composer.now self.old self.new unread.old unread.new result }
     {
         match request.row().line {
             LineReading::ByArguments => {
                 let found = unread.read_byte(Surroundings::Arguments, byte);
-                self.read_arguments(breaks, request, found, environments, unread)
+                self.read_arguments(breaks, request, found, composer, unread)
             }
             LineReading::ByCondition { keeps } => self.begin_condition(
-                keeps,
-                byte,
-                environments,
-                unread,
+                keeps, byte, composer, unread,
             ),
             LineReading::ByString { appends } => {
                 let found = unread.read_byte(Surroundings::Arguments, byte);
-                self.read_string_name(appends, found, environments, unread)
+                self.read_string_name(appends, found, composer, unread)
             }
             LineReading::ByLastLine => {
                 let found = unread.read_byte(Surroundings::Arguments, byte);
-                self.read_arguments(breaks, request, found, environments, unread)
+                self.read_arguments(breaks, request, found, composer, unread)
             }
             LineReading::ByMessage { aborts } => {
                 let read = unread.read_byte(Surroundings::Copy, byte);
-                self.read_message(aborts, true, read, environments, unread)
+                self.read_message(aborts, true, read, composer, unread)
             }
             LineReading::ByLines(_) => {
                 let found = unread.read_byte(Surroundings::Arguments, byte);
-                self.read_arguments(breaks, request, found, environments, unread)
+                self.read_arguments(breaks, request, found, composer, unread)
             }
             LineReading::ByElse => {
                 let so = unread.take_result() == Some(false);
-                self.begin_branch(so, Some(byte), environments, unread)
+                self.begin_branch(so, Some(byte), composer, unread)
             }
         }
     }
@@ -124,7 +116,7 @@ impl Reader {
         called: Called,
         unread: &mut Unread<PageEvent>,
     )
-        ensures { (es : EnvironmentsOf)
+        ensures { (es : ComposerOf)
             → TakesAs (λ k. behind_called unread.old.input breaks called)
             es self.old self.new unread.old unread.new (Ok Nothing) }
     {

@@ -1,7 +1,7 @@
 //! Lines by which macros are defined, or that are ignored.
 
 ghost use Rattle.std.specs.Prelude.{◌≡◌, ◌≤◌, ◌++◌, true, length};
-ghost use Rattle.roff_reader.specs.Clauses.{EnvironmentsOf, TakesAs, InputCameTo, arguments_given};
+ghost use Rattle.roff_reader.specs.Clauses.{ComposerOf, TakesAs, InputCameTo, arguments_given};
 ghost use Rattle.roff_reader.specs.Clauses.{string_entered, lines_begun, behind_definition};
 ghost use Rattle.roff_reader.specs.Clauses.{definition_begun, definition_found, definition_grown};
 ghost use Rattle.roff_reader.specs.Clauses.{definition_line, ends_mark, unit_bytes};
@@ -11,7 +11,7 @@ use super::arguments::short_name_at;
 use super::strings::{begin_string, enter_string};
 use arrayvec::ArrayVec;
 use roff_num::{Limit, ShortName};
-use roff_requests::Environments;
+use roff_requests::Composer;
 use roff_run::{DefinitionLine, EndMark, LineState, LinesFor, PageEvent, Step, matched_behind};
 use roff_scan::{CopyUnit, Found, Unread};
 
@@ -22,7 +22,7 @@ impl Reader {
         lines: LinesFor,
         unread: &mut Unread<PageEvent>,
     ) -> Result<Step, Limit>
-        ensures { (es : EnvironmentsOf)
+        ensures { (es : ComposerOf)
             → TakesAs (λ k. lines_begun unread.old.input lines (arguments_given unread.old.input))
             es self.old self.new unread.old unread.new result }
     {
@@ -49,7 +49,7 @@ impl Reader {
         end: Option<ShortName>,
         unread: &mut Unread<PageEvent>,
     ) -> Result<Step, Limit>
-        ensures { (es : EnvironmentsOf)
+        ensures { (es : ComposerOf)
             → TakesAs (λ k. definition_begun unread.old.input name appends end)
             es self.old self.new unread.old unread.new result }
     {
@@ -70,35 +70,19 @@ impl Reader {
         end: Option<ShortName>,
         matched: Option<u8>,
         found: Found,
-        environments: &Environments,
+        composer: &Composer,
         unread: &mut Unread<PageEvent>,
     ) -> Result<Step, Limit>
         ensures { TakesAs (λ k. definition_found k unread.old.input name appends end matched found)
-            environments.now self.old self.new unread.old unread.new result }
+            composer.now self.old self.new unread.old unread.new result }
     {
         match found {
             Found::Unit(unit) => {
-                self.read_unit_of_definition(
-                    name,
-                    appends,
-                    end,
-                    matched,
-                    unit,
-                    environments,
-                    unread,
-                )
+                self.read_unit_of_definition(name, appends, end, matched, unit, composer, unread)
             }
             Found::Escape(byte) => {
                 let unit = CopyUnit::Kept(byte);
-                self.read_unit_of_definition(
-                    name,
-                    appends,
-                    end,
-                    matched,
-                    unit,
-                    environments,
-                    unread,
-                )
+                self.read_unit_of_definition(name, appends, end, matched, unit, composer, unread)
             }
             _ => {
                 let reading = LineState::Defining {
@@ -107,7 +91,7 @@ impl Reader {
                     end,
                     matched,
                 };
-                self.read_in_arguments(reading, found, environments, unread)
+                self.read_in_arguments(reading, found, composer, unread)
             }
         }
     }
@@ -121,11 +105,11 @@ impl Reader {
         end: Option<ShortName>,
         matched: Option<u8>,
         unit: CopyUnit,
-        environments: &Environments,
+        composer: &Composer,
         unread: &mut Unread<PageEvent>,
     ) -> Result<Step, Limit>
         ensures { TakesAs (λ k. definition_line k unread.old.input name appends end matched unit)
-            environments.now self.old self.new unread.old unread.new result }
+            composer.now self.old self.new unread.old unread.new result }
     {
         let defining = |matched| LineState::Defining {
             name,
@@ -137,7 +121,7 @@ impl Reader {
         match mark.line_with(matched, unit) {
             DefinitionLine::MayBeLast(matched) => Ok(self.read_on(defining(Some(matched)))),
             DefinitionLine::IsLast(byte) => {
-                self.end_definition(name, appends, end, byte, environments, unread)
+                self.end_definition(name, appends, end, byte, composer, unread)
             }
             DefinitionLine::IsText => {
                 grow_definition(name, mark.front(matched), unit, unread)?;
@@ -153,16 +137,16 @@ impl Reader {
         appends: bool,
         end: Option<ShortName>,
         byte: u8,
-        environments: &Environments,
+        composer: &Composer,
         unread: &mut Unread<PageEvent>,
     ) -> Result<Step, Limit>
         requires { ends_mark byte ≡ true }
         ensures { TakesAs (λ k. behind_definition k
             (string_entered name appends unread.old.input) end byte)
-            environments.now self.old self.new unread.old unread.new result }
+            composer.now self.old self.new unread.old unread.new result }
     {
         enter_string(name, appends, unread)?;
-        self.read_behind_definition(end, byte, environments, unread)
+        self.read_behind_definition(end, byte, composer, unread)
     }
 
     /// The first byte behind the name on that line: the name is called, if there is one, and else
@@ -171,16 +155,16 @@ impl Reader {
         &mut self,
         end: Option<ShortName>,
         byte: u8,
-        environments: &Environments,
+        composer: &Composer,
         unread: &mut Unread<PageEvent>,
     ) -> Result<Step, Limit>
         ensures { TakesAs (λ k. behind_definition k unread.old.input end byte)
-            environments.now self.old self.new unread.old unread.new result }
+            composer.now self.old self.new unread.old unread.new result }
     {
         match end {
             Some(end) => {
                 unread.begin_line();
-                self.read_behind_name(true, end, byte, environments, unread)
+                self.read_behind_name(true, end, byte, composer, unread)
             }
             None => Ok(self.read_on(LineState::behind_dropped(byte))),
         }

@@ -1,14 +1,15 @@
 //! What stands for something else: names behind escapes, and widths.
 
 ghost use Rattle.std.specs.Prelude.{Ok};
-ghost use Rattle.roff_reader.specs.Clauses.{EnvironmentsOf, PageUnread, TakesAs, asking, going_on, holding_text};
+ghost use Rattle.roff_reader.specs.Clauses.{ComposerOf, PageUnread, TakesAs, asking, going_on};
+ghost use Rattle.roff_reader.specs.Clauses.{holding_text};
 ghost use Rattle.roff_reader.specs.Clauses.{measuring, putting_nothing, telling, putting_string};
 ghost use Rattle.roff_reader.specs.Clauses.{putting_argument};
 
 use super::Reader;
 use itoa::Buffer;
 use roff_num::{Limit, Name};
-use roff_requests::Environments;
+use roff_requests::Composer;
 use roff_run::{LineState, Message, PageEvent, Step};
 use roff_scan::{CopyUnit, NameUse, Remark, Unread};
 
@@ -19,19 +20,19 @@ impl Reader {
         &mut self,
         purpose: NameUse,
         name: Option<Name>,
-        environments: &Environments,
+        composer: &Composer,
         unread: &mut Unread<PageEvent>,
     ) -> Result<Step, Limit>
         ensures { TakesAs (λ k. asking k unread.old.input self.old.reading purpose name)
-            environments.now self.old self.new unread.old unread.new result }
+            composer.now self.old self.new unread.old unread.new result }
     {
         let name = match name {
             None => return Ok(Step::Nothing),
             Some(name) => name,
         };
         match purpose {
-            NameUse::Register(None) => self.put_register(&name, environments, unread),
-            NameUse::Register(step) => self.interpolate(step, &name, environments, unread),
+            NameUse::Register(None) => self.put_register(&name, composer, unread),
+            NameUse::Register(Some(step)) => self.interpolate(step, &name, composer, unread),
             NameUse::Text => self.put_string(&name, unread),
             NameUse::Argument => self.put_argument(&name, unread),
             // Copy mode reads no such name, and text reads it otherwise.
@@ -43,7 +44,7 @@ impl Reader {
 
     /// A string is put in front.
     fn put_string(&self, name: &Name, unread: &mut Unread<PageEvent>) -> Result<Step, Limit>
-        ensures { (es : EnvironmentsOf)
+        ensures { (es : ComposerOf)
             → TakesAs (λ k. putting_string unread.old.input self.now.reading name.now)
             es self.now self.now unread.old unread.new result }
     {
@@ -53,7 +54,7 @@ impl Reader {
 
     /// An argument is put in front.
     fn put_argument(&self, name: &Name, unread: &mut Unread<PageEvent>) -> Result<Step, Limit>
-        ensures { (es : EnvironmentsOf)
+        ensures { (es : ComposerOf)
             → TakesAs (λ k. putting_argument unread.old.input self.now.reading name.now)
             es self.now self.now unread.old unread.new result }
     {
@@ -66,7 +67,8 @@ impl Reader {
 
     /// An empty text is put in front.
     fn put_nothing(&self, unread: &mut Unread<PageEvent>) -> Result<Step, Limit>
-        ensures { (es : EnvironmentsOf) → TakesAs (λ k. putting_nothing unread.old.input self.now.reading)
+        ensures { (es : ComposerOf)
+            → TakesAs (λ k. putting_nothing unread.old.input self.now.reading)
             es self.now self.now unread.old unread.new result }
     {
         unread.push(&[])?;
@@ -80,7 +82,7 @@ impl Reader {
         reading: LineState,
         unread: &mut Unread<PageEvent>,
     ) -> Result<Step, Limit>
-        ensures { (es : EnvironmentsOf)
+        ensures { (es : ComposerOf)
             → TakesAs (λ k. going_on (holding_text unit unread.old.input) reading)
             es self.old self.new unread.old unread.new result }
     {
@@ -95,7 +97,7 @@ impl Reader {
         reading: LineState,
         unread: &mut Unread<PageEvent>,
     ) -> Result<Step, Limit>
-        ensures { (es : EnvironmentsOf)
+        ensures { (es : ComposerOf)
             → TakesAs (λ k. measuring unread.old.input reading width)
             es self.old self.new unread.old unread.new result }
     {
@@ -106,7 +108,7 @@ impl Reader {
     /// This is said of something within a text that is measured or a condition, and this is read
     /// on.
     pub(super) fn tell(&mut self, remark: Remark, reading: LineState) -> Step
-        ensures { (es : EnvironmentsOf) (u : PageUnread)
+        ensures { (es : ComposerOf) (u : PageUnread)
             → TakesAs (λ k. telling u.input reading remark) es self.old self.new u u (Ok result) }
     {
         self.reading = reading;

@@ -9,22 +9,22 @@ ghost use Rattle.roff_reader.specs.Clauses.{known_at};
 use super::Reader;
 use super::places::{at_start, on_line};
 use roff_num::Limit;
-use roff_requests::Environments;
+use roff_requests::Composer;
 use roff_run::{LineState, PageEvent, Step};
 use roff_scan::{Found, Surroundings, Unread};
 
 impl Reader {
     /// How a byte is read above what is read of the line.
-    pub(super) fn place(&self, environments: &Environments) -> Surroundings
+    pub(super) fn place(&self, composer: &Composer) -> Surroundings
         ensures { (l : Limits) (h : PageHistory) (rs : AllRegisters) (i : PageInput)
-            → StandFor l h environments.now
+            → StandFor l h composer.now
             → result ≡ place_in (known_at h rs i) self.now.reading }
     {
         match self.reading {
-            LineState::LineStart => at_start(environments),
-            LineState::Branch => at_start(environments),
-            LineState::Braced => at_start(environments),
-            LineState::Text(line) => on_line(environments, line),
+            LineState::LineStart => at_start(composer),
+            LineState::Branch => at_start(composer),
+            LineState::Braced => at_start(composer),
+            LineState::Text(line) => on_line(composer, line),
             LineState::Arguments { .. } => Surroundings::Arguments,
             LineState::Deciding { .. } => Surroundings::Arguments,
             LineState::StringName { .. } => Surroundings::Arguments,
@@ -49,46 +49,41 @@ impl Reader {
     pub(super) fn read_found(
         &mut self,
         found: Found,
-        environments: &Environments,
+        composer: &Composer,
         unread: &mut Unread<PageEvent>,
     ) -> Result<Step, Limit>
         ensures { TakesAs (λ k. found_in k unread.old.input self.old.reading found)
-            environments.now self.old self.new unread.old unread.new result }
+            composer.now self.old self.new unread.old unread.new result }
     {
         match self.reading {
             LineState::LineStart => {
-                self.begin_line(LineState::LineStart, found, environments, unread)
+                self.begin_line(LineState::LineStart, found, composer, unread)
             }
-            LineState::Branch => self.begin_line(LineState::Branch, found, environments, unread),
-            LineState::Braced => self.begin_line(LineState::Braced, found, environments, unread),
-            LineState::Text(line) => self.read_text(line, found, environments, unread),
+            LineState::Branch => self.begin_line(LineState::Branch, found, composer, unread),
+            LineState::Braced => self.begin_line(LineState::Braced, found, composer, unread),
+            LineState::Text(line) => self.read_text(line, found, composer, unread),
             LineState::Arguments { breaks, request } => {
-                self.read_arguments(breaks, request, found, environments, unread)
+                self.read_arguments(breaks, request, found, composer, unread)
             }
-            LineState::Deciding { keeps } => self.read_condition(
-                keeps,
-                found,
-                environments,
-                unread,
-            ),
+            LineState::Deciding { keeps } => self.read_condition(keeps, found, composer, unread),
             LineState::StringName { appends } => {
-                self.read_string_name(appends, found, environments, unread)
+                self.read_string_name(appends, found, composer, unread)
             }
             LineState::StringText {
                 name,
                 appends,
                 is_front,
-            } => self.read_string(name, appends, is_front, found, environments, unread),
+            } => self.read_string(name, appends, is_front, found, composer, unread),
             LineState::Telling { aborts, is_front } => {
-                self.read_message(aborts, is_front, found, environments, unread)
+                self.read_message(aborts, is_front, found, composer, unread)
             }
-            LineState::Calling { name } => self.read_call(name, found, environments, unread),
+            LineState::Calling { name } => self.read_call(name, found, composer, unread),
             LineState::Defining {
                 name,
                 appends,
                 end,
                 matched,
-            } => self.read_definition(name, appends, end, matched, found, environments, unread),
+            } => self.read_definition(name, appends, end, matched, found, composer, unread),
             _ => Ok(Step::Nothing),
         }
     }

@@ -1,12 +1,12 @@
 //! The texts of messages.
 
 ghost use Rattle.std.specs.Prelude.{false};
-ghost use Rattle.roff_reader.specs.Clauses.{EnvironmentsOf, Telling, TakesAs, going_on, holding_plain};
+ghost use Rattle.roff_reader.specs.Clauses.{ComposerOf, Telling, TakesAs, going_on, holding_plain};
 ghost use Rattle.roff_reader.specs.Clauses.{message_found, message_unit};
 
 use super::Reader;
 use roff_num::Limit;
-use roff_requests::Environments;
+use roff_requests::Composer;
 use roff_run::{LineState, PageEvent, Step};
 use roff_scan::{CopyUnit, Found, Unread};
 
@@ -17,11 +17,11 @@ impl Reader {
         aborts: bool,
         is_front: bool,
         found: Found,
-        environments: &Environments,
+        composer: &Composer,
         unread: &mut Unread<PageEvent>,
     ) -> Result<Step, Limit>
         ensures { TakesAs (λ k. message_found k unread.old.input aborts is_front found)
-            environments.now self.old self.new unread.old unread.new result }
+            composer.now self.old self.new unread.old unread.new result }
     {
         match found {
             Found::Unit(unit) => self.read_unit_of_message(aborts, is_front, unit, unread),
@@ -30,7 +30,7 @@ impl Reader {
             }
             _ => {
                 let reading = LineState::Telling { aborts, is_front };
-                self.read_in_arguments(reading, found, environments, unread)
+                self.read_in_arguments(reading, found, composer, unread)
             }
         }
     }
@@ -43,7 +43,7 @@ impl Reader {
         unit: CopyUnit,
         unread: &mut Unread<PageEvent>,
     ) -> Result<Step, Limit>
-        ensures { (es : EnvironmentsOf)
+        ensures { (es : ComposerOf)
             → TakesAs (λ k. message_unit unread.old.input aborts is_front unit)
             es self.old self.new unread.old unread.new result }
     {
@@ -64,7 +64,7 @@ impl Reader {
         aborts: bool,
         unread: &mut Unread<PageEvent>,
     ) -> Result<Step, Limit>
-        ensures { (es : EnvironmentsOf)
+        ensures { (es : ComposerOf)
             → TakesAs (λ k. going_on (holding_plain unit unread.old.input) (Telling aborts false))
             es self.old self.new unread.old unread.new result }
     {

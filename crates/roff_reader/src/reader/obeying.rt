@@ -15,7 +15,7 @@ ghost use Rattle.roff_run.specs.declared.request.Request.TheVariants.{NumberRegi
 use super::Reader;
 use roff_num::{Limit, Name, Num};
 use roff_requests::{
-    Changes, Effect, Environments, Given, RequestFacts, are_none, effect, name_given, tab_stops,
+    Changes, Composer, Effect, Given, RequestFacts, are_none, effect, name_given, tab_stops,
 };
 use roff_run::{LineState, Message, PageEvent, Request, Step};
 use roff_scan::{ArgumentList, Unread};
@@ -26,14 +26,14 @@ impl Reader {
         &mut self,
         breaks: bool,
         request: Request,
-        environments: &Environments,
+        composer: &Composer,
         unread: &mut Unread<PageEvent>,
     ) -> Result<Step, Limit>
         ensures { TakesAs (λ k. line_ended k unread.old.input breaks request)
-            environments.now self.old self.new unread.old unread.new result }
+            composer.now self.old self.new unread.old unread.new result }
     {
         unread.finish_arguments();
-        let effect = self.effect(breaks, request, environments, unread);
+        let effect = self.effect(breaks, request, composer, unread);
         let step = self.keep(&effect, unread.arguments());
         self.change(&effect.changes, unread)?;
         let behind = LineState::behind_line(request.row().line);
@@ -84,10 +84,10 @@ impl Reader {
         &self,
         breaks: bool,
         request: Request,
-        environments: &Environments,
+        composer: &Composer,
         unread: &Unread<PageEvent>,
     ) -> Effect
-        ensures { (l : Limits) (h : PageHistory) → StandFor l h environments.now
+        ensures { (l : Limits) (h : PageHistory) → StandFor l h composer.now
             → let as_given = reverse unread.now.input.arguments.whole in
             effect_of as_given result
             ≡ request_effect (known_at h self.now.registers.all unread.now.input) breaks request
@@ -100,9 +100,11 @@ impl Reader {
             third: arguments.get(2),
         };
         let known = RequestFacts {
-            settings: environments.in_force.lines.settings(),
-            in_force: self.in_force_for(request, given.first, environments, unread),
-            has_left: environments.has_left(),
+            settings: composer.environments.in_force.lines.settings(),
+            in_force: self.in_force_for(request, given.first, composer, unread),
+            has_left: composer.environments.has_left(),
+            place: composer.pages.place_now(),
+            page_length: composer.pages.length(),
         };
         effect(request, breaks, known, given)
     }
@@ -112,16 +114,16 @@ impl Reader {
         &self,
         request: Request,
         first: Option<&[u8]>,
-        environments: &Environments,
+        composer: &Composer,
         unread: &Unread<PageEvent>,
     ) -> Num
         ensures { (l : Limits) (h : PageHistory) (as_given : List (List ℕ))
-            → StandFor l h environments.now → option_copied first.entry ≡ slice_get as_given 0
+            → StandFor l h composer.now → option_copied first.entry ≡ slice_get as_given 0
             → request ≡ NumberRegister → IfSome (register_named as_given) (λ name. result
             ≡ value_in_force (known_at h self.now.registers.all unread.now.input) name) }
     {
         match request {
-            Request::NumberRegister => self.in_force(first, environments, unread),
+            Request::NumberRegister => self.in_force(first, composer, unread),
             _ => Num(0),
         }
     }

@@ -5,7 +5,7 @@ ghost use Rattle.roff_num.specs.declared.limits.Limits.{Limits};
 ghost use Rattle.roff_reader.specs.Clauses.{AllRegisters, PageHistory, PageInput, StandFor, at_start};
 ghost use Rattle.roff_reader.specs.Clauses.{known_at, on_line};
 
-use roff_requests::Environments;
+use roff_requests::Composer;
 use roff_run::TextLine;
 use roff_scan::Surroundings;
 
@@ -16,21 +16,22 @@ const COLUMN: u64 = 24;
 const GREATEST_PLACE: u64 = 2_147_483_647;
 
 /// How the first byte of a line is read.
-pub(super) fn at_start(environments: &Environments) -> Surroundings
+pub(super) fn at_start(composer: &Composer) -> Surroundings
     ensures { (l : Limits) (h : PageHistory) (rs : AllRegisters) (i : PageInput)
-        → StandFor l h environments.now → result ≡ at_start (known_at h rs i) }
+        → StandFor l h composer.now → result ≡ at_start (known_at h rs i) }
 {
     on_line(
-        environments,
-        TextLine::begun_as(environments.interrupted_line()),
+        composer,
+        TextLine::begun_as(composer.environments.interrupted_line()),
     )
 }
 
 /// How the bytes of a text line are read.
-pub(super) fn on_line(environments: &Environments, line: TextLine) -> Surroundings
+pub(super) fn on_line(composer: &Composer, line: TextLine) -> Surroundings
     ensures { (l : Limits) (h : PageHistory) (rs : AllRegisters) (i : PageInput)
-        → StandFor l h environments.now → result ≡ on_line (known_at h rs i) line }
+        → StandFor l h composer.now → result ≡ on_line (known_at h rs i) line }
 {
-    let columns = u64::from(environments.in_force.lines.input_place()) + u64::from(line.leading);
+    let place = composer.environments.in_force.lines.input_place();
+    let columns = u64::from(place) + u64::from(line.leading);
     Surroundings::Text((columns * COLUMN).min(GREATEST_PLACE) as i32)
 }

@@ -1,47 +1,64 @@
 //! Number registers: their values and texts, and those that go.
 
-ghost use Rattle.std.specs.Prelude.{◌≡◌, ℕ, List, None, IfSome, slice_get};
-ghost use Rattle.std.specs.Option.{option_copied};
+ghost use Rattle.std.specs.Prelude.{◌≡◌, ℕ, List, None, Some, IfSome, slice_get};
+ghost use Rattle.std.specs.Option.{option_copied, option_to_list};
 ghost use Rattle.roff_num.specs.declared.limits.Limits.{Limits};
 ghost use Rattle.roff_reader.specs.Clauses.{AllRegisters, PageHistory, Remove, StandFor, TakesAs};
-ghost use Rattle.roff_reader.specs.Clauses.{changed_by, interpolating, known_at, known_of, listed};
+ghost use Rattle.roff_reader.specs.Clauses.{changed_by, interpolating, known_at, AreOf, listed};
+ghost use Rattle.roff_run.specs.Events.Steps.{events_of, messages_of};
+ghost use Rattle.roff_run.specs.Requests.Effects.{page_numbered};
 ghost use Rattle.roff_reader.specs.Clauses.{names_given, register_named, value_in_force};
 
 use super::Reader;
 use roff_num::{Direction, Limit, Name, Num};
-use roff_requests::{Environments, Facts, name_given, register_named};
-use roff_run::{PageEvent, Step};
+use roff_requests::{Composer, Facts, name_given, register_named};
+use roff_run::{LineEvents, Message, PageEvent, Step};
 use roff_scan::{ArgumentList, Unread};
 
 impl Reader {
-    /// A register is read in the place of its escape: its text is put in front.
+    /// A register is stepped, and then read in the place of its escape: its text is put in front.
     pub(super) fn interpolate(
         &mut self,
-        step: Option<Direction>,
+        step: Direction,
         name: &Name,
-        environments: &Environments,
+        composer: &Composer,
         unread: &mut Unread<PageEvent>,
     ) -> Result<Step, Limit>
-        ensures { TakesAs (λ k. interpolating k unread.old.input self.old.reading step name.now)
-            environments.now self.old self.new unread.old unread.new result }
+        ensures { TakesAs
+            (λ k. interpolating k unread.old.input self.old.reading (Some step) name.now)
+            composer.now self.old self.new unread.old unread.new result }
     {
-        let facts = facts(environments, unread);
+        let facts = facts(composer, unread);
         let given = self.registers.interpolate(step, name, facts);
         unread.push(&given.text)?;
-        Ok(self.say(given.message))
+        match given.number {
+            None => Ok(self.say(given.message)),
+            Some(number) => Ok(self.number_page(given.message, number)),
+        }
+    }
+
+    /// The page gets a number, and a message is reported, if there is one.
+    fn number_page(&mut self, message: Option<Message>, number: Num) -> Step
+        ensures says { messages_of self.new.meaning.message result ≡ option_to_list message }
+        ensures numbers { events_of self.new.meaning.events result ≡ page_numbered (Some number) }
+        ensures others { self.new ≡ record self.old { meaning = self.new.meaning } }
+    {
+        self.meaning
+            .keep_line(message, false, LineEvents::Number(number));
+        Step::Meaning
     }
 
     /// The text of a register that isn't stepped is put in front.
     pub(super) fn put_register(
         &self,
         name: &Name,
-        environments: &Environments,
+        composer: &Composer,
         unread: &mut Unread<PageEvent>,
     ) -> Result<Step, Limit>
         ensures { TakesAs (λ k. interpolating k unread.old.input self.now.reading None name.now)
-            environments.now self.now self.now unread.old unread.new result }
+            composer.now self.now self.now unread.old unread.new result }
     {
-        let text = self.registers.text(name, facts(environments, unread));
+        let text = self.registers.text(name, facts(composer, unread));
         unread.push(&text)?;
         Ok(Step::Nothing)
     }
@@ -50,37 +67,22 @@ impl Reader {
     pub(super) fn in_force(
         &self,
         first: Option<&[u8]>,
-        environments: &Environments,
+        composer: &Composer,
         unread: &Unread<PageEvent>,
     ) -> Num
         ensures { (l : Limits) (h : PageHistory) (as_given : List (List ℕ))
-            → StandFor l h environments.now → option_copied first.entry ≡ slice_get as_given 0
+            → StandFor l h composer.now → option_copied first.entry ≡ slice_get as_given 0
             → IfSome (register_named as_given) (λ name. result
             ≡ value_in_force (known_at h self.now.registers.all unread.now.input) name) }
     {
         match register_named(first) {
-            Some(name) => self.value_in_force(&name, environments, unread),
+            Some(name) => match self.registers.set_value(&name) {
+                Some(value) => value,
+                None => self
+                    .registers
+                    .value_in_force(&name, facts(composer, unread)),
+            },
             None => Num(0),
-        }
-    }
-
-    /// The value in force under a name: what is known of the run is looked up for a read-only
-    /// register alone.
-    fn value_in_force(
-        &self,
-        name: &Name,
-        environments: &Environments,
-        unread: &Unread<PageEvent>,
-    ) -> Num
-        ensures { (l : Limits) (h : PageHistory) → StandFor l h environments.now → result
-            ≡ value_in_force (known_at h self.now.registers.all unread.now.input) name.now }
-    {
-        match self.registers.set_value(name) {
-            Some(value) => value,
-            None => {
-                let facts = facts(environments, unread);
-                self.registers.value_in_force(name, facts)
-            }
         }
     }
 
@@ -103,18 +105,13 @@ impl Reader {
 }
 
 /// What is known of the run beside its registers.
-pub(super) fn facts(environments: &Environments, unread: &Unread<PageEvent>) -> Facts
-    ensures { (l : Limits) (h : PageHistory) (all : AllRegisters) → StandFor l h environments.now
-        → known_of result all ≡ known_at h all unread.now.input }
+pub(super) fn facts<'a>(composer: &'a Composer, unread: &Unread<PageEvent>) -> Facts<'a>
+    ensures { (l : Limits) (h : PageHistory) (all : AllRegisters) → StandFor l h composer.now
+        → AreOf (known_at h all unread.now.input) result }
 {
-    let lines = &environments.in_force.lines;
     Facts {
-        settings: lines.settings(),
+        composer,
         newlines: unread.newlines(),
-        last_width: lines.last_width(),
         arguments: unread.argument_count(),
-        place: lines.input_place(),
-        interrupted: environments.interrupted_line(),
-        has_left: environments.has_left(),
     }
 }

@@ -4,7 +4,8 @@ ghost use Rattle.std.specs.Prelude.{◌≡◌, ◌≢◌, length, Some};
 ghost use Rattle.roff_reader.specs.FirstUnits.{first_text};
 ghost use Rattle.roff_arguments.specs.declared.arguments.Place.TheVariants.{BehindQuote};
 ghost use Rattle.roff_escape.specs.declared.open_escape.CopyUnit.TheVariants.{Byte};
-ghost use Rattle.roff_reader.specs.Clauses.{EnvironmentsOf, TakesAs, InputCameTo, arguments_given, name_read};
+ghost use Rattle.roff_reader.specs.Clauses.{ComposerOf, TakesAs, InputCameTo, arguments_given};
+ghost use Rattle.roff_reader.specs.Clauses.{name_read};
 ghost use Rattle.roff_reader.specs.Clauses.{string_emptied, string_line_ended, string_name_behind};
 ghost use Rattle.roff_reader.specs.Clauses.{string_name_found, string_name_or_text, string_name_unit};
 ghost use Rattle.roff_reader.specs.Clauses.{name_at as name_given_at};
@@ -13,7 +14,7 @@ use super::Reader;
 use super::arguments::first_name;
 use super::strings::begin_string;
 use roff_num::{Limit, ShortName};
-use roff_requests::Environments;
+use roff_requests::Composer;
 use roff_run::{LineState, PageEvent, Step};
 use roff_scan::{CopyUnit, Found, Unread};
 use roff_store::{Entry, Kind};
@@ -24,11 +25,11 @@ impl Reader {
         &mut self,
         appends: bool,
         found: Found,
-        environments: &Environments,
+        composer: &Composer,
         unread: &mut Unread<PageEvent>,
     ) -> Result<Step, Limit>
         ensures { TakesAs (λ k. string_name_found k unread.old.input appends found)
-            environments.now self.old self.new unread.old unread.new result }
+            composer.now self.old self.new unread.old unread.new result }
     {
         match found {
             Found::Unit(unit) => self.read_unit_of_string_name(appends, unit, unread),
@@ -37,12 +38,7 @@ impl Reader {
             }
             _ => {
                 unread.settle();
-                self.read_in_arguments(
-                    LineState::StringName { appends },
-                    found,
-                    environments,
-                    unread,
-                )
+                self.read_in_arguments(LineState::StringName { appends }, found, composer, unread)
             }
         }
     }
@@ -54,7 +50,7 @@ impl Reader {
         unit: CopyUnit,
         unread: &mut Unread<PageEvent>,
     ) -> Result<Step, Limit>
-        ensures { (es : EnvironmentsOf)
+        ensures { (es : ComposerOf)
             → TakesAs (λ k. string_name_unit unread.old.input appends unit)
             es self.old self.new unread.old unread.new result }
     {
@@ -77,7 +73,7 @@ impl Reader {
     ) -> Result<Step, Limit>
         requires line_goes_on { unit ≢ Byte 10 }
         requires apart { unit ≢ Byte 34 → unread.old.input.arguments.place ≢ BehindQuote }
-        ensures { (es : EnvironmentsOf)
+        ensures { (es : ComposerOf)
             → TakesAs (λ k. string_name_or_text unread.old.input appends unit
             (name_read unread.old.input))
             es self.old self.new unread.old unread.new result }
@@ -104,7 +100,7 @@ impl Reader {
         appends: bool,
         unread: &mut Unread<PageEvent>,
     ) -> Result<Step, Limit>
-        ensures { (es : EnvironmentsOf)
+        ensures { (es : ComposerOf)
             → TakesAs (λ k. string_name_behind unread.old.input appends
             (name_read unread.old.input))
             es self.old self.new unread.old unread.new result }
@@ -128,7 +124,7 @@ impl Reader {
         appends: bool,
         unread: &mut Unread<PageEvent>,
     ) -> Result<Step, Limit>
-        ensures { (es : EnvironmentsOf)
+        ensures { (es : ComposerOf)
             → TakesAs (λ k. string_line_ended unread.old.input appends
             (name_given_at 0 (arguments_given unread.old.input)))
             es self.old self.new unread.old unread.new result }

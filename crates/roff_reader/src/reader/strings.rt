@@ -1,11 +1,12 @@
 //! The texts of strings that are defined.
 
-ghost use Rattle.roff_reader.specs.Clauses.{EnvironmentsOf, TakesAs, InputCameTo, string_begun, string_entered};
+ghost use Rattle.roff_reader.specs.Clauses.{ComposerOf, TakesAs, InputCameTo, string_begun};
+ghost use Rattle.roff_reader.specs.Clauses.{string_entered};
 ghost use Rattle.roff_reader.specs.Clauses.{string_grown, string_text_found, string_unit};
 
 use super::Reader;
 use roff_num::{Limit, ShortName};
-use roff_requests::Environments;
+use roff_requests::Composer;
 use roff_run::{LineState, PageEvent, Step};
 use roff_scan::{CopyUnit, Found, Unread};
 
@@ -17,11 +18,11 @@ impl Reader {
         appends: bool,
         is_front: bool,
         found: Found,
-        environments: &Environments,
+        composer: &Composer,
         unread: &mut Unread<PageEvent>,
     ) -> Result<Step, Limit>
         ensures { TakesAs (λ k. string_text_found k unread.old.input name appends is_front found)
-            environments.now self.old self.new unread.old unread.new result }
+            composer.now self.old self.new unread.old unread.new result }
     {
         match found {
             Found::Unit(unit) => self.read_unit_of_string(name, appends, is_front, unit, unread),
@@ -34,7 +35,7 @@ impl Reader {
                     appends,
                     is_front,
                 };
-                self.read_in_arguments(reading, found, environments, unread)
+                self.read_in_arguments(reading, found, composer, unread)
             }
         }
     }
@@ -49,7 +50,7 @@ impl Reader {
         unit: CopyUnit,
         unread: &mut Unread<PageEvent>,
     ) -> Result<Step, Limit>
-        ensures { (es : EnvironmentsOf)
+        ensures { (es : ComposerOf)
             → TakesAs (λ k. string_unit unread.old.input name appends is_front unit)
             es self.old self.new unread.old unread.new result }
     {

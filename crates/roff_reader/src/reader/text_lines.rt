@@ -8,13 +8,14 @@ ghost use Rattle.roff_run.specs.Reading.Items.{behind_events};
 ghost use Rattle.roff_run.specs.Reading.TextLines.{text_taking};
 ghost use Rattle.roff_run.specs.Registers.{Known};
 ghost use Rattle.roff_source.specs.Bytes.{newline};
-ghost use Rattle.roff_reader.specs.Clauses.{EnvironmentsOf, PageUnread, TakesAs, beginning_found, first_escape, first_name};
+ghost use Rattle.roff_reader.specs.Clauses.{ComposerOf, PageUnread, TakesAs, beginning_found};
+ghost use Rattle.roff_reader.specs.Clauses.{first_escape, first_name};
 ghost use Rattle.roff_reader.specs.Clauses.{PageInput, first_taking, going_on, going_on_told, line_begun};
 ghost use Rattle.roff_reader.specs.Clauses.{name_taking, text_found};
 
 use super::Reader;
 use roff_num::{Limit, Name};
-use roff_requests::Environments;
+use roff_requests::Composer;
 use roff_run::{LineEvents, LineState, PageEvent, Step, TextLine, TextStep};
 use roff_scan::{CopyUnit, Found, NameUse, Unread};
 
@@ -24,20 +25,20 @@ impl Reader {
         &mut self,
         at: LineState,
         found: Found,
-        environments: &Environments,
+        composer: &Composer,
         unread: &mut Unread<PageEvent>,
     ) -> Result<Step, Limit>
         ensures { TakesAs (λ k. beginning_found k unread.old.input at found)
-            environments.now self.old self.new unread.old unread.new result }
+            composer.now self.old self.new unread.old unread.new result }
     {
         match found {
             Found::GoesOn => Ok(self.read_on(at)),
-            Found::Unit(CopyUnit::Byte(byte)) => Ok(self.begin_with(at, byte, environments)),
-            Found::Unit(CopyUnit::Kept(byte)) => Ok(self.begin_with_escape(at, byte, environments)),
-            Found::Escape(byte) => Ok(self.begin_with_escape(at, byte, environments)),
+            Found::Unit(CopyUnit::Byte(byte)) => Ok(self.begin_with(at, byte, composer)),
+            Found::Unit(CopyUnit::Kept(byte)) => Ok(self.begin_with_escape(at, byte, composer)),
+            Found::Escape(byte) => Ok(self.begin_with_escape(at, byte, composer)),
             Found::Holds(unit) => self.hold_text(unit, at, unread),
             Found::Motion(columns, remark) => {
-                let interrupted = environments.interrupted_line();
+                let interrupted = composer.environments.interrupted_line();
                 let step = TextLine::begun_as(interrupted).motion(columns, remark);
                 Ok(self.begin_text(step, interrupted))
             }
@@ -45,7 +46,7 @@ impl Reader {
             Found::Tells(remark) => Ok(self.tell(remark, at)),
             Found::Asks(purpose, name) => {
                 self.reading = at;
-                self.begin_with_name(purpose, name, environments, unread)
+                self.begin_with_name(purpose, name, composer, unread)
             }
             Found::Decides(..) => Ok(self.read_on(at)),
         }
@@ -53,34 +54,29 @@ impl Reader {
 
     /// A byte where a line begins, or a branch, or its rest behind its brace.
     #[inline(always)]
-    pub(super) fn begin_with(
-        &mut self,
-        at: LineState,
-        byte: u8,
-        environments: &Environments,
-    ) -> Step
+    pub(super) fn begin_with(&mut self, at: LineState, byte: u8, composer: &Composer) -> Step
         ensures { (u : PageUnread) → TakesAs (λ k. first_taking k u.input at byte)
-            environments.now self.old self.new u u (Ok result) }
+            composer.now self.old self.new u u (Ok result) }
     {
         match (at, byte) {
             (LineState::Branch, b' ') => self.read_on(LineState::Branch),
             (LineState::Braced, b' ') => self.read_on(LineState::Braced),
             (LineState::Braced, b'\n') => self.read_on(LineState::LineStart),
-            (_, _) => self.begin_with_any(byte, environments),
+            (_, _) => self.begin_with_any(byte, composer),
         }
     }
 
     /// The first byte of a line: a dot or an apostrophe begins a control line, another a text line.
     #[inline(always)]
-    fn begin_with_any(&mut self, byte: u8, environments: &Environments) -> Step
+    fn begin_with_any(&mut self, byte: u8, composer: &Composer) -> Step
         ensures { (u : PageUnread) → TakesAs (λ k. line_begun k u.input byte)
-            environments.now self.old self.new u u (Ok result) }
+            composer.now self.old self.new u u (Ok result) }
     {
         match byte {
             b'.' => self.read_on(LineState::Control { breaks: true }),
             b'\'' => self.read_on(LineState::Control { breaks: false }),
             _ => {
-                match environments.interrupted_line() {
+                match composer.environments.interrupted_line() {
                     None => self.step_on(TextLine::new().taking(byte)),
                     Some(line) => self.go_on_with(line, byte),
                 }
@@ -89,9 +85,9 @@ impl Reader {
     }
 
     /// An escape where a line begins, or a branch, or its rest behind its brace.
-    fn begin_with_escape(&mut self, at: LineState, byte: u8, environments: &Environments) -> Step
+    fn begin_with_escape(&mut self, at: LineState, byte: u8, composer: &Composer) -> Step
         ensures { (u : PageUnread) → TakesAs (λ k. first_escape k u.input at byte)
-            environments.now self.old self.new u u (Ok result) }
+            composer.now self.old self.new u u (Ok result) }
     {
         if byte == b'\n' {
             return self.read_on(behind_newline(at));
@@ -99,7 +95,7 @@ impl Reader {
         match (at, byte) {
             (LineState::Branch, b'{') => self.read_on(LineState::Braced),
             (_, _) => {
-                let interrupted = environments.interrupted_line();
+                let interrupted = composer.environments.interrupted_line();
                 let step = TextLine::begun_as(interrupted).escape(byte);
                 self.begin_text(step, interrupted)
             }
@@ -111,11 +107,11 @@ impl Reader {
         &mut self,
         line: TextLine,
         found: Found,
-        environments: &Environments,
+        composer: &Composer,
         unread: &mut Unread<PageEvent>,
     ) -> Result<Step, Limit>
         ensures { TakesAs (λ k. text_found k unread.old.input line found)
-            environments.now self.old self.new unread.old unread.new result }
+            composer.now self.old self.new unread.old unread.new result }
     {
         match found {
             Found::GoesOn => Ok(self.read_on(LineState::Text(line))),
@@ -129,7 +125,7 @@ impl Reader {
             Found::Tells(remark) => Ok(self.tell(remark, LineState::Text(line))),
             Found::Asks(purpose, name) => {
                 self.reading = LineState::Text(line);
-                self.read_name(line, purpose, name, environments, unread)
+                self.read_name(line, purpose, name, composer, unread)
             }
             Found::Decides(..) => Ok(self.read_on(LineState::Text(line))),
         }
@@ -141,21 +137,21 @@ impl Reader {
         &mut self,
         purpose: NameUse,
         name: Option<Name>,
-        environments: &Environments,
+        composer: &Composer,
         unread: &mut Unread<PageEvent>,
     ) -> Result<Step, Limit>
         ensures { TakesAs (λ k. first_name k unread.old.input self.old.reading purpose name)
-            environments.now self.old self.new unread.old unread.new result }
+            composer.now self.old self.new unread.old unread.new result }
     {
-        let interrupted = environments.interrupted_line();
+        let interrupted = composer.environments.interrupted_line();
         let line = TextLine::begun_as(interrupted);
         match purpose {
             NameUse::Character => Ok(self.begin_text(line.character(name), interrupted)),
             NameUse::Font => Ok(self.begin_text(line.other(), interrupted)),
             NameUse::LeftOut(byte) => Ok(self.begin_text(line.left_out(byte), interrupted)),
-            NameUse::Register(_) => self.ask(purpose, name, environments, unread),
-            NameUse::Text => self.ask(purpose, name, environments, unread),
-            NameUse::Argument => self.ask(purpose, name, environments, unread),
+            NameUse::Register(_) => self.ask(purpose, name, composer, unread),
+            NameUse::Text => self.ask(purpose, name, composer, unread),
+            NameUse::Argument => self.ask(purpose, name, composer, unread),
         }
     }
 
@@ -165,19 +161,19 @@ impl Reader {
         line: TextLine,
         purpose: NameUse,
         name: Option<Name>,
-        environments: &Environments,
+        composer: &Composer,
         unread: &mut Unread<PageEvent>,
     ) -> Result<Step, Limit>
         ensures { TakesAs (λ k. name_taking k unread.old.input self.old.reading line purpose name)
-            environments.now self.old self.new unread.old unread.new result }
+            composer.now self.old self.new unread.old unread.new result }
     {
         match purpose {
             NameUse::Character => Ok(self.step(line.character(name))),
             NameUse::Font => Ok(self.step(line.other())),
             NameUse::LeftOut(byte) => Ok(self.step(line.left_out(byte))),
-            NameUse::Register(_) => self.ask(purpose, name, environments, unread),
-            NameUse::Text => self.ask(purpose, name, environments, unread),
-            NameUse::Argument => self.ask(purpose, name, environments, unread),
+            NameUse::Register(_) => self.ask(purpose, name, composer, unread),
+            NameUse::Text => self.ask(purpose, name, composer, unread),
+            NameUse::Argument => self.ask(purpose, name, composer, unread),
         }
     }
 
@@ -194,7 +190,7 @@ impl Reader {
     /// The first byte of a text line with which an interrupted one goes on.
     #[inline(never)]
     fn go_on_with(&mut self, line: TextLine, byte: u8) -> Step
-        ensures { (es : EnvironmentsOf) (u : PageUnread)
+        ensures { (es : ComposerOf) (u : PageUnread)
             → TakesAs (λ k. behind_events (going_on_told (Some line)) (text_taking u.input line byte))
             es self.old self.new u u (Ok result) }
     {

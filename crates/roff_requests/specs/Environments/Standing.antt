@@ -2,7 +2,7 @@
 use Rattle.std.specs.Prelude.{◌≡◌, ℕ}
 use Rattle.roff_lines.specs.Env.Stands.{Stands}
 use Rattle.roff_num.specs.declared.limits.Limits.{Limits}
-use Rattle.roff_run.specs.Environments.{PageHistory, InEnvironment, Environments, environments}
+use Rattle.roff_run.specs.Environments.{InEnvironment, Environments}
 use Rattle.roff_requests.specs.declared.environments.Environment.{Environment as EnvironmentOf}
 use Rattle.roff_requests.specs.declared.environments.Environments.{Environments as EnvironmentsOf}
 
@@ -20,10 +20,6 @@ pub record StandBy (l : Limits) (es : Environments) (coded : EnvironmentsOf) : T
   pub last : StandsAs l.line es.last coded.last
   pub left : coded.left.numbers ≡ es.left
   pub cap : coded.left.cap ≡ l.environments
-
--- they stand for those behind a history
-abbrev pub StandFor : Limits → PageHistory → EnvironmentsOf → Type 0
-StandFor l h coded = StandBy l (environments h) coded
 
 -- those of the code became others: whatever the old ones stand for, the new ones stand for that changed so
 pub record Becomes (change : Environments → Environments) (old new : EnvironmentsOf) : Type 0 where

@@ -13,6 +13,8 @@ use Rattle.roff_requests.specs.declared.requests.effects.Response.TheVariants.{I
 use Rattle.roff_requests.specs.declared.requests.effects.Effect.{Effect as CodedEffect}
 use Rattle.roff_requests.specs.declared.requests.effects.RequestFacts.{RequestFacts}
 use Rattle.roff_requests.specs.Events.{request_events, stops_set}
+use Rattle.roff_pages.specs.Pages.Counted.{counted}
+use Rattle.roff_pages.specs.Queries.{place_now}
 use Rattle.roff_run.specs.Registers.{Known, Change, Remove, value_in_force}
 use Rattle.roff_requests.specs.Registers.Coded.{change_of}
 use Rattle.roff_store.specs.TextCalls.{Call, Rename}
@@ -40,11 +42,13 @@ abbrev pub name_in : Option (List ℕ) → Option (List ℕ)
 name_in None = None
 name_in (Some text) = name_of (name_given text)
 
--- The code knows what a request asks for: the settings, and the value of the register that the first argument names,
--- which one request alone asks for.
+-- The code knows what a request asks for: the settings, the place and the page length, and the value of the register that the
+-- first argument names, which one request alone asks for.
 pub record KnowsOf (k : Known) (request : Request) (as_given : List (List ℕ)) (known : RequestFacts) : Type 0 where
   pub settings : known.settings ≡ k.settings
   pub has_left : known.has_left ≡ k.has_left
+  pub place : known.place ≡ counted (place_now k.layout)
+  pub page_length : known.page_length ≡ k.layout.length
   pub in_force : request ≡ NumberRegister → IfSome (register_named as_given) (λ name. known.in_force ≡ value_in_force k name)
 
 -- the changes of registers that a request makes, given these arguments

@@ -1,10 +1,11 @@
 //! The read-only registers, as in the manual's lists of registers before section 1.
 
-ghost use Rattle.std.specs.Prelude.{◌≡◌, ◌≤◌, bytes_eq, find, min};
+ghost use Rattle.std.specs.Prelude.{◌≡◌, bytes_eq, find};
 ghost use Rattle.std.specs.Option.{option_copied};
-ghost use Rattle.roff_run.specs.Registers.{AllRegisters, answer, greatest_number, in_units, is_read_only, query_of};
+ghost use Rattle.roff_run.specs.Registers.{Known, answer, at_greatest, in_heights, in_units};
+ghost use Rattle.roff_run.specs.Registers.{is_read_only, query_of};
 ghost use Rattle.roff_requests.specs.Registers.ReadOnly.{begins_read_only};
-ghost use Rattle.roff_requests.specs.Registers.Coded.{known_of};
+ghost use Rattle.roff_requests.specs.Registers.Coded.{AreOf};
 
 use super::Facts;
 use roff_num::Name;
@@ -33,10 +34,10 @@ static READ_ONLY: [ReadOnly; 17] = [
     ReadOnly { name: *b".$", query: Query::Arguments },
     ReadOnly { name: *b".d", query: Query::Later },
     ReadOnly { name: *b".o", query: Query::Later },
-    ReadOnly { name: *b".p", query: Query::Later },
-    ReadOnly { name: *b".t", query: Query::Later },
+    ReadOnly { name: *b".p", query: Query::PageLength },
+    ReadOnly { name: *b".t", query: Query::WayToTrap },
     ReadOnly { name: *b".z", query: Query::Later },
-    ReadOnly { name: *b"nl", query: Query::Later },
+    ReadOnly { name: *b"nl", query: Query::PagePlace },
     ReadOnly { name: *b"dn", query: Query::Later },
     ReadOnly { name: *b"dl", query: Query::Later },
 ];
@@ -46,6 +47,9 @@ const GREATEST_NUMBER: u64 = 2147483647;
 
 /// The basic units of a column.
 const COLUMN: u64 = 24;
+
+/// The basic units of a line.
+const LINE: u64 = 40;
 
 /// What a read-only register asks for, if a name is one's.
 pub(super) fn query_of(name: &Name) -> Option<Query>
@@ -81,32 +85,53 @@ fn begins_read_only(name: &[u8]) -> bool
     }
 }
 
-impl Facts {
+impl Facts<'_> {
     /// What a read-only register asks for, in basic units where it is a length.
-    pub(super) fn answer(self, query: Query) -> u32
-        ensures value { (all : AllRegisters) →
-            result ≡ min (answer (known_of self all) query) greatest_number }
-        ensures within { result ≤ GREATEST_NUMBER }
+    #[tactic(auto, using(crate::proofs::Heights::told_counted))]
+    pub(super) fn answer(self, query: Query) -> i32
+        ensures { (k : Known) → AreOf k self.entry → result ≡ answer k query }
     {
-        let settings = self.settings;
-        let answer = match query {
-            Query::Newlines => u64::from(self.newlines),
-            Query::Indent => in_units(u64::from(settings.indent)),
-            Query::LineLength => in_units(u64::from(settings.line_length)),
-            Query::LastWidth => in_units(u64::from(self.last_width)),
-            Query::Filling => u64::from(settings.filling),
-            Query::LineSpacing => 40,
-            Query::ColumnWidth => COLUMN,
-            Query::Arguments => self.arguments as u64,
+        let lines = &self.composer.environments.in_force.lines;
+        match query {
+            Query::Newlines => at_greatest(u64::from(self.newlines)),
+            Query::Indent => columns_told(lines.settings().indent),
+            Query::LineLength => columns_told(lines.settings().line_length),
+            Query::LastWidth => columns_told(lines.last_width()),
+            Query::Filling => i32::from(lines.settings().filling),
+            Query::LineSpacing => LINE as i32,
+            Query::ColumnWidth => COLUMN as i32,
+            Query::Arguments => at_greatest(self.arguments as u64),
+            Query::PagePlace => match self.composer.pages.nl() {
+                Some(place) => lines_told(place),
+                None => -1,
+            },
+            Query::PageLength => lines_told(u64::from(self.composer.pages.length())),
+            Query::WayToTrap => match self.composer.pages.way_to_trap() {
+                Some(way) => lines_told(way),
+                None => GREATEST_NUMBER as i32,
+            },
             Query::Later => 0,
-        };
-        answer.min(GREATEST_NUMBER) as u32
+        }
     }
 }
 
-/// A width in columns, in basic units; one that is too great is as great as can be.
-fn in_units(columns: u64) -> u64
-    ensures { result ≡ min (in_units columns) u64.MAX }
+/// A width in columns, in basic units.
+fn columns_told(columns: u32) -> i32
+    ensures { result ≡ at_greatest (in_units columns) }
 {
-    columns.saturating_mul(COLUMN)
+    at_greatest(u64::from(columns) * COLUMN)
+}
+
+/// A height in lines, in basic units.
+fn lines_told(lines: u64) -> i32
+    ensures { result ≡ at_greatest (in_heights lines) }
+{
+    at_greatest(lines.saturating_mul(LINE))
+}
+
+/// A count; one above the greatest number reads as that.
+fn at_greatest(count: u64) -> i32
+    ensures { result ≡ at_greatest count }
+{
+    count.min(GREATEST_NUMBER) as i32
 }

@@ -2,11 +2,15 @@
 
 ghost use Rattle.std.specs.Prelude.{◌≡◌, ℕ, List, []};
 ghost use Rattle.std.specs.Option.{option_to_list};
+ghost use Rattle.roff_pages.specs.Pages.Counted.{counted};
+ghost use Rattle.roff_pages.specs.Queries.{place_now};
+ghost use Rattle.roff_run.specs.Registers.{Known, place_down};
 ghost use Rattle.roff_requests.specs.Events.{request_events};
 ghost use Rattle.roff_requests.specs.Request.Coded.{calls_of, changes_of, response_of, effect_of};
 ghost use Rattle.roff_run.specs.Requests.Effects.{Obeyed, Ignored, bad_format, bad_number, happens, left_out, meant_by, no_such_environment, nothing, setting};
 
 use crate::events::RequestEvents;
+use crate::number::LINE;
 use crate::registers::Change;
 use roff_lines::{Event, Param, Settings};
 use roff_num::{Name, Num};
@@ -22,6 +26,25 @@ pub struct RequestFacts {
     pub in_force: Num,
     /// Whether an environment was left that may be gone back to.
     pub has_left: bool,
+    /// The place where text goes, in lines.
+    pub place: u64,
+    /// The page length, in lines.
+    pub page_length: u32,
+}
+
+/// A place above this reads as this, in basic units.
+const GREATEST_PLACE: u64 = 2_147_483_647;
+
+impl RequestFacts {
+    /// The place where text goes, in basic units.
+    pub(super) fn place_down(self) -> i32
+        ensures { (k : Known) → self.place ≡ counted (place_now k.layout)
+            → result ≡ place_down k }
+    {
+        self.place
+            .saturating_mul(u64::from(LINE))
+            .min(GREATEST_PLACE) as i32
+    }
 }
 
 /// What a request does with its arguments.

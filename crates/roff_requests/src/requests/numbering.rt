@@ -7,11 +7,15 @@ ghost use Rattle.roff_run.specs.Registers.{Known};
 ghost use Rattle.roff_requests.specs.Request.Coded.{GivesFirst, KnowsOf, response_of, register_named};
 ghost use Rattle.roff_run.specs.declared.request.Request.TheVariants.{NumberRegister};
 ghost use Rattle.roff_run.specs.Requests.Numbering.{assign_format, format_as, increment_given, name_given, set_register, set_to};
+ghost use Rattle.roff_run.specs.Registers.{page_name};
 
+use crate::events::RequestEvents;
 use crate::number::{value_beside, value_in};
-use crate::registers::Change;
+use crate::registers::{Change, is_page};
 use crate::requests::{Changes, Given, RequestFacts, Response};
 use roff_num::{Format, Name, Num, NumFault, Scale, read_format};
+use roff_pages::LayoutEvent;
+use roff_run::PageEvent;
 
 /// How many bytes of an argument are a register's name.
 const NAME_BYTES: usize = 2;
@@ -78,13 +82,37 @@ fn set_to(name: Name, value: Result<i32, NumFault>, increment: Result<i32, NumFa
     ensures { (as_given : List (List ℕ)) → response_of as_given result ≡ set_to name value increment }
 {
     match (value, increment) {
-        (Ok(value), Ok(increment)) => Response::changing(Changes::One(Change::SetTo {
-            name,
-            value: Num(value),
-            increment: Num(increment),
-        })),
+        (Ok(value), Ok(increment)) => {
+            if is_page(&name) {
+                return number_page(Num(value), Num(increment));
+            }
+            Response::changing(Changes::One(Change::SetTo {
+                name,
+                value: Num(value),
+                increment: Num(increment),
+            }))
+        }
         _ => Response::bad_number(),
     }
+}
+
+/// The page number is set to a value and an increment: the page has the value.
+#[cold]
+#[inline(never)]
+fn number_page(value: Num, increment: Num) -> Response
+    ensures { (as_given : List (List ℕ))
+        → response_of as_given result ≡ set_to page_name (Ok value.0) (Ok increment.0) }
+{
+    let change = Change::SetTo {
+        name: Name::new(b"%").unwrap(),
+        value,
+        increment,
+    };
+    Response::Obeyed(
+        None,
+        Changes::One(change),
+        RequestEvents::One(PageEvent::Page(LayoutEvent::Number(value))),
+    )
 }
 
 /// A register is given a format, if it is one.

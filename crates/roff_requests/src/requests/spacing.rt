@@ -1,29 +1,32 @@
 //! Blank lines, and the spacing of lines.
 
-ghost use Rattle.std.specs.Prelude.{◌≡◌, ℕ, List, slice_get, Ok};
+ghost use Rattle.std.specs.Prelude.{◌≡◌, ◌∷◌, [], ℕ, List, slice_get, Ok};
 ghost use Rattle.std.specs.Option.{option_copied};
-ghost use Rattle.roff_requests.specs.Request.Coded.{response_of};
+ghost use Rattle.roff_requests.specs.Request.Coded.{KnowsOf, response_of};
+ghost use Rattle.roff_requests.specs.Events.{request_events};
+ghost use Rattle.roff_pages.specs.declared.layout_event.LayoutEvent.TheVariants.{Space};
+ghost use Rattle.roff_run.specs.declared.event.PageEvent.TheVariants.{Page};
+ghost use Rattle.roff_run.specs.declared.request.Request.TheVariants.{Space as SpaceDown};
 ghost use Rattle.roff_run.specs.Requests.Spacing.{line_spacing, space_down, spaced};
 ghost use Rattle.roff_run.specs.Registers.{Known};
 
 use crate::events::RequestEvents;
-use crate::number::{rounded_to_lines, value_in};
+use crate::number::{LINE, height_in, rounded_to_lines, value_in};
 use crate::requests::{RequestFacts, Response};
 use roff_lines::Param;
 use roff_num::Scale;
+use roff_pages::LayoutEvent;
 use roff_run::{Message, PageEvent};
 
-/// The basic units of a line.
-const LINE: u32 = 40;
-
 /// `sp`: so many blank lines, one where no height is given.
-pub(super) fn space_down(argument: Option<&[u8]>) -> Response
-    ensures { (as_given : List (List ℕ)) → option_copied argument.entry ≡ slice_get as_given 0
-        → response_of as_given result ≡ space_down as_given }
+pub(super) fn space_down(known: RequestFacts, argument: Option<&[u8]>) -> Response
+    ensures { (k : Known) (as_given : List (List ℕ)) → KnowsOf k SpaceDown as_given known
+        → option_copied argument.entry ≡ slice_get as_given 0
+        → response_of as_given result ≡ space_down k as_given }
 {
     match argument {
-        None => Response::doing(None, RequestEvents::One(PageEvent::Space(1))),
-        Some(text) => match value_in(Scale::Lines, text) {
+        None => Response::doing(None, spaced_lines(1)),
+        Some(text) => match height_in(known.place_down(), text) {
             Ok(height) => spaced(rounded_to_lines(height)),
             Err(_) => Response::bad_number(),
         },
@@ -35,13 +38,16 @@ fn spaced(height: i32) -> Response
     ensures { (as_given : List (List ℕ)) → response_of as_given result ≡ spaced (Ok height) }
 {
     if height < 0 {
-        let message = Some(Message::BackwardMotion);
-        return Response::doing(message, RequestEvents::One(PageEvent::Space(0)));
+        return Response::doing(Some(Message::BackwardMotion), spaced_lines(0));
     }
-    Response::doing(
-        None,
-        RequestEvents::One(PageEvent::Space(height as u32 / LINE)),
-    )
+    Response::doing(None, spaced_lines(height as u32 / LINE))
+}
+
+/// The event of so many blank lines.
+fn spaced_lines(lines: u32) -> RequestEvents
+    ensures { request_events result ≡ Page (Space lines) ∷ [] }
+{
+    RequestEvents::One(PageEvent::Page(LayoutEvent::Space(lines)))
 }
 
 /// `ls`: the spacing of lines, the previous one where none is given.

@@ -2,15 +2,20 @@
 use Rattle.std.specs.Prelude.{ℕ, List, [], ◌∷◌, ◌++◌, map}
 use Rattle.roff_lines.specs.declared.event.Event.TheVariants.{Break as PageBreak, Count, Gap as PageGap, LineEnd as PageLineEnd, Print as PagePrint, Tab as PageTab, WordEnd}
 use Rattle.roff_lines.specs.declared.glyph.Glyph.TheVariants.{Blanks, Printed}
+use Rattle.roff_pages.specs.declared.layout_event.LayoutEvent.TheVariants.{Close, EjectLast, Number}
 use Rattle.roff_run.specs.Reading.TextLines.{blank_line, leading_glyph}
 use Rattle.roff_run.specs.declared.event.LineEvents.{LineEvents}
-use Rattle.roff_run.specs.declared.event.LineEvents.TheVariants.{Nothing, LineEnd, Break, BlankLine, Gap, Interrupt, Tab, Leading, Printed as PrintedByte, Blanks as PrintedBlanks, Two, Three, Four}
+use Rattle.roff_run.specs.declared.event.LineEvents.TheVariants.{Nothing, LineEnd, Break, BlankLine, Closing, Number as GetsNumber, Gap, Interrupt, Tab, Leading, Printed as PrintedByte, Blanks as PrintedBlanks, Two, Three, Four}
 use Rattle.roff_run.specs.declared.event.PageEvent.{PageEvent}
-use Rattle.roff_run.specs.declared.event.PageEvent.TheVariants.{Text, Interrupt as PageInterrupt}
+use Rattle.roff_run.specs.declared.event.PageEvent.TheVariants.{Text, Interrupt as PageInterrupt, Page}
 
 -- the event of a byte that is printed
 abbrev pub print_event : ℕ → PageEvent
 print_event b = Text (PagePrint (Printed b))
+
+-- the events that close the run: open diversions are dropped, the pending line is placed, and the last page is ejected
+abbrev pub closing_events : List PageEvent
+closing_events = Page Close ∷ Text WordEnd ∷ Text PageBreak ∷ Page EjectLast ∷ []
 
 -- the events, in order
 abbrev pub line_events : LineEvents → List PageEvent
@@ -18,6 +23,8 @@ line_events Nothing = []
 line_events LineEnd = Text WordEnd ∷ Text PageLineEnd ∷ Text Count ∷ []
 line_events Break = Text WordEnd ∷ Text PageBreak ∷ []
 line_events BlankLine = blank_line
+line_events Closing = closing_events
+line_events (GetsNumber n) = Page (Number n) ∷ []
 line_events Gap = Text WordEnd ∷ Text (PageGap 1) ∷ []
 line_events (Interrupt untold) = PageInterrupt untold ∷ []
 line_events (Tab leading) = leading_glyph leading ++ Text PageTab ∷ []

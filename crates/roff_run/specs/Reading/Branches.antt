@@ -46,7 +46,7 @@ branch_taking k i false b = skipping_taking i 0 0 false b
 -- whether a condition is so that asks this
 abbrev pub is_so : Known → Decision → Bool
 is_so k (Is so) = so
-is_so k (OnPages odd) = if odd then is_page_odd k.registers else not (is_page_odd k.registers)
+is_so k (OnPages odd) = if odd then is_page_odd k else not (is_page_odd k)
 
 -- a condition decided: its result is kept, if it is to be, and the branch comes, of which a byte was taken already or none
 abbrev pub decided : Known → PageInput → Bool → Option ℕ → Taking

@@ -10,14 +10,20 @@ use Rattle.roff_escape.specs.declared.escapes.NameUse.TheVariants.{Register, Tex
 use Rattle.roff_num.specs.declared.direction.Direction.{Direction}
 use Rattle.roff_run.specs.declared.line_state.LineState.{LineState}
 use Rattle.roff_run.specs.Reading.Items.{PageInput, Taking, going_on}
-use Rattle.roff_run.specs.Registers.{Known, known_behind, step_changes, step_messages, text_of_register}
+use Rattle.roff_run.specs.Registers.{Known, known_stepped, page_stepped, step_changes, step_messages, text_of_register}
+use Rattle.roff_run.specs.Requests.Effects.{page_numbered}
 
 -- a register is read in the place of its escape: it is stepped first, and its text is put in front
 abbrev pub interpolating : Known → PageInput → LineState → Option Direction → List ℕ → Taking
 interpolating k i reading step name = record {
-  input = pushing (text_of_register (known_behind (step_changes step name) k) name) i;
+  input = pushing (text_of_register (known_stepped step name k) name) i;
   reading = reading;
-  effect = record { messages = step_messages step name k.registers; changes = step_changes step name; calls = []; events = [] };
+  effect = record {
+    messages = step_messages step name k;
+    changes = step_changes step name;
+    calls = [];
+    events = page_numbered (page_stepped step name k);
+  };
 }
 
 -- a string is read in the place of its escape

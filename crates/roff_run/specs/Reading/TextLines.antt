@@ -18,6 +18,7 @@ use Rattle.roff_escape.specs.declared.open_escape.Found.TheVariants.{GoesOn, Uni
 use Rattle.roff_escape.specs.declared.open_escape.Remark.{Remark}
 use Rattle.roff_escape.specs.declared.open_escape.Surroundings.{Surroundings}
 use Rattle.roff_escape.specs.declared.open_escape.Surroundings.TheVariants.{Text as AboveText}
+use Rattle.roff_pages.specs.declared.layout_event.LayoutEvent.TheVariants.{Space}
 use Rattle.roff_run.specs.Messages.{character_name, remark_messages}
 use Rattle.roff_run.specs.declared.message.Message.{Message}
 use Rattle.roff_run.specs.declared.message.Message.TheVariants.{LeftOut, UnknownCharacter}
@@ -27,7 +28,7 @@ use Rattle.roff_run.specs.declared.line_state.TextLine.{TextLine}
 use Rattle.roff_run.specs.Reading.Escapes.{measuring, asking}
 use Rattle.roff_run.specs.Reading.Items.{PageInput, Taking, going_on, meaning_events, telling}
 use Rattle.roff_run.specs.Registers.{Known, in_units, greatest_number}
-use Rattle.roff_run.specs.Requests.{PageEvent, Text, Space, Interrupt, saying}
+use Rattle.roff_run.specs.Requests.{PageEvent, Text, Page, Interrupt, saying}
 
 -- a text line on which nothing stands
 abbrev pub fresh_line : TextLine
@@ -35,7 +36,7 @@ fresh_line = record { has_glyph = false; has_other = false; has_brace = false; l
 
 -- a line of blanks alone: a break and a blank line
 abbrev pub blank_line : List PageEvent
-blank_line = Text WordEnd ∷ Text Break ∷ Space 1 ∷ []
+blank_line = Text WordEnd ∷ Text Break ∷ Page (Space 1) ∷ []
 
 -- the end of a text line: one on which nothing but braces and blanks stand does nothing
 abbrev pub text_line_end : TextLine → List PageEvent

@@ -1,9 +1,11 @@
 -- What a request does, and what that means for the registers and the page.
-use Rattle.std.specs.Prelude.{ℕ, Bool, List, [], ◌∷◌, if◌then◌else◌}
+use Rattle.std.specs.Prelude.{ℕ, Bool, List, [], ◌∷◌, Option, Some, None, if◌then◌else◌}
 use Rattle.roff_lines.specs.declared.event.Event.TheVariants.{WordEnd, Break, Set}
 use Rattle.roff_lines.specs.declared.settings.Param.{Param}
+use Rattle.roff_num.specs.declared.num.Num.{Num}
+use Rattle.roff_pages.specs.declared.layout_event.LayoutEvent.TheVariants.{Number}
 use Rattle.roff_run.specs.declared.event.PageEvent.{PageEvent}
-use Rattle.roff_run.specs.declared.event.PageEvent.TheVariants.{Text}
+use Rattle.roff_run.specs.declared.event.PageEvent.TheVariants.{Text, Page}
 use Rattle.roff_run.specs.declared.message.Message.{Message}
 use Rattle.roff_run.specs.declared.message.Message.TheVariants.{BadNumber, BadFormat, LeftOut, NoSuchEnvironment}
 use Rattle.roff_run.specs.Registers.{Change}
@@ -50,6 +52,11 @@ changing change = Obeyed [] (change ∷ []) [] []
 -- what names stand for changes
 abbrev pub naming : List Call → Response
 naming calls = Obeyed [] [] calls []
+
+-- the page gets this number, if there is one
+abbrev pub page_numbered : Option Num → List PageEvent
+page_numbered None = []
+page_numbered (Some n) = Page (Number n) ∷ []
 
 -- an argument isn't a number, or is out of range
 abbrev pub bad_number : Response

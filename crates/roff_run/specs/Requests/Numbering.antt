@@ -7,8 +7,8 @@ use Rattle.roff_num.specs.declared.num.NumFault.{NumFault}
 use Rattle.roff_num.specs.declared.num.Scale.TheVariants.{Units}
 use Rattle.roff_arguments.specs.Arguments.{has_byte}
 use Rattle.roff_run.specs.Numbers.{value_in, value_beside}
-use Rattle.roff_run.specs.Registers.{Known, SetTo, FormatAs, Remove, value_in_force}
-use Rattle.roff_run.specs.Requests.Effects.{Response, Ignored, changing, bad_number, bad_format}
+use Rattle.roff_run.specs.Registers.{Known, SetTo, FormatAs, Remove, is_page, value_in_force}
+use Rattle.roff_run.specs.Requests.Effects.{Response, Ignored, Obeyed, changing, bad_number, bad_format, page_numbered}
 
 -- a name that an argument gives: its first two bytes
 abbrev pub name_given : List ℕ → List ℕ
@@ -23,11 +23,16 @@ abbrev pub increment_given : List (List ℕ) → Result ℤ NumFault
 increment_given [] = Ok (pos 0)
 increment_given (text ∷ others) = value_in Units text
 
+-- the page's number, where a register is set to it that is the page number's
+abbrev pub number_of_page : List ℕ → Num → Option Num
+number_of_page name value = if is_page name then Some value else None
+
 -- a register is set to a value and an increment, if both are numbers
 abbrev pub set_to : List ℕ → Result ℤ NumFault → Result ℤ NumFault → Response
 set_to name (Err fault) increment = bad_number
 set_to name (Ok value) (Err fault) = bad_number
-set_to name (Ok value) (Ok increment) = changing (SetTo name (number value) (number increment))
+set_to name (Ok value) (Ok increment) =
+    Obeyed [] (SetTo name (number value) (number increment) ∷ []) [] (page_numbered (number_of_page name (number value)))
 
 -- an argument that gives no name is none, and nothing happens
 abbrev pub if_named : List ℕ → Response → Response

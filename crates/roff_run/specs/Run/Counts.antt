@@ -1,26 +1,43 @@
 -- What an event or a step makes grow, and the first limit that a count is above.
-use Rattle.std.specs.Prelude.{ℕ, ◌+◌, ◌-◌, Bool, List, [], ◌∷◌, length, nat_lt, Option, Some, None, if◌then◌else◌}
+use Rattle.std.specs.Prelude.{ℕ, ◌+◌, ◌-◌, Bool, List, [], ◌∷◌, ◌++◌, length, nat_lt, Option, Some, None, if◌then◌else◌}
 use Rattle.roff_lines.specs.Lines.{pending_length}
 use Rattle.roff_num.specs.LimitValues.{value_of}
 use Rattle.roff_num.specs.declared.limit.Limit.{Limit}
-use Rattle.roff_num.specs.declared.limit.Limit.TheVariants.{Names, Stack, Depth, Line, Conditions, Store, Diversions, Environments as EnvironmentsLimit}
+use Rattle.roff_num.specs.declared.limit.Limit.TheVariants.{Names, Stack, Depth, Line, Conditions, Store, Diversions, Environments as EnvironmentsLimit, Output, Traps}
 use Rattle.roff_num.specs.declared.limits.Limits.{Limits}
 use Rattle.roff_ahead.specs.Input.Names.{names_added, stored}
 use Rattle.roff_ahead.specs.Input.{pushed, depth, result_count}
 use Rattle.roff_run.specs.Environments.{environments}
-use Rattle.roff_run.specs.Output.{PageHistory, text_of}
+use Rattle.roff_pages.specs.Happenings.{Happening, Does}
+use Rattle.roff_pages.specs.Layout.{Layout}
+use Rattle.roff_pages.specs.Turning.{with_trap}
+use Rattle.roff_pages.specs.declared.layout_event.LayoutEvent.{LayoutEvent}
+use Rattle.roff_pages.specs.declared.layout_event.LayoutEvent.TheVariants.{Divert, Plant}
+use Rattle.roff_pages.specs.DeviceText.{device_text}
+use Rattle.roff_run.specs.Output.{PageHistory, happens, layout_of, text_of, written}
 use Rattle.roff_run.specs.Reading.Items.{PageInput}
 use Rattle.roff_run.specs.Registers.{AllRegisters}
-use Rattle.roff_run.specs.Requests.{PageEvent, Text, Space, Interrupt, Environment, Back, SetsTrap}
+use Rattle.roff_run.specs.Requests.{PageEvent, Text, Page, Interrupt, Environment, Back, SetsTrap}
 
 -- the limit on bytes stops one more
 abbrev pub passes_bytes : Limits → PageInput → Bool
 passes_bytes l i = nat_lt l.bytes (i.charge + 1)
 
+-- what is written, as it is behind what happens to the layout, if something does
+abbrev pub written_counted : PageHistory → Option Happening → List (Limit × ℕ)
+written_counted h None = []
+written_counted h (Some x) = (Output, length (written h) + length (device_text x (layout_of h))) ∷ []
+
+-- the traps that stand behind an event of the pages, or the diversions that are open, where it makes them grow
+abbrev pub placed_counted : LayoutEvent → Layout → List (Limit × ℕ)
+placed_counted (Plant trap) L = (Traps, length (with_trap trap L.traps)) ∷ []
+placed_counted (Divert name appends) L = (Diversions, length L.diversions + 1) ∷ []
+placed_counted (_) L = []
+
 -- what an event makes grow, each count as it is behind the event, in the order in which they are looked at
 abbrev pub counts : PageHistory → PageEvent → List (Limit × ℕ)
-counts h (Text e) = (Line, pending_length (e ∷ text_of h)) ∷ []
-counts h (Space lines) = []
+counts h (Text e) = (Line, pending_length (e ∷ text_of h)) ∷ written_counted h (happens h (Text e))
+counts h (Page e) = placed_counted e (layout_of h) ++ written_counted h (Some (Does e))
 counts h (Interrupt untold) = []
 counts h (Environment number) = (EnvironmentsLimit, length (environments h).left + 1) ∷ []
 counts h Back = []

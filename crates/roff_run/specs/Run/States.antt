@@ -15,7 +15,7 @@ use Rattle.roff_scan.specs.declared.looked.Looked.TheVariants.{Nothing as Nothin
 use Rattle.roff_scan.specs.Unread.{Unread}
 use Rattle.roff_run.specs.Messages.{message_line, message_lines}
 use Rattle.roff_run.specs.Environments.{environments, interrupted_line}
-use Rattle.roff_run.specs.Output.{PageHistory, text_of}
+use Rattle.roff_run.specs.Output.{PageHistory, layout_of, text_of}
 use Rattle.roff_run.specs.Reading.Items.{PageInput}
 use Rattle.roff_run.specs.Registers.{AllRegisters, Known, no_registers, changed_by_all}
 use Rattle.roff_run.specs.Requests.{PageEvent, Effect, first_entries, requests}
@@ -89,6 +89,7 @@ known_at h rs i = record {
   place = input_place (text_of h);
   interrupted = interrupted_line h;
   has_left = not (is_empty (environments h).left);
+  layout = layout_of h;
 }
 
 -- the same of a state

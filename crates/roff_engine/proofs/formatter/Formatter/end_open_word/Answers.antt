@@ -5,9 +5,9 @@ use Rattle.roff_engine.proofs.formatter.Formatter.end_open_word.Goals as goal
 
 pub returns-then-not-has_open_word : goal.returns-then-not-has_open_word
 returns-then-not-has_open_word g c = none_open c.args.self.now _
-    (λ l h stood. sym (c.has_open_word.ensures.open l.line (text_of h) stood.in_force.lines) ∙ search rules)
+    (λ l h stood. sym (c.has_open_word.ensures.open l.line (text_of h) stood.environments.in_force.lines) ∙ search rules)
 
 pub returns : goal.returns
 returns g c = one_open _ _ _ _ _
-    (λ l h stood. sym (c.has_open_word.ensures.open l.line (text_of h) stood.in_force.lines) ∙ search rules)
+    (λ l h stood. sym (c.has_open_word.ensures.open l.line (text_of h) stood.environments.in_force.lines) ∙ search rules)
     c.end_word.ensures.own

@@ -1,22 +1,21 @@
-use Rattle.std.proofs.Common.{rules, refl, ◌≡◌}
+use Rattle.std.proofs.Common.{refl, rules, ◌≡◌}
 use Rattle.roff_num.specs.declared.limit.Limit.TheVariants.{Line}
 use Rattle.roff_lines.specs.declared.event.Event.TheVariants.{Print}
 use Rattle.roff_run.specs.Output.{text_of}
 use Rattle.roff_run.specs.declared.event.PageEvent.TheVariants.{Text}
-use Rattle.roff_engine.proofs.Performed.{event_stopped, lines_behind, text_changes_only, text_refused}
+use Rattle.roff_engine.proofs.DoneFirst.{lines_behind, only_first, ready_then, text_changes_here, text_stopped_here}
 use Rattle.roff_engine.proofs.formatter.Formatter.glyph.Goals as goal
 
 pub returns-in-Ok : goal.returns-in-Ok
-returns-in-Ok c = λ told. text_changes_only (Print c.args.glyph) _ _ told
-    (lines_behind (Print c.args.glyph) c.args.self.now.environments _ (λ trap. refl) c.in-Ok.ensures.stands) (λ h. refl) (search rules)
+returns-in-Ok c = λ told. only_first (Text (Print c.args.glyph)) _ _ _ _ _
+    (ready_then _ _ c.begin_first.new.self _ _ _ _ (c.begin_first.ensures (Text (Print c.args.glyph)) (λ h. refl))
+    (text_changes_here (Print c.args.glyph) _ _ told
+    (lines_behind (Print c.args.glyph) c.begin_first.new.self.composer _ (λ trap. refl) c.in-Ok.ensures.stands) (search rules) (λ l h stood. refl) (search rules)))
 
 pub returns-in-Err : goal.returns-in-Err
-returns-in-Err c = λ told. record {
-  events_performed = record {
-    performs = λ l t before failures err s h rest stood flows reached.
-        let is_line : c.in-Err.limit ≡ Line = search rules in
-        rw is_line (event_stopped l t before failures err s h (Text (Print c.args.glyph)) rest told reached (Text (Print c.args.glyph)) rest refl Line
-        (text_refused l h (Print c.args.glyph) ((c.in-Err.ensures.limit l.line (text_of h) stood.in_force.lines).0 refl)));
-  };
-  reader = search rules;
-}
+returns-in-Err c = λ told.
+    let is_line : c.in-Err.limit ≡ Line = search rules in
+    rw is_line (only_first (Text (Print c.args.glyph)) _ _ _ _ _
+    (ready_then _ _ c.begin_first.new.self _ _ _ _ (c.begin_first.ensures (Text (Print c.args.glyph)) (λ h. refl))
+    (text_stopped_here (Print c.args.glyph) _ _ told
+    (λ l h stood. (c.in-Err.ensures.limit l.line (text_of h) stood.environments.in_force.lines).0 refl) (search rules))))

@@ -13,10 +13,10 @@ returns c = λ l h rs i stood.
     let left : is_left c.args.phase (interrupted_line h) ≡ c.match-phase.left = elim c.match-phase.branch [
       | in-Reading w ↦
           ap (λ (p : Phase). is_left p (interrupted_line h)) w.in-Reading.is
-          ∙ ap (λ (line : Option TextLine). is_some line) (sym (w.interrupted_line.ensures l h stood)) ∙ sym w.is_some-left.ensures ∙ sym w.left-is
+          ∙ ap (λ (line : Option TextLine). is_some line) (sym (w.interrupted_line.ensures l h stood.environments)) ∙ sym w.is_some-left.ensures ∙ sym w.left-is
       | in-LastMacro w ↦
           ap (λ (p : Phase). is_left p (interrupted_line h)) w.in-LastMacro.is
-          ∙ ap (λ (line : Option TextLine). is_some line) (sym (w.interrupted_line-in-LastMacro.ensures l h stood)) ∙ sym w.is_some-left-in-LastMacro.ensures ∙ sym w.left-is
+          ∙ ap (λ (line : Option TextLine). is_some line) (sym (w.interrupted_line-in-LastMacro.ensures l h stood.environments)) ∙ sym w.is_some-left-in-LastMacro.ensures ∙ sym w.left-is
       | in-Closing w ↦ ap (λ (p : Phase). is_left p (interrupted_line h)) w.in-Closing.is ∙ sym w.left-is
     ] in
     c.is_unfinished.ensures c.args.phase (known_at h rs i) left

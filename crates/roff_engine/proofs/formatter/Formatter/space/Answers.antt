@@ -1,11 +1,9 @@
-use Rattle.std.proofs.Common.{rules}
-use Rattle.roff_engine.proofs.Performed.{space_performs_only}
+use Rattle.std.proofs.Common.{refl, rules}
+use Rattle.roff_pages.specs.declared.layout_event.LayoutEvent.TheVariants.{Space}
+use Rattle.roff_run.specs.declared.event.PageEvent.TheVariants.{Page}
+use Rattle.roff_engine.proofs.DoneFirst.{only_first, page_here, ready_then}
 use Rattle.roff_engine.proofs.formatter.Formatter.space.Goals as goal
 
-pub returns-in-Ok : goal.returns-in-Ok
-returns-in-Ok g c = space_performs_only c.args.lines _ _ _ _ _ (λ l h stood. stood) (search rules)
-    (λ h. record { ok = c.in-Ok.ensures.ok; err = tt }) (cc)
-
-pub returns-in-Err : goal.returns-in-Err
-returns-in-Err g c = space_performs_only c.args.lines _ _ _ _ _ (λ l h stood. stood) (search rules)
-    (λ h. record { ok = tt; err = c.in-Err.ensures.err }) (cc)
+pub returns : goal.returns
+returns g c = only_first (Page (Space c.args.lines)) _ _ _ _ _ (ready_then _ _ c.begin_first.new.self _ _ _ _ (c.begin_first.ensures (Page (Space c.args.lines)) (λ h. refl))
+    (page_here (Space c.args.lines) _ _ _ _ _ (record { answer = c.space_on-spaced.result; puts = c.space_on-spaced.ensures; halts = c.done_on.ensures }) (search rules) (search rules)))

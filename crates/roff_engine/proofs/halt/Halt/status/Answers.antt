@@ -16,5 +16,8 @@ pub returns-in-Output : goal.returns-in-Output
 returns-in-Output g c = λ t left before failures out halts.
     inr (inl (output_reported _ t left _ before failures out _ _ c.report.result (rw c.in-Output.is at halts) c.report.ensures))
 
+pub returns-in-Over : goal.returns-in-Over
+returns-in-Over g c = λ t left before failures out halts. inl (rw c.in-Over.is at halts)
+
 pub returns-in-Messages : goal.returns-in-Messages
 returns-in-Messages g c = λ t left before failures out halts. inr (inr (inl (rw c.in-Messages.is at halts)))

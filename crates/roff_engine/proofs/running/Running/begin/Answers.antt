@@ -9,4 +9,4 @@ pub returns-in-Err-clause-ends : goal.returns-in-Err-clause-ends
 returns-in-Err-clause-ends g c = λ had unread tape is failures out.
     let refused = subst (λ (given : List (ℕ × Num)). IsRefused c.args.self.now c.set_registers.new.self given c.in-Err.limit) c.as_slice.ensures.value c.in-Err.ensures in
     begin_refused c.args.self.now c.set_registers.new.self c.args.start.now tape c.in-Err.limit _ _ _ refused had unread is
-    (λ unread stops. c.refuse.ensures c.args.start.now tape failures out unread stops)
+    (λ h unread quiet stops. c.refuse.ensures c.args.start.now tape h failures out unread quiet stops)

@@ -1,5 +1,6 @@
 use Rattle.std.proofs.Common.{[], refl}
-use Rattle.roff_run.specs.Run.{closing_events, phase_ended}
+use Rattle.roff_run.specs.Events.Lines.{closing_events}
+use Rattle.roff_run.specs.Run.{phase_ended}
 use Rattle.roff_run.specs.Reading.Items.{meaning_events}
 use Rattle.roff_run.specs.Registers.{Known}
 use Rattle.roff_run.specs.declared.line_state.LineState.TheVariants.{LineStart}

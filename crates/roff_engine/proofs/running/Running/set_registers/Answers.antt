@@ -1,7 +1,6 @@
-use Rattle.std.proofs.Common.{List, ap, subst}
+use Rattle.std.proofs.Common.{List, subst}
 use Rattle.std.specs.Prelude.{ℕ}
 use Rattle.roff_num.specs.declared.num.Num.{Num}
-use Rattle.roff_reader.specs.Reader.State.{ReaderState}
 use Rattle.roff_engine.proofs.Starting.{Begins-all, SetSoFar, SetSoFar-none, refused_next, set_next}
 use Rattle.roff_engine.proofs.running.Running.set_registers.Goals as goal
 
@@ -11,16 +10,14 @@ loop-first-init c = SetSoFar-none c.args.self.now c.args.given.now
 pub loop-first-preserved : goal.loop-first-preserved
 loop-first-preserved c =
     let now = c.loop-first.self in
-    set_next c.args.self.now now c.args.given.now c.in-Some.others.now c.in-Some.first.now
-    (subst (λ (rest : List (ℕ × Num)). SetSoFar c.args.self.now now c.args.given.now rest) c.in-Some.ensures.cases.0 c.loop-first.invariant) _ c.give.result c.give.ensures.answer c.in-Ok.is
-    (ap (λ (r : ReaderState). record now { formatter = record now.formatter { reader = r } }) c.give.ensures.registers)
+    let far = subst (λ (rest : List (ℕ × Num)). SetSoFar c.args.self.now now c.args.given.now rest) c.in-Some.ensures.cases.0 c.loop-first.invariant in
+    set_next c.args.self.now now c.args.given.now c.in-Some.others.now c.in-Some.first.now far _ c.give.result c.give.ensures c.in-Ok.is
 
 pub returns-in-Err : goal.returns-in-Err
 returns-in-Err c =
     let now = c.loop-first.self in
-    refused_next c.args.self.now now c.args.given.now c.in-Some.others.now c.in-Some.first.now
-    (subst (λ (rest : List (ℕ × Num)). SetSoFar c.args.self.now now c.args.given.now rest) c.in-Some.ensures.cases.0 c.loop-first.invariant) _ c.in-Err.limit c.give.result c.give.ensures.answer c.in-Err.is
-    (ap (λ (r : ReaderState). record now { formatter = record now.formatter { reader = r } }) c.give.ensures.registers)
+    let far = subst (λ (rest : List (ℕ × Num)). SetSoFar c.args.self.now now c.args.given.now rest) c.in-Some.ensures.cases.0 c.loop-first.invariant in
+    refused_next c.args.self.now now c.args.given.now c.in-Some.others.now c.in-Some.first.now far _ c.give.result c.give.ensures c.in-Err.limit c.in-Err.is
 
 pub returns : goal.returns
 returns c = Begins-all c.args.self.now c.loop-first.self c.args.given.now c.loop-first.rest.now c.in_default.ensures.cases c.loop-first.invariant

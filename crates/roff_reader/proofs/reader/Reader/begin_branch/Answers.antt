@@ -8,7 +8,7 @@ use Rattle.roff_reader.proofs.reader.Reader.begin_branch.Goals as goal
 
 pub returns-in-Some : goal.returns-in-Some
 returns-in-Some c =
-    let es = c.args.environments.now in
+    let es = c.args.composer.now in
     let old = c.args.self.now in
     let u = c.args.unread.now in
     let b = c.in-Some.byte in

@@ -21,12 +21,12 @@ returns-then-byte-eq10 c =
     let keeps = c.args.keeps in
     let done = c.read_condition in
     let ends : (b == newline) ≡ true = search rules in
-    TakesAs-as (λ k. condition_found k u.input keeps (Decides (Is false) (Some b))) (λ k. condition_begun k u.input keeps b) c.args.environments.now c.args.self.now done.new.self
+    TakesAs-as (λ k. condition_found k u.input keeps (Decides (Is false) (Some b))) (λ k. condition_begun k u.input keeps b) c.args.composer.now c.args.self.now done.new.self
     u done.new.unread done.result (λ k. rw ends refl) done.ensures
 
 pub returns : goal.returns
 returns c =
-    let es = c.args.environments.now in
+    let es = c.args.composer.now in
     let old = c.args.self.now in
     let u = c.args.unread.now in
     let b = c.args.byte in

@@ -14,7 +14,7 @@ returns-in-Asks c =
     let set : ReaderState = record { reading = c.args.at; registers = c.self.inside.registers; meaning = c.self.inside.meaning } in
     let done = c.begin_with_name in
     rw c.in-Asks.is
-    (TakesAs-set (λ k. first_name k u.input c.args.at c.in-Asks.purpose c.in-Asks.name) c.args.environments.now c.args.self.now set done.new.self u
+    (TakesAs-set (λ k. first_name k u.input c.args.at c.in-Asks.purpose c.in-Asks.name) c.args.composer.now c.args.self.now set done.new.self u
     done.new.unread done.result (ap (λ (s : ReaderState). s.registers) c.self.view_is) done.ensures)
 
 pub returns-in-Unit-Byte : goal.returns-in-Unit-Byte
@@ -31,7 +31,7 @@ pub returns-in-Escape : goal.returns-in-Escape
 returns-in-Escape c = rw c.in-Escape.is (c.begin_with_escape-in-Escape.ensures c.args.unread.now)
 
 pub returns-in-Holds : goal.returns-in-Holds
-returns-in-Holds c = rw c.in-Holds.is (c.hold_text.ensures c.args.environments.now)
+returns-in-Holds c = rw c.in-Holds.is (c.hold_text.ensures c.args.composer.now)
 
 pub returns-in-Motion : goal.returns-in-Motion
 returns-in-Motion c =
@@ -40,11 +40,11 @@ returns-in-Motion c =
     let done = c.begin_text in
     rw c.in-Motion.is
     (TakesAs-begun (λ i line. motion_taking i line columns remark) c.motion-step.result c.interrupted_line-interrupted.result c.begun_as.result
-    c.args.environments.now c.args.self.now done.new.self c.args.unread.now done.result c.interrupted_line-interrupted.ensures c.begun_as.ensures
+    c.args.composer.now c.args.self.now done.new.self c.args.unread.now done.result (λ l h stands. c.interrupted_line-interrupted.ensures l h stands.environments) c.begun_as.ensures
     c.motion-step.ensures done.ensures.now done.ensures.says done.ensures.events)
 
 pub returns-in-Measures : goal.returns-in-Measures
-returns-in-Measures c = rw c.in-Measures.is (c.measure.ensures c.args.environments.now)
+returns-in-Measures c = rw c.in-Measures.is (c.measure.ensures c.args.composer.now)
 
 pub returns-in-Tells : goal.returns-in-Tells
-returns-in-Tells c = rw c.in-Tells.is (c.tell.ensures c.args.environments.now c.args.unread.now)
+returns-in-Tells c = rw c.in-Tells.is (c.tell.ensures c.args.composer.now c.args.unread.now)

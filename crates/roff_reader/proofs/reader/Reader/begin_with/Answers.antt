@@ -15,5 +15,5 @@ returns-in_default c = λ u.
       | in_default-via-in-Braced+in_default w ↦ first_taking-any k u.input c.args.at b (λ at. absurd (search rules)) (λ at. search rules)
       | in_default-via-in_default w ↦ first_taking-any k u.input c.args.at b (λ at. absurd (search rules)) (λ at. absurd (search rules))
     ] in
-    TakesAs-as (λ k. line_begun k u.input b) (λ k. first_taking k u.input c.args.at b) c.args.environments.now c.args.self.now any.new.self u u (Ok any.result) as_defined
+    TakesAs-as (λ k. line_begun k u.input b) (λ k. first_taking k u.input c.args.at b) c.args.composer.now c.args.self.now any.new.self u u (Ok any.result) as_defined
     (any.ensures u)

@@ -11,14 +11,14 @@ use Rattle.roff_reader.proofs.reader.Reader.begin_with_any.Goals as goal
 pub returns-in-None : goal.returns-in-None
 returns-in-None c = λ u.
     let b = c.args.byte in
-    let es = c.args.environments.now in
+    let es = c.args.composer.now in
     let old = c.args.self.now in
     let done = c.step_on in
     let taken = c.taking in
     let no_dot : (b == 46) ≡ false = search rules in
     let no_apostrophe : (b == 39) ≡ false = search rules in
     begins-text b u es old done.new.self done.result no_dot no_apostrophe None
-    (λ l h rs i stands. sym c.in-None.is ∙ c.interrupted_line.ensures l h stands)
+    (λ l h rs i stands. sym c.in-None.is ∙ c.interrupted_line.ensures l h stands.environments)
     (TakesAs-named (λ k. text_taking u.input (line_begun_as None) b) taken.result.0 es old done.new.self u done.result
     (λ kept k. ap (λ (line : TextLine). text_taking u.input line b) (sym c.new.ensures) ∙ taken.ensures.means u.input kept
     ∙ ap (λ (s : Step). meaning_events u.input taken.result.0 (events_of kept s)) (sym done.ensures.step))
@@ -27,10 +27,10 @@ returns-in-None c = λ u.
 pub returns-in-Some : goal.returns-in-Some
 returns-in-Some c = λ u.
     let b = c.args.byte in
-    let es = c.args.environments.now in
+    let es = c.args.composer.now in
     let old = c.args.self.now in
     let done = c.go_on_with in
     let no_dot : (b == 46) ≡ false = search rules in
     let no_apostrophe : (b == 39) ≡ false = search rules in
     begins-text b u es old done.new.self done.result no_dot no_apostrophe (Some c.in-Some.line)
-    (λ l h rs i stands. sym c.in-Some.is ∙ c.interrupted_line.ensures l h stands) (done.ensures es u)
+    (λ l h rs i stands. sym c.in-Some.is ∙ c.interrupted_line.ensures l h stands.environments) (done.ensures es u)

@@ -12,14 +12,14 @@ pub returns-then-byte-eq10 : goal.returns-then-byte-eq10
 returns-then-byte-eq10 c = λ u.
     let at = c.args.at in
     let byte = c.args.byte in
-    TakesAs-meant (λ k. first_escape k u.input at byte) c.behind_newline.result c.args.environments.now c.args.self.now c.read_on.new.self u c.read_on.result
+    TakesAs-meant (λ k. first_escape k u.input at byte) c.behind_newline.result c.args.composer.now c.args.self.now c.read_on.new.self u c.read_on.result
     (λ k. ap (λ (b : ℕ). first_escape k u.input at b) c.if-byte-eq10.true ∙ c.behind_newline.ensures k u.input)
     c.read_on.ensures.reading c.read_on.ensures.step
 
 pub returns-in_default : goal.returns-in_default
 returns-in_default c = λ u.
     let b = c.args.byte in
-    let es = c.args.environments.now in
+    let es = c.args.composer.now in
     let old = c.args.self.now in
     let done = c.begin_text in
     let no_newline = other b 10 c.if-byte-eq10.false in
@@ -29,4 +29,4 @@ returns-in_default c = λ u.
     ] in
     TakesAs-as (λ k. escape_begun k u.input b) (λ k. first_escape k u.input c.args.at b) es old done.new.self u u (Ok done.result) as_defined
     (TakesAs-begun (λ i line. escape_taking i line b) c.escape-step.result c.interrupted_line-interrupted.result c.begun_as.result es old done.new.self u done.result
-    c.interrupted_line-interrupted.ensures c.begun_as.ensures c.escape-step.ensures done.ensures.now done.ensures.says done.ensures.events)
+    (λ l h stands. c.interrupted_line-interrupted.ensures l h stands.environments) c.begun_as.ensures c.escape-step.ensures done.ensures.now done.ensures.says done.ensures.events)

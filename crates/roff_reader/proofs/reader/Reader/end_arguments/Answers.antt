@@ -13,8 +13,8 @@ returns-in-ByLines c =
     let u = c.args.unread.now in
     let done = c.begin_lines in
     let line : (row_of c.args.request).line ≡ ByLines c.in-ByLines.lines = search rules in
-    subst (λ (l : LineReading). TakesAs (λ k. arguments_ended k u.input c.args.breaks c.args.request l) c.args.environments.now c.args.self.now done.new.self u
-    done.new.unread done.result) (sym line) (done.ensures c.args.environments.now)
+    subst (λ (l : LineReading). TakesAs (λ k. arguments_ended k u.input c.args.breaks c.args.request l) c.args.composer.now c.args.self.now done.new.self u
+    done.new.unread done.result) (sym line) (done.ensures c.args.composer.now)
 
 pub returns-in_default : goal.returns-in_default
 returns-in_default c =
@@ -22,5 +22,5 @@ returns-in_default c =
     let breaks = c.args.breaks in
     let request = c.args.request in
     let done = c.obey in
-    TakesAs-as (λ k. line_ended k u.input breaks request) (λ k. arguments_ended k u.input breaks request (row_of request).line) c.args.environments.now c.args.self.now
+    TakesAs-as (λ k. line_ended k u.input breaks request) (λ k. arguments_ended k u.input breaks request (row_of request).line) c.args.composer.now c.args.self.now
     done.new.self u done.new.unread done.result (λ k. arguments_ended-obeyed k u.input breaks request (row_of request).line (λ lines is. search rules)) done.ensures

@@ -8,11 +8,11 @@ returns-in_err-enter_string c =
     let limit = c.in_err-enter_string.field-0.0 in
     let refused : c.from_residual.result ≡ Err limit = search rules in
     rw refused
-    (TakesAs-not_entered c.args.name c.args.appends c.args.end c.args.byte c.args.environments.now c.args.self.now c.args.self.now c.args.unread.now
+    (TakesAs-not_entered c.args.name c.args.appends c.args.end c.args.byte c.args.composer.now c.args.self.now c.args.self.now c.args.unread.now
     c.enter_string.new.unread limit c.requires c.in_err-enter_string.ensures)
 
 pub returns : goal.returns
 returns c =
     let done = c.read_behind_definition in
-    TakesAs-entered (λ k i. behind_definition k i c.args.end c.args.byte) c.args.name c.args.appends c.args.environments.now c.args.self.now done.new.self
+    TakesAs-entered (λ k i. behind_definition k i c.args.end c.args.byte) c.args.name c.args.appends c.args.composer.now c.args.self.now done.new.self
     c.args.unread.now c.enter_string.new.unread done.new.unread c.in_ok-enter_string.field-0 done.result c.in_ok-enter_string.ensures done.ensures

@@ -6,11 +6,11 @@ use Rattle.roff_reader.specs.Reader.Taken.{TakesAs}
 use Rattle.roff_reader.proofs.reader.Reader.end_escape.Goals as goal
 
 pub returns-then-decides : goal.returns-then-decides
-returns-then-decides c = c.decides.ensures.decides (search rules) c.args.environments.now
+returns-then-decides c = c.decides.ensures.decides (search rules) c.args.composer.now
 
 pub returns : goal.returns
 returns c =
-    let es = c.args.environments.now in
+    let es = c.args.composer.now in
     let kept = c.decides.ensures.unchanged (search rules) in
     let done = c.end_any in
     subst (λ (s : ReaderState). TakesAs (λ k. escape_ended k s.reading c.args.unread.now.input) es s done.new.self c.args.unread.now done.new.unread done.result) kept.0

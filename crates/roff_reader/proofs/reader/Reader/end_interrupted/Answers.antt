@@ -17,20 +17,20 @@ use Rattle.roff_reader.proofs.reader.Reader.end_interrupted.Goals as goal
 pub returns-in-None : goal.returns-in-None
 returns-in-None c = λ u.
     let behind = LineStart in
-    let es = c.args.environments.now in
+    let es = c.args.composer.now in
     let old = c.args.self.now in
     let new : ReaderState = record { reading = behind; registers = c.self.inside.registers; meaning = c.self.inside.meaning } in
     let m = Nothing in
     let none : Option TextLine = None in
     TakesAs-asked (λ k line. meaning_events u.input behind (interrupted_end line)) (λ k. k.interrupted) none es old new u u (Ok m)
-    (λ l h rs i stands. sym c.in-None.is ∙ c.interrupted_line.ensures l h stands)
+    (λ l h rs i stands. sym c.in-None.is ∙ c.interrupted_line.ensures l h stands.environments)
     (TakesAs-meant (λ k. going_on u.input behind) behind es old new u m (λ k. refl) (ap (λ (s : ReaderState). record s { reading = behind }) c.self.view_is)
     refl)
 
 pub returns-in-Some : goal.returns-in-Some
 returns-in-Some c = λ u.
     let behind = LineStart in
-    let es = c.args.environments.now in
+    let es = c.args.composer.now in
     let old = c.args.self.now in
     let line : Option TextLine = Some c.in-Some.line in
     let kept = c.keep_line.new.self in
@@ -40,6 +40,6 @@ returns-in-Some c = λ u.
     ∙ ap (λ (events : List PageEvent). Text Resume ∷ events) (c.line.ensures ∙ c.end.ensures.means []) in
     let quiet : messages_of kept.message Meaning ≡ [] = ap (λ (m : MeaningKept). option_to_list m.message) c.keep_line.ensures in
     TakesAs-asked (λ k line. meaning_events u.input behind (interrupted_end line)) (λ k. k.interrupted) line es old new u u (Ok Meaning)
-    (λ l h rs i stands. sym c.in-Some.is ∙ c.interrupted_line.ensures l h stands)
+    (λ l h rs i stands. sym c.in-Some.is ∙ c.interrupted_line.ensures l h stands.environments)
     (TakesAs-said (λ k. meaning_events u.input behind (interrupted_end line)) behind [] (interrupted_end line) es old new u Meaning (λ k. refl)
     (ap (λ (s : ReaderState). record s { reading = behind; meaning = kept }) c.self.view_is) quiet events)

@@ -17,21 +17,21 @@ returns-in-LineStart c =
     let u = c.args.unread.now in
     let done = c.end_interrupted in
     let is : c.args.self.now.reading ≡ LineStart = search rules in
-    TakesAs-where (λ k r. end_taking k r u.input) LineStart c.args.environments.now c.args.self.now done.new.self u u (Ok done.result) is (done.ensures u)
+    TakesAs-where (λ k r. end_taking k r u.input) LineStart c.args.composer.now c.args.self.now done.new.self u u (Ok done.result) is (done.ensures u)
 
 pub returns-in-Dropped : goal.returns-in-Dropped
 returns-in-Dropped c =
     let u = c.args.unread.now in
     let done = c.end_interrupted-in-Dropped in
     let is : c.args.self.now.reading ≡ Dropped = search rules in
-    TakesAs-where (λ k r. end_taking k r u.input) Dropped c.args.environments.now c.args.self.now done.new.self u u (Ok done.result) is (done.ensures u)
+    TakesAs-where (λ k r. end_taking k r u.input) Dropped c.args.composer.now c.args.self.now done.new.self u u (Ok done.result) is (done.ensures u)
 
 pub returns-in-Exiting : goal.returns-in-Exiting
 returns-in-Exiting c =
     let u = c.args.unread.now in
     let done = c.end_interrupted-in-Exiting in
     let is : c.args.self.now.reading ≡ Exiting = search rules in
-    TakesAs-where (λ k r. end_taking k r u.input) Exiting c.args.environments.now c.args.self.now done.new.self u u (Ok done.result) is (done.ensures u)
+    TakesAs-where (λ k r. end_taking k r u.input) Exiting c.args.composer.now c.args.self.now done.new.self u u (Ok done.result) is (done.ensures u)
 
 pub returns-in-Deciding : goal.returns-in-Deciding
 returns-in-Deciding c =
@@ -39,7 +39,7 @@ returns-in-Deciding c =
     let done = c.end_interrupted-in-Deciding in
     let place = Deciding c.in-Deciding.keeps in
     let is : c.args.self.now.reading ≡ place = search rules in
-    TakesAs-where (λ k r. end_taking k r u.input) place c.args.environments.now c.args.self.now done.new.self u u (Ok done.result) is (done.ensures u)
+    TakesAs-where (λ k r. end_taking k r u.input) place c.args.composer.now c.args.self.now done.new.self u u (Ok done.result) is (done.ensures u)
 
 pub returns-in-Told : goal.returns-in-Told
 returns-in-Told c =
@@ -47,11 +47,11 @@ returns-in-Told c =
     let done = c.end_interrupted-in-Told in
     let place = Told c.in-Told.aborts in
     let is : c.args.self.now.reading ≡ place = search rules in
-    TakesAs-where (λ k r. end_taking k r u.input) place c.args.environments.now c.args.self.now done.new.self u u (Ok done.result) is (done.ensures u)
+    TakesAs-where (λ k r. end_taking k r u.input) place c.args.composer.now c.args.self.now done.new.self u u (Ok done.result) is (done.ensures u)
 
 pub returns-in-Defining : goal.returns-in-Defining
 returns-in-Defining c =
-    let es = c.args.environments.now in
+    let es = c.args.composer.now in
     let old = c.args.self.now in
     let u = c.args.unread.now in
     let done = c.drop_definition in
@@ -65,7 +65,7 @@ returns-in-Braced c =
     let done = c.end_interrupted-in-Braced in
     let place = Braced in
     let is : c.args.self.now.reading ≡ place = search rules in
-    TakesAs-where (λ k r. end_taking k r u.input) place c.args.environments.now c.args.self.now done.new.self u u (Ok done.result) is (done.ensures u)
+    TakesAs-where (λ k r. end_taking k r u.input) place c.args.composer.now c.args.self.now done.new.self u u (Ok done.result) is (done.ensures u)
 
 pub returns-in-Control : goal.returns-in-Control
 returns-in-Control c =
@@ -73,7 +73,7 @@ returns-in-Control c =
     let done = c.end_interrupted-in-Control in
     let place = Control c.in-Control.breaks in
     let is : c.args.self.now.reading ≡ place = search rules in
-    TakesAs-where (λ k r. end_taking k r u.input) place c.args.environments.now c.args.self.now done.new.self u u (Ok done.result) is (done.ensures u)
+    TakesAs-where (λ k r. end_taking k r u.input) place c.args.composer.now c.args.self.now done.new.self u u (Ok done.result) is (done.ensures u)
 
 pub returns-in-Skipping : goal.returns-in-Skipping
 returns-in-Skipping c =
@@ -81,11 +81,11 @@ returns-in-Skipping c =
     let done = c.end_interrupted-in-Skipping in
     let place = Skipping c.in-Skipping.opened c.in-Skipping.closed c.in-Skipping.behind in
     let is : c.args.self.now.reading ≡ place = search rules in
-    TakesAs-where (λ k r. end_taking k r u.input) place c.args.environments.now c.args.self.now done.new.self u u (Ok done.result) is (done.ensures u)
+    TakesAs-where (λ k r. end_taking k r u.input) place c.args.composer.now c.args.self.now done.new.self u u (Ok done.result) is (done.ensures u)
 
 pub returns-in_ok-end_string_line-in-StringName : goal.returns-in_ok-end_string_line-in-StringName
 returns-in_ok-end_string_line-in-StringName c =
-    let es = c.args.environments.now in
+    let es = c.args.composer.now in
     let old = c.args.self.now in
     let u = c.args.unread.now in
     let place = StringName c.in-StringName.appends in
@@ -100,7 +100,7 @@ returns-in_ok-end_string_line-in-StringName c =
 
 pub returns-in_err-end_string_line-in-StringName : goal.returns-in_err-end_string_line-in-StringName
 returns-in_err-end_string_line-in-StringName c =
-    let es = c.args.environments.now in
+    let es = c.args.composer.now in
     let old = c.args.self.now in
     let u = c.args.unread.now in
     let place = StringName c.in-StringName.appends in
@@ -117,7 +117,7 @@ returns-in_err-end_string_line-in-StringName c =
 
 pub returns-in_ok-read_unit_of_string-in-StringText : goal.returns-in_ok-read_unit_of_string-in-StringText
 returns-in_ok-read_unit_of_string-in-StringText c =
-    let es = c.args.environments.now in
+    let es = c.args.composer.now in
     let old = c.args.self.now in
     let u = c.args.unread.now in
     let place = StringText c.in-StringText.name c.in-StringText.appends c.in-StringText.is_front in
@@ -131,7 +131,7 @@ returns-in_ok-read_unit_of_string-in-StringText c =
 
 pub returns-in_err-read_unit_of_string-in-StringText : goal.returns-in_err-read_unit_of_string-in-StringText
 returns-in_err-read_unit_of_string-in-StringText c =
-    let es = c.args.environments.now in
+    let es = c.args.composer.now in
     let old = c.args.self.now in
     let u = c.args.unread.now in
     let place = StringText c.in-StringText.name c.in-StringText.appends c.in-StringText.is_front in
@@ -150,7 +150,7 @@ returns-in_default c =
     let old = c.args.self.now in
     let u = c.args.unread.now in
     let same = ap (λ (s : ReaderState). s.reading) c.self.view_is in
-    TakesAs-as (λ k. undropped_taking k old.reading u.input newline) (λ k. end_taking k old.reading u.input) c.args.environments.now old c.read_undropped.new.self u
+    TakesAs-as (λ k. undropped_taking k old.reading u.input newline) (λ k. end_taking k old.reading u.input) c.args.composer.now old c.read_undropped.new.self u
     c.read_undropped.new.unread c.read_undropped.result (λ k. end_taking-newline k old.reading u.input (λ at. c.in_default.not-LineStart (same ∙ at)) (λ at. c.in_default.not-Dropped (same ∙ at))
     (λ at. c.in_default.not-Exiting (same ∙ at)) (λ at. c.in_default.not-Braced (same ∙ at))
     (λ breaks at. c.in_default.not-Control breaks (same ∙ at))

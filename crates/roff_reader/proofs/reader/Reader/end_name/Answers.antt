@@ -16,12 +16,12 @@ returns-then-ends_name c =
     let done = c.read_behind_name in
     let name : ShortName = record { first = c.args.first; second = None } in
     let ends : ends_name b ≡ true = search rules in
-    TakesAs-as (λ k. name_ended_taking k i c.args.breaks name b) (λ k. undropped_taking k (Name c.args.breaks c.args.first) i b) c.args.environments.now c.args.self.now done.new.self
+    TakesAs-as (λ k. name_ended_taking k i c.args.breaks name b) (λ k. undropped_taking k (Name c.args.breaks c.args.first) i b) c.args.composer.now c.args.self.now done.new.self
     c.args.unread.now done.new.unread done.result (λ k. rw ends refl) done.ensures
 
 pub returns : goal.returns
 returns c =
-    let es = c.args.environments.now in
+    let es = c.args.composer.now in
     let old = c.args.self.now in
     let u = c.args.unread.now in
     let breaks = c.args.breaks in

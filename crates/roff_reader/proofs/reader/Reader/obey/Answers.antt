@@ -12,7 +12,7 @@ use Rattle.roff_reader.proofs.reader.Reader.obey.Goals as goal
 
 pub returns-in_err-change : goal.returns-in_err-change
 returns-in_err-change c =
-    let es = c.args.environments.now in
+    let es = c.args.composer.now in
     let u = c.args.unread.now in
     let mid = c.finish_arguments.new.self in
     let e = c.effect-effect.result in
@@ -27,7 +27,7 @@ returns-in_err-change c =
 
 pub returns : goal.returns
 returns c =
-    let es = c.args.environments.now in
+    let es = c.args.composer.now in
     let u = c.args.unread.now in
     let mid = c.finish_arguments.new.self in
     let e = c.effect-effect.result in

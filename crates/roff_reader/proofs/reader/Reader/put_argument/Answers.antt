@@ -30,6 +30,22 @@ returns-in_err-push-in_default c = λ es.
     (subst (λ (text : List ℕ). TakesAs (λ k. going_on (pushing text u.input) old.reading) es old old u c.push.new.self (Err limit)) same
     (TakesAs-not_changed (pushing [] u.input) old.reading es old old u c.push.new.self limit c.in_err-push-in_default.ensures.change))
 
+pub returns-in_err-push_argument-in-49-to-57 : goal.returns-in_err-push_argument-in-49-to-57
+returns-in_err-push_argument-in-49-to-57 c = λ es.
+    let old = c.args.self.now in
+    let u = c.args.unread.now in
+    let name = c.as_bytes.result.now in
+    let arguments = arguments_live u.input in
+    let limit = c.in_err-push_argument-in-49-to-57.field-0.0 in
+    let refused : c.from_residual.result ≡ Err limit = search rules in
+    let same = ap (λ (name : List ℕ). argument_named name arguments) c.as_bytes.ensures.value in
+    let one : length name ≡ 1 = omega (arith, c.in-49-to-57.len_at_least, c.in-49-to-57.len_below) in
+    let above : 49 ≤ get_or name 0 0 = omega arith in
+    let below : get_or name 0 0 ≤ 57 = omega arith in
+    rw refused
+    (subst (λ (text : List ℕ). TakesAs (λ k. going_on (pushing text u.input) old.reading) es old old u c.push_argument.new.self (Err limit)) (argument_named-digit name arguments one above below ∙ same)
+    (TakesAs-not_changed (pushing (argument_live (get_or name 0 0 - 49) u.input) u.input) old.reading es old old u c.push_argument.new.self limit c.in_err-push_argument-in-49-to-57.ensures.change))
+
 pub returns-in_ok-push_argument-in-49-to-57 : goal.returns-in_ok-push_argument-in-49-to-57
 returns-in_ok-push_argument-in-49-to-57 c = λ es.
     let old = c.args.self.now in

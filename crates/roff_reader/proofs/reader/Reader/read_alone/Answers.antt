@@ -15,7 +15,7 @@ use Rattle.roff_reader.proofs.reader.Reader.read_alone.Goals as goal
 
 pub returns-in-LineStart : goal.returns-in-LineStart
 returns-in-LineStart c =
-    let es = c.args.environments.now in
+    let es = c.args.composer.now in
     let old = c.args.self.now in
     let u = c.args.unread.now in
     let b = c.args.byte in
@@ -27,7 +27,7 @@ returns-in-LineStart c =
 
 pub returns-in-Text : goal.returns-in-Text
 returns-in-Text c =
-    let es = c.args.environments.now in
+    let es = c.args.composer.now in
     let old = c.args.self.now in
     let u = c.args.unread.now in
     let b = c.args.byte in
@@ -43,7 +43,7 @@ returns-in-Text c =
 
 pub returns-in-Arguments : goal.returns-in-Arguments
 returns-in-Arguments c =
-    let es = c.args.environments.now in
+    let es = c.args.composer.now in
     let old = c.args.self.now in
     let u = c.args.unread.now in
     let b = c.args.byte in
@@ -56,7 +56,7 @@ returns-in-Arguments c =
 
 pub returns-in-Calling : goal.returns-in-Calling
 returns-in-Calling c =
-    let es = c.args.environments.now in
+    let es = c.args.composer.now in
     let old = c.args.self.now in
     let u = c.args.unread.now in
     let b = c.args.byte in

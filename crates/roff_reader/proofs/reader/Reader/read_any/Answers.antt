@@ -9,7 +9,7 @@ use Rattle.roff_reader.proofs.reader.Reader.read_any.Goals as goal
 
 pub returns-then-is_dropped : goal.returns-then-is_dropped
 returns-then-is_dropped c =
-    let es = c.args.environments.now in
+    let es = c.args.composer.now in
     let old = c.args.self.now in
     let u = c.args.unread.now in
     let b = c.args.byte in
@@ -21,4 +21,4 @@ returns-then-is_dropped c =
 pub returns : goal.returns
 returns c =
     let done = c.read_undropped in
-    TakesAs-undropped c.args.byte c.args.environments.now c.args.self.now done.new.self c.args.unread.now done.new.unread done.result (search rules) done.ensures
+    TakesAs-undropped c.args.byte c.args.composer.now c.args.self.now done.new.self c.args.unread.now done.new.unread done.result (search rules) done.ensures

@@ -14,7 +14,7 @@ returns-in-Escape c = rw c.in-Escape.is c.read_unit-in-Escape.ensures
 
 pub returns-in_default : goal.returns-in_default
 returns-in_default c =
-    let es = c.args.environments.now in
+    let es = c.args.composer.now in
     let old = c.args.self.now in
     let u = c.args.unread.now in
     let breaks = c.args.breaks in

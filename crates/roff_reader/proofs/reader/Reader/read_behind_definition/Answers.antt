@@ -10,12 +10,12 @@ returns-in-Some c =
     let name = c.in-Some.end in
     let done = c.read_behind_name in
     rw c.in-Some.is
-    (TakesAs-line_begun (λ k i. name_ended_taking k i true name c.args.byte) c.args.environments.now c.args.self.now done.new.self u c.begin_line.new.self done.new.unread
+    (TakesAs-line_begun (λ k i. name_ended_taking k i true name c.args.byte) c.args.composer.now c.args.self.now done.new.self u c.begin_line.new.self done.new.unread
     done.result c.begin_line.ensures.change done.ensures)
 
 pub returns-in-None : goal.returns-in-None
 returns-in-None c =
     let u = c.args.unread.now in
     rw c.in-None.is
-    (TakesAs-meant (λ k. dropped_taking u.input c.args.byte) c.behind_dropped.result c.args.environments.now c.args.self.now c.read_on.new.self u c.read_on.result
+    (TakesAs-meant (λ k. dropped_taking u.input c.args.byte) c.behind_dropped.result c.args.composer.now c.args.self.now c.read_on.new.self u c.read_on.result
     (λ k. c.behind_dropped.ensures u.input) c.read_on.ensures.reading c.read_on.ensures.step)

@@ -19,12 +19,12 @@ returns-in-Request c =
     let breaks = c.args.breaks in
     let request = c.in-Request.request in
     let done = c.read_first in
-    TakesAs-as (λ k. line_taking k i breaks request (row_of request).line b) (λ k. name_ended_taking k i breaks c.args.name b) c.args.environments.now c.args.self.now done.new.self
+    TakesAs-as (λ k. line_taking k i breaks request (row_of request).line b) (λ k. name_ended_taking k i breaks c.args.name b) c.args.composer.now c.args.self.now done.new.self
     c.args.unread.now done.new.unread done.result (λ k. ap (λ (called : Called). called_taking k i breaks called b) c.in-Request.ensures) done.ensures
 
 pub returns-in-Body : goal.returns-in-Body
 returns-in-Body c =
-    let es = c.args.environments.now in
+    let es = c.args.composer.now in
     let old = c.args.self.now in
     let u = c.args.unread.now in
     let b = c.args.byte in
@@ -43,6 +43,6 @@ returns-in-Nothing c =
     let b = c.args.byte in
     let breaks = c.args.breaks in
     let done = c.read_on in
-    TakesAs-meant (λ k. name_ended_taking k i breaks c.args.name b) c.behind_dropped.result c.args.environments.now c.args.self.now done.new.self c.args.unread.now done.result
+    TakesAs-meant (λ k. name_ended_taking k i breaks c.args.name b) c.behind_dropped.result c.args.composer.now c.args.self.now done.new.self c.args.unread.now done.result
     (λ k. sym (ap (λ (called : Called). called_taking k i breaks called b) c.in-Nothing.ensures) ∙ c.behind_dropped.ensures i)
     done.ensures.reading done.ensures.step

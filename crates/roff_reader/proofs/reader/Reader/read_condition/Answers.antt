@@ -8,7 +8,7 @@ use Rattle.roff_reader.proofs.reader.Reader.read_condition.Goals as goal
 
 pub returns-in_err-step-in-Decides : goal.returns-in_err-step-in-Decides
 returns-in_err-step-in-Decides c =
-    let es = c.args.environments.now in
+    let es = c.args.composer.now in
     let old = c.args.self.now in
     let u = c.args.unread.now in
     let keeps = c.args.keeps in
@@ -23,7 +23,7 @@ returns-in_err-step-in-Decides c =
 
 pub returns-in_err-keep_result-in-Decides : goal.returns-in_err-keep_result-in-Decides
 returns-in_err-keep_result-in-Decides c =
-    let es = c.args.environments.now in
+    let es = c.args.composer.now in
     let old = c.args.self.now in
     let u = c.args.unread.now in
     let so = c.is_so-so.result in
@@ -39,7 +39,7 @@ returns-in_err-keep_result-in-Decides c =
 
 pub returns-in_ok-keep_result-in-Decides : goal.returns-in_ok-keep_result-in-Decides
 returns-in_ok-keep_result-in-Decides c =
-    let es = c.args.environments.now in
+    let es = c.args.composer.now in
     let old = c.args.self.now in
     let u = c.args.unread.now in
     let so = c.is_so-so.result in
@@ -56,7 +56,7 @@ pub returns-else-keeps : goal.returns-else-keeps
 returns-else-keeps c =
     let begun = c.begin_branch.new in
     rw (c.in-Decides.is, c.if-keeps.false)
-    (TakesAs-decides false c.is_so-so.result c.in-Decides.decision c.in-Decides.freed c.args.environments.now c.args.self.now begun.self c.args.unread.now begun.unread
+    (TakesAs-decides false c.is_so-so.result c.in-Decides.decision c.in-Decides.freed c.args.composer.now c.args.self.now begun.self c.args.unread.now begun.unread
     (Ok c.in_ok-step-in-Decides.step) c.is_so-so.ensures c.in_ok-step-in-Decides.ensures)
 
 pub returns-in_default : goal.returns-in_default
@@ -65,5 +65,5 @@ returns-in_default c =
     let keeps = c.args.keeps in
     let found = c.args.found in
     let done = c.read_in_arguments in
-    TakesAs-as (λ k. no_unit_found k i (Deciding keeps) found) (λ k. condition_found k i keeps found) c.args.environments.now c.args.self.now done.new.self
+    TakesAs-as (λ k. no_unit_found k i (Deciding keeps) found) (λ k. condition_found k i keeps found) c.args.composer.now c.args.self.now done.new.self
     c.args.unread.now done.new.unread done.result (λ k. condition_found-undecided k i keeps found c.in_default.not-Decides) done.ensures

@@ -22,6 +22,6 @@ returns-in_default c =
     let found = c.args.found in
     let place : LineState = Defining name appends end matched in
     let done = c.read_in_arguments in
-    TakesAs-as (λ k. no_unit_found k u.input place found) (λ k. definition_found k u.input name appends end matched found) c.args.environments.now c.args.self.now
+    TakesAs-as (λ k. no_unit_found k u.input place found) (λ k. definition_found k u.input name appends end matched found) c.args.composer.now c.args.self.now
     done.new.self u done.new.unread done.result
     (λ k. definition_found-no_unit k u.input name appends end matched found c.in_default.not-Unit c.in_default.not-Escape) done.ensures

@@ -17,7 +17,7 @@ use Rattle.roff_reader.proofs.reader.Reader.read_first.Goals as goal
 
 pub returns-in-ByArguments : goal.returns-in-ByArguments
 returns-in-ByArguments c =
-    let es = c.args.environments.now in
+    let es = c.args.composer.now in
     let old = c.args.self.now in
     let u = c.args.unread.now in
     let b = c.args.byte in
@@ -32,7 +32,7 @@ returns-in-ByArguments c =
 
 pub returns-in-ByString : goal.returns-in-ByString
 returns-in-ByString c =
-    let es = c.args.environments.now in
+    let es = c.args.composer.now in
     let old = c.args.self.now in
     let u = c.args.unread.now in
     let b = c.args.byte in
@@ -48,7 +48,7 @@ returns-in-ByString c =
 
 pub returns-in-ByLastLine : goal.returns-in-ByLastLine
 returns-in-ByLastLine c =
-    let es = c.args.environments.now in
+    let es = c.args.composer.now in
     let old = c.args.self.now in
     let u = c.args.unread.now in
     let b = c.args.byte in
@@ -63,7 +63,7 @@ returns-in-ByLastLine c =
 
 pub returns-in-ByLines : goal.returns-in-ByLines
 returns-in-ByLines c =
-    let es = c.args.environments.now in
+    let es = c.args.composer.now in
     let old = c.args.self.now in
     let u = c.args.unread.now in
     let b = c.args.byte in
@@ -79,7 +79,7 @@ returns-in-ByLines c =
 
 pub returns-in-ByMessage : goal.returns-in-ByMessage
 returns-in-ByMessage c =
-    let es = c.args.environments.now in
+    let es = c.args.composer.now in
     let old = c.args.self.now in
     let u = c.args.unread.now in
     let b = c.args.byte in
@@ -98,12 +98,12 @@ returns-in-ByCondition c =
     let keeps = c.in-ByCondition.keeps in
     let done = c.begin_condition in
     let line : (row_of c.args.request).line ≡ ByCondition keeps = search rules in
-    TakesAs-line (ByCondition keeps) c.args.breaks c.args.request c.args.byte c.args.environments.now c.args.self.now done.new.self c.args.unread.now done.new.unread done.result line
+    TakesAs-line (ByCondition keeps) c.args.breaks c.args.request c.args.byte c.args.composer.now c.args.self.now done.new.self c.args.unread.now done.new.unread done.result line
     done.ensures
 
 pub returns-in-ByElse : goal.returns-in-ByElse
 returns-in-ByElse c =
-    let es = c.args.environments.now in
+    let es = c.args.composer.now in
     let old = c.args.self.now in
     let u = c.args.unread.now in
     let b = c.args.byte in

@@ -15,7 +15,7 @@ returns-in-LineStart c =
     let done = c.begin_line in
     let place : LineState = LineStart in
     let is : c.args.self.now.reading ≡ place = search rules in
-    TakesAs-where (λ k r. found_in k u.input r c.args.found) place c.args.environments.now c.args.self.now done.new.self u done.new.unread done.result is done.ensures
+    TakesAs-where (λ k r. found_in k u.input r c.args.found) place c.args.composer.now c.args.self.now done.new.self u done.new.unread done.result is done.ensures
 
 pub returns-in-Branch : goal.returns-in-Branch
 returns-in-Branch c =
@@ -23,7 +23,7 @@ returns-in-Branch c =
     let done = c.begin_line-in-Branch in
     let place : LineState = Branch in
     let is : c.args.self.now.reading ≡ place = search rules in
-    TakesAs-where (λ k r. found_in k u.input r c.args.found) place c.args.environments.now c.args.self.now done.new.self u done.new.unread done.result is done.ensures
+    TakesAs-where (λ k r. found_in k u.input r c.args.found) place c.args.composer.now c.args.self.now done.new.self u done.new.unread done.result is done.ensures
 
 pub returns-in-Braced : goal.returns-in-Braced
 returns-in-Braced c =
@@ -31,7 +31,7 @@ returns-in-Braced c =
     let done = c.begin_line-in-Braced in
     let place : LineState = Braced in
     let is : c.args.self.now.reading ≡ place = search rules in
-    TakesAs-where (λ k r. found_in k u.input r c.args.found) place c.args.environments.now c.args.self.now done.new.self u done.new.unread done.result is done.ensures
+    TakesAs-where (λ k r. found_in k u.input r c.args.found) place c.args.composer.now c.args.self.now done.new.self u done.new.unread done.result is done.ensures
 
 pub returns-in-Text : goal.returns-in-Text
 returns-in-Text c =
@@ -39,7 +39,7 @@ returns-in-Text c =
     let done = c.read_text in
     let place : LineState = InText c.in-Text.line in
     let is : c.args.self.now.reading ≡ place = search rules in
-    TakesAs-where (λ k r. found_in k u.input r c.args.found) place c.args.environments.now c.args.self.now done.new.self u done.new.unread done.result is done.ensures
+    TakesAs-where (λ k r. found_in k u.input r c.args.found) place c.args.composer.now c.args.self.now done.new.self u done.new.unread done.result is done.ensures
 
 pub returns-in-Arguments : goal.returns-in-Arguments
 returns-in-Arguments c =
@@ -47,7 +47,7 @@ returns-in-Arguments c =
     let done = c.read_arguments in
     let place : LineState = InArguments c.in-Arguments.breaks c.in-Arguments.request in
     let is : c.args.self.now.reading ≡ place = search rules in
-    TakesAs-where (λ k r. found_in k u.input r c.args.found) place c.args.environments.now c.args.self.now done.new.self u done.new.unread done.result is done.ensures
+    TakesAs-where (λ k r. found_in k u.input r c.args.found) place c.args.composer.now c.args.self.now done.new.self u done.new.unread done.result is done.ensures
 
 pub returns-in-Deciding : goal.returns-in-Deciding
 returns-in-Deciding c =
@@ -55,7 +55,7 @@ returns-in-Deciding c =
     let done = c.read_condition in
     let place : LineState = Deciding c.in-Deciding.keeps in
     let is : c.args.self.now.reading ≡ place = search rules in
-    TakesAs-where (λ k r. found_in k u.input r c.args.found) place c.args.environments.now c.args.self.now done.new.self u done.new.unread done.result is done.ensures
+    TakesAs-where (λ k r. found_in k u.input r c.args.found) place c.args.composer.now c.args.self.now done.new.self u done.new.unread done.result is done.ensures
 
 pub returns-in-StringName : goal.returns-in-StringName
 returns-in-StringName c =
@@ -63,7 +63,7 @@ returns-in-StringName c =
     let done = c.read_string_name in
     let place : LineState = StringName c.in-StringName.appends in
     let is : c.args.self.now.reading ≡ place = search rules in
-    TakesAs-where (λ k r. found_in k u.input r c.args.found) place c.args.environments.now c.args.self.now done.new.self u done.new.unread done.result is done.ensures
+    TakesAs-where (λ k r. found_in k u.input r c.args.found) place c.args.composer.now c.args.self.now done.new.self u done.new.unread done.result is done.ensures
 
 pub returns-in-StringText : goal.returns-in-StringText
 returns-in-StringText c =
@@ -71,7 +71,7 @@ returns-in-StringText c =
     let done = c.read_string in
     let place : LineState = StringText c.in-StringText.name c.in-StringText.appends c.in-StringText.is_front in
     let is : c.args.self.now.reading ≡ place = search rules in
-    TakesAs-where (λ k r. found_in k u.input r c.args.found) place c.args.environments.now c.args.self.now done.new.self u done.new.unread done.result is done.ensures
+    TakesAs-where (λ k r. found_in k u.input r c.args.found) place c.args.composer.now c.args.self.now done.new.self u done.new.unread done.result is done.ensures
 
 pub returns-in-Telling : goal.returns-in-Telling
 returns-in-Telling c =
@@ -79,7 +79,7 @@ returns-in-Telling c =
     let done = c.read_message in
     let place : LineState = Telling c.in-Telling.aborts c.in-Telling.is_front in
     let is : c.args.self.now.reading ≡ place = search rules in
-    TakesAs-where (λ k r. found_in k u.input r c.args.found) place c.args.environments.now c.args.self.now done.new.self u done.new.unread done.result is done.ensures
+    TakesAs-where (λ k r. found_in k u.input r c.args.found) place c.args.composer.now c.args.self.now done.new.self u done.new.unread done.result is done.ensures
 
 pub returns-in-Calling : goal.returns-in-Calling
 returns-in-Calling c =
@@ -87,7 +87,7 @@ returns-in-Calling c =
     let done = c.read_call in
     let place : LineState = Calling c.in-Calling.name in
     let is : c.args.self.now.reading ≡ place = search rules in
-    TakesAs-where (λ k r. found_in k u.input r c.args.found) place c.args.environments.now c.args.self.now done.new.self u done.new.unread done.result is done.ensures
+    TakesAs-where (λ k r. found_in k u.input r c.args.found) place c.args.composer.now c.args.self.now done.new.self u done.new.unread done.result is done.ensures
 
 pub returns-in-Defining : goal.returns-in-Defining
 returns-in-Defining c =
@@ -95,7 +95,7 @@ returns-in-Defining c =
     let done = c.read_definition in
     let place : LineState = Defining c.in-Defining.name c.in-Defining.appends c.in-Defining.end c.in-Defining.matched in
     let is : c.args.self.now.reading ≡ place = search rules in
-    TakesAs-where (λ k r. found_in k u.input r c.args.found) place c.args.environments.now c.args.self.now done.new.self u done.new.unread done.result is done.ensures
+    TakesAs-where (λ k r. found_in k u.input r c.args.found) place c.args.composer.now c.args.self.now done.new.self u done.new.unread done.result is done.ensures
 
 pub returns-in_default : goal.returns-in_default
 returns-in_default c =
@@ -103,7 +103,7 @@ returns-in_default c =
     let u = c.args.unread.now in
     let others = c.in_default in
     let same = ap (λ (s : ReaderState). s.reading) c.self.view_is in
-    TakesAs-meant (λ k. found_in k u.input old.reading c.args.found) old.reading c.args.environments.now old old u Nothing
+    TakesAs-meant (λ k. found_in k u.input old.reading c.args.found) old.reading c.args.composer.now old old u Nothing
     (λ k. found-elsewhere k u.input old.reading c.args.found (λ is. others.not-LineStart (same ∙ is)) (λ is. others.not-Branch (same ∙ is)) (λ is. others.not-Braced (same ∙ is))
     (λ line is. others.not-Text line (same ∙ is)) (λ breaks request is. others.not-Arguments breaks request (same ∙ is))
     (λ keeps is. others.not-Deciding keeps (same ∙ is)) (λ appends is. others.not-StringName appends (same ∙ is))

@@ -7,14 +7,14 @@ use Rattle.roff_reader.proofs.LinesTaken.{message_found-no_unit}
 use Rattle.roff_reader.proofs.reader.Reader.read_message.Goals as goal
 
 pub returns-in-Unit : goal.returns-in-Unit
-returns-in-Unit c = rw c.in-Unit.is (c.read_unit_of_message.ensures c.args.environments.now)
+returns-in-Unit c = rw c.in-Unit.is (c.read_unit_of_message.ensures c.args.composer.now)
 
 pub returns-in-Escape : goal.returns-in-Escape
-returns-in-Escape c = rw c.in-Escape.is (c.read_unit_of_message-in-Escape.ensures c.args.environments.now)
+returns-in-Escape c = rw c.in-Escape.is (c.read_unit_of_message-in-Escape.ensures c.args.composer.now)
 
 pub returns-in_default : goal.returns-in_default
 returns-in_default c =
-    let es = c.args.environments.now in
+    let es = c.args.composer.now in
     let old = c.args.self.now in
     let u = c.args.unread.now in
     let place : LineState = Telling c.args.aborts c.args.is_front in

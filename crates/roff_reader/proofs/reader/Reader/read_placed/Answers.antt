@@ -7,7 +7,7 @@ use Rattle.roff_reader.proofs.reader.Reader.read_placed.Goals as goal
 
 pub returns : goal.returns
 returns c =
-    let es = c.args.environments.now in
+    let es = c.args.composer.now in
     let old = c.args.self.now in
     let u = c.args.unread.now in
     let b = c.args.byte in

@@ -16,7 +16,7 @@ use Rattle.roff_reader.proofs.reader.Reader.read_text.Goals as goal
 
 pub returns-in-Unit-Byte : goal.returns-in-Unit-Byte
 returns-in-Unit-Byte c =
-    let es = c.args.environments.now in
+    let es = c.args.composer.now in
     let old = c.args.self.now in
     let u = c.args.unread.now in
     let line = c.args.line in
@@ -30,24 +30,24 @@ returns-in-Unit-Byte c =
     (λ kept. ap (messages_of kept) done.ensures.step ∙ taken.ensures.quiet kept) done.ensures.reading)
 
 pub returns-in-Holds : goal.returns-in-Holds
-returns-in-Holds c = rw c.in-Holds.is (c.hold_text.ensures c.args.environments.now)
+returns-in-Holds c = rw c.in-Holds.is (c.hold_text.ensures c.args.composer.now)
 
 pub returns-in-Motion : goal.returns-in-Motion
 returns-in-Motion c =
     rw c.in-Motion.is
-    (TakesAs-stepped (λ i. motion_taking i c.args.line c.in-Motion.columns c.in-Motion.remark) c.motion.result c.args.environments.now c.args.self.now c.step.new.self
+    (TakesAs-stepped (λ i. motion_taking i c.args.line c.in-Motion.columns c.in-Motion.remark) c.motion.result c.args.composer.now c.args.self.now c.step.new.self
     c.args.unread.now c.step.result c.motion.ensures c.step.ensures.now c.step.ensures.says c.step.ensures.events)
 
 pub returns-in-Measures : goal.returns-in-Measures
-returns-in-Measures c = rw c.in-Measures.is (c.measure.ensures c.args.environments.now)
+returns-in-Measures c = rw c.in-Measures.is (c.measure.ensures c.args.composer.now)
 
 pub returns-in-Tells : goal.returns-in-Tells
-returns-in-Tells c = rw c.in-Tells.is (c.tell.ensures c.args.environments.now c.args.unread.now)
+returns-in-Tells c = rw c.in-Tells.is (c.tell.ensures c.args.composer.now c.args.unread.now)
 
 pub returns-in-Asks : goal.returns-in-Asks
 returns-in-Asks c =
     let u = c.args.unread.now in
     let set : ReaderState = record { reading = Text c.args.line; registers = c.self.inside.registers; meaning = c.self.inside.meaning } in
     rw c.in-Asks.is
-    (TakesAs-set (λ k. name_taking k u.input (Text c.args.line) c.args.line c.in-Asks.purpose c.in-Asks.name) c.args.environments.now c.args.self.now set c.read_name.new.self u
+    (TakesAs-set (λ k. name_taking k u.input (Text c.args.line) c.args.line c.in-Asks.purpose c.in-Asks.name) c.args.composer.now c.args.self.now set c.read_name.new.self u
     c.read_name.new.unread c.read_name.result (ap (λ (s : ReaderState). s.registers) c.self.view_is) c.read_name.ensures)

@@ -16,7 +16,7 @@ read_placed-requires c =
 
 pub returns-in-Control : goal.returns-in-Control
 returns-in-Control c =
-    let es = c.args.environments.now in
+    let es = c.args.composer.now in
     let old = c.args.self.now in
     let u = c.args.unread.now in
     let place = Control c.in-Control.breaks in
@@ -30,12 +30,12 @@ returns-in-Name c =
     let u = c.args.unread.now in
     let place = Name c.in-Name.breaks c.in-Name.first in
     let is : c.args.self.now.reading ≡ place = search rules in
-    TakesAs-where (λ k r. undropped_taking k r u.input c.args.byte) place c.args.environments.now c.args.self.now c.end_name.new.self u c.end_name.new.unread c.end_name.result is
+    TakesAs-where (λ k r. undropped_taking k r u.input c.args.byte) place c.args.composer.now c.args.self.now c.end_name.new.self u c.end_name.new.unread c.end_name.result is
     c.end_name.ensures
 
 pub returns-in-Skipping : goal.returns-in-Skipping
 returns-in-Skipping c =
-    let es = c.args.environments.now in
+    let es = c.args.composer.now in
     let old = c.args.self.now in
     let u = c.args.unread.now in
     let place = Skipping c.in-Skipping.opened c.in-Skipping.closed c.in-Skipping.behind in
@@ -47,7 +47,7 @@ returns-in-Skipping c =
 
 pub returns-in-Dropped : goal.returns-in-Dropped
 returns-in-Dropped c =
-    let es = c.args.environments.now in
+    let es = c.args.composer.now in
     let old = c.args.self.now in
     let u = c.args.unread.now in
     let is : old.reading ≡ Dropped = search rules in
@@ -58,7 +58,7 @@ returns-in-Dropped c =
 
 pub returns-in-Told : goal.returns-in-Told
 returns-in-Told c =
-    let es = c.args.environments.now in
+    let es = c.args.composer.now in
     let old = c.args.self.now in
     let u = c.args.unread.now in
     let place = Told c.in-Told.aborts in
@@ -70,7 +70,7 @@ returns-in-Told c =
 
 pub returns-in-Exiting : goal.returns-in-Exiting
 returns-in-Exiting c =
-    let es = c.args.environments.now in
+    let es = c.args.composer.now in
     let old = c.args.self.now in
     let u = c.args.unread.now in
     let is : old.reading ≡ Exiting = search rules in

@@ -10,6 +10,6 @@ pub returns-in_default : goal.returns-in_default
 returns-in_default c = elim c.in_default.branch [
   | in_default-via-in-Byte+in_default w ↦
       let no_newline : (w.in_default.field-0 == 10) ≡ false = search rules in
-      rw (w.in_default.is, no_newline) (rw w.in_default.is at (c.hold.ensures c.args.environments.now))
-  | in_default-via-in_default w ↦ rw w.in_default.is (rw w.in_default.is at (c.hold.ensures c.args.environments.now))
+      rw (w.in_default.is, no_newline) (rw w.in_default.is at (c.hold.ensures c.args.composer.now))
+  | in_default-via-in_default w ↦ rw w.in_default.is (rw w.in_default.is at (c.hold.ensures c.args.composer.now))
 ]

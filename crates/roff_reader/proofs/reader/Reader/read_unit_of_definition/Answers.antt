@@ -25,7 +25,7 @@ returns-in-MayBeLast c =
     let unit = c.args.unit in
     let done = c.read_on in
     let line : line_from (end_mark end) matched unit ≡ MayBeLast c.in-MayBeLast.matched = search rules in
-    TakesAs-meant (λ k. definition_line k i name appends end matched unit) (Defining name appends end (Some c.in-MayBeLast.matched)) c.args.environments.now c.args.self.now
+    TakesAs-meant (λ k. definition_line k i name appends end matched unit) (Defining name appends end (Some c.in-MayBeLast.matched)) c.args.composer.now c.args.self.now
     done.new.self c.args.unread.now done.result (λ k. ap (definition_unit k i name appends end (front_of (end_mark end) matched) unit) line)
     (search rules) done.ensures.step
 
@@ -45,7 +45,7 @@ returns-in-IsLast c =
     let done = c.end_definition in
     let line : line_from (end_mark end) matched unit ≡ IsLast c.in-IsLast.byte = search rules in
     TakesAs-as (λ k. behind_definition k (string_entered name appends i) end c.in-IsLast.byte) (λ k. definition_line k i name appends end matched unit)
-    c.args.environments.now c.args.self.now done.new.self c.args.unread.now done.new.unread done.result
+    c.args.composer.now c.args.self.now done.new.self c.args.unread.now done.new.unread done.result
     (λ k. ap (definition_unit k i name appends end (front_of (end_mark end) matched) unit) (sym line)) done.ensures
 
 pub grow_definition-requires : goal.grow_definition-requires
@@ -68,9 +68,9 @@ returns-in_err-grow_definition-in-IsText c =
     let refused : c.from_residual.result ≡ Err limit = search rules in
     rw refused
     (TakesAs-as (λ k. going_on (definition_grown name (front ++ unit_bytes unit) u.input) (Defining name appends end (matched_behind unit)))
-    (λ k. definition_line k u.input name appends end matched unit) c.args.environments.now c.args.self.now c.args.self.now u c.grow_definition.new.unread (Err limit)
+    (λ k. definition_line k u.input name appends end matched unit) c.args.composer.now c.args.self.now c.args.self.now u c.grow_definition.new.unread (Err limit)
     (λ k. definition_line-text k u.input name appends end matched (matched_behind unit) unit front stands refl line)
-    (TakesAs-not_became (definition_grown name (front ++ unit_bytes unit) u.input) (Defining name appends end (matched_behind unit)) c.args.environments.now c.args.self.now
+    (TakesAs-not_became (definition_grown name (front ++ unit_bytes unit) u.input) (Defining name appends end (matched_behind unit)) c.args.composer.now c.args.self.now
     c.args.self.now u c.grow_definition.new.unread limit c.in_err-grow_definition-in-IsText.ensures))
 
 pub returns-in_ok-grow_definition-in-IsText : goal.returns-in_ok-grow_definition-in-IsText
@@ -86,8 +86,8 @@ returns-in_ok-grow_definition-in-IsText c =
     let line : line_from (end_mark end) matched unit ≡ IsText = search rules in
     let stands : front ≡ front_of (end_mark end) matched = search rules in
     TakesAs-as (λ k. going_on (definition_grown name (front ++ unit_bytes unit) u.input) (Defining name appends end (matched_behind unit)))
-    (λ k. definition_line k u.input name appends end matched unit) c.args.environments.now c.args.self.now done.new.self u c.grow_definition.new.unread (Ok done.result)
+    (λ k. definition_line k u.input name appends end matched unit) c.args.composer.now c.args.self.now done.new.self u c.grow_definition.new.unread (Ok done.result)
     (λ k. definition_line-text k u.input name appends end matched (matched_behind unit) unit front stands refl line)
-    (TakesAs-became (definition_grown name (front ++ unit_bytes unit) u.input) (Defining name appends end (matched_behind unit)) c.args.environments.now c.args.self.now
+    (TakesAs-became (definition_grown name (front ++ unit_bytes unit) u.input) (Defining name appends end (matched_behind unit)) c.args.composer.now c.args.self.now
     done.new.self u c.grow_definition.new.unread done.result c.in_ok-grow_definition-in-IsText.field-0 c.in_ok-grow_definition-in-IsText.ensures
     (search rules) done.ensures.step)

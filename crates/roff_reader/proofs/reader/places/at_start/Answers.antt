@@ -7,4 +7,4 @@ use Rattle.roff_reader.proofs.reader.places.at_start.Goals as goal
 pub returns : goal.returns
 returns c = λ l h rs i stands.
     c.on_line.ensures l h rs i stands
-    ∙ ap (on_line (known_at h rs i)) (c.begun_as.ensures ∙ ap line_begun_as (c.interrupted_line.ensures l h stands))
+    ∙ ap (on_line (known_at h rs i)) (c.begun_as.ensures ∙ ap line_begun_as (c.interrupted_line.ensures l h stands.environments))

@@ -12,12 +12,12 @@ pub returns-clause-answer : goal.returns-clause-answer
 returns-clause-answer c =
     let free : is_read_only c.args.name.now ≡ false = sym c.is_read_only.ensures ∙ c.if-is_read_only.false in
     let other : is_page c.args.name.now ≡ false = sym c.is_page.ensures ∙ c.if-is_page.false in
-    rw (← c.self.view_is) (c.set_format.ensures.answer ∙ admitted-given c.args.name.now _ c.self.inside.named c.self.inside.page c.self.inside.last_macro
-    (FormatAs c.args.name.now c.args.format) c.self.invariant.within (FormatAs-gives c.args.name.now c.args.format c.self.inside.named c.self.inside.page c.self.inside.last_macro free other))
+    rw (← c.self.view_is) (c.set_format.ensures.answer ∙ admitted-given c.args.name.now _ c.self.inside.named c.self.inside.page_increment c.self.inside.page_format c.self.inside.last_macro
+    (FormatAs c.args.name.now c.args.format) c.self.invariant.within (FormatAs-gives c.args.name.now c.args.format c.self.inside.named c.self.inside.page_increment c.self.inside.page_format c.self.inside.last_macro free other))
 
 pub returns-clause-registers : goal.returns-clause-registers
 returns-clause-registers c =
     let free : is_read_only c.args.name.now ≡ false = sym c.is_read_only.ensures ∙ c.if-is_read_only.false in
     let other : is_page c.args.name.now ≡ false = sym c.is_page.ensures ∙ c.if-is_page.false in
-    rw (c.set_format.ensures.table, ← c.self.view_is) (capped_of-given c.args.name.now _ c.self.inside.named c.self.inside.page c.self.inside.last_macro
-    (FormatAs c.args.name.now c.args.format) c.self.invariant.within (FormatAs-gives c.args.name.now c.args.format c.self.inside.named c.self.inside.page c.self.inside.last_macro free other))
+    rw (c.set_format.ensures.table, ← c.self.view_is) (capped_of-given c.args.name.now _ c.self.inside.named c.self.inside.page_increment c.self.inside.page_format c.self.inside.last_macro
+    (FormatAs c.args.name.now c.args.format) c.self.invariant.within (FormatAs-gives c.args.name.now c.args.format c.self.inside.named c.self.inside.page_increment c.self.inside.page_format c.self.inside.last_macro free other))

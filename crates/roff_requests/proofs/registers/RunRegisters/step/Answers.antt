@@ -2,6 +2,6 @@ use Rattle.roff_store.specs.Registers.{Step}
 use Rattle.roff_requests.proofs.RegisterTables.{IsCounted-after}
 use Rattle.roff_requests.proofs.registers.RunRegisters.step.Goals as goal
 
-pub invariant_of-self-2 : goal.invariant_of-self-2
-invariant_of-self-2 c =
+pub invariant_of-self : goal.invariant_of-self
+invariant_of-self c =
     IsCounted-after (Step c.args.name.now c.args.direction) c.self.inside.named _ c.step.ensures.table c.self.invariant

@@ -1,0 +1,86 @@
+-- What is set of the pages, and given to a run.
+use Rattle.std.specs.Prelude.{◌≡◌, ◌≤◌, ◌<◌, ℕ, ◌+◌, Bool, true, false, length, Result, Ok, Err}
+use Rattle.roff_num.specs.declared.limit.Limit.{Limit}
+use Rattle.roff_num.specs.declared.limit.Limit.TheVariants.{Traps, Diversions}
+use Rattle.roff_num.specs.declared.num.Num.{Num}
+use Rattle.roff_pages.specs.Happenings.{Does}
+use Rattle.roff_pages.specs.Pages.Kept.{Kept}
+use Rattle.roff_pages.specs.Pages.Stands.{Happens}
+use Rattle.roff_pages.specs.Turning.{with_trap}
+use Rattle.roff_pages.specs.declared.layout_event.LayoutEvent.{LayoutEvent}
+use Rattle.roff_pages.specs.declared.layout_event.LayoutEvent.TheVariants.{Space, Need, Eject, EjectTo, EjectOn, EjectLast, Plant, Uproot, MoveTrap, RemoveTrap, DiversionTrap, NoDiversionTrap, Divert, EndDivert}
+use Rattle.roff_requests.specs.Composer.Standing.{StandFor}
+use Rattle.roff_run.specs.Environments.{PageHistory}
+use Rattle.roff_run.specs.Registers.Capped.{admitted, after}
+use Rattle.roff_run.specs.Starts.{given_change, history_given}
+use Rattle.roff_num.specs.declared.limits.Limits.{Limits}
+use Rattle.roff_engine.specs.declared.formatter.Formatter.{Formatter}
+use Rattle.roff_engine.specs.Formatter.Paging.{PutsOnPage}
+use Rattle.roff_sinks.specs.Sinks.{Sunk}
+use Rattle.roff_engine.specs.declared.halt.Halt.{Halt}
+use Rattle.roff_engine.specs.declared.halt.Halt.TheVariants.{Limit as Limited}
+
+-- whether an event of the pages may put something
+abbrev pub may_put : LayoutEvent → Bool
+may_put (Space k) = true
+may_put (Need k) = true
+may_put (Eject asked) = true
+may_put (EjectTo asked number) = true
+may_put (EjectOn asked) = true
+may_put EjectLast = true
+may_put (_) = false
+
+abbrev pub PutsNothing : LayoutEvent → Type 0
+PutsNothing e = may_put e ≡ false
+
+-- whether it is of traps or diversions
+abbrev pub is_of_traps : LayoutEvent → Bool
+is_of_traps (Plant trap) = true
+is_of_traps (Uproot place) = true
+is_of_traps (MoveTrap name place) = true
+is_of_traps (RemoveTrap name) = true
+is_of_traps (DiversionTrap trap) = true
+is_of_traps NoDiversionTrap = true
+is_of_traps (Divert name appends) = true
+is_of_traps EndDivert = true
+is_of_traps (_) = false
+
+abbrev pub IsOfTraps : LayoutEvent → Type 0
+IsOfTraps e = is_of_traps e ≡ true
+
+-- what halts where a limit refuses what is set
+abbrev pub halted_within : Result (Unit {0}) Limit → Result (Unit {0}) Halt
+halted_within (Ok done) = Ok tt
+halted_within (Err limit) = Err (Limited limit)
+
+-- there is room for what is set
+abbrev pub HasRoomFor : LayoutEvent → Kept → Type 0
+HasRoomFor (Plant trap) k = length (with_trap trap k.traps) ≤ k.most_traps
+HasRoomFor (Divert name appends) k = length k.diversions + 1 ≤ k.most_diversions
+HasRoomFor (_) k = Unit {0}
+
+-- why something isn't set: there would be more traps, or open diversions, than may be
+abbrev pub IsPastItsLimit : LayoutEvent → Limit → Kept → Type 0
+IsPastItsLimit (Plant trap) limit k = (limit ≡ Traps) × (k.most_traps < length (with_trap trap k.traps))
+IsPastItsLimit (Divert name appends) limit k = (limit ≡ Diversions) × (k.most_diversions ≤ length k.diversions)
+IsPastItsLimit (_) limit k = ⊥
+
+-- something was set of the pages, or a limit refused it
+abbrev pub SetsOnPage : LayoutEvent → Kept → Kept → Result (Unit {0}) Halt → Type 0
+SetsOnPage e old new (Ok done) = Happens (Does e) old new × HasRoomFor e old
+SetsOnPage e old new (Err (Limited limit)) = IsPastItsLimit e limit old × (new ≡ old)
+SetsOnPage e old new (Err halt) = ⊥
+
+-- an event was done to pages of which one was begun, where it needs one
+abbrev pub DoesBy : Bool → LayoutEvent → Kept → Kept → Sunk → Sunk → Result (Unit {0}) Halt → Type 0
+DoesBy true e old new out_old out_new result = PutsOnPage (Does e) old new out_old out_new result
+DoesBy false e old new out_old out_new result = SetsOnPage e old new result × (out_new ≡ out_old)
+
+abbrev pub DoesOnPage : LayoutEvent → Kept → Kept → Sunk → Sunk → Result (Unit {0}) Halt → Type 0
+DoesOnPage e old new out_old out_new result = DoesBy (may_put e) e old new out_old out_new result
+
+-- A register was given to a run, or the limit on names refused it: where it is the page number, the page has its value.
+pub record Gives (name : ℕ) (value : Num) (old new : Formatter) (result : Result (Unit {0}) Limit) : Type 0 where
+  pub answer : result ≡ admitted (given_change name value) old.reader.registers
+  pub reader : new.reader ≡ record old.reader { registers = after (given_change name value) old.reader.registers }
+  pub stands : (l : Limits) (h : PageHistory) → StandFor l h old.composer → StandFor l (history_given (name, value) h) new.composer

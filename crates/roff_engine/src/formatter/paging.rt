@@ -1,0 +1,201 @@
+//! The events of pages.
+
+ghost use Rattle.std.specs.Prelude.{◌≡◌, [], ◌∷◌, true};
+ghost use Rattle.roff_pages.specs.Happenings.{Does};
+ghost use Rattle.roff_pages.specs.Layout.{Layout};
+ghost use Rattle.roff_pages.specs.Pages.Stands.{StandsAs};
+ghost use Rattle.roff_engine.specs.Formatter.Setting.{halted_within, may_put};
+ghost use Rattle.roff_engine.specs.Clauses.{DoesOnPage, IsOfTraps, PutsBy, PutsNothing};
+ghost use Rattle.roff_engine.specs.Clauses.{Page, PerformsOnly, SetsOnPage, Sunk, halted_by};
+ghost use Rattle.roff_pages.specs.declared.layout_event.LayoutEvent.TheVariants.{Need, Space};
+
+use super::Formatter;
+use crate::halt::Halt;
+use roff_num::{Limit, ShortName};
+use roff_pages::{LayoutEvent, PageFault, Pages};
+use roff_sinks::ByteSink;
+
+impl Formatter {
+    /// Spaces so many lines.
+    pub(super) fn space<O: ByteSink>(&mut self, lines: u32, out: &mut O) -> Result<(), Halt>
+        ensures { PerformsOnly (Page (Space lines) ∷ []) self.old self.new
+            (O.sunk out.old) (O.sunk out.new) result }
+    {
+        self.begin_first();
+        let spaced = space_on(&mut self.composer.pages, lines, out);
+        done_on(&self.composer.pages, spaced)
+    }
+
+    /// Performs an event of the pages.
+    pub(super) fn perform_on_page<O: ByteSink>(
+        &mut self,
+        event: LayoutEvent,
+        out: &mut O,
+    ) -> Result<(), Halt>
+        ensures { PerformsOnly (Page event ∷ []) self.old self.new
+            (O.sunk out.old) (O.sunk out.new) result }
+    {
+        self.begin_first_on(event);
+        do_on_page(&mut self.composer.pages, event, out)
+    }
+}
+
+/// Does an event to pages of which one was begun, where it needs one.
+fn do_on_page<O: ByteSink>(pages: &mut Pages, event: LayoutEvent, out: &mut O) -> Result<(), Halt>
+    ensures { DoesOnPage event pages.old pages.new (O.sunk out.old) (O.sunk out.new) result }
+{
+    if !may_put(event) {
+        return set_on_page(pages, event);
+    }
+    let done = put_on_page(pages, event, out);
+    done_on(pages, done)
+}
+
+/// Whether an event may put something.
+fn may_put(event: LayoutEvent) -> bool
+    ensures { result ≡ may_put event }
+{
+    matches!(
+        event,
+        LayoutEvent::Space(_)
+            | LayoutEvent::Need(_)
+            | LayoutEvent::Eject(_)
+            | LayoutEvent::EjectTo(..)
+            | LayoutEvent::EjectOn(_)
+            | LayoutEvent::EjectLast
+    )
+}
+
+/// Does an event that may put something.
+fn put_on_page<O: ByteSink>(
+    pages: &mut Pages,
+    event: LayoutEvent,
+    out: &mut O,
+) -> Result<Option<ShortName>, PageFault>
+    requires { may_put event ≡ true }
+    ensures { PutsBy (Does event) pages.old pages.new (O.sunk out.old) (O.sunk out.new) result }
+{
+    match event {
+        LayoutEvent::Space(lines) => space_on(pages, lines, out),
+        LayoutEvent::Need(lines) => need_on(pages, lines, out),
+        LayoutEvent::Eject(asked) => pages.eject(asked, None, out),
+        LayoutEvent::EjectTo(asked, number) => pages.eject(asked, Some(number), out),
+        LayoutEvent::EjectOn(asked) => pages.eject_on(asked, out),
+        LayoutEvent::EjectLast => pages.eject_last(out),
+        _ => Ok(None),
+    }
+}
+
+/// Spaces so many lines, in the innermost open diversion or on the page.
+fn space_on<O: ByteSink>(
+    pages: &mut Pages,
+    lines: u32,
+    out: &mut O,
+) -> Result<Option<ShortName>, PageFault>
+    ensures { PutsBy (Does (Space lines)) pages.old pages.new
+        (O.sunk out.old) (O.sunk out.new) result }
+{
+    if pages.is_diverting() {
+        return Ok(pages.divert_space(lines));
+    }
+    pages.space(lines, out)
+}
+
+/// Spaces what is left of so many lines that are needed, there or here.
+fn need_on<O: ByteSink>(
+    pages: &mut Pages,
+    lines: u32,
+    out: &mut O,
+) -> Result<Option<ShortName>, PageFault>
+    ensures { PutsBy (Does (Need lines)) pages.old pages.new
+        (O.sunk out.old) (O.sunk out.new) result }
+{
+    if pages.is_diverting() {
+        return Ok(pages.divert_need(lines));
+    }
+    pages.need(lines, out)
+}
+
+/// Sets something of the pages: an event that puts nothing.
+fn set_on_page(pages: &mut Pages, event: LayoutEvent) -> Result<(), Halt>
+    requires { PutsNothing event }
+    ensures { SetsOnPage event pages.old pages.new result }
+{
+    match event {
+        LayoutEvent::ListPages(first, last) => pages.list_pages(first, last),
+        LayoutEvent::Begin => {
+            let _ = pages.begin();
+        }
+        LayoutEvent::Close => pages.close(),
+        LayoutEvent::Length(lines) => pages.set_length(lines),
+        LayoutEvent::Offset(columns) => pages.set_offset(columns),
+        LayoutEvent::Next(number) => pages.set_next(number),
+        LayoutEvent::Number(number) => pages.set_number(number),
+        LayoutEvent::NoSpace(on) => pages.set_no_space(on),
+        _ => return set_trap(pages, event),
+    }
+    Ok(())
+}
+
+/// The same of traps and diversions.
+fn set_trap(pages: &mut Pages, event: LayoutEvent) -> Result<(), Halt>
+    requires { IsOfTraps event }
+    ensures { SetsOnPage event pages.old pages.new result }
+{
+    match event {
+        LayoutEvent::Plant(trap) => within_limit(pages.plant(trap)),
+        LayoutEvent::Divert(name, appends) => within_limit(pages.divert(name, appends)),
+        LayoutEvent::Uproot(place) => {
+            pages.uproot(place);
+            Ok(())
+        }
+        LayoutEvent::MoveTrap(name, place) => {
+            pages.move_trap(name, place);
+            Ok(())
+        }
+        LayoutEvent::RemoveTrap(name) => {
+            pages.remove_trap(name);
+            Ok(())
+        }
+        LayoutEvent::DiversionTrap(trap) => {
+            pages.diversion_trap(Some(trap));
+            Ok(())
+        }
+        LayoutEvent::NoDiversionTrap => {
+            pages.diversion_trap(None);
+            Ok(())
+        }
+        LayoutEvent::EndDivert => {
+            pages.end_divert();
+            Ok(())
+        }
+        _ => Ok(()),
+    }
+}
+
+/// What was set, or the limit that refused it.
+fn within_limit(done: Result<(), Limit>) -> Result<(), Halt>
+    ensures { result ≡ halted_within done }
+{
+    match done {
+        Ok(()) => Ok(()),
+        Err(limit) => Err(Halt::Limit(limit)),
+    }
+}
+
+/// What was put on pages was done: with the last page the run ends.
+#[inline(always)]
+pub(super) fn done_on(pages: &Pages, done: Result<Option<ShortName>, PageFault>) -> Result<(), Halt>
+    ensures { (L : Layout) → StandsAs L pages.now → result ≡ halted_by done L.is_over }
+{
+    match done {
+        Ok(_) => {
+            if pages.is_over() {
+                return Err(Halt::Over);
+            }
+            Ok(())
+        }
+        Err(PageFault::Output) => Err(Halt::Limit(Limit::Output)),
+        Err(PageFault::Sink) => Err(Halt::Output),
+    }
+}

@@ -1,0 +1,2 @@
+-- The environments and the pages, in code.
+pub mod Standing
