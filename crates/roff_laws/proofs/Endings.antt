@@ -1,5 +1,5 @@
 -- Every run comes to an end, and to one alone.
-use Rattle.std.proofs.Common.{◌≡◌, ◌⊎◌, inl, inr, ◌≤◌, ◌+◌, ◌*◌, ℕ, zero, suc, Bool, true, false, List, [], ◌∷◌, length, Option, Some, None, refl, sym, ◌∙◌, ap, subst, add_comm, arith}
+use Rattle.std.proofs.Common.{◌≡◌, ◌⊎◌, inl, inr, ◌≤◌, ◌+◌, ◌*◌, ℕ, zero, suc, List, [], ◌∷◌, ◌++◌, length, Option, Some, None, refl, sym, ◌∙◌, ap, subst, add_comm, arith}
 use Rattle.std.specs.Prelude.{IsSome}
 use Rattle.roff_num.specs.declared.limits.Limits.{Limits}
 use Rattle.roff_run.specs.declared.status.Status.{Status}
@@ -8,16 +8,18 @@ use Rattle.roff_run.specs.Results.{turn, turns, last_state}
 use Rattle.roff_laws.specs.ResultLaws.{EveryRunEnds, StepsLeadToTheLastState, NoOtherStateIsLast}
 use Rattle.roff_run.specs.Run.{State, Leads, blank_state, grown, initial, performing, sprung_read, unless_refused, with_registers, with_sprung, step_with, step, after}
 use Rattle.roff_source.specs.Tape.{Tape}
-use Rattle.roff_run.specs.TurnsToCome.{left_by, lines_left, phases_left, unended}
-use Rattle.roff_lines.specs.Words.{has_open_word}
-use Rattle.roff_lines.specs.declared.event.Event.TheVariants.{Print, Tab, WordEnd, Gap, LineEnd, Count, Break, Interrupt as Interrupted, Resume, Set}
+use Rattle.roff_run.specs.TurnsToCome.{left_by, lines_left, most_left, phases_left, unended}
+use Rattle.roff_lines.specs.declared.event.Event.TheVariants.{WordEnd}
+use Rattle.roff_pages.specs.declared.layout_event.LayoutEvent.TheVariants.{Begin}
 use Rattle.roff_num.specs.declared.limit.Limit.{Limit}
 use Rattle.roff_num.specs.declared.num.Num.{Num}
-use Rattle.roff_run.specs.Environments.{PageHistory, interrupted_line, text_of}
-use Rattle.roff_run.specs.declared.event.PageEvent.TheVariants.{Text, Space, Interrupt, Environment, Back, InputTrap as SetsTrap}
+use Rattle.roff_run.specs.Environments.{PageHistory, interrupted_line}
+use Rattle.roff_run.specs.declared.event.PageEvent.TheVariants.{Text, Page}
+use Rattle.roff_run.specs.Requests.Effects.{page_numbered}
+use Rattle.roff_run.specs.Requests.Numbering.{number_of_page}
 use Rattle.roff_run.specs.Reading.Returns.{back_of, in_sprung}
 use Rattle.roff_run.specs.Requests.{called_by}
-use Rattle.roff_run.specs.Springs.{next, own_word_end}
+use Rattle.roff_run.specs.Springs.{next, springs}
 use Rattle.roff_run.specs.declared.request.Called.{Called}
 use Rattle.roff_run.specs.declared.request.Called.TheVariants.{Request as ARequest, Body as ABody, Nothing as Unknown}
 use Rattle.roff_ahead.specs.Input.Calls.{called_text}
@@ -25,7 +27,7 @@ use Rattle.roff_ahead.specs.Input.Names.{body_named}
 use Rattle.roff_num.specs.ShortNames.{name_bytes}
 use Rattle.roff_num.specs.declared.short_name.ShortName.{ShortName}
 use Rattle.roff_run.specs.Run.Counts.{first_passed, names_counted}
-use Rattle.roff_run.specs.Starts.{with_given}
+use Rattle.roff_run.specs.Starts.{history_given, with_given}
 use Rattle.roff_run.specs.declared.line_state.LineState.{LineState}
 use Rattle.roff_run.specs.declared.line_state.LineState.TheVariants.{LineStart, Branch, Braced, Text as InText, Control, Name, Arguments as InArguments, Deciding, StringName, StringText, Skipping, Dropped, Telling, Told, Exiting, Calling, Defining}
 use Rattle.roff_run.specs.declared.phase.Phase.{Phase}
@@ -35,8 +37,9 @@ use Rattle.roff_run.proofs.KeepingText.{free_ahead-called}
 use Rattle.roff_run.proofs.Leads.{Leads-refl, Leads-trans, Leads-step, after-add}
 use Rattle.roff_run.proofs.LinesLeft.{most_left-fewer, lines_left-event}
 use Rattle.roff_run.proofs.PutBack.{free_ahead-back}
-use Rattle.roff_laws.proofs.PerformedOrStopped.{PerformedOrStopped, Performed, Sprang, StoppedAt, performed_or_stopped}
+use Rattle.roff_laws.proofs.PerformedOrStopped.{PerformedOrStopped, Performed, Sprang, EndsOver, StoppedAt, performed_or_stopped}
 use Rattle.roff_run.proofs.Readings.{ReadsOn-reading_on, begun-behind_return}
+use Rattle.roff_laws.proofs.ComesBefore.{ComesBefore, NothingComes, PageComes, WordEndComes, comes_before, steps_in_front, steps_in_front-few}
 use Rattle.roff_laws.proofs.TurnsNeeded.{EndsWithin, EndsWithin-read, turns_needed}
 
 -- a run has ended, or it hasn't
@@ -62,10 +65,6 @@ after-ended l zero s ended = refl
 after-ended l (suc n) s ended = rw (step-ended l s ended) (after-ended l n s ended)
 
 -- what sprang takes one step, and an event one, beside what comes before it and what it springs
-abbrev own_steps : Option PageEvent → ℕ
-own_steps None = 0
-own_steps (Some own) = 1
-
 abbrev sprung_steps : Option ShortName → ℕ
 sprung_steps None = 0
 sprung_steps (Some name) = 1
@@ -73,22 +72,18 @@ sprung_steps (Some name) = 1
 -- how many steps there are at the most before something is read
 abbrev steps_before : List PageEvent → Option ShortName → PageHistory → ℕ
 steps_before [] sprung h = sprung_steps sprung
-steps_before (e ∷ es) sprung h = 2 * length es + own_steps (next h e) + 2
+steps_before (e ∷ es) sprung h = 3 * length es + steps_in_front h e + 2
 
 abbrev steps_of : State → ℕ
 steps_of s = steps_before s.to_do s.sprung s.history
-
-own_steps-few : (own : Option PageEvent) → own_steps own ≤ 1
-own_steps-few None = omega arith
-own_steps-few (Some own) = omega arith
 
 sprung_steps-few : (sprung : Option ShortName) → sprung_steps sprung ≤ 1
 sprung_steps-few None = omega arith
 sprung_steps-few (Some name) = omega arith
 
-steps_before-few : (es : List PageEvent) (sprung : Option ShortName) (h : PageHistory) → steps_before es sprung h ≤ 2 * length es + 1
+steps_before-few : (es : List PageEvent) (sprung : Option ShortName) (h : PageHistory) → steps_before es sprung h ≤ 3 * length es + 1
 steps_before-few [] sprung h = omega (arith, sprung_steps-few sprung)
-steps_before-few (e ∷ es) sprung h = omega (arith, own_steps-few (next h e))
+steps_before-few (e ∷ es) sprung h = omega (arith, steps_in_front-few h e)
 
 -- a step that read nothing leaves fewer before one that does, and as many turns are enough
 record IsNearer (l : Limits) (s t : State) : Type 0 where
@@ -101,70 +96,47 @@ data Stepped (l : Limits) (n : ℕ) (s t : State) : Type 0 where
   HasRead : turns_needed l t ≤ n → Stepped l n s t
   HasNeared : IsNearer l s t → Stepped l n s t
 
--- what comes before an event is a word end; nothing comes before the event behind that, and it leaves the line
-data ComesBefore (h : PageHistory) (e : PageEvent) : Option PageEvent → Type 0 where
-  NothingComes : ComesBefore h e None
-  WordEndComes : next (Text WordEnd ∷ h) e ≡ None → ((lines : ℕ) → left_by e lines ≡ lines) → ComesBefore h e (Some (Text WordEnd))
-
-word_end_comes : (h : PageHistory) (e : PageEvent) (is_open : Bool) → next (Text WordEnd ∷ h) e ≡ None → ((lines : ℕ) → left_by e lines ≡ lines)
-    → ComesBefore h e (own_word_end is_open)
-word_end_comes h e false none same = NothingComes
-word_end_comes h e true none same = WordEndComes none same
-
-comes_before : (h : PageHistory) (e : PageEvent) → ComesBefore h e (next h e)
-comes_before h (Text (Gap columns)) = word_end_comes h (Text (Gap columns)) (has_open_word (text_of h)) refl (λ lines. refl)
-comes_before h (Text LineEnd) = word_end_comes h (Text LineEnd) (has_open_word (text_of h)) refl (λ lines. refl)
-comes_before h (Text Break) = word_end_comes h (Text Break) (has_open_word (text_of h)) refl (λ lines. refl)
-comes_before h (Text (Print glyph)) = NothingComes
-comes_before h (Text Tab) = NothingComes
-comes_before h (Text WordEnd) = NothingComes
-comes_before h (Text Count) = NothingComes
-comes_before h (Text Interrupted) = NothingComes
-comes_before h (Text Resume) = NothingComes
-comes_before h (Text (Set param)) = NothingComes
-comes_before h (Space height) = NothingComes
-comes_before h (Interrupt untold) = NothingComes
-comes_before h (Environment number) = NothingComes
-comes_before h Back = NothingComes
-comes_before h (SetsTrap trap) = NothingComes
-
 -- an event is performed, and nothing comes before it
 event-nearer : (l : Limits) (n : ℕ) (e : PageEvent) (es : List PageEvent) (s t : State) → s.to_do ≡ e ∷ es → PerformedOrStopped l e es s t → Stepped l n s t
-event-nearer l n e es s t to_do (Performed allowed none) =
+event-nearer l n e es s t to_do (Performed allowed on none) =
     let lines = lines_left-event e s.history in
     let fewer = most_left-fewer es (lines_left (interrupted_line (e ∷ s.history))) (left_by e (lines_left (interrupted_line s.history))) lines in
     HasNeared (record {
       steps = rw to_do (omega (arith, steps_before-few es s.sprung (e ∷ s.history)));
       turns = rw to_do (omega (arith, fewer));
     })
-event-nearer l n e es s t to_do (Sprang name allowed some) =
+event-nearer l n e es s t to_do (Sprang name allowed on some) =
     let lines = lines_left-event e s.history in
     HasNeared (record {
       steps = rw to_do (omega arith);
       turns = rw to_do (omega (arith, lines, free_ahead-back es s.input.ahead));
     })
+event-nearer l n e es s t to_do (EndsOver allowed over) = HasEnded refl
 event-nearer l n e es s t to_do (StoppedAt limit) = HasEnded refl
 
--- a word end is performed that comes before it
-word_end-nearer : (l : Limits) (n : ℕ) (e : PageEvent) (es : List PageEvent) (s t : State) → s.to_do ≡ e ∷ es → next s.history e ≡ Some (Text WordEnd)
-    → next (Text WordEnd ∷ s.history) e ≡ None → ((lines : ℕ) → left_by e lines ≡ lines)
-    → PerformedOrStopped l (Text WordEnd) (e ∷ es) s t → Stepped l n s t
-word_end-nearer l n e es s t to_do own none same (Performed allowed unsprung) =
-    let lines = lines_left-event (Text WordEnd) s.history in
-    let fewer = most_left-fewer (e ∷ es) (lines_left (interrupted_line (Text WordEnd ∷ s.history))) (lines_left (interrupted_line s.history)) lines in
+-- something is performed that comes before it
+own-nearer : (l : Limits) (n : ℕ) (own e : PageEvent) (es : List PageEvent) (s t : State) → s.to_do ≡ e ∷ es
+    → lines_left (interrupted_line (own ∷ s.history)) ≤ lines_left (interrupted_line s.history) → springs s.history own ≡ None
+    → steps_in_front (own ∷ s.history) e + 1 ≤ steps_in_front s.history e
+    → PerformedOrStopped l own (e ∷ es) s t → Stepped l n s t
+own-nearer l n own e es s t to_do lines none near (Performed allowed on unsprung) =
+    let fewer = most_left-fewer (e ∷ es) (lines_left (interrupted_line (own ∷ s.history))) (lines_left (interrupted_line s.history)) lines in
     HasNeared (record {
-      steps = rw (to_do, own, none) (omega arith);
+      steps = rw to_do (omega (arith, near));
       turns = rw to_do (omega (arith, fewer));
     })
-word_end-nearer l n e es s t to_do own none same (Sprang name allowed some) = absurd (cc)
-word_end-nearer l n e es s t to_do own none same (StoppedAt limit) = HasEnded refl
+own-nearer l n own e es s t to_do lines none near (Sprang name allowed on some) = absurd (cc)
+own-nearer l n own e es s t to_do lines none near (EndsOver allowed over) = HasEnded refl
+own-nearer l n own e es s t to_do lines none near (StoppedAt limit) = HasEnded refl
 
 -- by what comes before it
-performing-nearer : (l : Limits) (n : ℕ) (e : PageEvent) (es : List PageEvent) (s : State) (own : Option PageEvent) → s.to_do ≡ e ∷ es → next s.history e ≡ own
+performing-nearer : (l : Limits) (n : ℕ) (e : PageEvent) (es : List PageEvent) (s : State) (own : Option PageEvent) → s.to_do ≡ e ∷ es
     → ComesBefore s.history e own → Stepped l n s (performing l own e es s)
-performing-nearer l n e es s own to_do is NothingComes = event-nearer l n e es s _ to_do (performed_or_stopped l None e es s)
-performing-nearer l n e es s own to_do is (WordEndComes none same) =
-    word_end-nearer l n e es s _ to_do is none same (performed_or_stopped l (Some (Text WordEnd)) e es s)
+performing-nearer l n e es s own to_do (NothingComes none_begins) = event-nearer l n e es s _ to_do (performed_or_stopped l None e es s)
+performing-nearer l n e es s own to_do (WordEndComes none_begins near) =
+    own-nearer l n (Text WordEnd) e es s _ to_do (lines_left-event (Text WordEnd) s.history) refl near (performed_or_stopped l (Some (Text WordEnd)) e es s)
+performing-nearer l n e es s own to_do (PageComes none_begun near) =
+    own-nearer l n (Page Begin) e es s _ to_do (lines_left-event (Page Begin) s.history) refl near (performed_or_stopped l (Some (Page Begin)) e es s)
 
 -- what is read of a macro is no line yet
 unended-in_sprung : (reading : LineState) → unended (in_sprung reading) ≤ unended reading
@@ -218,7 +190,7 @@ Stepped-with_sprung l n s (Some name) to_do is enough =
 Stepped-step_with : (l : Limits) (n : ℕ) (s : State) (es : List PageEvent) → s.to_do ≡ es → turns_needed l s ≤ suc n → Stepped l n s (step_with l es s)
 Stepped-step_with l n s [] to_do enough = Stepped-with_sprung l n s s.sprung to_do refl enough
 Stepped-step_with l n s (e ∷ es) to_do enough =
-    performing-nearer l n e es s (next s.history e) to_do refl (comes_before s.history e)
+    performing-nearer l n e es s (next s.history e) to_do (comes_before s.history e)
 
 -- a step
 Stepped-step : (l : Limits) (n : ℕ) (s : State) → turns_needed l s ≤ suc n → Stepped l n s (step l s)
@@ -311,11 +283,18 @@ EndsWithin-unless_refused : (l : Limits) (n : ℕ) (r : Option Limit) (s done : 
 EndsWithin-unless_refused l n None s done ends = ends
 EndsWithin-unless_refused l n (Some limit) s done ends = inl refl
 
+-- the page's number leaves an interrupted line
+lines-numbered : (n : Option Num) (h : PageHistory) → interrupted_line (page_numbered n ++ h) ≡ interrupted_line h
+lines-numbered None h = refl
+lines-numbered (Some n) h = refl
+
 EndsWithin-with_registers : (l : Limits) (given : List (ℕ × Num)) (n : ℕ) (s : State) → turns_needed l s ≤ n → EndsWithin l n (with_registers l given s)
 EndsWithin-with_registers l [] n s enough = inr enough
 EndsWithin-with_registers l (first ∷ others) n s enough =
-    let behind : State = record s { registers = with_given first s.registers } in
-    EndsWithin-unless_refused l n (first_passed l (names_counted behind.registers)) s _ (EndsWithin-with_registers l others n behind enough)
+    let behind : State = record s { registers = with_given first s.registers; history = history_given first s.history } in
+    let same = ap (λ left. most_left s.to_do (lines_left left)) (lines-numbered (number_of_page (first.0 ∷ []) first.1) s.history) in
+    EndsWithin-unless_refused l n (first_passed l (names_counted behind.registers)) s _
+    (EndsWithin-with_registers l others n behind (omega (arith, enough, same)))
 
 -- every run ends
 pub every_run_ends : EveryRunEnds

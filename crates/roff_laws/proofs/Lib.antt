@@ -5,6 +5,12 @@ pub mod StepsOnlyCut
 pub mod RunsOnlyCut
 pub mod RunsStayWithin
 pub mod TurnsNeeded
+pub mod ComesBefore
+pub mod MeantEvents
+pub mod RequestEvents
+pub mod TextEvents
+pub mod ReadEvents
+pub mod Stages
 pub mod Endings
 pub mod ResultsOnlyCut
 pub mod Taking
@@ -13,3 +19,8 @@ pub mod RefusedSteps
 pub mod RunsAppend
 pub mod RegisterLaws
 pub mod RequestNames
+pub mod PagesSoFar
+pub mod LastPage
+pub mod PageRuns
+pub mod EnvironmentTurns
+pub mod SpringLaws

@@ -13,7 +13,7 @@ use Rattle.roff_run.specs.declared.status.Status.TheVariants.{Limit as Limited}
 use Rattle.roff_run.proofs.Readings.{ReadsOn, LimitStops, AheadTaken, ByteTaken, NoteTaken, HalfEnds, InputLeft, LineEnds, MessageTold, PhaseEnds, RunAborts, SourceFails, SourceStops, SprungRead, ReadsOn-with_sprung, Behind-ahead_taken, Behind-sprung_read}
 use Rattle.roff_laws.specs.Refusals.{DoesNothing, RefusedStepsDoNothing}
 use Rattle.roff_laws.proofs.Endings.{step-going}
-use Rattle.roff_laws.proofs.PerformedOrStopped.{PerformedOrStopped, Performed, Sprang, StoppedAt, first_of, left_of, performed_or_stopped}
+use Rattle.roff_laws.proofs.PerformedOrStopped.{PerformedOrStopped, Performed, Sprang, EndsOver, StoppedAt, first_of, left_of, performed_or_stopped}
 
 -- a state in which the run ended by a limit, if it did, is one in which nothing else was done
 abbrev IsRefusal : Limits → State → State → Type 0
@@ -58,8 +58,9 @@ IsRefusal-read l s t (SourceStops other is_open stops) going = λ limit ended.
 
 -- an event was performed, or refused
 IsRefusal-event : (l : Limits) (e : PageEvent) (es : List PageEvent) (s t : State) → PerformedOrStopped l e es s t → s.ended ≡ None → IsRefusal l s t
-IsRefusal-event l e es s t (Performed allowed none) going = IsRefusal-going l s t going
-IsRefusal-event l e es s t (Sprang name allowed some) going = IsRefusal-going l s t going
+IsRefusal-event l e es s t (Performed allowed on none) going = IsRefusal-going l s t going
+IsRefusal-event l e es s t (Sprang name allowed on some) going = IsRefusal-going l s t going
+IsRefusal-event l e es s t (EndsOver allowed over) going = λ limit ended. absurd (cc)
 IsRefusal-event l e es s t (StoppedAt limit) going = IsRefusal-stopped l limit s
 
 -- a step of a run that hasn't ended

@@ -1,12 +1,13 @@
 -- The laws over number registers.
 use Rattle.std.proofs.Common.{◌≡◌, ℕ, Bool, true, false, cond, not, List, [], ◌∷◌, ◌++◌, Option, Some, None, is_some, unwrap_or, codes, refl, ap, ◌∙◌, arith}
 use Rattle.std.proofs.lemmas.Bool.{cond-true}
-use Rattle.std.specs.Fmt.{decimal, digits}
+use Rattle.std.specs.Fmt.{digits}
 use Rattle.std.specs.List.{fold}
-use Rattle.std.specs.Prelude.{bytes_eq, min, ◌&&◌, if◌then◌else◌}
+use Rattle.std.specs.Prelude.{bytes_eq, ◌&&◌, if◌then◌else◌}
 use Rattle.roff_num.specs.Ranges.{is_in_range}
 use Rattle.roff_num.specs.RegisterText.{register_text}
 use Rattle.roff_num.specs.declared.format.Format.{Format}
+use Rattle.roff_num.specs.declared.format.Format.TheVariants.{Decimal}
 use Rattle.roff_num.specs.declared.num.Num.{Num}
 use Rattle.roff_store.proofs.Entries.{bytes_eq_tells, entry_of-with_entry, entry_of-without_entry}
 use Rattle.roff_store.specs.Named.{entry_of, with_entry, without_entry}
@@ -17,18 +18,27 @@ use Rattle.roff_store.specs.declared.register.Register.{Register}
 use Rattle.roff_run.specs.declared.message.Message.{Message}
 use Rattle.roff_run.specs.declared.message.Message.TheVariants.{BadNumber}
 use Rattle.roff_run.specs.declared.query.Query.{Query}
-use Rattle.roff_run.specs.declared.query.Query.TheVariants.{Newlines, Indent, LineLength, LastWidth, Filling, LineSpacing, ColumnWidth, Arguments, Later}
-use Rattle.roff_laws.specs.RegisterLaws.{ValuesReadBack, FormatsReadBack, FormatsStay, UndefinedReadAsZero, ReadingMakesNone, ReadingIsSilent, ReadOnlyStay, ReadOnlyAreLeftAlone, RemovedReadAsZero}
-use Rattle.roff_run.specs.Registers.{AllRegisters, Known, SetTo, FormatAs, Remove, answer, changed_by, greatest_number, is_page, is_read_only, known_behind, query_of, settable, stepped_page, text_asked}
+use Rattle.roff_run.specs.declared.query.Query.TheVariants.{Newlines, Indent, LineLength, LastWidth, Filling, LineSpacing, ColumnWidth, Arguments, PagePlace, PageLength, WayToTrap, Later}
+use Rattle.roff_pages.specs.Layout.{Layout}
+use Rattle.roff_laws.specs.RegisterLaws.{known_set, ValuesReadBack, FormatsReadBack, FormatsStay, UndefinedReadAsZero, ReadingMakesNone, ReadingIsSilent, ReadOnlyStay, ReadOnlyAreLeftAlone, RemovedReadAsZero}
+use Rattle.roff_run.specs.Registers.{AllRegisters, Known, SetTo, FormatAs, Remove, StepBy, answer, changed_by, is_page, is_read_only, known_behind, number_in_range, numbered, page_register, query_of, settable, text_asked}
+
+-- the page number's register, where the page has this number
+abbrev page_by : Num → AllRegisters → Register
+page_by number rs = record { value = number; increment = rs.page_increment; format = rs.page_format }
 
 -- what a name reads as, if this says whether it is the page number's
-abbrev settable_by : Bool → List ℕ → AllRegisters → Register
-settable_by of_page name rs = if of_page then rs.page else register_of name rs.named
+abbrev pub settable_by : Bool → Num → List ℕ → AllRegisters → Register
+settable_by of_page number name rs = if of_page then page_by number rs else register_of name rs.named
+
+-- the page's number behind a value, if this says whether it is set
+abbrev pub number_by : Bool → Num → Layout → Num
+number_by of_page value L = (numbered (if of_page then Some value else None) L).number
 
 -- a change of one register, if these say whether it is read-only and whether it is the page number
-abbrev changing_by : Bool → Bool → Register → Registers → AllRegisters → AllRegisters
-changing_by read_only of_page page named rs =
-    if read_only then rs else if of_page then record rs { page = page } else record rs { named = named }
+abbrev changing_by : Bool → Bool → AllRegisters → Registers → AllRegisters → AllRegisters
+changing_by read_only of_page paged named rs =
+    if read_only then rs else if of_page then paged else record rs { named = named }
 
 -- a name that isn't read-only asks for nothing
 asks_nothing : (asked : Option Query) → is_some asked ≡ false → asked ≡ None
@@ -40,58 +50,59 @@ register_of-with_entry : (name : List ℕ) (r : Register) (named : Registers) �
 register_of-with_entry name r named = let has = entry_of-with_entry name name r named in grind (arith, bytes_eq_tells)
 
 -- a register that is set
-settable_by-set : (read_only of_page : Bool) (name : List ℕ) (value increment : Num) (rs : AllRegisters) → read_only ≡ false
-    → settable_by of_page name (changing_by read_only of_page (record rs.page { value = value; increment = increment })
+settable_by-set : (read_only of_page : Bool) (name : List ℕ) (value increment : Num) (L : Layout) (rs : AllRegisters) → read_only ≡ false
+    → settable_by of_page (number_by of_page value L) name (changing_by read_only of_page (record rs { page_increment = increment })
     (with_setting name value increment rs.named) rs)
-    ≡ record (settable_by of_page name rs) { value = value; increment = increment }
-settable_by-set true of_page name value increment rs free = cc
-settable_by-set false true name value increment rs free = refl
-settable_by-set false false name value increment rs free = register_of-with_entry name _ rs.named
+    ≡ record (settable_by of_page L.number name rs) { value = value; increment = increment }
+settable_by-set true of_page name value increment L rs free = cc
+settable_by-set false true name value increment L rs free = refl
+settable_by-set false false name value increment L rs free = register_of-with_entry name _ rs.named
 
 -- a register that is given a format
-settable_by-format : (read_only of_page : Bool) (name : List ℕ) (format : Format) (rs : AllRegisters) → read_only ≡ false
-    → settable_by of_page name (changing_by read_only of_page (record rs.page { format = format }) (with_format name format rs.named) rs)
-    ≡ record (settable_by of_page name rs) { format = format }
-settable_by-format true of_page name format rs free = cc
-settable_by-format false true name format rs free = refl
-settable_by-format false false name format rs free = register_of-with_entry name _ rs.named
+settable_by-format : (read_only of_page : Bool) (name : List ℕ) (format : Format) (number : Num) (rs : AllRegisters) → read_only ≡ false
+    → settable_by of_page number name (changing_by read_only of_page (record rs { page_format = format }) (with_format name format rs.named) rs)
+    ≡ record (settable_by of_page number name rs) { format = format }
+settable_by-format true of_page name format number rs free = cc
+settable_by-format false true name format number rs free = refl
+settable_by-format false false name format number rs free = register_of-with_entry name _ rs.named
 
 -- the text of a register that isn't read-only
 text_asked-nothing : (asked : Option Query) (k : Known) (name : List ℕ) (r : Register) → is_some asked ≡ false
-    → settable name k.registers ≡ r → text_asked asked k name ≡ register_text r.format r.value.0
+    → settable name k ≡ r → text_asked asked k name ≡ register_text r.format r.value.0
 text_asked-nothing asked k name r free same =
     ap (λ (asked : Option Query). text_asked asked k name) (asks_nothing asked free)
     ∙ ap (λ (r : Register). register_text r.format r.value.0) same
 
 pub values_read_back : ValuesReadBack
 values_read_back k name value increment free =
-    text_asked-nothing (query_of name) (known_behind (SetTo name value increment ∷ []) k) name
-    (record (settable name k.registers) { value = value; increment = increment }) free
-    (settable_by-set (is_read_only name) (is_page name) name value increment k.registers free)
+    text_asked-nothing (query_of name) (known_set name value increment k) name
+    (record (settable name k) { value = value; increment = increment }) free
+    (settable_by-set (is_read_only name) (is_page name) name value increment k.layout k.registers free)
 
 pub formats_read_back : FormatsReadBack
 formats_read_back k name format free =
     text_asked-nothing (query_of name) (known_behind (FormatAs name format ∷ []) k) name
-    (record (settable name k.registers) { format = format }) free
-    (settable_by-format (is_read_only name) (is_page name) name format k.registers free)
+    (record (settable name k) { format = format }) free
+    (settable_by-format (is_read_only name) (is_page name) name format k.layout.number k.registers free)
 
 -- a register's format as it is set
-format-set : (read_only of_page : Bool) (name : List ℕ) (value increment : Num) (rs : AllRegisters)
-    → (settable_by of_page name (changing_by read_only of_page (record rs.page { value = value; increment = increment })
+format-set : (read_only of_page : Bool) (name : List ℕ) (value increment : Num) (L : Layout) (rs : AllRegisters)
+    → (settable_by of_page (number_by of_page value L) name (changing_by read_only of_page (record rs { page_increment = increment })
     (with_setting name value increment rs.named) rs)).format
-    ≡ (settable_by of_page name rs).format
-format-set true of_page name value increment rs = refl
-format-set false of_page name value increment rs =
-    ap (λ (r : Register). r.format) (settable_by-set false of_page name value increment rs refl)
+    ≡ (settable_by of_page L.number name rs).format
+format-set true true name value increment L rs = refl
+format-set true false name value increment L rs = refl
+format-set false of_page name value increment L rs =
+    ap (λ (r : Register). r.format) (settable_by-set false of_page name value increment L rs refl)
 
 pub formats_stay : FormatsStay
-formats_stay rs name value increment = format-set (is_read_only name) (is_page name) name value increment rs
+formats_stay k name value increment = format-set (is_read_only name) (is_page name) name value increment k.layout k.registers
 
 -- what isn't set reads as the register that isn't
-settable_by-absent : (of_page : Bool) (name : List ℕ) (rs : AllRegisters) → of_page ≡ false → entry_of name rs.named ≡ None
-    → settable_by of_page name rs ≡ unset_register
-settable_by-absent true name rs other absent = cc
-settable_by-absent false name rs other absent = ap (λ (r : Option Register). unwrap_or r unset_register) absent
+settable_by-absent : (of_page : Bool) (number : Num) (name : List ℕ) (rs : AllRegisters) → of_page ≡ false → entry_of name rs.named ≡ None
+    → settable_by of_page number name rs ≡ unset_register
+settable_by-absent true number name rs other absent = cc
+settable_by-absent false number name rs other absent = ap (λ (r : Option Register). unwrap_or r unset_register) absent
 
 -- which is 0
 text_of-unset : register_text unset_register.format unset_register.value.0 ≡ codes "0"
@@ -101,7 +112,7 @@ text_of-unset = refl
 pub undefined_read_as_zero : UndefinedReadAsZero
 undefined_read_as_zero k name undefined =
     text_asked-nothing (query_of name) k name unset_register undefined.not_read_only
-    (settable_by-absent (is_page name) name k.registers undefined.not_page undefined.absent)
+    (settable_by-absent (is_page name) k.layout.number name k.registers undefined.not_page undefined.absent)
     ∙ text_of-unset
 
 -- a step of what isn't set is none
@@ -111,19 +122,27 @@ with_step-absent None in_range stepped named absent = refl
 with_step-absent (Some r) in_range stepped named absent = cc
 
 -- a change to the same registers is none
-changing_by-same : (read_only of_page : Bool) (page : Register) (named : Registers) (rs : AllRegisters) → of_page ≡ false → named ≡ rs.named
-    → changing_by read_only of_page page named rs ≡ rs
-changing_by-same true of_page page named rs other same = refl
-changing_by-same false true page named rs other same = cc
-changing_by-same false false page named rs other same = ap (λ (named : Registers). let next : AllRegisters = record rs { named = named } in next) same
+changing_by-same : (read_only of_page : Bool) (named : Registers) (rs : AllRegisters) → named ≡ rs.named
+    → changing_by read_only of_page rs named rs ≡ rs
+changing_by-same true of_page named rs same = refl
+changing_by-same false true named rs same = refl
+changing_by-same false false named rs same = ap (λ (named : Registers). let next : AllRegisters = record rs { named = named } in next) same
+
+-- and where the page gets no number either, nothing else is known
+none_made : (of_page : Bool) (number : Option Num) (rs : AllRegisters) (k : Known) → of_page ≡ false → rs ≡ k.registers
+    → (let next : Known = record k { registers = rs; layout = numbered (if of_page then number else None) k.layout } in next) ≡ k
+none_made true number rs k other same = cc
+none_made false number rs k other same = ap (λ (rs : AllRegisters). let next : Known = record k { registers = rs } in next) same
 
 pub reading_makes_none : ReadingMakesNone
-reading_makes_none rs name None undefined = refl
-reading_makes_none rs name (Some direction) undefined =
-    changing_by-same (is_read_only name) (is_page name) (stepped_page direction rs.page) (with_step direction name rs.named) rs undefined.not_page
+reading_makes_none k name None undefined = refl
+reading_makes_none k name (Some direction) undefined =
+    let rs : AllRegisters = k.registers in
+    none_made (is_page name) (number_in_range (next_value direction (page_register k))) (changed_by (StepBy name direction) rs) k undefined.not_page
+    (changing_by-same (is_read_only name) (is_page name) (with_step direction name rs.named) rs
     (with_step-absent (entry_of name rs.named) (is_in_range (next_value direction (register_of name rs.named)))
     (with_entry name (record (register_of name rs.named) { value = record { 0 = next_value direction (register_of name rs.named) } }) rs.named)
-    rs.named undefined.absent)
+    rs.named undefined.absent))
 
 -- a step of the register that isn't set stays in range
 unset-in_range : (direction : Direction) → is_in_range (next_value direction unset_register) ≡ true
@@ -138,10 +157,10 @@ step-silent false true is = refl
 step-silent false false is = cc
 
 pub reading_is_silent : ReadingIsSilent
-reading_is_silent rs name None undefined = refl
-reading_is_silent rs name (Some direction) undefined =
-    step-silent (is_read_only name) (is_in_range (next_value direction (settable name rs)))
-    (ap (λ (r : Register). is_in_range (next_value direction r)) (settable_by-absent (is_page name) name rs undefined.not_page undefined.absent)
+reading_is_silent k name None undefined = refl
+reading_is_silent k name (Some direction) undefined =
+    step-silent (is_read_only name) (is_in_range (next_value direction (settable name k)))
+    (ap (λ (r : Register). is_in_range (next_value direction r)) (settable_by-absent (is_page name) k.layout.number name k.registers undefined.not_page undefined.absent)
     ∙ unset-in_range direction)
 
 -- what a read-only register asks for isn't a register
@@ -154,13 +173,16 @@ answer-same Filling k rs = refl
 answer-same LineSpacing k rs = refl
 answer-same ColumnWidth k rs = refl
 answer-same Arguments k rs = refl
+answer-same PagePlace k rs = refl
+answer-same PageLength k rs = refl
+answer-same WayToTrap k rs = refl
 answer-same Later k rs = refl
 
 -- nor is its text that of one
 text_asked-same : (asked : Option Query) (k : Known) (rs : AllRegisters) (name : List ℕ) → is_some asked ≡ true
     → text_asked asked (record k { registers = rs }) name ≡ text_asked asked k name
 text_asked-same None k rs name read_only = cc
-text_asked-same (Some query) k rs name read_only = ap (λ n. decimal (min n greatest_number)) (answer-same query k rs)
+text_asked-same (Some query) k rs name read_only = ap (register_text (Decimal 1)) (answer-same query k rs)
 
 pub read_only_stay : ReadOnlyStay
 read_only_stay k name changes read_only = text_asked-same (query_of name) k (known_behind changes k).registers name read_only
@@ -205,22 +227,24 @@ removed_read_as_zero k before name behind free other =
 register_of-other : (name other : List ℕ) (r : Register) (named : Registers) → bytes_eq name other ≡ false → register_of name (with_entry other r named) ≡ register_of name named
 register_of-other name other r named differ = let has = entry_of-with_entry name other r named in grind (arith, bytes_eq_tells)
 
-settable_by-other : (read_only other_page of_page : Bool) (name other : List ℕ) (value increment : Num) (rs : AllRegisters)
+settable_by-other : (read_only other_page of_page : Bool) (name other : List ℕ) (value increment : Num) (L : Layout) (rs : AllRegisters)
     → bytes_eq name other ≡ false → (other_page ≡ true → of_page ≡ true → ⊥)
-    → settable_by of_page name (changing_by read_only other_page (record rs.page { value = value; increment = increment })
+    → settable_by of_page (number_by other_page value L) name (changing_by read_only other_page (record rs { page_increment = increment })
     (with_setting other value increment rs.named) rs)
-    ≡ settable_by of_page name rs
-settable_by-other true other_page of_page name other value increment rs differ pages = refl
-settable_by-other false true true name other value increment rs differ pages = absurd (pages refl refl)
-settable_by-other false true false name other value increment rs differ pages = refl
-settable_by-other false false true name other value increment rs differ pages = refl
-settable_by-other false false false name other value increment rs differ pages = register_of-other name other _ rs.named differ
+    ≡ settable_by of_page L.number name rs
+settable_by-other true true true name other value increment L rs differ pages = absurd (pages refl refl)
+settable_by-other true true false name other value increment L rs differ pages = refl
+settable_by-other true false of_page name other value increment L rs differ pages = refl
+settable_by-other false true true name other value increment L rs differ pages = absurd (pages refl refl)
+settable_by-other false true false name other value increment L rs differ pages = refl
+settable_by-other false false true name other value increment L rs differ pages = refl
+settable_by-other false false false name other value increment L rs differ pages = register_of-other name other _ rs.named differ
 
 -- as one that is set reads as its value
-pub settable-set : (name : List ℕ) (value increment : Num) (rs : AllRegisters) → is_read_only name ≡ false
-    → (settable name (changed_by (SetTo name value increment) rs)).value ≡ value
-settable-set name value increment rs free =
-    ap (λ (r : Register). r.value) (settable_by-set (is_read_only name) (is_page name) name value increment rs free)
+pub settable-set : (name : List ℕ) (value increment : Num) (L : Layout) (rs : AllRegisters) → is_read_only name ≡ false
+    → (settable_by (is_page name) (number_by (is_page name) value L) name (changed_by (SetTo name value increment) rs)).value ≡ value
+settable-set name value increment L rs free =
+    ap (λ (r : Register). r.value) (settable_by-set (is_read_only name) (is_page name) name value increment L rs free)
 
 -- two names aren't both the page number's
 two_pages : (name other : List ℕ) → bytes_eq name other ≡ false → is_page other ≡ true → is_page name ≡ true → ⊥
@@ -229,8 +253,9 @@ two_pages name other differ one two =
     absurd (cc)
 
 -- and others stay
-pub settable-other : (name other : List ℕ) (value increment : Num) (rs : AllRegisters) → bytes_eq name other ≡ false
-    → settable name (changed_by (SetTo other value increment) rs) ≡ settable name rs
-settable-other name other value increment rs differ =
-    settable_by-other (is_read_only other) (is_page other) (is_page name) name other value increment rs differ
+pub settable-other : (name other : List ℕ) (value increment : Num) (L : Layout) (rs : AllRegisters) → bytes_eq name other ≡ false
+    → settable_by (is_page name) (number_by (is_page other) value L) name (changed_by (SetTo other value increment) rs)
+    ≡ settable_by (is_page name) L.number name rs
+settable-other name other value increment L rs differ =
+    settable_by-other (is_read_only other) (is_page other) (is_page name) name other value increment L rs differ
     (two_pages name other differ)

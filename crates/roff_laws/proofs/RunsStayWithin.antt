@@ -1,8 +1,8 @@
 -- No step passes a limit.
 --
 -- Each function f of the run has its lemma IsWithin-f here, with a line for each of its cases.
-use Rattle.std.proofs.Common.{◌≡◌, ◌≤◌, ◌+◌, ℕ, zero, suc, Bool, true, false, List, [], ◌∷◌, Option, Some, None, inl, inr, refl, arith}
-use Rattle.std.specs.Prelude.{length, nat_lt}
+use Rattle.std.proofs.Common.{◌≡◌, ◌≤◌, ◌+◌, ℕ, zero, suc, Bool, true, false, not, ◌||◌, List, [], ◌∷◌, ◌++◌, Option, Some, None, inl, inr, refl, ap, ◌∙◌, arith, append-nil, length-append}
+use Rattle.std.specs.Prelude.{length, nat_lt, if◌then◌else◌}
 use Rattle.std.proofs.lemmas.Bool.{cases_Bool}
 use Rattle.roff_num.specs.declared.limit.Limit.{Limit}
 use Rattle.roff_num.specs.LimitValues.{value_of}
@@ -12,16 +12,24 @@ use Rattle.roff_run.specs.declared.environment_number.EnvironmentNumber.{Environ
 use Rattle.roff_laws.specs.Laws.{NoLimitIsPassed}
 use Rattle.roff_run.specs.Within.{EnvironmentsWithin, IsWithin}
 use Rattle.roff_run.specs.declared.event.PageEvent.{PageEvent}
-use Rattle.roff_run.specs.declared.event.PageEvent.TheVariants.{Text, Space, Interrupt, Environment, Back, InputTrap as SetsTrap}
+use Rattle.roff_run.specs.declared.event.PageEvent.TheVariants.{Text, Page, Interrupt, Environment, Back, InputTrap as SetsTrap}
 use Rattle.roff_run.specs.Run.{State, blank_state, initial, grown, moved, stopped_by, unless_refused, with_registers, step_with, step, after}
-use Rattle.roff_run.specs.Run.Counts.{counts, first_passed, names_counted, refusal}
-use Rattle.roff_laws.proofs.PerformedOrStopped.{PerformedOrStopped, Performed, Sprang, StoppedAt, first_of, left_of, performed_or_stopped}
+use Rattle.roff_run.specs.Output.{happens, layout_of, text_laid, written}
+use Rattle.roff_run.specs.Run.Counts.{counts, first_passed, names_counted, placed_counted, refusal, written_counted}
+use Rattle.roff_laws.proofs.PerformedOrStopped.{PerformedOrStopped, Performed, Sprang, EndsOver, StoppedAt, first_of, left_of, performed_or_stopped}
 use Rattle.roff_run.proofs.Readings.{IsMade, ReadsOn, LimitStops, AheadTaken, ByteTaken, NoteTaken, HalfEnds, InputLeft, LineEnds, PhaseEnds, MessageTold, RunAborts, SourceFails, SourceStops, SprungRead, ReadsOn-with_sprung, Behind-byte_taken, Behind-sprung_read, Behind-ahead_taken, Behind-escape_ends, Behind-line_ends, Passed-phase_ended, within}
 use Rattle.roff_ahead.specs.Input.{counting, item_taken}
 use Rattle.roff_num.specs.declared.num.Num.{Num}
+use Rattle.roff_pages.specs.DeviceText.{device_lines}
+use Rattle.roff_pages.specs.Happenings.{Happening, Does}
+use Rattle.roff_pages.specs.declared.layout_event.LayoutEvent.TheVariants.{Number}
+use Rattle.roff_pages.specs.Layout.{Layout}
+use Rattle.roff_pages.specs.Stops.{is_diverted}
 use Rattle.roff_run.specs.Requests.{called_by}
 use Rattle.roff_run.specs.Springs.{next}
-use Rattle.roff_run.specs.Starts.{with_given}
+use Rattle.roff_run.specs.Requests.Effects.{page_numbered}
+use Rattle.roff_run.specs.Requests.Numbering.{number_of_page}
+use Rattle.roff_run.specs.Starts.{history_given, with_given}
 use Rattle.roff_run.proofs.PutBack.{bytes_ahead-back, ends_ahead-back}
 use Rattle.roff_source.specs.Tape.{Tape}
 
@@ -37,6 +45,7 @@ IsWithin-same l s t input registers history is = record {
   conditions = rw input is.conditions;
   names = rw registers is.names;
   environments = rw history is.environments;
+  output = rw history is.output;
 }
 
 -- each count is within its own limit
@@ -51,6 +60,11 @@ counts_within l (c ∷ cs) none = elim (cases_Bool (nat_lt (value_of l c.0) c.1)
   | inl passes ↦ let wrong : Some c.0 ≡ None = rw passes at none in cc
   | inr goes ↦ (within (value_of l c.0) c.1 goes, counts_within l cs (rw goes at none))
 ]
+
+-- so are the last ones
+last_within : (l : Limits) (first last : List (Limit × ℕ)) → AllWithin l (first ++ last) → AllWithin l last
+last_within l [] last all = all
+last_within l (c ∷ first) last all = last_within l first last all.1
 
 -- turning the ring of environments makes no line longer, and leaves none of them
 within-turned : (l : Limits) (es : Environments) → EnvironmentsWithin l es → EnvironmentsWithin l (turned es)
@@ -81,7 +95,7 @@ environments_within : (l : Limits) (h : PageHistory) (e : PageEvent) → Environ
     → EnvironmentsWithin l (environments (e ∷ h))
 environments_within l h (Text e) is allowed =
     record { in_force = (counts_within l (counts h (Text e)) allowed).0; next = is.next; last = is.last; left = is.left }
-environments_within l h (Space lines) is allowed = is
+environments_within l h (Page e) is allowed = is
 environments_within l h (Interrupt untold) is allowed = record { in_force = is.in_force; next = is.next; last = is.last; left = is.left }
 environments_within l h (Environment number) is allowed =
     let es : Environments = environments h in
@@ -90,11 +104,46 @@ environments_within l h (Environment number) is allowed =
 environments_within l h Back is allowed = within-gone_back l (environments h).left (environments h) is is.left
 environments_within l h (SetsTrap trap) is allowed = record { in_force = is.in_force; next = is.next; last = is.last; left = is.left }
 
+-- what is written behind what happens to the layout, if something does
+laid_within : (l : Limits) (h : PageHistory) (x : Option Happening) → length (written h) ≤ l.output → AllWithin l (written_counted h x)
+    → length (written h ++ text_laid x (layout_of h)) ≤ l.output
+laid_within l h None is all = rw append-nil is
+laid_within l h (Some x) is all = rw length-append all.0
+
+-- what is written behind an event that no limit refuses
+written_within : (l : Limits) (h : PageHistory) (e : PageEvent) → length (written h) ≤ l.output → refusal l h e ≡ None
+    → length (written (e ∷ h)) ≤ l.output
+written_within l h (Text e) is allowed = laid_within l h (happens h (Text e)) is (counts_within l (counts h (Text e)) allowed).1
+written_within l h (Page e) is allowed =
+    laid_within l h (Some (Does e)) is
+    (last_within l (placed_counted e (layout_of h)) (written_counted h (Some (Does e))) (counts_within l (counts h (Page e)) allowed))
+written_within l h (Interrupt untold) is allowed = laid_within l h None is tt
+written_within l h (Environment number) is allowed = laid_within l h None is tt
+written_within l h Back is allowed = laid_within l h None is tt
+written_within l h (SetsTrap trap) is allowed = laid_within l h None is tt
+
+-- an event happened
+IsWithin-happened : (l : Limits) (e : PageEvent) (s : State) → refusal l s.history e ≡ None → IsWithin l s → IsWithin l (record s { history = e ∷ s.history })
+IsWithin-happened l e s allowed is = record {
+  bytes = is.bytes;
+  stack = is.stack;
+  depth = is.depth;
+  store = is.store;
+  texts = is.texts;
+  making = is.making;
+  conditions = is.conditions;
+  names = is.names;
+  environments = environments_within l s.history e is.environments allowed;
+  output = written_within l s.history e is.output allowed;
+}
+
 -- an event is performed, or the run ends at it
 IsWithin-event : (l : Limits) (e : PageEvent) (left : List PageEvent) (s t : State) → PerformedOrStopped l e left s t → IsWithin l s → IsWithin l t
-IsWithin-event l e left s t (Performed allowed none) is =
-    record { bytes = is.bytes; stack = is.stack; depth = is.depth; store = is.store; texts = is.texts; making = is.making; conditions = is.conditions; names = is.names; environments = environments_within l s.history e is.environments allowed }
-IsWithin-event l e left s t (Sprang name allowed some) is = record {
+IsWithin-event l e left s t (Performed allowed on none) is =
+    IsWithin-same l (record s { history = e ∷ s.history }) t refl refl refl (IsWithin-happened l e s allowed is)
+IsWithin-event l e left s t (EndsOver allowed over) is =
+    IsWithin-same l (record s { history = e ∷ s.history }) t refl refl refl (IsWithin-happened l e s allowed is)
+IsWithin-event l e left s t (Sprang name allowed on some) is = record {
   bytes = is.bytes;
   stack = omega (arith, is.stack, bytes_ahead-back left s.input.ahead);
   depth = omega (arith, is.depth, ends_ahead-back left s.input.ahead);
@@ -104,6 +153,7 @@ IsWithin-event l e left s t (Sprang name allowed some) is = record {
   conditions = is.conditions;
   names = is.names;
   environments = environments_within l s.history e is.environments allowed;
+  output = written_within l s.history e is.output allowed;
 }
 IsWithin-event l e left s t (StoppedAt limit) is = IsWithin-same l s t refl refl refl is
 
@@ -122,6 +172,7 @@ IsWithin-made l s t charge history is_made is =
       conditions = ahead.1.1.0;
       names = others.0;
       environments = rw history is.environments;
+      output = rw history is.output;
     }
 
 -- what was read, or how the run ended
@@ -173,21 +224,51 @@ IsWithin-after l (suc n) s is = IsWithin-after l n (step l s) (IsWithin-step l s
 
 -- before anything is given no count is above its limit
 IsWithin-blank : (l : Limits) (tape : Tape) → IsWithin l (blank_state tape)
-IsWithin-blank l tape = record { bytes = omega arith; stack = omega arith; depth = omega arith; store = omega arith; texts = omega arith; making = omega arith; conditions = omega arith; names = omega arith; environments = record { in_force = omega arith; next = omega arith; last = omega arith; left = omega arith } }
+IsWithin-blank l tape = record { bytes = omega arith; stack = omega arith; depth = omega arith; store = omega arith; texts = omega arith; making = omega arith; conditions = omega arith; names = omega arith; environments = record { in_force = omega arith; next = omega arith; last = omega arith; left = omega arith }; output = omega arith }
+
+-- the page's number changes no environment, and nothing is written of it
+within_numbered : (l : Limits) (n : Option Num) (h : PageHistory) → EnvironmentsWithin l (environments h) → EnvironmentsWithin l (environments (page_numbered n ++ h))
+within_numbered l None h is = is
+within_numbered l (Some n) h is = is
+
+-- what puts nothing writes nothing
+pub nothing_by_test : (silent : Bool) (offset : ℕ) → (if silent then [] else device_lines offset []) ≡ []
+nothing_by_test true offset = refl
+nothing_by_test false offset = refl
+
+pub written-numbered : (n : Option Num) (h : PageHistory) → written (page_numbered n ++ h) ≡ written h
+written-numbered None h = refl
+written-numbered (Some n) h =
+    let L : Layout = layout_of h in
+    ap (λ (text : List ℕ). written h ++ text) (nothing_by_test (is_diverted (Does (Number n)) L || not L.is_listed) L.offset)
+    ∙ append-nil (written h)
 
 -- a register that is given is set, or the limit on names refuses it
-IsWithin-given : (l : Limits) (s behind done : State) (r : Option Limit) → first_passed l (names_counted behind.registers) ≡ r → behind ≡ record s { registers = behind.registers }
-    → IsWithin l s → (IsWithin l behind → IsWithin l done) → IsWithin l (unless_refused l r s done)
-IsWithin-given l s behind done None none same is others =
-    others (rw same (record { bytes = is.bytes; stack = is.stack; depth = is.depth; store = is.store; texts = is.texts; making = is.making; conditions = is.conditions; names = (counts_within l (names_counted behind.registers) none).0; environments = is.environments }))
-IsWithin-given l s behind done (Some limit) some same is others = IsWithin-same l s (stopped_by l limit s) refl refl refl is
+IsWithin-given : (l : Limits) (given : ℕ × Num) (s done : State) (r : Option Limit)
+    → let behind : State = record s { registers = with_given given s.registers; history = history_given given s.history } in
+    first_passed l (names_counted behind.registers) ≡ r → IsWithin l s → (IsWithin l behind → IsWithin l done) → IsWithin l (unless_refused l r s done)
+IsWithin-given l given s done None none is others =
+    let n : Option Num = number_of_page (given.0 ∷ []) given.1 in
+    others (record {
+      bytes = is.bytes;
+      stack = is.stack;
+      depth = is.depth;
+      store = is.store;
+      texts = is.texts;
+      making = is.making;
+      conditions = is.conditions;
+      names = (counts_within l (names_counted (with_given given s.registers)) none).0;
+      environments = within_numbered l n s.history is.environments;
+      output = rw (written-numbered n s.history) is.output;
+    })
+IsWithin-given l given s done (Some limit) some is others = IsWithin-same l s (stopped_by l limit s) refl refl refl is
 
 -- and so the others
 IsWithin-with_registers : (l : Limits) (given : List (ℕ × Num)) (s : State) → IsWithin l s → IsWithin l (with_registers l given s)
 IsWithin-with_registers l [] s is = is
 IsWithin-with_registers l (first ∷ others) s is =
-    let behind : State = record s { registers = with_given first s.registers } in
-    IsWithin-given l s behind (with_registers l others behind) (first_passed l (names_counted behind.registers)) refl refl is (IsWithin-with_registers l others behind)
+    let behind : State = record s { registers = with_given first s.registers; history = history_given first s.history } in
+    IsWithin-given l first s (with_registers l others behind) (first_passed l (names_counted behind.registers)) refl is (IsWithin-with_registers l others behind)
 
 -- no run passes a limit
 pub no_limit_is_passed : NoLimitIsPassed

@@ -16,16 +16,20 @@ use Rattle.roff_source.specs.Tape.{Answer, Gives, Ends, OneByte, OneNote, Ended,
 use Rattle.roff_ahead.specs.Shown.{Sighted, SeesByte, SeesNothing, SeesNote, SeesEnding, seen_ahead}
 use Rattle.roff_escape.specs.OpenEscape.{OpenEscape}
 use Rattle.roff_laws.specs.Laws.{OnlyCuts}
+use Rattle.roff_num.specs.Lists.{IsBeginning}
 use Rattle.roff_run.specs.Reading.Ends.{due, is_unfinished}
 use Rattle.roff_run.specs.declared.line_state.Due.{Due}
 use Rattle.roff_run.specs.declared.line_state.Due.TheVariants.{Leaves, Tells as TellsText}
 use Rattle.roff_run.specs.declared.event.PageEvent.{PageEvent}
-use Rattle.roff_run.specs.Run.{read_waiting, State, performing, unless_refused, grown, made, moved, byte_taken, escape_ends, ahead_taken, taking_ahead, taking_byte, ending_input, answered, in_front_taken, front_seen, awaited_of_source, awaited, item_read, input_ended, message_told, input_left, reading_by, step_with, step, known, performed, phase_ended, source_answer, sprung_at, sprung_read, with_registers, with_sprung}
+use Rattle.roff_run.specs.Output.{PageHistory, layout_of, written}
+use Rattle.roff_run.specs.Run.{read_waiting, State, done_if, performing, unless_refused, grown, made, moved, byte_taken, escape_ends, ahead_taken, taking_ahead, taking_byte, ending_input, answered, in_front_taken, front_seen, awaited_of_source, awaited, item_read, input_ended, message_told, input_left, reading_by, step_with, step, known, performed, phase_ended, source_answer, sprung_at, sprung_read, with_registers, with_sprung}
 use Rattle.roff_run.specs.Run.Counts.{passes_bytes, refusal, first_passed, names_counted}
 use Rattle.roff_num.specs.declared.num.Num.{Num}
 use Rattle.roff_run.specs.Requests.{called_by}
 use Rattle.roff_run.specs.Springs.{next, springs}
-use Rattle.roff_run.specs.Starts.{with_given}
+use Rattle.roff_run.specs.Requests.Effects.{page_numbered}
+use Rattle.roff_run.specs.Requests.Numbering.{number_of_page}
+use Rattle.roff_run.specs.Starts.{history_given, with_given}
 use Rattle.roff_run.specs.declared.request.Called.{Called}
 use Rattle.roff_run.specs.declared.request.Called.TheVariants.{Request as ARequest, Body as ABody, Nothing as Unknown}
 use Rattle.roff_num.specs.declared.short_name.ShortName.{ShortName}
@@ -65,22 +69,42 @@ pub OnlyCuts-unless_refused : (l : Limits) (r : Option Limit) (s : State) {t : S
 OnlyCuts-unless_refused l None s done = done
 OnlyCuts-unless_refused l (Some limit) s done = OnlyCuts-same s _ refl refl
 
+-- a register is set that is given
+IsBeginning-numbered : (n : Option Num) (h : PageHistory) → IsBeginning (written h) (written (page_numbered n ++ h))
+IsBeginning-numbered None h = IsBeginning-same (written h)
+IsBeginning-numbered (Some n) h = IsBeginning-append _ _
+
+pub OnlyCuts-given : (given : ℕ × Num) (s : State)
+    → OnlyCuts s (record s { registers = with_given given s.registers; history = history_given given s.history })
+OnlyCuts-given given s = record {
+  text = IsBeginning-numbered (number_of_page (given.0 ∷ []) given.1) s.history;
+  messages = IsBeginning-same s.messages;
+}
+
 -- registers are set that are given
 pub OnlyCuts-with_registers : (l : Limits) (given : List (ℕ × Num)) (s : State) → OnlyCuts s (with_registers l given s)
 OnlyCuts-with_registers l [] s = OnlyCuts-same s s refl refl
 OnlyCuts-with_registers l (first ∷ others) s =
-    let behind : State = record s { registers = with_given first s.registers } in
+    let behind : State = record s { registers = with_given first s.registers; history = history_given first s.history } in
     OnlyCuts-unless_refused l (first_passed l (names_counted behind.registers)) s
-    (OnlyCuts-trans (OnlyCuts-same s behind refl refl) (OnlyCuts-with_registers l others behind))
+    (OnlyCuts-trans (OnlyCuts-given first s) (OnlyCuts-with_registers l others behind))
 
 -- these are left to do, or put back
 OnlyCuts-sprung_at : (sprung : Option ShortName) (left : List PageEvent) (s t : State) → OnlyCuts s t → OnlyCuts s (sprung_at sprung left t)
 OnlyCuts-sprung_at None left s t cuts = record { text = cuts.text; messages = cuts.messages }
 OnlyCuts-sprung_at (Some name) left s t cuts = record { text = cuts.text; messages = cuts.messages }
 
+-- the run is done, or it goes on
+OnlyCuts-done_if : (over : Bool) (s behind goes_on : State) → OnlyCuts s behind → OnlyCuts s goes_on → OnlyCuts s (done_if over behind goes_on)
+OnlyCuts-done_if true s behind goes_on cuts others = record { text = cuts.text; messages = cuts.messages }
+OnlyCuts-done_if false s behind goes_on cuts others = others
+
 -- an event happened
 pub OnlyCuts-performed : (e : PageEvent) (left : List PageEvent) (s : State) → OnlyCuts s (performed e left s)
-OnlyCuts-performed e left s = OnlyCuts-sprung_at (springs s.history e) left s (record s { history = e ∷ s.history }) (OnlyCuts-event s _ e refl refl)
+OnlyCuts-performed e left s =
+    let behind : State = record s { history = e ∷ s.history } in
+    let cuts : OnlyCuts s behind = OnlyCuts-event s behind e refl refl in
+    OnlyCuts-done_if (layout_of behind.history).is_over s behind _ cuts (OnlyCuts-sprung_at (springs s.history e) left s behind cuts)
 
 -- an event is performed, or what comes before it
 pub OnlyCuts-performing : (l : Limits) (own : Option PageEvent) (e : PageEvent) (rest : List PageEvent) (s : State) → OnlyCuts s (performing l own e rest s)

@@ -26,7 +26,8 @@ use Rattle.roff_run.specs.Reading.Ends.{due, is_unfinished}
 use Rattle.roff_run.specs.declared.line_state.Due.{Due}
 use Rattle.roff_run.specs.declared.line_state.Due.TheVariants.{Leaves, Tells as TellsText}
 use Rattle.roff_run.specs.declared.event.PageEvent.{PageEvent}
-use Rattle.roff_run.specs.Run.{read_waiting, State, ending_with, unless_refused, stopped_by, performing, grown, made, escape_ends, taking_ahead, taking_byte, ending_input, answered, in_front_taken, front_seen, awaited_of_source, awaited, item_read, input_ended, performed, reading_by, sprung_at, sprung_read, step_with, step, after, known, phase_ended, with_registers, with_sprung}
+use Rattle.roff_run.specs.Output.{layout_of}
+use Rattle.roff_run.specs.Run.{read_waiting, State, done_if, ending_with, unless_refused, stopped_by, performing, grown, made, escape_ends, taking_ahead, taking_byte, ending_input, answered, in_front_taken, front_seen, awaited_of_source, awaited, item_read, input_ended, performed, reading_by, sprung_at, sprung_read, step_with, step, after, known, phase_ended, with_registers, with_sprung}
 use Rattle.roff_run.specs.Run.Counts.{counts, first_passed, passes_bytes, names_counted, refusal}
 use Rattle.roff_run.specs.Requests.{called_by}
 use Rattle.roff_run.specs.Springs.{next, springs}
@@ -34,13 +35,13 @@ use Rattle.roff_run.specs.declared.request.Called.{Called}
 use Rattle.roff_run.specs.declared.request.Called.TheVariants.{Request as ARequest, Body as ABody, Nothing as Unknown}
 use Rattle.roff_num.specs.declared.short_name.ShortName.{ShortName}
 use Rattle.roff_num.specs.declared.num.Num.{Num}
-use Rattle.roff_run.specs.Starts.{with_given}
+use Rattle.roff_run.specs.Starts.{history_given, with_given}
 use Rattle.roff_run.specs.declared.phase.Phase.{Phase}
 use Rattle.roff_run.specs.declared.phase.Phase.TheVariants.{Reading, LastMacro, Closing}
 use Rattle.roff_run.specs.declared.message.Message.TheVariants.{ReadFailed}
 use Rattle.roff_run.specs.declared.status.Status.{Status}
 use Rattle.roff_run.specs.declared.status.Status.TheVariants.{Device, Limit as Limited}
-use Rattle.roff_laws.proofs.StepsAppend.{OnlyCuts-same, OnlyCuts-performed, OnlyCuts-sprung_read, OnlyCuts-trans, OnlyCuts-if, OnlyCuts-unless_refused, OnlyCuts-made, OnlyCuts-escape_ends, OnlyCuts-phase_ended, OnlyCuts-with_registers, OnlyCuts-input_ended, OnlyCuts-message_told, OnlyCuts-input_left, ahead_done, OnlyCuts-ahead_done, byte_done, OnlyCuts-byte_done, OnlyCuts-answered, OnlyCuts-awaited_of_source, OnlyCuts-step}
+use Rattle.roff_laws.proofs.StepsAppend.{OnlyCuts-same, OnlyCuts-given, OnlyCuts-performed, OnlyCuts-sprung_read, OnlyCuts-trans, OnlyCuts-if, OnlyCuts-unless_refused, OnlyCuts-made, OnlyCuts-escape_ends, OnlyCuts-phase_ended, OnlyCuts-with_registers, OnlyCuts-input_ended, OnlyCuts-message_told, OnlyCuts-input_left, ahead_done, OnlyCuts-ahead_done, byte_done, OnlyCuts-byte_done, OnlyCuts-answered, OnlyCuts-awaited_of_source, OnlyCuts-step}
 
 -- what passes a larger limit passes a smaller one
 abbrev pub IsMonotone : (Limits → Bool) → Type 0
@@ -85,6 +86,16 @@ sprung_at-over (Some name) left s tape = refl
 sprung_at-tape : (sprung : Option ShortName) (left : List PageEvent) (s : State) → (sprung_at sprung left s).tape ≡ s.tape
 sprung_at-tape None left s = refl
 sprung_at-tape (Some name) left s = refl
+
+-- and so where the last page has ended the run
+done_if-over : (is_over : Bool) (sprung : Option ShortName) (left : List PageEvent) (s : State) (tape : Tape)
+    → done_if is_over (over tape s) (sprung_at sprung left (over tape s)) ≡ over tape (done_if is_over s (sprung_at sprung left s))
+done_if-over true sprung left s tape = refl
+done_if-over false sprung left s tape = sprung_at-over sprung left s tape
+
+done_if-tape : (is_over : Bool) (sprung : Option ShortName) (left : List PageEvent) (s : State) → (done_if is_over s (sprung_at sprung left s)).tape ≡ s.tape
+done_if-tape true sprung left s = refl
+done_if-tape false sprung left s = sprung_at-tape sprung left s
 
 -- a step that a limit refuses, or else the limits behind it
 unless_refused-if : (l : Limits) (b : Bool) (limit : Limit) (r : Option Limit) (s t : State)
@@ -152,9 +163,9 @@ module _ (Beside : Tape → Tape → Type 0) (IsCause : Status → Type 0) where
     pub Cut-with_registers : (given : List (ℕ × Num)) (s : State) (tape : Tape) → Beside s.tape tape → Cut (with_registers small given s) (with_registers large given (over tape s))
     Cut-with_registers [] s tape beside = Same tape beside refl
     Cut-with_registers (first ∷ others) s tape beside =
-        let behind : State = record s { registers = with_given first s.registers } in
+        let behind : State = record s { registers = with_given first s.registers; history = history_given first s.history } in
         Cut-unless_refused (names_counted behind.registers) s _ _ tape beside
-        (OnlyCuts-trans (OnlyCuts-same (over tape s) (over tape behind) refl refl) (OnlyCuts-with_registers large others (over tape behind)))
+        (OnlyCuts-trans (OnlyCuts-given first (over tape s)) (OnlyCuts-with_registers large others (over tape behind)))
         (Cut-with_registers others behind tape beside)
 
     -- an event happens in both, if no limit refuses it
@@ -163,7 +174,8 @@ module _ (Beside : Tape → Tape → Type 0) (IsCause : Status → Type 0) where
     Cut-performed e left s tape beside =
         let behind : State = record s { history = e ∷ s.history } in
         Cut-unless_refused (counts s.history e) s _ _ tape beside (OnlyCuts-performed e left (over tape s))
-        (Same tape (subst (λ (t : Tape). Beside t tape) (sym (sprung_at-tape (springs s.history e) left behind)) beside) (sprung_at-over (springs s.history e) left behind tape))
+        (Same tape (subst (λ (t : Tape). Beside t tape) (sym (done_if-tape (layout_of behind.history).is_over (springs s.history e) left behind)) beside)
+        (done_if-over (layout_of behind.history).is_over (springs s.history e) left behind tape))
 
     -- both perform an event, or what comes before it
     pub Cut-performing : (own : Option PageEvent) (e : PageEvent) (rest : List PageEvent) (s : State) (tape : Tape) → Beside s.tape tape

@@ -12,7 +12,7 @@ use Rattle.roff_num.specs.declared.num.Num.{Num}
 use Rattle.roff_run.specs.Run.Counts.{first_passed, names_counted}
 use Rattle.roff_run.specs.Requests.{called_by}
 use Rattle.roff_run.specs.Springs.{next}
-use Rattle.roff_run.specs.Starts.{with_given}
+use Rattle.roff_run.specs.Starts.{history_given, with_given}
 use Rattle.roff_run.specs.Within.{IsWithin}
 use Rattle.roff_run.specs.Reading.Items.{PageInput}
 use Rattle.roff_run.specs.declared.event.PageEvent.{PageEvent}
@@ -23,7 +23,7 @@ use Rattle.roff_source.specs.Bytes.{newline}
 use Rattle.roff_ahead.specs.Input.{Ahead, counting, item_taken}
 use Rattle.roff_source.specs.Tape.{Tape, Item, Ending, OneByte, OneNote, Gives, front, behind_front}
 use Rattle.roff_laws.proofs.Endings.{at_last_state}
-use Rattle.roff_laws.proofs.PerformedOrStopped.{PerformedOrStopped, Performed, Sprang, StoppedAt, first_of, left_of, performed_or_stopped}
+use Rattle.roff_laws.proofs.PerformedOrStopped.{PerformedOrStopped, Performed, Sprang, EndsOver, StoppedAt, first_of, left_of, performed_or_stopped}
 use Rattle.roff_run.proofs.Readings.{ReadsOn, LimitStops, AheadTaken, ByteTaken, NoteTaken, HalfEnds, InputLeft, LineEnds, PhaseEnds, MessageTold, RunAborts, SourceFails, SourceStops, SprungRead, ReadsOn-with_sprung, Behind, Behind-sprung_read, Behind-byte_taken, Behind-ahead_taken, Behind-escape_ends, Behind-line_ends, Passed-phase_ended, behind_note}
 use Rattle.roff_laws.proofs.RunsStayWithin.{no_limit_is_passed}
 
@@ -121,8 +121,9 @@ Takes-charged tape item behind s takes =
 
 -- an event is performed, or the run ends at it
 Takes-event : (tape : Tape) (l : Limits) (e : PageEvent) (es : List PageEvent) (s t : State) → PerformedOrStopped l e es s t → Takes tape s → Takes tape t
-Takes-event tape l e es s t (Performed allowed none) takes = Takes-unread tape s t refl refl takes
-Takes-event tape l e es s t (Sprang name allowed some) takes = Takes-same tape s t refl (omega arith) refl refl takes
+Takes-event tape l e es s t (Performed allowed on none) takes = Takes-unread tape s t refl refl takes
+Takes-event tape l e es s t (Sprang name allowed on some) takes = Takes-same tape s t refl (omega arith) refl refl takes
+Takes-event tape l e es s t (EndsOver allowed over) takes = Takes-unread tape s t refl refl takes
 Takes-event tape l e es s t (StoppedAt limit) takes = Takes-unread tape s t refl refl takes
 
 -- what was read, or how the run ended
@@ -174,7 +175,7 @@ Takes-unless_refused tape l (Some limit) s done takes takes_done = Takes-unread 
 Takes-with_registers : (tape : Tape) (l : Limits) (given : List (ℕ × Num)) (s : State) → Takes tape s → Takes tape (with_registers l given s)
 Takes-with_registers tape l [] s takes = takes
 Takes-with_registers tape l (first ∷ others) s takes =
-    let behind : State = record s { registers = with_given first s.registers } in
+    let behind : State = record s { registers = with_given first s.registers; history = history_given first s.history } in
     Takes-unless_refused tape l (first_passed l (names_counted behind.registers)) s _ takes
     (Takes-with_registers tape l others behind (Takes-unread tape s behind refl refl takes))
 

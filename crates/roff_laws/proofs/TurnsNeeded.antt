@@ -3,7 +3,8 @@ use Rattle.std.proofs.Common.{◌≡◌, ◌⊎◌, inl, inr, ◌≤◌, ◌+◌
 use Rattle.std.specs.Prelude.{IsSome}
 use Rattle.roff_num.specs.declared.limits.Limits.{Limits}
 use Rattle.roff_run.specs.declared.event.PageEvent.{PageEvent}
-use Rattle.roff_run.specs.Run.{State, closing_events, known, moved, phase_ended}
+use Rattle.roff_run.specs.Events.Lines.{closing_events}
+use Rattle.roff_run.specs.Run.{State, known, moved, phase_ended}
 use Rattle.roff_ahead.specs.Input.{Ahead, ByteAhead, FreeAhead, EndAhead, ReturnAhead, DoAhead, cost, item_taken, counting}
 use Rattle.roff_source.specs.Tape.{Tape, Item, Gives, OneByte, OneNote, front, behind_front}
 use Rattle.roff_run.specs.TurnsToCome.{begun, endings_of, free_ahead, lines_left, most_left, phases_left, turns_of}

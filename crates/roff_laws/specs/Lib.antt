@@ -7,3 +7,7 @@ pub mod Statuses
 pub mod Refusals
 pub mod RegisterLaws
 pub mod RequestLaws
+pub mod PageLaws
+pub mod EnvironmentLaws
+pub mod SpringLaws
+pub mod SpringRows

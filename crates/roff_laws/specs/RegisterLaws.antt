@@ -5,24 +5,29 @@ use Rattle.roff_num.specs.declared.format.Format.{Format}
 use Rattle.roff_num.specs.declared.num.Num.{Num}
 use Rattle.roff_store.specs.Named.{entry_of}
 use Rattle.roff_num.specs.declared.direction.Direction.{Direction}
-use Rattle.roff_run.specs.Registers.{AllRegisters, Known, Change, SetTo, FormatAs, Remove, StepBy, changed_by, changed_by_all, is_page, is_read_only, known_behind, settable, step_changes, step_messages, text_of_register}
+use Rattle.roff_run.specs.Registers.{AllRegisters, Known, Change, SetTo, FormatAs, Remove, StepBy, changed_by, is_page, is_read_only, known_behind, known_stepped, numbered, page_register, settable, step_messages, text_of_register}
+use Rattle.roff_run.specs.Requests.Numbering.{number_of_page}
+
+-- what is known behind a register's value and increment: the page number's value is the layout's
+abbrev pub known_set : List ℕ → Num → Num → Known → Known
+known_set name value increment k =
+    record (known_behind (SetTo name value increment ∷ []) k) { layout = numbered (number_of_page name value) k.layout }
 
 -- a value that is set is read back as its text in the register's format
 abbrev pub ValuesReadBack : Type 0
 ValuesReadBack = (k : Known) (name : List ℕ) (value increment : Num) → is_read_only name ≡ false
-    → text_of_register (known_behind (SetTo name value increment ∷ []) k) name
-    ≡ register_text (settable name k.registers).format value.0
+    → text_of_register (known_set name value increment k) name ≡ register_text (settable name k).format value.0
 
 -- a format that is set is the one in which the register's value is read back
 abbrev pub FormatsReadBack : Type 0
 FormatsReadBack = (k : Known) (name : List ℕ) (format : Format) → is_read_only name ≡ false
     → text_of_register (known_behind (FormatAs name format ∷ []) k) name
-    ≡ register_text format (settable name k.registers).value.0
+    ≡ register_text format (settable name k).value.0
 
 -- a register's format stays as its value is set
 abbrev pub FormatsStay : Type 0
-FormatsStay = (rs : AllRegisters) (name : List ℕ) (value increment : Num)
-    → (settable name (changed_by (SetTo name value increment) rs)).format ≡ (settable name rs).format
+FormatsStay = (k : Known) (name : List ℕ) (value increment : Num)
+    → (settable name (known_set name value increment k)).format ≡ (settable name k).format
 
 -- a name isn't a register: neither read-only nor the page number, and nothing was set
 pub record IsUndefined (name : List ℕ) (rs : AllRegisters) : Type 0 where
@@ -36,13 +41,13 @@ UndefinedReadAsZero = (k : Known) (name : List ℕ) → IsUndefined name k.regis
 
 -- reading it makes none, with a step or without
 abbrev pub ReadingMakesNone : Type 0
-ReadingMakesNone = (rs : AllRegisters) (name : List ℕ) (direction : Option Direction) → IsUndefined name rs
-    → changed_by_all (step_changes direction name) rs ≡ rs
+ReadingMakesNone = (k : Known) (name : List ℕ) (direction : Option Direction) → IsUndefined name k.registers
+    → known_stepped direction name k ≡ k
 
 -- and says nothing
 abbrev pub ReadingIsSilent : Type 0
-ReadingIsSilent = (rs : AllRegisters) (name : List ℕ) (direction : Option Direction) → IsUndefined name rs
-    → step_messages direction name rs ≡ []
+ReadingIsSilent = (k : Known) (name : List ℕ) (direction : Option Direction) → IsUndefined name k.registers
+    → step_messages direction name k ≡ []
 
 -- no change of the registers changes what a read-only one reads as
 abbrev pub ReadOnlyStay : Type 0
@@ -67,4 +72,4 @@ RemovedReadAsZero = (k : Known) (before : List (List ℕ)) (name : List ℕ) (be
 
 -- the page number can't be removed
 abbrev pub PageNumberStays : Type 0
-PageNumberStays = (rs : AllRegisters) (names : List (List ℕ)) → (changed_by (Remove names) rs).page ≡ rs.page
+PageNumberStays = (k : Known) (names : List (List ℕ)) → page_register (known_behind (Remove names ∷ []) k) ≡ page_register k

@@ -84,11 +84,11 @@ pub fn waiting_rows()
 /// What the definitions give behind a backslash and a newline, with which a line or a branch
 /// begins.
 pub fn joined_line_rows()
-    ensures branch { formatted (codes ".if 1 \\\n.ds a x\n\\*a\n")
+    ensures branch { formatted (codes ".pl 1\n.if 1 \\\n.ds a x\n\\*a\n")
         ≡ gives (codes "x\n") (codes "") Done }
-    ensures line { formatted (codes "\\\n.ds a x\n\\*a\n")
+    ensures line { formatted (codes ".pl 1\n\\\n.ds a x\n\\*a\n")
         ≡ gives (codes "x\n") (codes "") Done }
-    ensures text { formatted (codes ".nf\na\\\n.ds a x\n")
+    ensures text { formatted (codes ".pl 1\n.nf\na\\\n.ds a x\n")
         ≡ gives (codes "a.ds a x\n") (codes "") Done }
 {}
 
@@ -104,25 +104,26 @@ pub fn register_rows()
         ≡ gives (codes "-3 -1 360 188\n") (codes "") Done }
     ensures sign_adds { formatted (codes ".pl 1\n.nr a 5\n.nr a -7+2\n\\na\n")
         ≡ gives (codes "-4\n") (codes "") Done }
-    ensures step { formatted (codes ".nr x 5 3\n\\n+x \\nx \\n-x\n")
+    ensures step { formatted (codes ".pl 1\n.nr x 5 3\n\\n+x \\nx \\n-x\n")
         ≡ gives (codes "8 8 5\n") (codes "") Done }
-    ensures step_out_of_range { formatted (codes ".nr x 2147483647 1\n\\n+x\n")
-        ≡ gives (codes "2147483647\n") (codes "nroff: line 2: bad number\n") Done }
-    ensures removed { formatted (codes ".nr a 5\n.rr a\n\\na\n")
+    ensures step_out_of_range { formatted (codes ".pl 1\n.nr x 2147483647 1\n\\n+x\n")
+        ≡ gives (codes "2147483647\n") (codes "nroff: line 3: bad number\n") Done }
+    ensures removed { formatted (codes ".pl 1\n.nr a 5\n.rr a\n\\na\n")
         ≡ gives (codes "0\n") (codes "") Done }
-    ensures register_in_a_name { formatted (codes ".nr x 1\n.nr r1 7\n\\n(r\\nx\n")
+    ensures register_in_a_name { formatted (codes ".pl 1\n.nr x 1\n.nr r1 7\n\\n(r\\nx\n")
         ≡ gives (codes "7\n") (codes "") Done }
-    ensures register_in_an_argument { formatted (codes ".nr a 2\n.nr b \\na+1\n\\nb\n")
+    ensures register_in_an_argument { formatted (codes ".pl 1\n.nr a 2\n.nr b \\na+1\n\\nb\n")
         ≡ gives (codes "3\n") (codes "") Done }
-    ensures newline_ends_a_name { formatted (codes ".nr a 5\n.nf\nx\\n(a\ny\n")
+    ensures newline_ends_a_name { formatted (codes ".pl 1\n.nr a 5\n.nf\nx\\n(a\ny\n")
         ≡ gives (codes "x5\ny\n") (codes "") Done }
-    ensures newline_ends_a_name_in_an_argument { formatted (codes ".nr a 2\n.nr b \\n(a\n\\nb\n")
+    ensures newline_ends_a_name_in_an_argument { formatted
+        (codes ".pl 1\n.nr a 2\n.nr b \\n(a\n\\nb\n")
         ≡ gives (codes "2\n") (codes "") Done }
-    ensures input_ends_a_name { formatted (codes ".nr a 5\nx\\n(a")
+    ensures input_ends_a_name { formatted (codes ".pl 1\n.nr a 5\nx\\n(a")
         ≡ gives (codes "x5\n") (codes "") Done }
     ensures names_reached { formatted_with 100 10 1 (codes ".nr a 1\n.nr b 1\n")
         ≡ gives (codes "") (codes "nroff: line 2: limit names (1) reached\n") (Limited Names) }
-    ensures stack_enough { formatted_with 2 1 0 (codes "\\n(.\\\nH\n")
+    ensures stack_enough { formatted_with 2 1 0 (codes ".pl 1\n\\n(.\\\nH\n")
         ≡ gives (codes "24\n") (codes "") Done }
     ensures stack_reached { formatted_with 1 1 0 (codes "\\n(.\\\nH\n")
         ≡ gives (codes "") (codes "nroff: line 1: limit stack (1) reached\n") (Limited Stack) }
@@ -175,8 +176,8 @@ pub fn cut()
     ensures same_result { SameResultBeforeTheFault }
 {}
 
-/// No run takes more bytes, has a longer pending line, more inserted bytes or texts, or more
-/// registers than its limits say.
+/// No run takes or writes more bytes, has a longer pending line, more inserted bytes or texts, or
+/// more registers than its limits say.
 pub fn bounds()
     ensures { NoLimitIsPassed }
 {}
@@ -220,37 +221,41 @@ pub fn argument_rows()
 
 /// What the definitions give on worked rows of names that are removed and renamed.
 pub fn naming_rows()
-    ensures renamed { formatted (codes ".rn br x\na\n.x\nb\n") ≡ gives (codes "a\nb\n") [] Done }
-    ensures removed { formatted (codes ".rm br\na\n.br\nb\n") ≡ gives (codes "a b\n") [] Done }
-    ensures string_removed { formatted (codes ".ds s a\n.rm s\n.as s b\n\\*s\n")
+    ensures renamed { formatted (codes ".pl 1\n.rn br x\na\n.x\nb\n")
+        ≡ gives (codes "a\nb\n") [] Done }
+    ensures removed { formatted (codes ".pl 1\n.rm br\na\n.br\nb\n")
+        ≡ gives (codes "a b\n") [] Done }
+    ensures string_removed { formatted (codes ".pl 1\n.ds s a\n.rm s\n.as s b\n\\*s\n")
         ≡ gives (codes "b\n") [] Done }
 {}
 
 /// What the definitions give on worked rows of escapes.
 pub fn escape_rows()
-    ensures characters { formatted (codes "a\\(em\\(xxb\n")
-        ≡ gives (codes "a--b\n") (codes "nroff: line 1: unknown character: xx\n") Done }
-    ensures comments { formatted (codes "a\\\" b\n.br \\\" c\nd\n")
+    ensures characters { formatted (codes ".pl 1\na\\(em\\(xxb\n")
+        ≡ gives (codes "a--b\n") (codes "nroff: line 2: unknown character: xx\n") Done }
+    ensures comments { formatted (codes ".pl 1\na\\\" b\n.br \\\" c\nd\n")
         ≡ gives (codes "a\nd\n") [] Done }
-    ensures left_out { formatted (codes "a\\zb\\g(xyc")
+    ensures left_out { formatted (codes ".pl 1\na\\zb\\g(xyc")
         ≡ gives (codes "abc\n")
-        (codes "nroff: line 1: left out: \\z\nnroff: line 1: left out: \\g\n")
+        (codes "nroff: line 2: left out: \\z\nnroff: line 2: left out: \\g\n")
         Done }
-    ensures no_strings_yet { formatted (codes "\\*x.br\na\\$1b\n") ≡ gives (codes "ab\n") [] Done }
-    ensures comment_in_a_name { formatted (codes "\\(em\\(e\\\" m\n")
-        ≡ gives (codes "--\n") (codes "nroff: line 1: unknown character: e\n") Done }
+    ensures no_strings_yet { formatted (codes ".pl 1\n\\*x.br\na\\$1b\n")
+        ≡ gives (codes "ab\n") [] Done }
+    ensures comment_in_a_name { formatted (codes ".pl 1\n\\(em\\(e\\\" m\n")
+        ≡ gives (codes "--\n") (codes "nroff: line 2: unknown character: e\n") Done }
 {}
 
 /// What the definitions give on worked rows of messages of the input, and of its end.
 pub fn message_rows()
     ensures told { formatted (codes ".tm hi\n") ≡ gives [] (codes "hi\n") Done }
-    ensures told_at_the_end { formatted (codes "a\n.tm  \"b c")
+    ensures told_at_the_end { formatted (codes ".pl 1\na\n.tm  \"b c")
         ≡ gives (codes "a\n") (codes "\"b c\n") Done }
     ensures empty_line { formatted (codes ".tm\n") ≡ gives [] (codes "\n") Done }
     ensures aborted { formatted (codes "ab\n.ab stop\n") ≡ gives [] (codes "stop\n") Aborted }
     ensures user_abort { formatted (codes "a\n.ab") ≡ gives [] (codes "User Abort\n") Aborted }
     ensures left { formatted (codes ".pl 1\na\n.ex b\nc\n") ≡ gives (codes "a\n") [] Done }
-    ensures called_at_the_end { formatted (codes ".ds m ab\n.m") ≡ gives (codes "ab\n") [] Done }
-    ensures begun_at_the_end { formatted (codes "a\n.de m")
-        ≡ gives (codes "a\n") (codes "nroff: line 2: definition not ended\n") Done }
+    ensures called_at_the_end { formatted (codes ".pl 1\n.ds m ab\n.m")
+        ≡ gives (codes "ab\n") [] Done }
+    ensures begun_at_the_end { formatted (codes ".pl 1\na\n.de m")
+        ≡ gives (codes "a\n") (codes "nroff: line 3: definition not ended\n") Done }
 {}

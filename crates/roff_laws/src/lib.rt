@@ -1,7 +1,10 @@
-//! Laws over whole runs, registers and the table of requests: facts about the definitions alone, as
-//! contracts of functions that do nothing.
+//! Laws over whole runs, their pages, registers, environments, macros that spring and the table of
+//! requests: facts about the definitions alone, as contracts of functions that do nothing.
 #![tactic(auto)]
 
+pub mod environment_laws;
 pub mod laws;
+pub mod page_laws;
 pub mod register_laws;
 pub mod request_laws;
+pub mod spring_laws;

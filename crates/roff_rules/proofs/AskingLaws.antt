@@ -1,6 +1,6 @@
 -- A condition leads to its branch, which is read or skipped.
 use Rattle.std.proofs.Common.{◌≡◌, ℕ, ◌+◌, ◌≤◌, Bool, true, false, List, [], ◌∷◌, ◌++◌, length, Option, Some, None, refl, ap, sym, subst, ◌∙◌, arith}
-use Rattle.std.specs.Prelude.{⊤, All, Result, Ok, int_lt, map, not, pos, if◌then◌else◌}
+use Rattle.std.specs.Prelude.{⊤, All, Result, Ok, ◌%◌, ◌==◌, int_lt, map, not, pos, unsigned_abs, if◌then◌else◌}
 use Rattle.roff_num.specs.Expressions.{value_at}
 use Rattle.roff_num.specs.declared.limits.Limits.{Limits}
 use Rattle.roff_num.specs.declared.num.Num.{Num}
@@ -30,8 +30,10 @@ use Rattle.roff_run.proofs.PlainRuns.{behind_bytes, behind_bytes-charge, behind_
 use Rattle.roff_run.specs.ItemsTaken.{TakesItems}
 use Rattle.roff_run.specs.Reading.Branches.{branch_of, is_so, with_result_if}
 use Rattle.roff_run.specs.Reading.Found.{read_in}
+use Rattle.roff_run.specs.Environments.{PageHistory}
+use Rattle.roff_run.specs.Layouts.{layout_of}
 use Rattle.roff_run.specs.Reading.Items.{PageInput}
-use Rattle.roff_run.specs.Registers.{AllRegisters, is_page_odd}
+use Rattle.roff_run.specs.Registers.{is_page_odd}
 use Rattle.roff_run.specs.declared.event.PageEvent.{PageEvent}
 use Rattle.roff_run.specs.Run.{State, after, answered, awaited_of_source, escape_ends, in_front_taken, known, made, read_waiting, source_answer, step, taken_as}
 use Rattle.roff_run.specs.Within.{IsWithin}
@@ -82,9 +84,11 @@ charge-chosen l s keeps from line so within =
     omega (arith, within.bytes, kept-charge keeps so (counted from line s.input), behind_bytes-charge from line s.input)
 
 -- it is the same wherever on the way
-so-same : (s u : State) (decision : Decision) → u.registers ≡ s.registers → is_so (known u) decision ≡ is_so (known s) decision
+so-same : (s u : State) (decision : Decision) → u.history ≡ s.history → is_so (known u) decision ≡ is_so (known s) decision
 so-same s u (Is so) same = refl
-so-same s u (OnPages odd) same = ap (λ (r : AllRegisters). if odd then is_page_odd r else not (is_page_odd r)) same
+so-same s u (OnPages odd) same =
+    let is_odd : PageHistory → Bool = λ h. unsigned_abs (layout_of h).number.0 % 2 == 1 in
+    ap (λ (h : PageHistory). if odd then is_odd h else not (is_odd h)) same
 
 -- a line up to the end of what it asks
 decided-from : (l : Limits) (s : State) (keeps : Bool) (from : Origin) (control : ℕ) (name : ShortName) (bytes : List ℕ) (decision : Decision) (text : List ℕ)
@@ -108,10 +112,10 @@ not-not : (b : Bool) → b ≡ not (not b)
 not-not true = refl
 not-not false = refl
 
-so-question : (s : State) (negated : Bool) (question : Question) → is_so (known s) (decision_of negated question) ≡ so_unless negated (is_answered s.registers question)
+so-question : (s : State) (negated : Bool) (question : Question) → is_so (known s) (decision_of negated question) ≡ so_unless negated (is_answered (known s) question)
 so-question s true OddPage = refl
 so-question s false OddPage = refl
-so-question s true EvenPage = not-not (is_page_odd s.registers)
+so-question s true EvenPage = not-not (is_page_odd (known s))
 so-question s false EvenPage = refl
 so-question s true Never = refl
 so-question s false Never = refl
@@ -123,7 +127,7 @@ question-from : (l : Limits) (s : State) (keeps : Bool) (from : Origin) (control
     → BeginsLine s → HasCondition s.input.names control name keeps → IsQuestion question
     → let bytes : List ℕ = asking blanks negated (question_bytes question) in
     let line : List ℕ = asking_line control name bytes in
-    let so : Bool = so_unless negated (is_answered s.registers question) in
+    let so : Bool = so_unless negated (is_answered (known s) question) in
     s.input.ahead ≡ ahead_at from line → s.tape ≡ tape_at from line s.tape → to_hold from bytes + live_bytes s.input.calls ≤ l.stack
     → IsWithin l s → IsWithin l (chosen_from s keeps from line so) → after l (length line + 1) s ≡ chosen_from s keeps from line so
 question-from l s keeps from control name blanks negated question begins has is ahead tape held within chosen =
@@ -145,7 +149,7 @@ pub conditions_choose_their_branch : ConditionsChooseTheirBranch
 conditions_choose_their_branch l s control name keeps blanks negated question rest begins has is ahead within chosen =
     let bytes : List ℕ = asking blanks negated (question_bytes question) in
     let line : List ℕ = asking_line control name bytes in
-    let so : Bool = so_unless negated (is_answered s.registers question) in
+    let so : Bool = so_unless negated (is_answered (known s) question) in
     let same = ap (λ (i : PageInput). with_branch keeps so i s) (counted-ahead rest line s.input) in
     question-from l s keeps (FromAhead rest) control name blanks negated question begins has is ahead refl
     (held-ahead l s rest (control ∷ name_bytes name ++ blank ∷ []) bytes within ahead) within (subst (IsWithin l) (sym same) chosen)
@@ -154,7 +158,7 @@ conditions_choose_their_branch l s control name keeps blanks negated question re
 pub conditions_of_the_source_choose_their_branch : ConditionsOfTheSourceChooseTheirBranch
 conditions_of_the_source_choose_their_branch l s control name keeps blanks negated question tape begins has is none stands room within chosen =
     let line : List ℕ = asking_line control name (asking blanks negated (question_bytes question)) in
-    let so : Bool = so_unless negated (is_answered s.registers question) in
+    let so : Bool = so_unless negated (is_answered (known s) question) in
     let same = ap (λ (i : PageInput). with_branch keeps so i (record s { tape = tape })) (counted-source tape line s.input none) in
     question-from l s keeps (FromSource tape) control name blanks negated question begins has is none stands (omega (arith, room)) within (subst (IsWithin l) (sym same) chosen)
     ∙ same

@@ -100,6 +100,7 @@ within-asks l s keeps from half bytes i room =
       conditions = within.conditions;
       names = within.names;
       environments = within.environments;
+      output = within.output;
     }
 
 -- behind a byte too

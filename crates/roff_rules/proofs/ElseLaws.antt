@@ -68,6 +68,7 @@ within-without l s from reading bytes i room =
       conditions = fewer (length i.results) (length (drop 1 i.results)) l.conditions (length-drop 1 i.results) within.conditions;
       names = within.names;
       environments = within.environments;
+      output = within.output;
     }
 
 -- what the name stands for, at its last byte, and at the blank behind it

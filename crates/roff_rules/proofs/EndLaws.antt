@@ -13,13 +13,18 @@ use Rattle.roff_rules.specs.EndLaws.{ExClosesTheInput, GivenRegistersRead, IsRea
 use Rattle.roff_run.specs.Reading.Calls.{called_last, last_called}
 use Rattle.roff_run.specs.Reading.Ends.{is_unfinished}
 use Rattle.roff_run.specs.Reading.Items.{PageInput}
-use Rattle.roff_run.specs.Registers.{settable}
+use Rattle.roff_run.specs.Environments.{PageHistory}
+use Rattle.roff_run.specs.Layouts.{layout_of}
+use Rattle.roff_run.specs.Registers.{is_page, numbered, settable}
+use Rattle.roff_run.specs.Requests.Effects.{page_numbered}
+use Rattle.roff_run.specs.Requests.Numbering.{number_of_page}
 use Rattle.roff_run.specs.Run.Counts.{first_passed, names_counted}
-use Rattle.roff_run.specs.Starts.{with_given}
+use Rattle.roff_run.specs.Starts.{history_given, with_given}
 use Rattle.roff_store.specs.declared.register.Register.{Register}
-use Rattle.roff_laws.proofs.RegisterLaws.{settable-other, settable-set}
+use Rattle.roff_laws.proofs.RegisterLaws.{number_by, settable-other, settable-set, settable_by}
 use Rattle.roff_run.specs.declared.event.PageEvent.{PageEvent}
-use Rattle.roff_run.specs.Run.{State, answered, closing_events, ending_input, input_ended, known, made, phase_ended, source_answer, step, unless_refused, with_registers}
+use Rattle.roff_run.specs.Events.Lines.{closing_events}
+use Rattle.roff_run.specs.Run.{State, answered, ending_input, input_ended, known, made, phase_ended, source_answer, step, unless_refused, with_registers}
 use Rattle.roff_run.proofs.ItemsTaken.{step-reads}
 use Rattle.roff_rules.proofs.TapeInFront.{unread_input_is_the_tape}
 use Rattle.roff_run.specs.declared.line_state.LineState.TheVariants.{LineStart}
@@ -86,29 +91,44 @@ refused_ends : (l : Limits) (r : Option Limit) (s done : State) → (unless_refu
 refused_ends l None s done going = refl
 refused_ends l (Some limit) s done going = absurd (cc)
 
+-- the page's number behind what is given
+number-given : (n : Option Num) (h : PageHistory) → (layout_of (page_numbered n ++ h)).number ≡ (numbered n (layout_of h)).number
+number-given None h = refl
+number-given (Some n) h = refl
+
+-- what a name reads as behind it
+read_behind : (name : List ℕ) (given : ℕ × Num) (s : State)
+    → (let behind : State = record s { registers = with_given given s.registers; history = history_given given s.history } in settable name (known behind))
+    ≡ settable_by (is_page name) (number_by (is_page (given.0 ∷ [])) given.1 (layout_of s.history)) name (with_given given s.registers)
+read_behind name given s =
+    ap (λ (n : Num). settable_by (is_page name) n name (with_given given s.registers))
+    (number-given (number_of_page (given.0 ∷ []) given.1) s.history)
+
 -- where others are given its value stays
 module _ (l : Limits) (name : ℕ) (value : Num) where
   stays_given : (others : List (ℕ × Num)) (s : State) → NamesNone name others → (with_registers l others s).ended ≡ None
-      → (settable (name ∷ []) s.registers).value ≡ value → (settable (name ∷ []) (with_registers l others s).registers).value ≡ value
+      → (settable (name ∷ []) (known s)).value ≡ value → (settable (name ∷ []) (known (with_registers l others s))).value ≡ value
   stays_given [] s none going is = is
   stays_given (other ∷ others) s none going is =
-      let behind : State = record s { registers = with_given other s.registers } in
+      let behind : State = record s { registers = with_given other s.registers; history = history_given other s.history } in
       let done : State = with_registers l others behind in
       let same = refused_ends l (first_passed l (names_counted behind.registers)) s done going in
       let differ : bytes_eq (name ∷ []) (other.0 ∷ []) ≡ false = rw none.0 refl in
-      let kept = settable-other (name ∷ []) (other.0 ∷ []) other.1 (record { 0 = pos 0 }) s.registers differ in
+      let kept = read_behind (name ∷ []) other s
+      ∙ settable-other (name ∷ []) (other.0 ∷ []) other.1 (record { 0 = pos 0 }) (layout_of s.history) s.registers differ in
       let there = stays_given others behind none.1 (ap (λ (t : State). t.ended) (sym same) ∙ going) (ap (λ (r : Register). r.value) kept ∙ is) in
-      ap (λ (t : State). (settable (name ∷ []) t.registers).value) same ∙ there
+      ap (λ (t : State). (settable (name ∷ []) (known t)).value) same ∙ there
 
 pub given_registers_read : GivenRegistersRead
 given_registers_read l [] behind name value s free none going =
-    let next : State = record s { registers = with_given (name, value) s.registers } in
+    let next : State = record s { registers = with_given (name, value) s.registers; history = history_given (name, value) s.history } in
     let same = refused_ends l (first_passed l (names_counted next.registers)) s (with_registers l behind next) going in
-    ap (λ (t : State). (settable (name ∷ []) t.registers).value) same
+    ap (λ (t : State). (settable (name ∷ []) (known t)).value) same
     ∙ stays_given l name value behind next none (ap (λ (t : State). t.ended) (sym same) ∙ going)
-    (settable-set (name ∷ []) value (record { 0 = pos 0 }) s.registers free)
+    (ap (λ (r : Register). r.value) (read_behind (name ∷ []) (name, value) s)
+    ∙ settable-set (name ∷ []) value (record { 0 = pos 0 }) (layout_of s.history) s.registers free)
 given_registers_read l (first ∷ before) behind name value s free none going =
-    let next : State = record s { registers = with_given first s.registers } in
+    let next : State = record s { registers = with_given first s.registers; history = history_given first s.history } in
     let same = refused_ends l (first_passed l (names_counted next.registers)) s (with_registers l (before ++ (name, value) ∷ behind) next) going in
-    ap (λ (t : State). (settable (name ∷ []) t.registers).value) same
+    ap (λ (t : State). (settable (name ∷ []) (known t)).value) same
     ∙ given_registers_read l before behind name value next free none (ap (λ (t : State). t.ended) (sym same) ∙ going)

@@ -25,14 +25,14 @@ use Rattle.roff_rules.proofs.DefinedLines.{path-lines}
 use Rattle.roff_rules.proofs.Skipping.{skipped_behind, taking-goes_on}
 use Rattle.roff_rules.proofs.SkippingRuns.{IsPlain, IsPlain-counting, step-counting}
 use Rattle.roff_rules.proofs.SkippingRuns.{run_at as skips_at}
-use Rattle.roff_rules.proofs.EventRuns.{Means, Tells, after-Tells, after-meant, allowed-front, behind_all-append, fits-room, idle-state, perform-all, taken_as-meaning, text_at, AreAlone}
+use Rattle.roff_rules.proofs.EventRuns.{AreQuiet, Means, Tells, after-Tells, after-meant, behind-append, behind_performed, fits-room, idle-state, perform-all, quiet-front, steps-append, steps_of, taken_as-meaning, text_at}
 use Rattle.roff_rules.proofs.TextLaws.{NoneGoesOn, first_events, glyph_line, leading_line, means-first, means-newline, neither, taking-glyph, tells-behind_blank, tells-rest}
-use Rattle.roff_rules.proofs.AloneEvents.{part_events, alone-text}
+use Rattle.roff_rules.proofs.QuietEvents.{part_events, quiet-text}
 use Rattle.roff_rules.specs.CallLaws.{BeginsLine}
 use Rattle.roff_rules.specs.ConditionLaws.{AreKept, MayEnd}
 use Rattle.roff_rules.specs.DefinitionLaws.{bytes_of_lines, text_of_lines}
 use Rattle.roff_rules.specs.EndedLaws.{UnendedBranchesDoNothing, UnendedDefinitionsEnterNothing, UnfinishedTextLinesTellTheirWords, unfinished_bytes}
-use Rattle.roff_rules.specs.TextLaws.{IsTextOnLine, TextOnLine, gap_and_word, gap_events, text_events, word_events}
+use Rattle.roff_rules.specs.TextLaws.{IsTextOnLine, TextOnLine, all_performed, gap_and_word, gap_events, text_events, word_events}
 use Rattle.roff_run.proofs.ItemsTaken.{Fits, Fits-IsWithin, FromSource, Origin, ahead_at, made-Fits, step-reads, tape_at, taken_as-going_on}
 use Rattle.roff_run.proofs.Leads.{after-add}
 use Rattle.roff_run.proofs.PlainRuns.{HasRoom, HasRoom-start, Here, IsSmall, IsWithin-HasRoom, Most, Path, after-Path, behind_byte, behind_bytes, behind_bytes-counts, counted, counted-source, is-run_at, run_at}
@@ -94,10 +94,10 @@ is-ended s tape line events begins =
 
 -- the end of the input does what the newline of the line does
 after-end : (l : Limits) (s : State) (tape : Tape) (line : TextLine) (i : PageInput) (h : PageHistory) → TakesItems s → front tape ≡ Ends Ended
-    → Room l s (FromSource tape) [] i → AreAlone l h (text_line_end line)
-    → after l (suc (length (text_line_end line))) (text_at s (InText line) (FromSource tape) [] i h)
-    ≡ text_at s LineStart (FromSource tape) [] i (behind_all (text_line_end line) h)
-after-end l s tape line i h on ends room allowed =
+    → Room l s (FromSource tape) [] i → AreQuiet l h (text_line_end line)
+    → after l (suc (steps_of (text_line_end line) h)) (text_at s (InText line) (FromSource tape) [] i h)
+    ≡ text_at s LineStart (FromSource tape) [] i (behind_performed (text_line_end line) h)
+after-end l s tape line i h on ends room quiet =
     let from : Origin = FromSource tape in
     let events : List PageEvent = text_line_end line in
     let u : State = text_at s (InText line) from [] i h in
@@ -107,22 +107,26 @@ after-end l s tape line i h on ends room allowed =
     ∙ ap (λ (t : Taking). made l u (taken_as t u)) (means-newline line (known u) u.input tt refl)
     ∙ ap (made l u) (taken_as-meaning u.input LineStart events u on.idle)
     ∙ made-Fits l u (record there { to_do = events }) (fits-room l s LineStart from [] i h room) in
-    ap (after l (length events)) one
-    ∙ perform-all l there events on.going allowed
-    ∙ idle-state s LineStart from [] i (behind_all events h) on.idle
+    ap (after l (steps_of events h)) one
+    ∙ perform-all l there events on.going quiet
+    ∙ idle-state s LineStart from [] i (behind_performed events h) on.idle
 
-steps-ended : (bytes : List ℕ) (events more last : List PageEvent)
-    → length (0 ∷ bytes) + length ((events ++ more) ++ last) + 1 ≡ suc (length events) + ((length bytes + length more) + suc (length last))
-steps-ended bytes events more last = omega (arith, length-append (events ++ more) last, length-append events more)
+steps-ended : (bytes : List ℕ) (events more last : List PageEvent) (h : PageHistory)
+    → let g : PageHistory = behind_performed events h in
+    length (0 ∷ bytes) + steps_of ((events ++ more) ++ last) h + 1
+    ≡ suc (steps_of events h) + ((length bytes + steps_of more g) + suc (steps_of last (behind_performed more g)))
+steps-ended bytes events more last h =
+    let same = ap (λ (g : PageHistory). steps_of last g) (behind-append events more h) in
+    omega (arith, steps-append (events ++ more) last h, steps-append events more h, same)
 
 -- a whole line: its first byte, others, and the end
 unfinished-from : (l : Limits) (s : State) (tape : Tape) (b : ℕ) (bytes : List ℕ) (p : LineState) (line : TextLine) (events more : List PageEvent)
     → BeginsLine s → interrupted_line s.history ≡ None → front tape ≡ Ends Ended → Means NoneGoesOn LineStart b events p → Tells p bytes more (InText line)
     → let from : Origin = FromSource tape in
     let all : List PageEvent = (events ++ more) ++ text_line_end line in
-    s.input.ahead ≡ [] → s.tape ≡ tape_at from (b ∷ bytes) s.tape → IsWithin l s → s.input.charge + length (b ∷ bytes) ≤ l.bytes → AreAlone l s.history all
-    → after l (length (b ∷ bytes) + length all + 1) s ≡ ended_from s tape (b ∷ bytes) all
-unfinished-from l s tape b bytes p line events more begins none_goes ends first path ahead stands within charged allowed =
+    s.input.ahead ≡ [] → s.tape ≡ tape_at from (b ∷ bytes) s.tape → IsWithin l s → s.input.charge + length (b ∷ bytes) ≤ l.bytes → AreQuiet l s.history all
+    → after l (length (b ∷ bytes) + steps_of all s.history + 1) s ≡ ended_from s tape (b ∷ bytes) (all_performed all s.history)
+unfinished-from l s tape b bytes p line events more begins none_goes ends first path ahead stands within charged quiet =
     let from : Origin = FromSource tape in
     let last : List PageEvent = text_line_end line in
     let all : List PageEvent = (events ++ more) ++ last in
@@ -133,33 +137,36 @@ unfinished-from l s tape b bytes p line events more begins none_goes ends first 
     let start : State = text_at s LineStart from (b ∷ bytes) i h in
     let is : start ≡ s = is-run_at s from (b ∷ bytes) (reads_at LineStart s) begins.reading begins.escapes begins.arguments refl ahead stands in
     let room : Room l s from (b ∷ bytes) i = room-start l s from (b ∷ bytes) begins ahead stands within charged in
-    let outer = allowed-front l h (events ++ more) last allowed in
-    let inner = allowed-front l h events more outer.0 in
+    let outer = quiet-front l h (events ++ more) last quiet in
+    let inner = quiet-front l h events more outer.0 in
     let at : State = text_at s LineStart from bytes j h in
-    let h1 : PageHistory = behind_all events h in
-    let h2 : PageHistory = behind_all more h1 in
-    let one : after l (suc (length events)) start ≡ text_at s p from bytes j h1 =
+    let h1 : PageHistory = behind_performed events h in
+    let h2 : PageHistory = behind_performed more h1 in
+    let one : after l (suc (steps_of events h)) start ≡ text_at s p from bytes j h1 =
     after-meant l s from LineStart p b bytes events i h begins.takes refl room inner.0 (first (known at) at.input none_goes refl) in
     let two = after-Tells l s from p (InText line) bytes [] more j h1 begins.takes path
     (subst (λ (behind : List ℕ). Room l s from behind j) (sym (append-nil bytes)) (room-behind l s from b bytes i room)) inner.1 in
-    let three : after l (suc (length last)) (text_at s (InText line) from [] m h2) ≡ text_at s LineStart from [] m (behind_all last h2) =
-    after-end l s tape line m h2 begins.takes ends two.1 (subst (λ (g : PageHistory). AreAlone l g last) (behind_all-append events more h) outer.1) in
-    ap (after l (length (b ∷ bytes) + length all + 1)) (sym is)
-    ∙ ap (λ (n : ℕ). after l n start) (steps-ended bytes events more last)
-    ∙ after-add l (suc (length events)) ((length bytes + length more) + suc (length last)) start
-    ∙ ap (after l ((length bytes + length more) + suc (length last))) one
-    ∙ after-add l (length bytes + length more) (suc (length last)) (text_at s p from bytes j h1)
-    ∙ ap (λ (behind : List ℕ). after l (suc (length last)) (after l (length bytes + length more) (text_at s p from behind j h1))) (sym (append-nil bytes))
-    ∙ ap (after l (suc (length last))) two.0
+    let three : after l (suc (steps_of last h2)) (text_at s (InText line) from [] m h2) ≡ text_at s LineStart from [] m (behind_performed last h2) =
+    after-end l s tape line m h2 begins.takes ends two.1 (subst (λ (g : PageHistory). AreQuiet l g last) (behind-append events more h) outer.1) in
+    ap (after l (length (b ∷ bytes) + steps_of all h + 1)) (sym is)
+    ∙ ap (λ (n : ℕ). after l n start) (steps-ended bytes events more last h)
+    ∙ after-add l (suc (steps_of events h)) ((length bytes + steps_of more h1) + suc (steps_of last h2)) start
+    ∙ ap (after l ((length bytes + steps_of more h1) + suc (steps_of last h2))) one
+    ∙ after-add l (length bytes + steps_of more h1) (suc (steps_of last h2)) (text_at s p from bytes j h1)
+    ∙ ap (λ (behind : List ℕ). after l (suc (steps_of last h2)) (after l (length bytes + steps_of more h1) (text_at s p from behind j h1))) (sym (append-nil bytes))
+    ∙ ap (after l (suc (steps_of last h2))) two.0
     ∙ three
-    ∙ ap (λ (g : PageHistory). text_at s LineStart from [] m g) (sym (behind_all-append (events ++ more) last h ∙ ap (behind_all last) (behind_all-append events more h)))
-    ∙ is-ended s tape (b ∷ bytes) all begins
+    ∙ ap (λ (g : PageHistory). text_at s LineStart from [] m g)
+    (sym (behind-append (events ++ more) last h ∙ ap (behind_performed last) (behind-append events more h)))
+    ∙ is-ended s tape (b ∷ bytes) (all_performed all h) begins
 
 unfinished-text : (l : Limits) (s : State) (tape : Tape) (leading first : ℕ) (word : List ℕ) (others : List (ℕ × List ℕ)) (trailing : ℕ)
     → let t : TextOnLine = record { leading = leading; first = first; word = word; others = others; trailing = trailing } in
     BeginsLine s → interrupted_line s.history ≡ None → IsTextOnLine t → front tape ≡ Ends Ended
     → s.input.ahead ≡ [] → s.tape ≡ tape_at (FromSource tape) (unfinished_bytes t) s.tape → IsWithin l s → s.input.charge + length (unfinished_bytes t) ≤ l.bytes
-    → AreAlone l s.history (text_events t) → after l (length (unfinished_bytes t) + length (text_events t) + 1) s ≡ ended_from s tape (unfinished_bytes t) (text_events t)
+    → AreQuiet l s.history (text_events t)
+    → after l (length (unfinished_bytes t) + steps_of (text_events t) s.history + 1) s
+    ≡ ended_from s tape (unfinished_bytes t) (all_performed (text_events t) s.history)
 unfinished-text l s tape zero first word others trailing begins none_goes is ends ahead stands within charged allowed =
     let here : LineState = InText glyph_line in
     let both = neither (first == dot) (first == apostrophe) is.begins in
@@ -175,8 +182,8 @@ unfinished-text l s tape (suc n) first word others trailing begins none_goes is 
 
 pub unfinished_text_lines_tell_their_words : UnfinishedTextLinesTellTheirWords
 unfinished_text_lines_tell_their_words l s t tape begins none_goes none_springs is none stands ends within charged allowed =
-    unfinished-text l s tape t.leading t.first t.word t.others t.trailing begins none_goes is ends none stands within charged (alone-text t l s.history none_springs allowed)
-    ∙ ap (λ (i : PageInput). record s { tape = tape; input = i; history = behind_all (text_events t) s.history }) (counted-source tape (unfinished_bytes t) s.input none)
+    unfinished-text l s tape t.leading t.first t.word t.others t.trailing begins none_goes is ends none stands within charged (quiet-text t l s.history none_springs allowed)
+    ∙ ap (λ (i : PageInput). record s { tape = tape; input = i; history = behind_all (all_performed (text_events t) s.history) s.history }) (counted-source tape (unfinished_bytes t) s.input none)
 
 -- a text in the making is dropped
 drops-last : (before : List (List ℕ)) (text : List ℕ) (i : PageInput) → dropping (record i { open_texts = before ++ text ∷ [] }) ≡ record i { open_texts = before }

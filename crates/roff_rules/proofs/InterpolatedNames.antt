@@ -80,8 +80,8 @@ taking-asks k reading i b half asks name of on read reads =
 -- a text was asked for in a run
 abbrev pub asked : State → LineState → Origin → Arguments → List OpenEscape → ℕ → ℕ → NameUse → List ℕ → State
 asked s reading from a half charge line asks name =
-    let t : State = stepped asks name (going s reading from [] a half charge line) in
-    record t { input = pushing (text_named (known t) t.input asks name) t.input }
+    let u : State = going s reading from [] a half charge line in
+    record (stepped asks name u) { input = pushing (text_named (known u) u.input asks name) u.input }
 
 -- what it means is done
 pub taken_as-asking : (s : State) (reading : LineState) (from : Origin) (a : Arguments) (before half : List OpenEscape) (charge line : ℕ) (asks : NameUse) (name : List ℕ)
@@ -109,14 +109,16 @@ means-asks s reading from a charge line asks name behind of on same half b read 
 
 -- a text ahead of what is behind some bytes
 abbrev pub read_from : Origin → NameUse → List ℕ → ℕ → State → State
-read_from from asks name taken s = with_text_ahead asks name taken (ahead_at from []) (stepped asks name (source_behind from s))
+read_from from asks name taken s = with_text_ahead asks name taken (ahead_at from []) (source_behind from s)
 
 -- before it no quote follows the quote before
 with_text_ahead-arguments : (asks : NameUse) (name : List ℕ) (taken : ℕ) (rest : List (Ahead PageEvent)) (s : State) → ReadsEscapes s.reading
     → with_text_ahead asks name taken rest s
-    ≡ record s { input = pushing (text_named (known s) s.input asks name) (record s.input { ahead = rest; arguments = settled_for s.reading s.input.arguments; charge = s.input.charge + taken }) }
+    ≡ record (stepped asks name s) {
+      input = pushing (text_named (known s) s.input asks name) (record s.input { ahead = rest; arguments = settled_for s.reading s.input.arguments; charge = s.input.charge + taken });
+    }
 with_text_ahead-arguments asks name taken rest s on =
-    ap (λ (i : PageInput). record s { input = pushing (text_named (known s) s.input asks name) (record i { ahead = rest; charge = s.input.charge + taken }) })
+    ap (λ (i : PageInput). record (stepped asks name s) { input = pushing (text_named (known s) s.input asks name) (record i { ahead = rest; charge = s.input.charge + taken }) })
     (interrupted-arguments s.reading s.input on)
 
 -- so it is the text that was asked for
@@ -127,7 +129,7 @@ pub read_from-asked : (s : State) (reading : LineState) (from : Origin) (bytes :
 read_from-asked s reading (FromAhead rest) bytes a half charge taken line _ name (ARegister None) on =
     with_text_ahead-arguments (Register None) name taken rest (going s reading (FromAhead rest) bytes a half charge line) on
 read_from-asked s reading (FromAhead rest) bytes a half charge taken line _ name (ARegister (Some direction)) on =
-    with_text_ahead-arguments (Register (Some direction)) name taken rest (stepped (Register (Some direction)) name (going s reading (FromAhead rest) bytes a half charge line)) on
+    with_text_ahead-arguments (Register (Some direction)) name taken rest (going s reading (FromAhead rest) bytes a half charge line) on
 read_from-asked s reading (FromAhead rest) bytes a half charge taken line _ name AString on =
     with_text_ahead-arguments OfText name taken rest (going s reading (FromAhead rest) bytes a half charge line) on
 read_from-asked s reading (FromAhead rest) bytes a half charge taken line _ name AnArgument on =
@@ -135,7 +137,7 @@ read_from-asked s reading (FromAhead rest) bytes a half charge taken line _ name
 read_from-asked s reading (FromSource tape) bytes a half charge taken line _ name (ARegister None) on =
     with_text_ahead-arguments (Register None) name taken [] (going s reading (FromSource tape) [] a half charge (s.input.newlines + 1)) on
 read_from-asked s reading (FromSource tape) bytes a half charge taken line _ name (ARegister (Some direction)) on =
-    with_text_ahead-arguments (Register (Some direction)) name taken [] (stepped (Register (Some direction)) name (going s reading (FromSource tape) [] a half charge (s.input.newlines + 1))) on
+    with_text_ahead-arguments (Register (Some direction)) name taken [] (going s reading (FromSource tape) [] a half charge (s.input.newlines + 1)) on
 read_from-asked s reading (FromSource tape) bytes a half charge taken line _ name AString on =
     with_text_ahead-arguments OfText name taken [] (going s reading (FromSource tape) [] a half charge (s.input.newlines + 1)) on
 read_from-asked s reading (FromSource tape) bytes a half charge taken line _ name AnArgument on =

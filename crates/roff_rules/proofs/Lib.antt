@@ -17,7 +17,7 @@ pub mod DefinitionLaws
 pub mod StringLaws
 pub mod LineRooms
 pub mod EventRuns
-pub mod AloneEvents
+pub mod QuietEvents
 pub mod TextLaws
 pub mod ElseLaws
 pub mod AskedHalves
@@ -32,8 +32,6 @@ pub mod WordCalls
 pub mod MixedArguments
 pub mod EndLaws
 pub mod EndedLines
-pub mod SpringLaws
-pub mod EnvironmentTurns
 pub mod TapeInFront
 pub mod MessageBytes
 pub mod MessageLines

@@ -14,7 +14,7 @@ use Rattle.roff_store.specs.Named.{Named}
 use Rattle.roff_store.specs.Texts.{Entry}
 use Rattle.roff_ahead.specs.Input.Calls.{arguments_live}
 use Rattle.roff_ahead.specs.Input.Names.{body_named}
-use Rattle.roff_ahead.specs.Input.{Ahead, ByteAhead, EndAhead, bytes_ahead, depth, ends_ahead, item_taken, pushed}
+use Rattle.roff_ahead.specs.Input.{Ahead, ByteAhead, EndAhead, bytes_ahead, depth, ends_ahead, item_taken, pushed, pushing}
 use Rattle.roff_escape.specs.OpenEscape.{OpenEscape}
 use Rattle.roff_escape.specs.declared.escapes.NameUse.{NameUse}
 use Rattle.roff_escape.specs.declared.escapes.NameUse.TheVariants.{Register}
@@ -30,7 +30,7 @@ use Rattle.roff_run.proofs.PlainRuns.{HasRoom, HasRoom-behind, HasRoom-start, Is
 use Rattle.roff_run.specs.ItemsTaken.{TakesItems}
 use Rattle.roff_run.specs.Messages.{told_line}
 use Rattle.roff_run.specs.Reading.Escapes.{argument_named}
-use Rattle.roff_run.specs.Registers.{Known, text_of_register}
+use Rattle.roff_run.specs.Registers.{Known, known_stepped, text_of_register}
 use Rattle.roff_run.specs.declared.line_state.LineState.{LineState}
 use Rattle.roff_run.specs.Reading.Items.{PageInput}
 use Rattle.roff_run.specs.Run.{State, ahead_taken, after, known, made, message_told, step, stopped_by}
@@ -81,8 +81,9 @@ ends_ahead-front (b ∷ bytes) rest = ends_ahead-front bytes rest
 -- the text that an escape stands for is the same in front of it
 same-text : (k j : Known) (i m : PageInput) (purpose : NameUse) (named escape : List ℕ) → IsEscapeOf purpose named escape → k ≡ j → i.names ≡ m.names → i.calls ≡ m.calls
     → text_named k i purpose named ≡ text_named j m purpose named
-same-text k j i m _ _ _ (Short step x may plain) known names calls = ap (λ (n : Known). text_of_register n (x ∷ [])) known
-same-text k j i m _ _ _ (Long step x y first second) known names calls = ap (λ (n : Known). text_of_register n (x ∷ y ∷ [])) known
+same-text k j i m _ _ _ (Short step x may plain) known names calls = ap (λ (n : Known). text_of_register (known_stepped step (x ∷ []) n) (x ∷ [])) known
+same-text k j i m _ _ _ (Long step x y first second) known names calls =
+    ap (λ (n : Known). text_of_register (known_stepped step (x ∷ y ∷ []) n) (x ∷ y ∷ [])) known
 same-text k j i m _ _ _ (ShortString x may no_opening) known names calls = ap (λ (n : Named Entry). body_named (x ∷ []) (record i { names = n })) names
 same-text k j i m _ _ _ (LongString x y first second) known names calls = ap (λ (n : Named Entry). body_named (x ∷ y ∷ []) (record i { names = n })) names
 same-text k j i m _ _ _ (OfArgument x may) known names calls = ap (λ (c : List (List (List ℕ))). argument_named (x ∷ []) (arguments_live (record i { calls = c }))) calls
@@ -219,6 +220,7 @@ module _ (l : Limits) (s : State) (control : ℕ) (name : ShortName) (front behi
         conditions = before.conditions;
         registers = before.registers;
         environments = before.environments;
+        output = before.output;
       }
 
   room4 : HasRoom l s names from most (telling texts t2) last (with_charge c4)
@@ -232,6 +234,7 @@ module _ (l : Limits) (s : State) (control : ℕ) (name : ShortName) (front behi
     conditions = room2.conditions;
     registers = room2.registers;
     environments = room2.environments;
+    output = room2.output;
   }
 
   within4 : IsWithin l u4
@@ -241,8 +244,10 @@ module _ (l : Limits) (s : State) (control : ℕ) (name : ShortName) (front behi
   reads-text : IsEscapeOf purpose named escape → steps purpose ≡ false → after l (length escape) u1 ≡ u2
   reads-text is_escape none =
       let on : TakesItems u1 = record { going = begins.takes.going; is_open = begins.takes.is_open; idle = begins.takes.idle; unsprung = begins.takes.unsprung; none_due = refl } in
-      let same : with_text_ahead purpose named (length escape) rest1 (stepped purpose named u1) ≡ u2 =
-      ap (with_text_ahead purpose named (length escape) rest1) (stepped-none purpose named u1 none)
+      let input : PageInput =
+      pushing (text_named (known u1) u1.input purpose named) (record u1.input { ahead = rest1; charge = u1.input.charge + length escape }) in
+      let same : with_text_ahead purpose named (length escape) rest1 u1 ≡ u2 =
+      ap (λ (u : State). record u { input = input }) (stepped-none purpose named u1 none)
       ∙ ap (λ (t : List ℕ). run_at s names (telling texts t1) read t (with_charge c2)) (same-text (known u1) (known s) u1.input s.input purpose named escape is_escape refl refl refl) in
       let within1 : IsWithin l u1 = IsWithin-HasRoom l s names from most (telling texts t1) (escape ++ last) (with_charge c1) (small t1 (omega (arith, held1))) reaches-escape.1 in
       let within2 : IsWithin l u2 = IsWithin-HasRoom l s names read most (telling texts t1) text (with_charge c2) (small t1 (omega (arith, held1))) room2 in

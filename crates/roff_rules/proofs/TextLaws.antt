@@ -15,7 +15,7 @@ use Rattle.roff_escape.specs.OpenEscapes.{byte_read}
 use Rattle.roff_escape.specs.declared.open_escape.CopyUnit.TheVariants.{Byte}
 use Rattle.roff_escape.specs.declared.open_escape.Found.TheVariants.{GoesOn, Unit as GivesUnit}
 use Rattle.roff_rules.specs.CallLaws.{BeginsLine}
-use Rattle.roff_rules.specs.TextLaws.{BlankLinesOfTheSourceSpace, BlankLinesSpace, IsGlyph, IsTextOnLine, TextLinesOfTheSourceTellTheirWords, TextLinesTellTheirWords, TextOnLine, blank_bytes, blank_events, gap_and_word, gap_events, text_bytes, text_events, word_events}
+use Rattle.roff_rules.specs.TextLaws.{BlankLinesOfTheSourceSpace, BlankLinesSpace, IsGlyph, IsTextOnLine, TextLinesOfTheSourceTellTheirWords, TextLinesTellTheirWords, TextOnLine, all_performed, blank_bytes, blank_events, gap_and_word, gap_events, text_bytes, text_events, word_events}
 use Rattle.roff_run.proofs.ItemsTaken.{FromAhead, FromSource, Origin, ahead_at, tape_at}
 use Rattle.roff_run.proofs.Leads.{after-add}
 use Rattle.roff_run.proofs.PlainRuns.{behind_byte, behind_bytes, counted, counted-ahead, counted-last, counted-source, is-run_at}
@@ -37,9 +37,9 @@ use Rattle.roff_run.specs.Within.{IsWithin}
 use Rattle.roff_run.specs.declared.line_state.LineState.{LineState}
 use Rattle.roff_run.specs.declared.line_state.LineState.TheVariants.{Control, LineStart, Text as InText}
 use Rattle.roff_run.specs.declared.line_state.TextLine.{TextLine}
-use Rattle.roff_rules.proofs.EventRuns.{AreAlone, Always, Here, Means, Onward, Tells, Tells-append, after-Tells, after-meant, allowed-front, behind_all-append, text_at}
+use Rattle.roff_rules.proofs.EventRuns.{AreQuiet, Always, Here, Means, Onward, Tells, Tells-append, after-Tells, after-meant, behind-append, behind_performed, quiet-front, steps-append, steps_of, text_at}
 use Rattle.roff_rules.proofs.LineRooms.{Room, reads_at, room-behind, room-start}
-use Rattle.roff_rules.proofs.AloneEvents.{part_events, alone-text, alone-blanks}
+use Rattle.roff_rules.proofs.QuietEvents.{part_events, quiet-text, quiet-blanks}
 
 -- a byte of plain text on a text line
 means-text : (line : TextLine) (b : ℕ) (q : LineState) (events : List PageEvent) → is_text_byte b ≡ true
@@ -170,18 +170,22 @@ is-told s from front events begins =
     ∙ ap (λ (r : LineState). of j s.input.arguments s.input.escapes r) (sym begins.reading)
 
 -- how many steps a line takes
-steps-line : (bytes : List ℕ) (events more last : List PageEvent)
-    → length (0 ∷ bytes ++ newline ∷ []) + length ((events ++ more) ++ last) ≡ suc (length events) + ((length bytes + length more) + suc (length last))
-steps-line bytes events more last = omega (arith, length-append bytes (newline ∷ []), length-append (events ++ more) last, length-append events more)
+steps-line : (bytes : List ℕ) (events more last : List PageEvent) (h : PageHistory)
+    → let g : PageHistory = behind_performed events h in
+    length (0 ∷ bytes ++ newline ∷ []) + steps_of ((events ++ more) ++ last) h
+    ≡ suc (steps_of events h) + ((length bytes + steps_of more g) + suc (steps_of last (behind_performed more g)))
+steps-line bytes events more last h =
+    let same = ap (λ (g : PageHistory). steps_of last g) (behind-append events more h) in
+    omega (arith, length-append bytes (newline ∷ []), steps-append (events ++ more) last h, steps-append events more h, same)
 
 -- a whole line: its first byte, others, and its newline
 told-from : (l : Limits) (s : State) (from : Origin) (b : ℕ) (bytes : List ℕ) (p q : LineState) (events more last : List PageEvent)
     → BeginsLine s → interrupted_line s.history ≡ None → Means NoneGoesOn LineStart b events p → Tells p bytes more q → due q ≡ None → Means Always q newline last LineStart
     → let line : List ℕ = b ∷ bytes ++ newline ∷ [] in
     let all : List PageEvent = (events ++ more) ++ last in
-    s.input.ahead ≡ ahead_at from line → s.tape ≡ tape_at from line s.tape → IsWithin l s → s.input.charge + length line ≤ l.bytes → AreAlone l s.history all
-    → after l (length line + length all) s ≡ told_from s from line all
-told-from l s from b bytes p q events more last begins none_goes first path none_due ends ahead tape within charged allowed =
+    s.input.ahead ≡ ahead_at from line → s.tape ≡ tape_at from line s.tape → IsWithin l s → s.input.charge + length line ≤ l.bytes → AreQuiet l s.history all
+    → after l (length line + steps_of all s.history) s ≡ told_from s from line (all_performed all s.history)
+told-from l s from b bytes p q events more last begins none_goes first path none_due ends ahead tape within charged quiet =
     let line : List ℕ = b ∷ bytes ++ newline ∷ [] in
     let all : List PageEvent = (events ++ more) ++ last in
     let h : PageHistory = s.history in
@@ -191,27 +195,28 @@ told-from l s from b bytes p q events more last begins none_goes first path none
     let start : State = text_at s LineStart from line i h in
     let is : start ≡ s = is-run_at s from line (reads_at LineStart s) begins.reading begins.escapes begins.arguments refl ahead tape in
     let room : Room l s from line i = room-start l s from line begins ahead tape within charged in
-    let outer = allowed-front l h (events ++ more) last allowed in
-    let inner = allowed-front l h events more outer.0 in
+    let outer = quiet-front l h (events ++ more) last quiet in
+    let inner = quiet-front l h events more outer.0 in
     let at : State = text_at s LineStart from (bytes ++ newline ∷ []) j h in
-    let one : after l (suc (length events)) start ≡ text_at s p from (bytes ++ newline ∷ []) j (behind_all events h) =
+    let h1 : PageHistory = behind_performed events h in
+    let one : after l (suc (steps_of events h)) start ≡ text_at s p from (bytes ++ newline ∷ []) j h1 =
     after-meant l s from LineStart p b (bytes ++ newline ∷ []) events i h begins.takes refl room inner.0 (first (known at) at.input none_goes refl) in
-    let two = after-Tells l s from p q bytes (newline ∷ []) more j (behind_all events h) begins.takes path (room-behind l s from b (bytes ++ newline ∷ []) i room) inner.1 in
-    let h2 : PageHistory = behind_all more (behind_all events h) in
+    let two = after-Tells l s from p q bytes (newline ∷ []) more j h1 begins.takes path (room-behind l s from b (bytes ++ newline ∷ []) i room) inner.1 in
+    let h2 : PageHistory = behind_performed more h1 in
     let last_at : State = text_at s q from [] (behind_byte from newline m) h2 in
-    let three : after l (suc (length last)) (text_at s q from (newline ∷ []) m h2) ≡ text_at s LineStart from [] (behind_byte from newline m) (behind_all last h2) =
+    let three : after l (suc (steps_of last h2)) (text_at s q from (newline ∷ []) m h2) ≡ text_at s LineStart from [] (behind_byte from newline m) (behind_performed last h2) =
     after-meant l s from q LineStart newline [] last m h2 begins.takes none_due two.1
-    (subst (λ (g : PageHistory). AreAlone l g last) (behind_all-append events more h) outer.1) (ends (known last_at) last_at.input tt refl) in
-    ap (after l (length line + length all)) (sym is)
-    ∙ ap (λ (n : ℕ). after l n start) (steps-line bytes events more last)
-    ∙ after-add l (suc (length events)) ((length bytes + length more) + suc (length last)) start
-    ∙ ap (after l ((length bytes + length more) + suc (length last))) one
-    ∙ after-add l (length bytes + length more) (suc (length last)) (text_at s p from (bytes ++ newline ∷ []) j (behind_all events h))
-    ∙ ap (after l (suc (length last))) two.0
+    (subst (λ (g : PageHistory). AreQuiet l g last) (behind-append events more h) outer.1) (ends (known last_at) last_at.input tt refl) in
+    ap (after l (length line + steps_of all h)) (sym is)
+    ∙ ap (λ (n : ℕ). after l n start) (steps-line bytes events more last h)
+    ∙ after-add l (suc (steps_of events h)) ((length bytes + steps_of more h1) + suc (steps_of last h2)) start
+    ∙ ap (after l ((length bytes + steps_of more h1) + suc (steps_of last h2))) one
+    ∙ after-add l (length bytes + steps_of more h1) (suc (steps_of last h2)) (text_at s p from (bytes ++ newline ∷ []) j h1)
+    ∙ ap (after l (suc (steps_of last h2))) two.0
     ∙ three
     ∙ ap (λ (g : PageHistory). text_at s LineStart from [] (behind_byte from newline m) g)
-    (sym (behind_all-append (events ++ more) last h ∙ ap (behind_all last) (behind_all-append events more h)))
-    ∙ is-told s from (b ∷ bytes) all begins
+    (sym (behind-append (events ++ more) last h ∙ ap (behind_performed last) (behind-append events more h)))
+    ∙ is-told s from (b ∷ bytes) (all_performed all h) begins
 
 -- a line of text
 pub neither : (a b : Bool) → not (a || b) ≡ true → (a ≡ false) × (b ≡ false)
@@ -265,7 +270,8 @@ text-from : (l : Limits) (s : State) (from : Origin) (leading first : ℕ) (word
     → let t : TextOnLine = record { leading = leading; first = first; word = word; others = others; trailing = trailing } in
     BeginsLine s → interrupted_line s.history ≡ None → IsTextOnLine t
     → s.input.ahead ≡ ahead_at from (text_bytes t) → s.tape ≡ tape_at from (text_bytes t) s.tape → IsWithin l s → s.input.charge + length (text_bytes t) ≤ l.bytes
-    → AreAlone l s.history (text_events t) → after l (length (text_bytes t) + length (text_events t)) s ≡ told_from s from (text_bytes t) (text_events t)
+    → AreQuiet l s.history (text_events t)
+    → after l (length (text_bytes t) + steps_of (text_events t) s.history) s ≡ told_from s from (text_bytes t) (all_performed (text_events t) s.history)
 text-from l s from zero first word others trailing begins none_goes is ahead tape within charged allowed =
     let here : LineState = InText glyph_line in
     let both = neither (first == dot) (first == apostrophe) is.begins in
@@ -281,31 +287,34 @@ text-from l s from (suc n) first word others trailing begins none_goes is ahead 
 
 pub text_lines_tell_their_words : TextLinesTellTheirWords
 text_lines_tell_their_words l s t rest begins none_goes none_springs is ahead within charged allowed =
-    text-from l s (FromAhead rest) t.leading t.first t.word t.others t.trailing begins none_goes is ahead refl within charged (alone-text t l s.history none_springs allowed)
-    ∙ ap (λ (i : PageInput). record s { input = i; history = behind_all (text_events t) s.history }) (counted-ahead rest (text_bytes t) s.input)
+    text-from l s (FromAhead rest) t.leading t.first t.word t.others t.trailing begins none_goes is ahead refl within charged (quiet-text t l s.history none_springs allowed)
+    ∙ ap (λ (i : PageInput). record s { input = i; history = behind_all (all_performed (text_events t) s.history) s.history }) (counted-ahead rest (text_bytes t) s.input)
 
 pub text_lines_of_the_source_tell_their_words : TextLinesOfTheSourceTellTheirWords
 text_lines_of_the_source_tell_their_words l s t tape begins none_goes none_springs is none stands within charged allowed =
-    text-from l s (FromSource tape) t.leading t.first t.word t.others t.trailing begins none_goes is none stands within charged (alone-text t l s.history none_springs allowed)
-    ∙ ap (λ (i : PageInput). record s { tape = tape; input = i; history = behind_all (text_events t) s.history }) (counted-source tape (text_bytes t) s.input none)
+    text-from l s (FromSource tape) t.leading t.first t.word t.others t.trailing begins none_goes is none stands within charged (quiet-text t l s.history none_springs allowed)
+    ∙ ap (λ (i : PageInput). record s { tape = tape; input = i; history = behind_all (all_performed (text_events t) s.history) s.history }) (counted-source tape (text_bytes t) s.input none)
 
 -- a line of blanks alone
 empty-from : (l : Limits) (s : State) (from : Origin) → BeginsLine s → interrupted_line s.history ≡ None → s.input.ahead ≡ ahead_at from (newline ∷ [])
-    → s.tape ≡ tape_at from (newline ∷ []) s.tape → IsWithin l s → s.input.charge + 1 ≤ l.bytes → AreAlone l s.history blank_line
-    → after l 4 s ≡ told_from s from (newline ∷ []) blank_line
+    → s.tape ≡ tape_at from (newline ∷ []) s.tape → IsWithin l s → s.input.charge + 1 ≤ l.bytes → AreQuiet l s.history blank_line
+    → after l (suc (steps_of blank_line s.history)) s ≡ told_from s from (newline ∷ []) (all_performed blank_line s.history)
 empty-from l s from begins none_goes ahead tape within charged allowed =
     let line : List ℕ = newline ∷ [] in
     let start : State = text_at s LineStart from line s.input s.history in
     let at : State = text_at s LineStart from [] (behind_byte from newline s.input) s.history in
-    ap (after l 4) (sym (is-run_at s from line (reads_at LineStart s) begins.reading begins.escapes begins.arguments refl ahead tape))
+    ap (after l (suc (steps_of blank_line s.history))) (sym (is-run_at s from line (reads_at LineStart s) begins.reading begins.escapes begins.arguments refl ahead tape))
     ∙ after-meant l s from LineStart LineStart newline [] blank_line s.input s.history begins.takes refl (room-start l s from line begins ahead tape within charged) allowed
     (means-empty (known at) at.input none_goes refl)
-    ∙ is-told s from [] blank_line begins
+    ∙ is-told s from [] (all_performed blank_line s.history) begins
 
 blanks-from : (l : Limits) (s : State) (from : Origin) (n : ℕ) → BeginsLine s → interrupted_line s.history ≡ None → n ≤ most_leading
     → s.input.ahead ≡ ahead_at from (blank_bytes n) → s.tape ≡ tape_at from (blank_bytes n) s.tape → IsWithin l s → s.input.charge + length (blank_bytes n) ≤ l.bytes
-    → AreAlone l s.history (blank_events n) → after l (length (blank_bytes n) + length (blank_events n)) s ≡ told_from s from (blank_bytes n) (blank_events n)
-blanks-from l s from zero begins none_goes few ahead tape within charged allowed = empty-from l s from begins none_goes ahead tape within charged allowed
+    → AreQuiet l s.history (blank_events n)
+    → after l (length (blank_bytes n) + steps_of (blank_events n) s.history) s ≡ told_from s from (blank_bytes n) (all_performed (blank_events n) s.history)
+blanks-from l s from zero begins none_goes few ahead tape within charged allowed =
+    let steps : length (blank_bytes zero) + steps_of blank_line s.history ≡ suc (steps_of blank_line s.history) = omega arith in
+    ap (λ (n : ℕ). after l n s) steps ∙ empty-from l s from begins none_goes ahead tape within charged allowed
 blanks-from l s from (suc n) begins none_goes few ahead tape within charged allowed =
     let start : LineState = InText (leading_line 1) in
     let last : LineState = InText (leading_line (suc n)) in
@@ -316,10 +325,10 @@ blanks-from l s from (suc n) begins none_goes few ahead tape within charged allo
 
 pub blank_lines_space : BlankLinesSpace
 blank_lines_space l s n rest begins none_goes few ahead within charged allowed =
-    blanks-from l s (FromAhead rest) n begins none_goes few ahead refl within charged (alone-blanks n l s.history allowed)
-    ∙ ap (λ (i : PageInput). record s { input = i; history = behind_all (blank_events n) s.history }) (counted-ahead rest (blank_bytes n) s.input)
+    blanks-from l s (FromAhead rest) n begins none_goes few ahead refl within charged (quiet-blanks n l s.history allowed)
+    ∙ ap (λ (i : PageInput). record s { input = i; history = behind_all (all_performed (blank_events n) s.history) s.history }) (counted-ahead rest (blank_bytes n) s.input)
 
 pub blank_lines_of_the_source_space : BlankLinesOfTheSourceSpace
 blank_lines_of_the_source_space l s n tape begins none_goes few none stands within charged allowed =
-    blanks-from l s (FromSource tape) n begins none_goes few none stands within charged (alone-blanks n l s.history allowed)
-    ∙ ap (λ (i : PageInput). record s { tape = tape; input = i; history = behind_all (blank_events n) s.history }) (counted-source tape (blank_bytes n) s.input none)
+    blanks-from l s (FromSource tape) n begins none_goes few none stands within charged (quiet-blanks n l s.history allowed)
+    ∙ ap (λ (i : PageInput). record s { tape = tape; input = i; history = behind_all (all_performed (blank_events n) s.history) s.history }) (counted-source tape (blank_bytes n) s.input none)

@@ -115,6 +115,7 @@ within-passed l s from line ahead within charged = record {
   conditions = within.conditions;
   names = within.names;
   environments = within.environments;
+  output = within.output;
 }
 
 unknown-from : (l : Limits) (s : State) (from : Origin) (control : ℕ) (name : ShortName) (behind : List ℕ)

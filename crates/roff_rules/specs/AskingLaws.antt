@@ -20,9 +20,9 @@ use Rattle.roff_rules.specs.ConditionLaws.{AreKept}
 use Rattle.roff_run.specs.Reading.Branches.{branch_of, with_result_if}
 use Rattle.roff_run.specs.Reading.ControlLines.{BelongsToName}
 use Rattle.roff_run.specs.Reading.Items.{PageInput}
-use Rattle.roff_run.specs.Registers.{AllRegisters, is_page_odd}
+use Rattle.roff_run.specs.Registers.{Known, is_page_odd}
 use Rattle.roff_run.specs.Requests.{called_by, row_of}
-use Rattle.roff_run.specs.Run.{State, after}
+use Rattle.roff_run.specs.Run.{State, after, known}
 use Rattle.roff_run.specs.Within.{IsWithin}
 use Rattle.roff_run.specs.declared.event.PageEvent.{PageEvent}
 use Rattle.roff_run.specs.declared.request.Called.TheVariants.{Request as ARequest}
@@ -54,12 +54,12 @@ question_bytes Always = 110 ∷ []
 question_bytes (SameTexts delimiter first second) = two_texts delimiter first second
 
 -- whether it is so
-abbrev pub is_answered : AllRegisters → Question → Bool
-is_answered registers OddPage = is_page_odd registers
-is_answered registers EvenPage = not (is_page_odd registers)
-is_answered registers Never = false
-is_answered registers Always = true
-is_answered registers (SameTexts delimiter first second) = bytes_eq first second
+abbrev pub is_answered : Known → Question → Bool
+is_answered k OddPage = is_page_odd k
+is_answered k EvenPage = not (is_page_odd k)
+is_answered k Never = false
+is_answered k Always = true
+is_answered k (SameTexts delimiter first second) = bytes_eq first second
 
 -- two texts may stand between such delimiters as they are
 pub record AreDelimited (delimiter : ℕ) (first second : List ℕ) : Type 0 where
@@ -96,7 +96,7 @@ ConditionsChooseTheirBranch =
     BeginsLine s → HasCondition s.input.names control name keeps → IsQuestion question →
     let line : List ℕ = asking_line control name (asking blanks negated (question_bytes question)) in
     s.input.ahead ≡ map ByteAhead line ++ rest →
-    let so : Bool = so_unless negated (is_answered s.registers question) in
+    let so : Bool = so_unless negated (is_answered (known s) question) in
     let chosen : State = with_branch keeps so (record s.input { ahead = rest; charge = s.input.charge + length line }) s in
     IsWithin l s → IsWithin l chosen → after l (length line + 1) s ≡ chosen
 
@@ -109,7 +109,7 @@ ConditionsOfTheSourceChooseTheirBranch =
     let asked : List ℕ = asking blanks negated (question_bytes question) in
     let line : List ℕ = asking_line control name asked in
     s.tape ≡ items_then (map OneByte line) tape →
-    let so : Bool = so_unless negated (is_answered s.registers question) in
+    let so : Bool = so_unless negated (is_answered (known s) question) in
     let chosen : State = with_branch keeps so (lines_taken line s.input) (record s { tape = tape }) in
     pushed s.input + length asked ≤ l.stack → IsWithin l s → IsWithin l chosen → after l (length line + 1) s ≡ chosen
 

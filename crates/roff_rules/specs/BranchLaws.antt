@@ -11,7 +11,7 @@ use Rattle.roff_rules.specs.CallLaws.{BeginsLine}
 use Rattle.roff_rules.specs.ElseLaws.{HasElse, else_front}
 use Rattle.roff_run.specs.Reading.Branches.{branch_of}
 use Rattle.roff_run.specs.Reading.Items.{PageInput}
-use Rattle.roff_run.specs.Run.{State, after}
+use Rattle.roff_run.specs.Run.{State, after, known}
 use Rattle.roff_run.specs.Within.{IsWithin}
 use Rattle.roff_run.specs.declared.event.PageEvent.{PageEvent}
 
@@ -32,7 +32,7 @@ ExactlyOneBranchIsRead =
     let line : List ℕ = asking_line control name (asking blanks negated (question_bytes question)) in
     let other : List ℕ = else_front other_control other_name in
     s.input.ahead ≡ map ByteAhead line ++ rest →
-    let so : Bool = so_unless negated (is_answered s.registers question) in
+    let so : Bool = so_unless negated (is_answered (known s) question) in
     let chosen : State = with_branch true so (record s.input { ahead = rest; charge = s.input.charge + length line }) s in
     IsWithin l s → IsWithin l chosen →
     BeginsLine t → HasElse t.input.names other_control other_name → t.input.ahead ≡ map ByteAhead other ++ other_rest →
@@ -49,7 +49,7 @@ ExactlyOneBranchOfTheSourceIsRead =
     let line : List ℕ = asking_line control name asked in
     let other : List ℕ = else_front other_control other_name in
     s.tape ≡ items_then (map OneByte line) tape →
-    let so : Bool = so_unless negated (is_answered s.registers question) in
+    let so : Bool = so_unless negated (is_answered (known s) question) in
     let chosen : State = with_branch true so (lines_taken line s.input) (record s { tape = tape }) in
     pushed s.input + length asked ≤ l.stack → IsWithin l s → IsWithin l chosen →
     BeginsLine t → HasElse t.input.names other_control other_name → t.input.ahead ≡ [] →

@@ -10,7 +10,7 @@ use Rattle.roff_escape.specs.declared.escapes.NameUse.{NameUse}
 use Rattle.roff_escape.specs.declared.escapes.NameUse.TheVariants.{Register, Text as OfText}
 use Rattle.roff_num.specs.declared.direction.Direction.{Direction}
 use Rattle.roff_ahead.specs.Input.{Ahead, ByteAhead}
-use Rattle.roff_rules.specs.InterpolationLaws.{StandsForItself, reads_above, reads_escapes, stepped, with_source_behind, with_text_ahead}
+use Rattle.roff_rules.specs.InterpolationLaws.{StandsForItself, reads_above, reads_escapes, with_source_behind, with_text_ahead}
 use Rattle.roff_run.specs.ItemsTaken.{TakesItems}
 use Rattle.roff_run.specs.Run.{State, after}
 use Rattle.roff_run.specs.Within.{IsWithin}
@@ -34,7 +34,7 @@ CutNamesAreTheirFirstByte =
     (l : Limits) (s : State) (purpose : NameUse) (x : ℕ) (escape : List ℕ) (rest : List (Ahead PageEvent)) →
     IsCutEscapeOf purpose x escape → TakesItems s → reads_above s.input.escapes ≡ true → names_in s.input.escapes < most_names →
     reads_escapes s.reading ≡ true → s.input.ahead ≡ map ByteAhead escape ++ ByteAhead newline ∷ rest →
-    let read : State = with_text_ahead purpose (x ∷ []) (length escape) (ByteAhead newline ∷ rest) (stepped purpose (x ∷ []) s) in
+    let read : State = with_text_ahead purpose (x ∷ []) (length escape) (ByteAhead newline ∷ rest) s in
     IsWithin l s → IsWithin l read → after l (length escape + 1) s ≡ read
 
 -- and so it is where the escape stands in the source itself, before a newline or at the end of all input
@@ -43,5 +43,5 @@ CutNamesOfTheSourceAreTheirFirstByte =
     (l : Limits) (s : State) (purpose : NameUse) (x : ℕ) (escape : List ℕ) (tape : Tape) →
     IsCutEscapeOf purpose x escape → TakesItems s → reads_above s.input.escapes ≡ true → names_in s.input.escapes < most_names →
     reads_escapes s.reading ≡ true → s.input.ahead ≡ [] → s.tape ≡ items_then (map OneByte escape) tape → CutsLine (front tape) →
-    let read : State = with_text_ahead purpose (x ∷ []) (length escape) [] (stepped purpose (x ∷ []) (with_source_behind tape s)) in
+    let read : State = with_text_ahead purpose (x ∷ []) (length escape) [] (with_source_behind tape s) in
     IsWithin l s → IsWithin l read → after l (length escape + 1) s ≡ read

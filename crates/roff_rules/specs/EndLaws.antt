@@ -2,7 +2,6 @@
 -- sections 7, 8 and 18).
 use Rattle.std.specs.Prelude.{◌≡◌, ◌⊎◌, ℕ, true, false, List, [], ◌∷◌, ◌++◌, map, Some, None, ◌==◌}
 use Rattle.std.specs.List.{AllByRecursion}
-use Rattle.roff_lines.specs.declared.event.Event.TheVariants.{WordEnd, Break}
 use Rattle.roff_num.specs.ShortNames.{name_bytes}
 use Rattle.roff_num.specs.declared.limits.Limits.{Limits}
 use Rattle.roff_num.specs.declared.num.Num.{Num}
@@ -14,7 +13,7 @@ use Rattle.roff_source.specs.Tape.{Ended, Ends, front}
 use Rattle.roff_run.specs.Reading.Ends.{due, is_unfinished}
 use Rattle.roff_run.specs.Registers.{is_read_only, settable}
 use Rattle.roff_run.specs.Requests.{called_by}
-use Rattle.roff_run.specs.declared.event.PageEvent.TheVariants.{Text}
+use Rattle.roff_run.specs.Events.Lines.{closing_events}
 use Rattle.roff_run.specs.Run.{State, ending_as, known, made, step, with_registers}
 use Rattle.roff_run.specs.declared.line_state.LineState.TheVariants.{Exiting, LineStart}
 use Rattle.roff_run.specs.declared.phase.Phase.{Phase}
@@ -55,11 +54,11 @@ WithoutOneNothingIsRead =
     (l : Limits) (s : State) → IsReadThrough Reading s → s.registers.last_macro ≡ None
     → step l s ≡ made l s (record s { phase = LastMacro; reading = LineStart })
 
--- behind that the pending line is placed, and only then
+-- behind that diversions are dropped, the pending line is placed and the last page ejected, and only then
 abbrev pub ThenTheLineIsPlaced : Type 0
 ThenTheLineIsPlaced =
     (l : Limits) (s : State) → IsReadThrough LastMacro s
-    → step l s ≡ made l s (record s { phase = Closing; reading = LineStart; to_do = Text WordEnd ∷ Text Break ∷ [] })
+    → step l s ≡ made l s (record s { phase = Closing; reading = LineStart; to_do = closing_events })
 
 -- and the run is done
 abbrev pub ThenTheRunIsDone : Type 0
@@ -80,4 +79,4 @@ abbrev pub GivenRegistersRead : Type 0
 GivenRegistersRead =
     (l : Limits) (before behind : List (ℕ × Num)) (name : ℕ) (value : Num) (s : State) → is_read_only (name ∷ []) ≡ false → NamesNone name behind
     → (with_registers l (before ++ (name, value) ∷ behind) s).ended ≡ None
-    → (settable (name ∷ []) (with_registers l (before ++ (name, value) ∷ behind) s).registers).value ≡ value
+    → (settable (name ∷ []) (known (with_registers l (before ++ (name, value) ∷ behind) s))).value ≡ value

@@ -20,7 +20,8 @@ use Rattle.roff_run.specs.Messages.{message_lines}
 use Rattle.roff_run.specs.Reading.{interrupted}
 use Rattle.roff_run.specs.Reading.Escapes.{argument_named}
 use Rattle.roff_run.specs.Reading.Items.{PageInput}
-use Rattle.roff_run.specs.Registers.{Known, StepBy, changed_by, step_messages, text_of_register}
+use Rattle.roff_run.specs.Registers.{Known, StepBy, changed_by, known_stepped, page_stepped, step_messages, text_of_register}
+use Rattle.roff_run.specs.Requests.Effects.{page_numbered}
 use Rattle.roff_run.specs.declared.event.PageEvent.{PageEvent}
 use Rattle.roff_run.specs.Run.{State, known, answered, item_read, step, after, source_answer}
 use Rattle.roff_run.specs.declared.line_state.LineState.{LineState}
@@ -116,22 +117,23 @@ reads_above (Condition part text ∷ rest) = reads_in_condition part
 abbrev pub stepped : NameUse → List ℕ → State → State
 stepped (Register (Some direction)) name s = record s {
   registers = changed_by (StepBy name direction) s.registers;
-  messages = s.messages ++ message_lines s.input.line (step_messages (Some direction) name s.registers);
+  messages = s.messages ++ message_lines s.input.line (step_messages (Some direction) name (known s));
+  to_do = page_numbered (page_stepped (Some direction) name (known s)) ++ s.to_do;
 }
 stepped (_) name s = s
 
--- the text that is read in the place of an escape: a register's, the body of a string's name, or the argument of that number
--- of the innermost body that a line called
+-- the text that is read in the place of an escape: a register's behind its step, the body of a string's name, or the argument of
+-- that number of the innermost body that a line called
 abbrev pub text_named : Known → PageInput → NameUse → List ℕ → List ℕ
-text_named k i (Register step) name = text_of_register k name
+text_named k i (Register step) name = text_of_register (known_stepped step name k) name
 text_named k i OfText name = body_named name i
 text_named k i Argument name = argument_named name (arguments_live i)
 text_named k i (_) name = []
 
--- such a text and its end stand in front of the rest, and so many bytes more were taken. What isn't a byte of the
--- line has come: among arguments, and in a string's name, no quote follows the quote before it.
+-- Behind a step, if there is one, such a text and its end stand in front of the rest, and so many bytes more were taken. What
+-- isn't a byte of the line has come: among arguments, and in a string's name, no quote follows the quote before it.
 abbrev pub with_text_ahead : NameUse → List ℕ → ℕ → List (Ahead PageEvent) → State → State
-with_text_ahead purpose name taken rest s = record s {
+with_text_ahead purpose name taken rest s = record (stepped purpose name s) {
   input =
       pushing (text_named (known s) s.input purpose name)
       (record (interrupted s.reading s.input) { ahead = rest; charge = s.input.charge + taken });
@@ -145,7 +147,7 @@ EscapesReadAsTexts =
     (l : Limits) (s : State) (purpose : NameUse) (name escape : List ℕ) (rest : List (Ahead PageEvent)) →
     IsEscapeOf purpose name escape → TakesItems s → reads_above s.input.escapes ≡ true → names_in s.input.escapes < most_names →
     reads_escapes s.reading ≡ true → s.input.ahead ≡ map ByteAhead escape ++ rest →
-    let read : State = with_text_ahead purpose name (length escape) rest (stepped purpose name s) in
+    let read : State = with_text_ahead purpose name (length escape) rest s in
     IsWithin l s → IsWithin l read → after l (length escape) s ≡ read
 
 -- so many bytes of the source were taken: messages tell the line on which they stand
@@ -158,7 +160,7 @@ EscapesOfTheSourceReadAsTexts =
     (l : Limits) (s : State) (purpose : NameUse) (name escape : List ℕ) (tape : Tape) →
     IsEscapeOf purpose name escape → TakesItems s → reads_above s.input.escapes ≡ true → names_in s.input.escapes < most_names →
     reads_escapes s.reading ≡ true → s.input.ahead ≡ [] → s.tape ≡ items_then (map OneByte escape) tape →
-    let read : State = with_text_ahead purpose name (length escape) [] (stepped purpose name (with_source_behind tape s)) in
+    let read : State = with_text_ahead purpose name (length escape) [] (with_source_behind tape s) in
     IsWithin l s → IsWithin l read → after l (length escape) s ≡ read
 
 -- So it is where text is read and nothing is half read: `\nx` is three steps, and `\n(xy` five, and but for the input

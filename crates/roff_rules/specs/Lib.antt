@@ -1,4 +1,3 @@
-pub mod EnvironmentLaws
 pub mod InterpolationLaws
 pub mod ConditionLaws
 pub mod WidthLaws
@@ -19,6 +18,4 @@ pub mod WordCalls
 pub mod MixedArguments
 pub mod EndLaws
 pub mod EndedLaws
-pub mod SpringLaws
-pub mod SpringRows
 pub mod MessageLines

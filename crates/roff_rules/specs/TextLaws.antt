@@ -1,5 +1,5 @@
 -- Laws of text lines: what a line of glyphs and blanks tells, and a line of blanks alone (manual, sections 4.1 and 4.2).
-use Rattle.std.specs.Prelude.{◌≡◌, ℕ, zero, suc, ◌+◌, ◌≤◌, ⊤, Bool, true, false, not, ◌||◌, List, [], ◌∷◌, ◌++◌, length, map, replicate, All, None, ◌==◌}
+use Rattle.std.specs.Prelude.{◌≡◌, ℕ, zero, suc, ◌+◌, ◌≤◌, ⊤, Bool, true, false, not, ◌||◌, List, [], ◌∷◌, ◌++◌, length, map, replicate, All, Some, None, ◌==◌}
 use Rattle.std.specs.List.{flat_map}
 use Rattle.roff_num.specs.declared.limits.Limits.{Limits}
 use Rattle.roff_source.specs.Bytes.{apostrophe, blank, dot, is_text_byte, newline}
@@ -11,8 +11,10 @@ use Rattle.roff_rules.specs.CallLaws.{BeginsLine}
 use Rattle.roff_run.specs.Environments.{PageHistory, interrupted_line}
 use Rattle.roff_run.specs.Reading.TextLines.{most_leading}
 use Rattle.roff_run.specs.declared.event.PageEvent.{PageEvent}
-use Rattle.roff_run.specs.declared.event.PageEvent.TheVariants.{Space, Text}
-use Rattle.roff_run.specs.Springs.{springs}
+use Rattle.roff_pages.specs.declared.layout_event.LayoutEvent.TheVariants.{Space}
+use Rattle.roff_run.specs.declared.event.PageEvent.TheVariants.{Page, Text}
+use Rattle.roff_run.specs.Layouts.{layout_of}
+use Rattle.roff_run.specs.Springs.{next, springs}
 use Rattle.roff_run.specs.Run.{State, after}
 use Rattle.roff_run.specs.Run.Counts.{refusal}
 use Rattle.roff_run.specs.TurnsToCome.{behind_all}
@@ -73,24 +75,37 @@ text_events t =
     leading_events t.leading ++ word_events (t.first ∷ t.word) ++ flat_map (λ part. gap_events (suc part.0) ++ word_events part.1) t.others
     ++ gap_events t.trailing ++ Text WordEnd ∷ Text LineEnd ∷ Text Count ∷ []
 
--- no limit refuses any of these events, one behind another
+-- an event as it is performed, with so many events in front of it at the most that come before it, and others behind it
+abbrev pub performed_with : ℕ → PageHistory → PageEvent → (PageHistory → List PageEvent) → List PageEvent
+performed_with zero h e behind = e ∷ behind (e ∷ h)
+performed_with (suc n) h e behind =
+    elim (next h e) [ None ↦ e ∷ behind (e ∷ h) | Some first ↦ first ∷ performed_with n (first ∷ h) e behind ]
+
+-- events as they are performed: in front of each stand the end of an open word and the first page's beginning, where these come
+-- before it
+abbrev pub all_performed : List PageEvent → PageHistory → List PageEvent
+all_performed [] h = []
+all_performed (e ∷ es) h = performed_with 2 h e (all_performed es)
+
+-- no limit refuses any of these events, one behind another, and the last page doesn't end with one
 abbrev pub AreAllowed : Limits → PageHistory → List PageEvent → Type 0
 AreAllowed l h [] = ⊤
-AreAllowed l h (e ∷ es) = (refusal l h e ≡ None) × AreAllowed l (e ∷ h) es
+AreAllowed l h (e ∷ es) = (refusal l h e ≡ None) × ((layout_of (e ∷ h)).is_over ≡ false) × AreAllowed l (e ∷ h) es
 
--- A line of text tells its words and gaps, in order. A step is taken for each byte, and one for each event, and each byte costs
--- one; nothing else changes, and a line begins behind it. So it is where no line was interrupted that is to go on, and no macro
--- springs as the line counts.
+-- A line of text tells its words and gaps, in order, and the first page begins where it has to. A step is taken for each byte, and
+-- one for each event, and each byte costs one; nothing else changes, and a line begins behind it. So it is where no line was
+-- interrupted that is to go on, and no macro springs as the line counts.
 abbrev pub TextLinesTellTheirWords : Type 0
 TextLinesTellTheirWords =
     (l : Limits) (s : State) (t : TextOnLine) (rest : List (Ahead PageEvent)) →
     BeginsLine s → interrupted_line s.history ≡ None → springs s.history (Text Count) ≡ None → IsTextOnLine t →
     s.input.ahead ≡ map ByteAhead (text_bytes t) ++ rest →
-    IsWithin l s → s.input.charge + length (text_bytes t) ≤ l.bytes → AreAllowed l s.history (text_events t) →
-    after l (length (text_bytes t) + length (text_events t)) s
+    let events : List PageEvent = all_performed (text_events t) s.history in
+    IsWithin l s → s.input.charge + length (text_bytes t) ≤ l.bytes → AreAllowed l s.history events →
+    after l (length (text_bytes t) + length events) s
     ≡ record s {
       input = record s.input { ahead = rest; charge = s.input.charge + length (text_bytes t) };
-      history = behind_all (text_events t) s.history;
+      history = behind_all events s.history;
     }
 
 -- and so it is where the line stands in the source itself, with nothing ahead of it
@@ -99,9 +114,10 @@ TextLinesOfTheSourceTellTheirWords =
     (l : Limits) (s : State) (t : TextOnLine) (tape : Tape) →
     BeginsLine s → interrupted_line s.history ≡ None → springs s.history (Text Count) ≡ None → IsTextOnLine t → s.input.ahead ≡ [] →
     s.tape ≡ items_then (map OneByte (text_bytes t)) tape →
-    IsWithin l s → s.input.charge + length (text_bytes t) ≤ l.bytes → AreAllowed l s.history (text_events t) →
-    after l (length (text_bytes t) + length (text_events t)) s
-    ≡ record s { tape = tape; input = lines_taken (text_bytes t) s.input; history = behind_all (text_events t) s.history }
+    let events : List PageEvent = all_performed (text_events t) s.history in
+    IsWithin l s → s.input.charge + length (text_bytes t) ≤ l.bytes → AreAllowed l s.history events →
+    after l (length (text_bytes t) + length events) s
+    ≡ record s { tape = tape; input = lines_taken (text_bytes t) s.input; history = behind_all events s.history }
 
 -- the bytes of a line of blanks alone
 abbrev pub blank_bytes : ℕ → List ℕ
@@ -109,19 +125,20 @@ blank_bytes n = replicate n blank ++ newline ∷ []
 
 -- it breaks, where its first blank stands and at its end, and is a blank line
 abbrev pub blank_events : ℕ → List PageEvent
-blank_events zero = Text WordEnd ∷ Text Break ∷ Space 1 ∷ []
-blank_events (suc n) = Text WordEnd ∷ Text Break ∷ Text WordEnd ∷ Text Break ∷ Space 1 ∷ []
+blank_events zero = Text WordEnd ∷ Text Break ∷ Page (Space 1) ∷ []
+blank_events (suc n) = Text WordEnd ∷ Text Break ∷ Text WordEnd ∷ Text Break ∷ Page (Space 1) ∷ []
 
 -- a line of blanks alone, and an empty one, breaks and is a blank line; it isn't counted
 abbrev pub BlankLinesSpace : Type 0
 BlankLinesSpace =
     (l : Limits) (s : State) (n : ℕ) (rest : List (Ahead PageEvent)) →
     BeginsLine s → interrupted_line s.history ≡ None → n ≤ most_leading → s.input.ahead ≡ map ByteAhead (blank_bytes n) ++ rest →
-    IsWithin l s → s.input.charge + length (blank_bytes n) ≤ l.bytes → AreAllowed l s.history (blank_events n) →
-    after l (length (blank_bytes n) + length (blank_events n)) s
+    let events : List PageEvent = all_performed (blank_events n) s.history in
+    IsWithin l s → s.input.charge + length (blank_bytes n) ≤ l.bytes → AreAllowed l s.history events →
+    after l (length (blank_bytes n) + length events) s
     ≡ record s {
       input = record s.input { ahead = rest; charge = s.input.charge + length (blank_bytes n) };
-      history = behind_all (blank_events n) s.history;
+      history = behind_all events s.history;
     }
 
 -- and so it is where the line stands in the source itself, with nothing ahead of it
@@ -130,6 +147,7 @@ BlankLinesOfTheSourceSpace =
     (l : Limits) (s : State) (n : ℕ) (tape : Tape) →
     BeginsLine s → interrupted_line s.history ≡ None → n ≤ most_leading → s.input.ahead ≡ [] →
     s.tape ≡ items_then (map OneByte (blank_bytes n)) tape →
-    IsWithin l s → s.input.charge + length (blank_bytes n) ≤ l.bytes → AreAllowed l s.history (blank_events n) →
-    after l (length (blank_bytes n) + length (blank_events n)) s
-    ≡ record s { tape = tape; input = lines_taken (blank_bytes n) s.input; history = behind_all (blank_events n) s.history }
+    let events : List PageEvent = all_performed (blank_events n) s.history in
+    IsWithin l s → s.input.charge + length (blank_bytes n) ≤ l.bytes → AreAllowed l s.history events →
+    after l (length (blank_bytes n) + length events) s
+    ≡ record s { tape = tape; input = lines_taken (blank_bytes n) s.input; history = behind_all events s.history }

@@ -45,21 +45,22 @@ pub fn ended_lines()
 
 /// What the definitions give on worked rows of the end of a run, and of registers that are given.
 pub fn end_rows()
-    ensures behind_text { formatted (codes ".nf\n.de Z\nend\n..\n.em Z\na\n")
+    ensures behind_text { formatted (codes ".pl 1\n.nf\n.de Z\nend\n..\n.em Z\na\n")
         ≡ gives (codes "a\nend\n") (codes "") Done }
-    ensures behind_an_unfinished_line { formatted (codes ".de Z\nend\n..\n.em Z\na b")
+    ensures behind_an_unfinished_line { formatted (codes ".pl 1\n.de Z\nend\n..\n.em Z\na b")
         ≡ gives (codes "a b end\n") (codes "") Done }
-    ensures behind_an_interrupted_line { formatted (codes ".nf\n.de Z\nend\n..\n.em Z\na\\c")
+    ensures behind_an_interrupted_line { formatted (codes ".pl 1\n.nf\n.de Z\nend\n..\n.em Z\na\\c")
         ≡ gives (codes "a\nend\n") (codes "") Done }
-    ensures read_once { formatted (codes ".nf\n.de Z\nend\n.em Z\n.ex\nnever\n..\n.em Z\na\n")
+    ensures read_once { formatted
+        (codes ".pl 1\n.nf\n.de Z\nend\n.em Z\n.ex\nnever\n..\n.em Z\na\n")
         ≡ gives (codes "a\nend\n") (codes "") Done }
     ensures behind_the_end_of_all_input { formatted
-        (codes ".nf\n.de Z\nend\n..\n.em Z\na\n.ex\nb\n")
+        (codes ".pl 1\n.nf\n.de Z\nend\n..\n.em Z\na\n.ex\nb\n")
         ≡ gives (codes "a\nend\n") (codes "") Done }
-    ensures looked_up_at_the_end { formatted (codes ".nf\n.em Z\n.de Z\nend\n..\na\n")
+    ensures looked_up_at_the_end { formatted (codes ".pl 1\n.nf\n.em Z\n.de Z\nend\n..\na\n")
         ≡ gives (codes "a\nend\n") (codes "") Done }
     ensures given_in_order { formatted_from
-        ((97, number (pos 1)) ∷ (97, number (pos 2)) ∷ []) 1 (codes "\\na\n")
+        ((97, number (pos 1)) ∷ (97, number (pos 2)) ∷ []) 1 (codes ".pl 1\n\\na\n")
         ≡ gives (codes "2\n") (codes "") Done }
     ensures given_past_a_limit { formatted_from
         ((97, number (pos 1)) ∷ (98, number (pos 2)) ∷ []) 1 (codes "a\n")

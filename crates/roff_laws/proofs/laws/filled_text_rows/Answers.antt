@@ -25,3 +25,7 @@ returns-clause-not_filled c = refl
 pub returns-clause-right_edge : goal.returns-clause-right_edge
 unfolding folded_onto operand_within value_at
 returns-clause-right_edge c = refl
+
+pub returns-clause-without_break : goal.returns-clause-without_break
+unfolding folded_onto operand_within value_at
+returns-clause-without_break c = refl

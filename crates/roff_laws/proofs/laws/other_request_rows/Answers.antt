@@ -8,5 +8,5 @@ unfolding folded_onto operand_within value_at digits
 returns-clause-registers_stepped c = refl
 
 pub returns-clause-input_ends : goal.returns-clause-input_ends
-unfolding digits
+unfolding folded_onto operand_within value_at digits
 returns-clause-input_ends c = refl

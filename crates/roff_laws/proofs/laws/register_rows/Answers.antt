@@ -58,7 +58,7 @@ unfolding folded_onto operand_within value_at digits
 returns-clause-names_reached c = refl
 
 pub returns-clause-stack_enough : goal.returns-clause-stack_enough
-unfolding digits
+unfolding folded_onto operand_within value_at digits
 returns-clause-stack_enough c = refl
 
 pub returns-clause-stack_reached : goal.returns-clause-stack_reached

@@ -14,7 +14,8 @@ use Rattle.roff_run.specs.Environments.{Environments, InEnvironment, counted_dow
 use Rattle.roff_run.specs.Reading.Returns.{back_of, behind_return, gone_back_to}
 use Rattle.roff_run.specs.Reading.Waiting.{waiting_above}
 use Rattle.roff_run.specs.Requests.{called_by}
-use Rattle.roff_run.specs.Run.{State, after, ahead_taken, in_front_taken, made, performed, performing, read_waiting, sprung_at, sprung_read, step, step_with, stopped_by, unless_refused}
+use Rattle.roff_run.specs.Springs.{springs}
+use Rattle.roff_run.specs.Run.{State, after, ahead_taken, done_if, in_front_taken, made, performed, performing, read_waiting, sprung_at, sprung_read, step, step_with, stopped_by, unless_refused}
 use Rattle.roff_run.specs.declared.environment_number.EnvironmentNumber.{EnvironmentNumber}
 use Rattle.roff_run.specs.declared.environment_number.EnvironmentNumber.TheVariants.{Zero, One, Two}
 use Rattle.roff_run.specs.declared.event.PageEvent.{PageEvent}
@@ -25,17 +26,19 @@ use Rattle.roff_run.specs.declared.request.Called.{Called}
 use Rattle.roff_run.specs.declared.request.Called.TheVariants.{Body as ABody, Nothing as Unknown}
 use Rattle.roff_run.proofs.ItemsTaken.{step-TakesItems}
 use Rattle.roff_laws.proofs.Endings.{step-going}
-use Rattle.roff_rules.specs.SpringLaws.{EachLineCounts, LinesGoOnAsTheyWere, MacrosAreReadFirst, MayBeInterrupted, NamesWithoutABodyReadNothing, OthersKeepTheirTraps, Springs, TheLastLineSprings, with_rest_back}
+use Rattle.roff_laws.specs.SpringLaws.{EachLineCounts, LinesGoOnAsTheyWere, MacrosAreReadFirst, MayBeInterrupted, NamesWithoutABodyReadNothing, OthersKeepTheirTraps, Springs, TheLastLineSprings, with_rest_back}
 
 -- the step at the event
 springing-step : (l : Limits) (s : State) (e : PageEvent) (rest : List PageEvent) (name : ShortName) → Springs l s e rest name
     → step l s ≡ record (with_rest_back e rest s) { sprung = Some name }
 springing-step l s e rest name does =
+    let happened : State = record s { history = e ∷ s.history } in
     step-going l s does.going
     ∙ ap (λ (es : List PageEvent). step_with l es s) does.first
     ∙ ap (λ (own : Option PageEvent). performing l own e rest s) does.none_before
     ∙ ap (λ (r : Option Limit). unless_refused l r s (performed e rest s)) does.allowed
-    ∙ ap (λ (sprung : Option ShortName). sprung_at sprung rest (record s { history = e ∷ s.history })) does.sprung
+    ∙ ap (λ (over : Bool). done_if over happened (sprung_at (springs s.history e) rest happened)) does.goes_on
+    ∙ ap (λ (sprung : Option ShortName). sprung_at sprung rest happened) does.sprung
 
 -- and the one behind it, by what the name stands for
 sprung-step : (l : Limits) (s : State) (e : PageEvent) (rest : List PageEvent) (name : ShortName) (called : Called) → Springs l s e rest name

@@ -3,7 +3,7 @@
 ghost use Rattle.std.specs.Prelude.{◌≡◌, [], ◌∷◌};
 ghost use Rattle.roff_run.specs.declared.environment_number.EnvironmentNumber.{EnvironmentNumber};
 ghost use Rattle.roff_run.specs.Environments.{PageHistory, environments};
-ghost use Rattle.roff_rules.specs.EnvironmentLaws.{environment_of, text_in};
+ghost use Rattle.roff_laws.specs.EnvironmentLaws.{environment_of, text_in};
 ghost use Rattle.roff_run.specs.declared.event.PageEvent.TheVariants.{Back, Environment};
 
 /// What happened in an environment is what happened while it was in force. A switch to another

@@ -4,7 +4,7 @@ use Rattle.roff_lines.specs.Events.{History}
 use Rattle.roff_lines.specs.declared.event.Event.TheVariants.{Interrupt as IsInterrupted}
 use Rattle.roff_run.specs.Environments.{PageHistory, InEnvironment, Environments, environments, is_same, number_behind}
 use Rattle.roff_run.specs.declared.environment_number.EnvironmentNumber.{EnvironmentNumber}
-use Rattle.roff_run.specs.declared.event.PageEvent.TheVariants.{Text, Space, Interrupt, Environment, Back, InputTrap as SetsTrap}
+use Rattle.roff_run.specs.declared.event.PageEvent.TheVariants.{Text, Interrupt, Environment, Back, InputTrap as SetsTrap, Page}
 
 -- what happened in the environment of a number
 abbrev pub environment_of : EnvironmentNumber → Environments → InEnvironment
@@ -17,9 +17,9 @@ environment_of number es =
 abbrev pub text_in : EnvironmentNumber → PageHistory → History
 text_in number [] = []
 text_in number (Text e ∷ h) = if is_same (environments h).number number then e ∷ text_in number h else text_in number h
-text_in number (Space lines ∷ h) = text_in number h
 text_in number (Interrupt untold ∷ h) =
     if is_same (environments h).number number then IsInterrupted ∷ text_in number h else text_in number h
 text_in number (Environment other ∷ h) = text_in number h
 text_in number (Back ∷ h) = text_in number h
 text_in number (SetsTrap trap ∷ h) = text_in number h
+text_in number (Page e ∷ h) = text_in number h

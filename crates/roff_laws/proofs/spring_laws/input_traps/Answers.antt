@@ -1,5 +1,5 @@
-use Rattle.roff_rules.proofs.SpringLaws.{each_line_counts, others_keep_their_traps, the_last_line_springs}
-use Rattle.roff_rules.proofs.spring_laws.input_traps.Goals as goal
+use Rattle.roff_laws.proofs.SpringLaws.{each_line_counts, others_keep_their_traps, the_last_line_springs}
+use Rattle.roff_laws.proofs.spring_laws.input_traps.Goals as goal
 
 pub returns-clause-last : goal.returns-clause-last
 returns-clause-last c = the_last_line_springs

@@ -1,5 +1,5 @@
 -- Laws over macros that spring, and over the input-line trap (manual, section 7.5).
-use Rattle.std.specs.Prelude.{◌≡◌, ◌≢◌, ◌-◌, ◌<◌, ◌≤◌, true, List, [], ◌∷◌, ◌++◌, map, Option, Some, None}
+use Rattle.std.specs.Prelude.{◌≡◌, ◌≢◌, ◌-◌, ◌<◌, ◌≤◌, true, false, List, [], ◌∷◌, ◌++◌, map, Option, Some, None}
 use Rattle.roff_lines.specs.declared.event.Event.TheVariants.{Count}
 use Rattle.roff_num.specs.ShortNames.{name_bytes}
 use Rattle.roff_num.specs.declared.limits.Limits.{Limits}
@@ -9,6 +9,7 @@ use Rattle.roff_ahead.specs.Input.Calls.{called_text}
 use Rattle.roff_ahead.specs.Input.Names.{body_named}
 use Rattle.roff_run.specs.Environments.{PageHistory, environments}
 use Rattle.roff_run.specs.ItemsTaken.{TakesItems}
+use Rattle.roff_run.specs.Layouts.{layout_of}
 use Rattle.roff_run.specs.Reading.Returns.{back_of, in_sprung}
 use Rattle.roff_run.specs.Requests.{called_by}
 use Rattle.roff_run.specs.Run.{State, after, made, step}
@@ -21,14 +22,16 @@ use Rattle.roff_run.specs.declared.event.PageEvent.TheVariants.{Text, InputTrap 
 use Rattle.roff_run.specs.declared.line_state.LineState.{LineState}
 use Rattle.roff_run.specs.declared.line_state.LineState.TheVariants.{LineStart, Branch, Braced, Text as InText}
 use Rattle.roff_run.specs.declared.request.Called.TheVariants.{Body as ABody, Nothing as Unknown}
-use Rattle.roff_rules.specs.EnvironmentLaws.{environment_of}
+use Rattle.roff_laws.specs.EnvironmentLaws.{environment_of}
 
--- an event springs a macro: it is the first of those that are to be done, nothing comes before it, and no limit refuses it
+-- an event springs a macro: it is the first of those that are to be done, nothing comes before it, no limit refuses it, and the
+-- last page doesn't end with it
 pub record Springs (l : Limits) (s : State) (e : PageEvent) (rest : List PageEvent) (name : ShortName) : Type 0 where
   pub going : s.ended ≡ None
   pub first : s.to_do ≡ e ∷ rest
   pub none_before : next s.history e ≡ None
   pub allowed : refusal l s.history e ≡ None
+  pub goes_on : (layout_of (e ∷ s.history)).is_over ≡ false
   pub sprung : springs s.history e ≡ Some name
 
 -- the state behind the event, with the rest put back

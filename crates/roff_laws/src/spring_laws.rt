@@ -3,9 +3,9 @@
 
 ghost use Rattle.std.specs.Prelude.{◌≡◌, [], ◌∷◌, codes};
 ghost use Rattle.roff_laws.specs.Rows.{gives, formatted, formatted_with};
-ghost use Rattle.roff_rules.specs.SpringRows.{behind_a_glyph, behind_blanks, charge_from};
-ghost use Rattle.roff_rules.specs.SpringRows.{gives_from};
-ghost use Rattle.roff_rules.specs.SpringRows.{midway, next_line_springs};
+ghost use Rattle.roff_laws.specs.SpringRows.{behind_a_glyph, behind_blanks, charge_from};
+ghost use Rattle.roff_laws.specs.SpringRows.{gives_from};
+ghost use Rattle.roff_laws.specs.SpringRows.{midway, next_line_springs};
 ghost use Rattle.roff_lines.specs.declared.event.Event.TheVariants.{Break, Count, Gap, Print};
 ghost use Rattle.roff_lines.specs.declared.event.Event.TheVariants.{WordEnd};
 ghost use Rattle.roff_lines.specs.declared.glyph.Glyph.TheVariants.{Printed};
@@ -13,10 +13,10 @@ ghost use Rattle.roff_num.specs.declared.limit.Limit.TheVariants.{Depth};
 ghost use Rattle.roff_run.specs.declared.event.PageEvent.TheVariants.{Text};
 ghost use Rattle.roff_run.specs.declared.line_state.LineState.TheVariants.{Dropped, LineStart};
 ghost use Rattle.roff_run.specs.declared.status.Status.TheVariants.{Done, Limit as Limited};
-ghost use Rattle.roff_rules.specs.SpringLaws.{EachLineCounts, LinesGoOnAsTheyWere};
-ghost use Rattle.roff_rules.specs.SpringLaws.{MacrosAreReadFirst};
-ghost use Rattle.roff_rules.specs.SpringLaws.{NamesWithoutABodyReadNothing, OthersKeepTheirTraps};
-ghost use Rattle.roff_rules.specs.SpringLaws.{TheLastLineSprings};
+ghost use Rattle.roff_laws.specs.SpringLaws.{EachLineCounts, LinesGoOnAsTheyWere};
+ghost use Rattle.roff_laws.specs.SpringLaws.{MacrosAreReadFirst};
+ghost use Rattle.roff_laws.specs.SpringLaws.{NamesWithoutABodyReadNothing, OthersKeepTheirTraps};
+ghost use Rattle.roff_laws.specs.SpringLaws.{TheLastLineSprings};
 
 /// A macro that an event springs leads to where its body stands in front, an end behind it, and the
 /// rest of the events behind that, at no cost but what is then taken. Where its name has no body,
@@ -40,35 +40,36 @@ pub fn input_traps()
 
 /// What the definitions give on worked rows of the input-line trap.
 pub fn input_trap_rows()
-    ensures next_line { formatted (codes ".nf\n.de X\nx\n..\n.it 1 X\na\nb\n")
+    ensures next_line { formatted (codes ".pl 1\n.nf\n.de X\nx\n..\n.it 1 X\na\nb\n")
         ≡ gives (codes "a\nx\nb\n") (codes "") Done }
-    ensures second_line { formatted (codes ".nf\n.de X\nx\n..\n.it 2 X\na\nb\nc\n")
+    ensures second_line { formatted (codes ".pl 1\n.nf\n.de X\nx\n..\n.it 2 X\na\nb\nc\n")
         ≡ gives (codes "a\nb\nx\nc\n") (codes "") Done }
-    ensures filled { formatted (codes ".de X\n.br\n..\n.it 2 X\na\nb\nc\n")
+    ensures filled { formatted (codes ".pl 1\n.de X\n.br\n..\n.it 2 X\na\nb\nc\n")
         ≡ gives (codes "a b\nc\n") (codes "") Done }
-    ensures without_a_name { formatted (codes ".nf\n.de X\nx\n..\n.it 1 X\n.it 1\na\n")
+    ensures without_a_name { formatted (codes ".pl 1\n.nf\n.de X\nx\n..\n.it 1 X\n.it 1\na\n")
         ≡ gives (codes "a\n") (codes "") Done }
-    ensures below_one { formatted (codes ".nf\n.de X\nx\n..\n.it 1 X\n.it 0 X\na\n")
+    ensures below_one { formatted (codes ".pl 1\n.nf\n.de X\nx\n..\n.it 1 X\n.it 0 X\na\n")
         ≡ gives (codes "a\n") (codes "") Done }
-    ensures bad_number { formatted (codes ".nf\n.it z X\na\n")
-        ≡ gives (codes "a\n") (codes "nroff: line 2: bad number\n") Done }
-    ensures blank_lines { formatted (codes ".nf\n.de X\nx\n..\n.it 1 X\n\na\n")
+    ensures bad_number { formatted (codes ".pl 1\n.nf\n.it z X\na\n")
+        ≡ gives (codes "a\n") (codes "nroff: line 3: bad number\n") Done }
+    ensures blank_lines { formatted (codes ".pl 1\n.nf\n.de X\nx\n..\n.it 1 X\n\na\n")
         ≡ gives (codes "\na\nx\n") (codes "") Done }
-    ensures joined_lines { formatted (codes ".nf\n.de X\nx\n..\n.it 1 X\na\\c\nb\nc\n")
+    ensures joined_lines { formatted (codes ".pl 1\n.nf\n.de X\nx\n..\n.it 1 X\na\\c\nb\nc\n")
         ≡ gives (codes "ab\nx\nc\n") (codes "") Done }
     ensures its_environment { formatted
-        (codes ".nf\n.de X\nx\n..\n.it 1 X\n.ev 1\n.nf\na\n.ev\nb\n")
+        (codes ".pl 1\n.nf\n.de X\nx\n..\n.it 1 X\n.ev 1\n.nf\na\n.ev\nb\n")
         ≡ gives (codes "a\nb\nx\n") (codes "") Done }
-    ensures no_body { formatted (codes ".nf\n.it 1 X\na\nb\n")
+    ensures no_body { formatted (codes ".pl 1\n.nf\n.it 1 X\na\nb\n")
         ≡ gives (codes "a\nb\n") (codes "") Done }
-    ensures string_without_a_newline { formatted (codes ".nf\n.ds X x\n.it 1 X\na\nb\n")
+    ensures string_without_a_newline { formatted (codes ".pl 1\n.nf\n.ds X x\n.it 1 X\na\nb\n")
         ≡ gives (codes "a\nx\nb\n") (codes "") Done }
     ensures no_arguments { formatted
-        (codes ".nf\n.de X\nx\\\\$1x\n..\n.de M\n.it 1 X\na\\\\$1\nb\\\\$1\n..\n.M y\n")
+        (codes ".pl 1\n.nf\n.de X\nx\\\\$1x\n..\n.de M\n.it 1 X\na\\\\$1\nb\\\\$1\n..\n.M y\n")
         ≡ gives (codes "ay\nxx\nby\n") (codes "") Done }
-    ensures itself { formatted_with 65536 1 4096 (codes ".nf\n.de X\n.it 1 X\nx\n..\n.it 1 X\na\n")
+    ensures itself { formatted_with 65536 1 4096
+        (codes ".pl 1\n.nf\n.de X\n.it 1 X\nx\n..\n.it 1 X\na\n")
         ≡ gives (codes "a\nx\n")
-        (codes "nroff: line 7: limit depth (1) reached\n") (Limited Depth) }
+        (codes "nroff: line 8: limit depth (1) reached\n") (Limited Depth) }
 {}
 
 /// What they give from the middle of a run on, with events to do or put back.

@@ -1,6 +1,6 @@
 use Rattle.roff_run.specs.Environments.{environments}
-use Rattle.roff_rules.proofs.EnvironmentTurns.{environment_of-gone_back, environment_of-switched_to, environments-back, environments-nowhere, number-switched_to, text-environment_of}
-use Rattle.roff_rules.proofs.environment_laws.switches.Goals as goal
+use Rattle.roff_laws.proofs.EnvironmentTurns.{environment_of-gone_back, environment_of-switched_to, environments-back, environments-nowhere, number-switched_to, text-environment_of}
+use Rattle.roff_laws.proofs.environment_laws.switches.Goals as goal
 
 pub returns-clause-texts : goal.returns-clause-texts
 returns-clause-texts c = text-environment_of

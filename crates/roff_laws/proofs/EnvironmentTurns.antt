@@ -7,8 +7,8 @@ use Rattle.roff_run.specs.Environments.{PageHistory, InEnvironment, Environments
 use Rattle.roff_run.specs.declared.environment_number.EnvironmentNumber.{EnvironmentNumber}
 use Rattle.roff_run.specs.declared.event.InputTrap.{InputTrap}
 use Rattle.roff_run.specs.declared.environment_number.EnvironmentNumber.TheVariants.{Zero, One, Two}
-use Rattle.roff_rules.specs.EnvironmentLaws.{environment_of, text_in}
-use Rattle.roff_run.specs.declared.event.PageEvent.TheVariants.{Text, Space, Interrupt, Environment, Back, InputTrap as SetsTrap}
+use Rattle.roff_laws.specs.EnvironmentLaws.{environment_of, text_in}
+use Rattle.roff_run.specs.declared.event.PageEvent.TheVariants.{Text, Page, Interrupt, Environment, Back, InputTrap as SetsTrap}
 
 -- a ring of these
 abbrev ring : EnvironmentNumber → InEnvironment → InEnvironment → InEnvironment → List EnvironmentNumber → Environments
@@ -115,7 +115,7 @@ text-environment_of n (Text e ∷ h) =
     let es = environments h in
     event-chosen (is_same es.number n) e es.in_force (if is_same (number_behind es.number) n then es.next else es.last)
     ∙ ap (λ (text : List Event). if is_same es.number n then e ∷ text else text) (text-environment_of n h)
-text-environment_of n (Space lines ∷ h) = text-environment_of n h
+text-environment_of n (Page e ∷ h) = text-environment_of n h
 text-environment_of n (Interrupt untold ∷ h) =
     let es = environments h in
     interruption-chosen (is_same es.number n) untold es.in_force (if is_same (number_behind es.number) n then es.next else es.last)

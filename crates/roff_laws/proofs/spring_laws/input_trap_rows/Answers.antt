@@ -1,7 +1,7 @@
 use Rattle.std.proofs.Common.{refl}
 use Rattle.std.specs.Fmt.{digits}
 use Rattle.roff_num.specs.Expressions.{folded_onto, operand_within, value_at}
-use Rattle.roff_rules.proofs.spring_laws.input_trap_rows.Goals as goal
+use Rattle.roff_laws.proofs.spring_laws.input_trap_rows.Goals as goal
 
 pub returns-clause-next_line : goal.returns-clause-next_line
 unfolding folded_onto operand_within value_at

@@ -1,15 +1,16 @@
 -- What a run gives from the middle on: rows of macros that spring are computed with these.
-use Rattle.std.specs.Prelude.{ℕ, true, false, List, [], ◌∷◌, codes, map, Some, None}
+use Rattle.std.specs.Prelude.{ℕ, true, false, List, [], ◌∷◌, ◌++◌, codes, map, Some, None}
 use Rattle.roff_num.specs.LimitValues.{default_limits}
 use Rattle.roff_num.specs.declared.short_name.ShortName.{ShortName}
 use Rattle.roff_store.specs.Texts.{Body}
 use Rattle.roff_ahead.specs.Input.{DoAhead}
+use Rattle.roff_pages.specs.declared.layout_event.LayoutEvent.TheVariants.{Length}
 use Rattle.roff_source.specs.Tape.{OneByte, Ended}
 use Rattle.roff_run.specs.Environments.{PageHistory}
 use Rattle.roff_run.specs.Results.{turns}
 use Rattle.roff_run.specs.Run.{State, blank_state, first_input, output, reported}
 use Rattle.roff_run.specs.declared.event.PageEvent.{PageEvent}
-use Rattle.roff_run.specs.declared.event.PageEvent.TheVariants.{InputTrap as SetsTrap}
+use Rattle.roff_run.specs.declared.event.PageEvent.TheVariants.{InputTrap as SetsTrap, Page}
 use Rattle.roff_run.specs.declared.line_state.LineState.{LineState}
 use Rattle.roff_run.specs.declared.line_state.LineState.TheVariants.{Text as InText}
 use Rattle.roff_laws.specs.Rows.{Result}
@@ -30,12 +31,12 @@ abbrev pub behind_blanks : ℕ → LineState
 behind_blanks leading = InText (record { has_glyph = false; has_other = false; has_brace = false; leading = leading })
 
 -- A run that reads this behind a history, with these events to do and these put back. The macro X has this body, no other name
--- stands for anything, and the source goes on so.
+-- stands for anything, and the source goes on so. Pages have one line.
 abbrev pub midway : LineState → PageHistory → List PageEvent → List PageEvent → List ℕ → List ℕ → State
 midway reading history to_do back body text = record (blank_state (record { items = map OneByte text; ending = Ended })) {
   input = record first_input { names = (codes "X", Body body) ∷ []; ahead = map DoAhead back };
   reading = reading;
-  history = history;
+  history = history ++ Page (Length 1) ∷ [];
   to_do = to_do;
 }
 

@@ -1,0 +1,369 @@
+-- What a byte means, or an end: which events, and that no other one stands ahead.
+--
+-- Each function f of reading has its lemma Means-f here, with a line for each of its cases.
+use Rattle.std.proofs.Common.{ℕ, Bool, true, false, List, ◌++◌, Option, Some, None}
+use Rattle.std.specs.Prelude.{◌||◌, ◌&&◌, nat_le, ◌==◌}
+use Rattle.roff_num.specs.declared.short_name.ShortName.{ShortName}
+use Rattle.roff_num.specs.ShortNames.{name_at, name_bytes, name_or_none}
+use Rattle.roff_arguments.specs.Arguments.{no_arguments}
+use Rattle.roff_source.specs.Bytes.{tab, newline, blank, backslash, is_dropped, quote}
+use Rattle.roff_escape.specs.OpenEscapes.{byte_read, reading_ended}
+use Rattle.roff_escape.specs.declared.open_escape.CopyUnit.{CopyUnit}
+use Rattle.roff_escape.specs.declared.open_escape.CopyUnit.TheVariants.{Byte, Kept}
+use Rattle.roff_escape.specs.declared.open_escape.Decision.TheVariants.{Is}
+use Rattle.roff_escape.specs.declared.open_escape.Found.{Found}
+use Rattle.roff_escape.specs.declared.open_escape.Found.TheVariants.{GoesOn, Unit as GivesUnit, Holds, Escape, Asks, Motion, Measures, Tells, Decides}
+use Rattle.roff_escape.specs.declared.open_escape.Surroundings.TheVariants.{Arguments as AboveArguments, Copy as AboveCopy}
+use Rattle.roff_ahead.specs.Input.{beginning_line, choosing}
+use Rattle.roff_ahead.specs.Input.Calls.{arguments_given, called_text, last_result, without_last}
+use Rattle.roff_ahead.specs.Input.Names.{body_named}
+use Rattle.roff_escape.specs.OpenEscape.{unit_bytes}
+use Rattle.roff_run.specs.Definitions.{end_mark, front_of, line_from}
+use Rattle.roff_run.specs.Reading.{undropped_taking, taking, escape_ended}
+use Rattle.roff_run.specs.Reading.Arguments.{arguments_ended, arguments_found, line_ended, unit_found}
+use Rattle.roff_run.specs.Reading.Beginnings.{at_start}
+use Rattle.roff_run.specs.Reading.Branches.{branch_taking, condition_begun, condition_found, decided, is_so, reads_else, skipping_taking, with_result_if}
+use Rattle.roff_run.specs.Reading.Calls.{call_found, call_unit, called_last, last_called}
+use Rattle.roff_run.specs.Reading.ControlLines.{called_taking, ends_name, line_taking, name_ended_taking, behind_called, behind_name}
+use Rattle.roff_run.specs.Reading.DefinedLines.{behind_definition, definition_found, definition_unit}
+use Rattle.roff_run.specs.Reading.Definitions.{definition_named, lines_begun}
+use Rattle.roff_run.specs.Reading.Ends.{end_taking, interrupted_end}
+use Rattle.roff_run.specs.Reading.Found.{found_in, place_in}
+use Rattle.roff_run.specs.Reading.Items.{PageInput}
+use Rattle.roff_run.specs.Reading.Messages.{message_found, message_unit}
+use Rattle.roff_run.specs.Reading.Strings.{name_read, string_line_ended, string_name_behind, string_name_found, string_name_or_text, string_name_unit, string_text_found, string_unit, string_begun, string_entered}
+use Rattle.roff_run.specs.Reading.Units.{holding, settling}
+use Rattle.roff_run.specs.Registers.{Known}
+use Rattle.roff_run.specs.Requests.{called_by, request_effect, row_of}
+use Rattle.roff_run.specs.Requests.Effects.{Effect}
+use Rattle.roff_run.specs.declared.definition.DefinitionLine.{DefinitionLine}
+use Rattle.roff_run.specs.declared.definition.DefinitionLine.TheVariants.{MayBeLast, IsLast, IsText}
+use Rattle.roff_run.specs.declared.line_state.LineState.{LineState}
+use Rattle.roff_run.specs.declared.line_state.LineState.TheVariants.{LineStart, Branch, Braced, Text as InText, Control, Name, Arguments as InArguments, Deciding, StringName, StringText, Skipping, Dropped, Telling, Told, Exiting, Calling, Defining}
+use Rattle.roff_run.specs.declared.line_state.TextLine.{TextLine}
+use Rattle.roff_run.specs.declared.request.Called.{Called}
+use Rattle.roff_run.specs.declared.request.Called.TheVariants.{Request as ARequest, Body as ABody, Nothing as Unknown}
+use Rattle.roff_run.specs.declared.request.LineReading.{LineReading}
+use Rattle.roff_run.specs.declared.request.LineReading.TheVariants.{ByArguments, ByCondition, ByElse, ByLastLine, ByMessage, ByString, ByLines}
+use Rattle.roff_run.specs.declared.request.LinesFor.{LinesFor}
+use Rattle.roff_run.specs.declared.request.LinesFor.TheVariants.{Macro, Nobody}
+use Rattle.roff_run.specs.declared.request.Request.{Request}
+use Rattle.roff_laws.proofs.MeantEvents.{AreMeant, AreMeantAhead, Means, Means-if, Means-same, ahead-called, ahead-calling_all, ahead-definition_dropped, ahead-definition_grown, ahead-holding_call, ahead-interrupted, ahead-result, ahead-same, ahead-string_begun, ahead-string_emptied, ahead-string_entered, ahead-string_grown}
+use Rattle.roff_laws.proofs.TextEvents.{meant-line_end, Means-text_found, Means-beginning_found, Means-no_unit_found}
+use Rattle.roff_laws.proofs.RequestEvents.{meant-request_effect}
+
+-- the end of a request's line
+Means-definition_named : (i : PageInput) (appends : Bool) (name : Option (Option ShortName)) (end : Option ShortName) → Means i.ahead (definition_named i appends name end)
+Means-definition_named i appends None end = (tt, λ a. a)
+Means-definition_named i appends (Some None) end = (tt, λ a. a)
+Means-definition_named i appends (Some (Some name)) end = (tt, λ a. a)
+
+Means-lines_begun : (i : PageInput) (lines : LinesFor) (as_given : List (List ℕ)) → Means i.ahead (lines_begun i lines as_given)
+Means-lines_begun i (Macro appends) as_given = Means-definition_named i appends (name_at 0 as_given) (name_or_none (name_at 1 as_given))
+Means-lines_begun i Nobody as_given = (tt, λ a. a)
+
+Means-line_ended : (k : Known) (i : PageInput) (breaks : Bool) (request : Request) → Means i.ahead (line_ended k i breaks request)
+Means-line_ended k i breaks request =
+    let effect : Effect = request_effect k breaks request (arguments_given i) in
+    (meant-request_effect k breaks request (arguments_given i), ahead-same (ahead-calling_all effect.calls (record i { arguments = no_arguments })))
+
+Means-arguments_ended : (k : Known) (i : PageInput) (breaks : Bool) (request : Request) (line : LineReading) → Means i.ahead (arguments_ended k i breaks request line)
+Means-arguments_ended k i breaks request (ByLines lines) = Means-lines_begun i lines (arguments_given i)
+Means-arguments_ended k i breaks request ByArguments = Means-line_ended k i breaks request
+Means-arguments_ended k i breaks request (ByCondition keeps) = Means-line_ended k i breaks request
+Means-arguments_ended k i breaks request ByElse = Means-line_ended k i breaks request
+Means-arguments_ended k i breaks request ByLastLine = Means-line_ended k i breaks request
+Means-arguments_ended k i breaks request (ByMessage aborts) = Means-line_ended k i breaks request
+Means-arguments_ended k i breaks request (ByString appends) = Means-line_ended k i breaks request
+
+Means-unit_found : (k : Known) (i : PageInput) (breaks : Bool) (request : Request) (unit : CopyUnit) → Means i.ahead (unit_found k i breaks request unit)
+Means-unit_found k i breaks request (Byte b) =
+    Means-if i.ahead (b == newline) _ _ (Means-arguments_ended k i breaks request (row_of request).line) (tt, λ a. a)
+Means-unit_found k i breaks request (Kept b) = (tt, λ a. a)
+
+Means-arguments_found : (k : Known) (i : PageInput) (breaks : Bool) (request : Request) (found : Found) → Means i.ahead (arguments_found k i breaks request found)
+Means-arguments_found k i breaks request (GivesUnit unit) = Means-unit_found k i breaks request unit
+Means-arguments_found k i breaks request (Escape b) = Means-unit_found k i breaks request (Kept b)
+Means-arguments_found k i breaks request GoesOn = Means-no_unit_found k (settling i) (InArguments breaks request) GoesOn
+Means-arguments_found k i breaks request (Holds unit) = Means-no_unit_found k (settling i) (InArguments breaks request) (Holds unit)
+Means-arguments_found k i breaks request (Asks purpose name) = Means-no_unit_found k (settling i) (InArguments breaks request) (Asks purpose name)
+Means-arguments_found k i breaks request (Motion columns remark) = Means-no_unit_found k (settling i) (InArguments breaks request) (Motion columns remark)
+Means-arguments_found k i breaks request (Measures width) = Means-no_unit_found k (settling i) (InArguments breaks request) (Measures width)
+Means-arguments_found k i breaks request (Tells remark) = Means-no_unit_found k (settling i) (InArguments breaks request) (Tells remark)
+Means-arguments_found k i breaks request (Decides decision freed) = Means-no_unit_found k (settling i) (InArguments breaks request) (Decides decision freed)
+
+-- a branch
+Means-skipping_taking : (i : PageInput) (opened closed : ℕ) (behind : Bool) (b : ℕ) → Means i.ahead (skipping_taking i opened closed behind b)
+Means-skipping_taking i opened closed true b = (tt, λ a. a)
+Means-skipping_taking i opened closed false b = Means-if i.ahead (b == backslash) _ _ (tt, λ a. a) (Means-if i.ahead (b == newline && nat_le opened closed) _ _ (tt, λ a. a) (tt, λ a. a))
+
+Means-branch_taking : (k : Known) (i : PageInput) (so : Bool) (b : ℕ) → Means i.ahead (branch_taking k i so b)
+Means-branch_taking k i true b =
+    Means-beginning_found k (record i { escapes = (byte_read (at_start k) i.escapes b).1 }) Branch (byte_read (at_start k) i.escapes b).0
+Means-branch_taking k i false b = Means-skipping_taking i 0 0 false b
+
+Means-decided : (k : Known) (i : PageInput) (so : Bool) (freed : Option ℕ) → Means i.ahead (decided k i so freed)
+Means-decided k i so None = (tt, λ a. a)
+Means-decided k i so (Some b) = Means-branch_taking k i so b
+
+Means-condition_found : (k : Known) (i : PageInput) (keeps : Bool) (found : Found) → Means i.ahead (condition_found k i keeps found)
+Means-condition_found k i keeps (Decides decision freed) =
+    let j : PageInput = with_result_if keeps (is_so k decision) i in
+    Means-same (decided k j (is_so k decision) freed) (ahead-result keeps (is_so k decision) i) (Means-decided k j (is_so k decision) freed)
+Means-condition_found k i keeps GoesOn = Means-no_unit_found k i (Deciding keeps) GoesOn
+Means-condition_found k i keeps (GivesUnit unit) = Means-no_unit_found k i (Deciding keeps) (GivesUnit unit)
+Means-condition_found k i keeps (Escape b) = Means-no_unit_found k i (Deciding keeps) (Escape b)
+Means-condition_found k i keeps (Holds unit) = Means-no_unit_found k i (Deciding keeps) (Holds unit)
+Means-condition_found k i keeps (Asks purpose name) = Means-no_unit_found k i (Deciding keeps) (Asks purpose name)
+Means-condition_found k i keeps (Motion columns remark) = Means-no_unit_found k i (Deciding keeps) (Motion columns remark)
+Means-condition_found k i keeps (Measures width) = Means-no_unit_found k i (Deciding keeps) (Measures width)
+Means-condition_found k i keeps (Tells remark) = Means-no_unit_found k i (Deciding keeps) (Tells remark)
+
+Means-condition_begun : (k : Known) (i : PageInput) (keeps : Bool) (b : ℕ) → Means i.ahead (condition_begun k i keeps b)
+Means-condition_begun k i keeps b =
+    let read = byte_read AboveArguments (choosing i).escapes b in
+    Means-if i.ahead (b == newline) _ _ (Means-condition_found k i keeps (Decides (Is false) (Some b)))
+    (Means-condition_found k (record i { escapes = read.1 }) keeps read.0)
+
+-- a string
+Means-string_unit : (i : PageInput) (name : Option ShortName) (appends is_front : Bool) (unit : CopyUnit) → Means i.ahead (string_unit i name appends is_front unit)
+Means-string_unit i name appends is_front (Byte b) =
+    Means-if i.ahead (b == newline) _ _ (tt, ahead-same (ahead-string_entered name appends i))
+    (Means-if i.ahead (is_front && b == blank) _ _ (tt, λ a. a)
+    (Means-if i.ahead (is_front && b == quote) _ _ (tt, λ a. a) (tt, ahead-same (ahead-string_grown name (Byte b) i))))
+Means-string_unit i name appends is_front (Kept b) = (tt, ahead-same (ahead-string_grown name (Kept b) i))
+
+Means-string_line_ended : (i : PageInput) (appends : Bool) (name : Option (Option ShortName)) → Means i.ahead (string_line_ended i appends name)
+Means-string_line_ended i appends None = (tt, λ a. a)
+Means-string_line_ended i appends (Some name) = (tt, ahead-same (ahead-string_emptied name appends (record i { arguments = no_arguments })))
+
+Means-string_name_behind : (i : PageInput) (appends : Bool) (name : Option (Option ShortName)) → Means i.ahead (string_name_behind i appends name)
+Means-string_name_behind i appends None = (tt, λ a. a)
+Means-string_name_behind i appends (Some name) = (tt, ahead-same (ahead-string_begun name i))
+
+Means-string_name_or_text : (i : PageInput) (appends : Bool) (unit : CopyUnit) (name : Option (Option ShortName)) → Means i.ahead (string_name_or_text i appends unit name)
+Means-string_name_or_text i appends unit None = Means-string_name_behind (holding unit i) appends (name_read (holding unit i))
+Means-string_name_or_text i appends unit (Some name) =
+    Means-same (string_unit (string_begun name i) name appends true unit) (ahead-string_begun name i) (Means-string_unit (string_begun name i) name appends true unit)
+
+Means-string_name_unit : (i : PageInput) (appends : Bool) (unit : CopyUnit) → Means i.ahead (string_name_unit i appends unit)
+Means-string_name_unit i appends (Byte b) =
+    Means-if i.ahead (b == newline) _ _ (Means-string_line_ended i appends (name_at 0 (arguments_given i)))
+    (Means-if i.ahead (b == quote) _ _ (Means-string_name_or_text i appends (Byte b) (name_read i))
+    (Means-string_name_or_text (settling i) appends (Byte b) (name_read (settling i))))
+Means-string_name_unit i appends (Kept b) = Means-string_name_or_text (settling i) appends (Kept b) (name_read (settling i))
+
+Means-string_name_found : (k : Known) (i : PageInput) (appends : Bool) (found : Found) → Means i.ahead (string_name_found k i appends found)
+Means-string_name_found k i appends (GivesUnit unit) = Means-string_name_unit i appends unit
+Means-string_name_found k i appends (Escape b) = Means-string_name_unit i appends (Kept b)
+Means-string_name_found k i appends GoesOn = Means-no_unit_found k (settling i) (StringName appends) GoesOn
+Means-string_name_found k i appends (Holds unit) = Means-no_unit_found k (settling i) (StringName appends) (Holds unit)
+Means-string_name_found k i appends (Asks purpose name) = Means-no_unit_found k (settling i) (StringName appends) (Asks purpose name)
+Means-string_name_found k i appends (Motion columns remark) = Means-no_unit_found k (settling i) (StringName appends) (Motion columns remark)
+Means-string_name_found k i appends (Measures width) = Means-no_unit_found k (settling i) (StringName appends) (Measures width)
+Means-string_name_found k i appends (Tells remark) = Means-no_unit_found k (settling i) (StringName appends) (Tells remark)
+Means-string_name_found k i appends (Decides decision freed) = Means-no_unit_found k (settling i) (StringName appends) (Decides decision freed)
+
+Means-string_text_found : (k : Known) (i : PageInput) (name : Option ShortName) (appends is_front : Bool) (found : Found)
+    → Means i.ahead (string_text_found k i name appends is_front found)
+Means-string_text_found k i name appends is_front (GivesUnit unit) = Means-string_unit i name appends is_front unit
+Means-string_text_found k i name appends is_front (Escape b) = Means-string_unit i name appends is_front (Kept b)
+Means-string_text_found k i name appends is_front GoesOn = Means-no_unit_found k i (StringText name appends is_front) GoesOn
+Means-string_text_found k i name appends is_front (Holds unit) = Means-no_unit_found k i (StringText name appends is_front) (Holds unit)
+Means-string_text_found k i name appends is_front (Asks purpose asked) = Means-no_unit_found k i (StringText name appends is_front) (Asks purpose asked)
+Means-string_text_found k i name appends is_front (Motion columns remark) = Means-no_unit_found k i (StringText name appends is_front) (Motion columns remark)
+Means-string_text_found k i name appends is_front (Measures width) = Means-no_unit_found k i (StringText name appends is_front) (Measures width)
+Means-string_text_found k i name appends is_front (Tells remark) = Means-no_unit_found k i (StringText name appends is_front) (Tells remark)
+Means-string_text_found k i name appends is_front (Decides decision freed) = Means-no_unit_found k i (StringText name appends is_front) (Decides decision freed)
+
+-- a message
+Means-message_unit : (i : PageInput) (aborts is_front : Bool) (unit : CopyUnit) → Means i.ahead (message_unit i aborts is_front unit)
+Means-message_unit i aborts is_front (Byte b) = Means-if i.ahead (b == newline) _ _ (tt, λ a. a) (Means-if i.ahead (is_front && b == blank) _ _ (tt, λ a. a) (tt, λ a. a))
+Means-message_unit i aborts is_front (Kept b) = (tt, λ a. a)
+
+Means-message_found : (k : Known) (i : PageInput) (aborts is_front : Bool) (found : Found) → Means i.ahead (message_found k i aborts is_front found)
+Means-message_found k i aborts is_front (GivesUnit unit) = Means-message_unit i aborts is_front unit
+Means-message_found k i aborts is_front (Escape b) = Means-message_unit i aborts is_front (Kept b)
+Means-message_found k i aborts is_front GoesOn = Means-no_unit_found k i (Telling aborts is_front) GoesOn
+Means-message_found k i aborts is_front (Holds unit) = Means-no_unit_found k i (Telling aborts is_front) (Holds unit)
+Means-message_found k i aborts is_front (Asks purpose name) = Means-no_unit_found k i (Telling aborts is_front) (Asks purpose name)
+Means-message_found k i aborts is_front (Motion columns remark) = Means-no_unit_found k i (Telling aborts is_front) (Motion columns remark)
+Means-message_found k i aborts is_front (Measures width) = Means-no_unit_found k i (Telling aborts is_front) (Measures width)
+Means-message_found k i aborts is_front (Tells remark) = Means-no_unit_found k i (Telling aborts is_front) (Tells remark)
+Means-message_found k i aborts is_front (Decides decision freed) = Means-no_unit_found k i (Telling aborts is_front) (Decides decision freed)
+
+-- a call
+Means-call_unit : (i : PageInput) (name : ShortName) (unit : CopyUnit) → Means i.ahead (call_unit i name unit)
+Means-call_unit i name (Byte b) =
+    Means-if i.ahead (b == newline) _ _ (tt, ahead-called (called_text (body_named (name_bytes name) i)) 0 i.ahead)
+    (Means-if i.ahead (b == quote) _ _ (tt, ahead-same (ahead-holding_call (Byte b) i)) (tt, ahead-same (ahead-holding_call (Byte b) (settling i))))
+Means-call_unit i name (Kept b) = (tt, ahead-same (ahead-holding_call (Kept b) (settling i)))
+
+Means-call_found : (k : Known) (i : PageInput) (name : ShortName) (found : Found) → Means i.ahead (call_found k i name found)
+Means-call_found k i name (GivesUnit unit) = Means-call_unit i name unit
+Means-call_found k i name (Escape b) = Means-call_unit i name (Kept b)
+Means-call_found k i name GoesOn = Means-no_unit_found k (settling i) (Calling name) GoesOn
+Means-call_found k i name (Holds unit) = Means-no_unit_found k (settling i) (Calling name) (Holds unit)
+Means-call_found k i name (Asks purpose asked) = Means-no_unit_found k (settling i) (Calling name) (Asks purpose asked)
+Means-call_found k i name (Motion columns remark) = Means-no_unit_found k (settling i) (Calling name) (Motion columns remark)
+Means-call_found k i name (Measures width) = Means-no_unit_found k (settling i) (Calling name) (Measures width)
+Means-call_found k i name (Tells remark) = Means-no_unit_found k (settling i) (Calling name) (Tells remark)
+Means-call_found k i name (Decides decision freed) = Means-no_unit_found k (settling i) (Calling name) (Decides decision freed)
+
+-- a byte behind a name
+Means-line_taking : (k : Known) (i : PageInput) (breaks : Bool) (request : Request) (line : LineReading) (b : ℕ) → Means i.ahead (line_taking k i breaks request line b)
+Means-line_taking k i breaks request ByArguments b =
+    let read = byte_read AboveArguments i.escapes b in Means-arguments_found k (record i { escapes = read.1 }) breaks request read.0
+Means-line_taking k i breaks request (ByCondition keeps) b = Means-condition_begun k i keeps b
+Means-line_taking k i breaks request (ByString appends) b =
+    let read = byte_read AboveArguments i.escapes b in Means-string_name_found k (record i { escapes = read.1 }) appends read.0
+Means-line_taking k i breaks request ByLastLine b =
+    let read = byte_read AboveArguments i.escapes b in Means-arguments_found k (record i { escapes = read.1 }) breaks request read.0
+Means-line_taking k i breaks request (ByMessage aborts) b =
+    let read = byte_read AboveCopy i.escapes b in Means-message_found k (record i { escapes = read.1 }) aborts true read.0
+Means-line_taking k i breaks request (ByLines lines) b =
+    let read = byte_read AboveArguments i.escapes b in Means-arguments_found k (record i { escapes = read.1 }) breaks request read.0
+Means-line_taking k i breaks request ByElse b = Means-branch_taking k (without_last i) (reads_else (last_result i)) b
+
+Means-called_taking : (k : Known) (i : PageInput) (breaks : Bool) (called : Called) (b : ℕ) → Means i.ahead (called_taking k i breaks called b)
+Means-called_taking k i breaks (ARequest request) b = Means-line_taking k i breaks request (row_of request).line b
+Means-called_taking k i breaks (ABody name) b =
+    let read = byte_read AboveArguments i.escapes b in Means-call_found k (record i { escapes = read.1 }) name read.0
+Means-called_taking k i breaks Unknown b = (tt, λ a. a)
+
+Means-name_ended_taking : (k : Known) (i : PageInput) (breaks : Bool) (name : ShortName) (b : ℕ) → Means i.ahead (name_ended_taking k i breaks name b)
+Means-name_ended_taking k i breaks name b = Means-called_taking k i breaks (called_by name i.names) b
+
+-- the last byte of a name of two bytes
+Means-behind_name : (i : PageInput) (breaks : Bool) (request : Request) (line : LineReading) → Means i.ahead (behind_name i breaks request line)
+Means-behind_name i breaks request ByArguments = (tt, λ a. a)
+Means-behind_name i breaks request (ByCondition keeps) = (tt, λ a. a)
+Means-behind_name i breaks request (ByString appends) = (tt, λ a. a)
+Means-behind_name i breaks request ByLastLine = (tt, λ a. a)
+Means-behind_name i breaks request (ByMessage aborts) = (tt, λ a. a)
+Means-behind_name i breaks request (ByLines lines) = (tt, λ a. a)
+Means-behind_name i breaks request ByElse = (tt, λ a. a)
+
+Means-behind_called : (i : PageInput) (breaks : Bool) (called : Called) → Means i.ahead (behind_called i breaks called)
+Means-behind_called i breaks (ARequest request) = Means-behind_name i breaks request (row_of request).line
+Means-behind_called i breaks (ABody name) = (tt, λ a. a)
+Means-behind_called i breaks Unknown = (tt, λ a. a)
+
+-- a definition
+Means-behind_definition : (k : Known) (i : PageInput) (end : Option ShortName) (b : ℕ) → Means i.ahead (behind_definition k i end b)
+Means-behind_definition k i None b = (tt, λ a. a)
+Means-behind_definition k i (Some name) b = Means-name_ended_taking k (beginning_line i) true name b
+
+Means-definition_unit : (k : Known) (i : PageInput) (name : Option ShortName) (appends : Bool) (end : Option ShortName) (front : List ℕ) (unit : CopyUnit) (line : DefinitionLine)
+    → Means i.ahead (definition_unit k i name appends end front unit line)
+Means-definition_unit k i name appends end front unit (MayBeLast matched) = (tt, λ a. a)
+Means-definition_unit k i name appends end front unit (IsLast b) =
+    Means-same (behind_definition k (string_entered name appends i) end b) (ahead-string_entered name appends i)
+    (Means-behind_definition k (string_entered name appends i) end b)
+Means-definition_unit k i name appends end front unit IsText = (tt, ahead-same (ahead-definition_grown name (front ++ unit_bytes unit) i))
+
+Means-definition_found : (k : Known) (i : PageInput) (name : Option ShortName) (appends : Bool) (end : Option ShortName) (matched : Option ℕ) (found : Found)
+    → Means i.ahead (definition_found k i name appends end matched found)
+Means-definition_found k i name appends end matched (GivesUnit unit) =
+    Means-definition_unit k i name appends end (front_of (end_mark end) matched) unit (line_from (end_mark end) matched unit)
+Means-definition_found k i name appends end matched (Escape b) =
+    Means-definition_unit k i name appends end (front_of (end_mark end) matched) (Kept b) (line_from (end_mark end) matched (Kept b))
+Means-definition_found k i name appends end matched GoesOn = Means-no_unit_found k i (Defining name appends end matched) GoesOn
+Means-definition_found k i name appends end matched (Holds unit) = Means-no_unit_found k i (Defining name appends end matched) (Holds unit)
+Means-definition_found k i name appends end matched (Asks purpose asked) = Means-no_unit_found k i (Defining name appends end matched) (Asks purpose asked)
+Means-definition_found k i name appends end matched (Motion columns remark) = Means-no_unit_found k i (Defining name appends end matched) (Motion columns remark)
+Means-definition_found k i name appends end matched (Measures width) = Means-no_unit_found k i (Defining name appends end matched) (Measures width)
+Means-definition_found k i name appends end matched (Tells remark) = Means-no_unit_found k i (Defining name appends end matched) (Tells remark)
+Means-definition_found k i name appends end matched (Decides decision freed) = Means-no_unit_found k i (Defining name appends end matched) (Decides decision freed)
+
+-- what was found where this is read
+Means-found_in : (k : Known) (i : PageInput) (reading : LineState) (found : Found) → Means i.ahead (found_in k i reading found)
+Means-found_in k i LineStart found = Means-beginning_found k i LineStart found
+Means-found_in k i Branch found = Means-beginning_found k i Branch found
+Means-found_in k i Braced found = Means-beginning_found k i Braced found
+Means-found_in k i (InText line) found = Means-text_found k i line found
+Means-found_in k i (InArguments breaks request) found = Means-arguments_found k i breaks request found
+Means-found_in k i (Deciding keeps) found = Means-condition_found k i keeps found
+Means-found_in k i (StringName appends) found = Means-string_name_found k i appends found
+Means-found_in k i (StringText name appends is_front) found = Means-string_text_found k i name appends is_front found
+Means-found_in k i (Telling aborts is_front) found = Means-message_found k i aborts is_front found
+Means-found_in k i (Calling name) found = Means-call_found k i name found
+Means-found_in k i (Defining name appends end matched) found = Means-definition_found k i name appends end matched found
+Means-found_in k i (Control breaks) found = (tt, λ a. a)
+Means-found_in k i (Name breaks first) found = (tt, λ a. a)
+Means-found_in k i (Skipping opened closed behind) found = (tt, λ a. a)
+Means-found_in k i Dropped found = (tt, λ a. a)
+Means-found_in k i (Told aborts) found = (tt, λ a. a)
+Means-found_in k i Exiting found = (tt, λ a. a)
+
+-- a byte that isn't dropped
+Means-read : (k : Known) (reading : LineState) (i : PageInput) (b : ℕ)
+    → Means i.ahead (found_in k (record i { escapes = (byte_read (place_in k reading) i.escapes b).1 }) reading (byte_read (place_in k reading) i.escapes b).0)
+Means-read k reading i b =
+    let read = byte_read (place_in k reading) i.escapes b in Means-found_in k (record i { escapes = read.1 }) reading read.0
+
+Means-undropped_taking : (k : Known) (reading : LineState) (i : PageInput) (b : ℕ) → Means i.ahead (undropped_taking k reading i b)
+Means-undropped_taking k (Control breaks) i b = Means-if i.ahead (b == blank || b == tab) _ _ (tt, λ a. a) (Means-if i.ahead (ends_name b) _ _ (tt, λ a. a) (tt, λ a. a))
+Means-undropped_taking k (Name breaks first) i b =
+    Means-if i.ahead (ends_name b) _ _ (Means-name_ended_taking k i breaks (record { first = first; second = None }) b)
+    (Means-behind_called i breaks (called_by (record { first = first; second = Some b }) i.names))
+Means-undropped_taking k (Skipping opened closed behind) i b = Means-skipping_taking i opened closed behind b
+Means-undropped_taking k Dropped i b = (tt, λ a. a)
+Means-undropped_taking k (Told aborts) i b = (tt, λ a. a)
+Means-undropped_taking k Exiting i b = (tt, λ a. a)
+Means-undropped_taking k LineStart i b = Means-read k LineStart i b
+Means-undropped_taking k Branch i b = Means-read k Branch i b
+Means-undropped_taking k Braced i b = Means-read k Braced i b
+Means-undropped_taking k (InText line) i b = Means-read k (InText line) i b
+Means-undropped_taking k (InArguments breaks request) i b = Means-read k (InArguments breaks request) i b
+Means-undropped_taking k (Deciding keeps) i b = Means-read k (Deciding keeps) i b
+Means-undropped_taking k (StringName appends) i b = Means-read k (StringName appends) i b
+Means-undropped_taking k (StringText name appends is_front) i b = Means-read k (StringText name appends is_front) i b
+Means-undropped_taking k (Telling aborts is_front) i b = Means-read k (Telling aborts is_front) i b
+Means-undropped_taking k (Calling name) i b = Means-read k (Calling name) i b
+Means-undropped_taking k (Defining name appends end matched) i b = Means-read k (Defining name appends end matched) i b
+
+-- a byte
+pub Means-taking : (k : Known) (reading : LineState) (i : PageInput) (b : ℕ) → Means i.ahead (taking k reading i b)
+Means-taking k reading i b = Means-if i.ahead (is_dropped b) _ _ (tt, ahead-same (ahead-interrupted reading i)) (Means-undropped_taking k reading i b)
+
+-- the end of what is half read
+pub Means-escape_ended : (k : Known) (reading : LineState) (i : PageInput) → Means i.ahead (escape_ended k reading i)
+Means-escape_ended k reading i =
+    let read = reading_ended (place_in k reading) i.escapes in Means-found_in k (record i { escapes = read.1 }) reading read.0
+
+-- an interrupted line that ends with the input
+meant-interrupted_end : (left : Option TextLine) → AreMeant (interrupted_end left)
+meant-interrupted_end None = tt
+meant-interrupted_end (Some line) = meant-line_end line
+
+-- an unfinished line that does
+pub Means-end_taking : (k : Known) (reading : LineState) (i : PageInput) → Means i.ahead (end_taking k reading i)
+Means-end_taking k LineStart i = (meant-interrupted_end k.interrupted, λ a. a)
+Means-end_taking k Braced i = (meant-interrupted_end k.interrupted, λ a. a)
+Means-end_taking k (Control breaks) i = (meant-interrupted_end k.interrupted, λ a. a)
+Means-end_taking k (Deciding keeps) i = (meant-interrupted_end k.interrupted, λ a. a)
+Means-end_taking k (StringName appends) i =
+    (meant-interrupted_end k.interrupted, (Means-string_line_ended i appends (name_at 0 (arguments_given i))).1)
+Means-end_taking k (StringText name appends is_front) i = (meant-interrupted_end k.interrupted, ahead-same (ahead-string_entered name appends i))
+Means-end_taking k (Skipping opened closed behind) i = (meant-interrupted_end k.interrupted, λ a. a)
+Means-end_taking k Dropped i = (meant-interrupted_end k.interrupted, λ a. a)
+Means-end_taking k (Told aborts) i = (meant-interrupted_end k.interrupted, λ a. a)
+Means-end_taking k Exiting i = (meant-interrupted_end k.interrupted, λ a. a)
+Means-end_taking k (Defining name appends end matched) i = (tt, ahead-same (ahead-definition_dropped name i))
+Means-end_taking k Branch i = Means-undropped_taking k Branch i newline
+Means-end_taking k (InText line) i = Means-undropped_taking k (InText line) i newline
+Means-end_taking k (Name breaks first) i = Means-undropped_taking k (Name breaks first) i newline
+Means-end_taking k (InArguments breaks request) i = Means-undropped_taking k (InArguments breaks request) i newline
+Means-end_taking k (Calling name) i = Means-undropped_taking k (Calling name) i newline
+Means-end_taking k (Telling aborts is_front) i = Means-undropped_taking k (Telling aborts is_front) i newline
+
+-- the body of the last macro
+ahead-called_last : (called : Called) (i : PageInput) → AreMeantAhead i.ahead → AreMeantAhead (called_last called i).ahead
+ahead-called_last (ABody name) i = ahead-called (called_text (body_named (name_bytes name) i)) 0 i.ahead
+ahead-called_last (ARequest request) i = λ a. a
+ahead-called_last Unknown i = λ a. a
+
+pub ahead-last_called : (name : Option ShortName) (i : PageInput) → AreMeantAhead i.ahead → AreMeantAhead (last_called name i).ahead
+ahead-last_called None i = λ a. a
+ahead-last_called (Some name) i = ahead-called_last (called_by name i.names) i
