@@ -8,6 +8,7 @@
     bench/make_text.py skipped MEGABYTES    running text as the branch of a condition that is false
     bench/make_text.py macros MEGABYTES     running text with macros, strings and registers of its own
     bench/make_text.py springs MEGABYTES    running text in which a macro springs behind every third line
+    bench/make_text.py pages MEGABYTES      the same on pages of 20 lines, with a space or a page length after every 2 to 5 lines
     bench/make_text.py loop MEGABYTES       macros that call each other until so many bytes of them were read; writes nothing
     bench/make_text.py tables MEGABYTES     tables of 200 rows of three columns, with a line of text before each
 """
@@ -15,7 +16,7 @@ import functools
 import random
 import sys
 
-KINDS = ("text", "requests", "registers", "code", "skipped", "macros", "springs", "loop", "tables")
+KINDS = ("text", "requests", "registers", "code", "skipped", "macros", "springs", "pages", "loop", "tables")
 
 MEGABYTE = 1_000_000
 
@@ -80,6 +81,13 @@ SETTINGS = [
 ]
 
 READINGS = ["\\na", "\\nb", "\\nc", "\\n(xy", "\\n+a", "\\n-(xy", "\\n(.l"]
+
+# What stands before text on pages, what changes these, and the escapes that read where the text stands.
+PAGED = b".pl 20\n"
+
+SPACES = [".sp", ".sp 2", ".sp 3", ".sp 1i", ".sp 20", ".pl 20", ".pl 24", ".pl +1", ".pl -1", ".nr % 1", ".af % i", ".af % 1"]
+
+PLACES = ["\\n%", "\\n%", "\\n(nl", "\\n(.t", "\\n(.p"]
 
 # What stands between the words of a line of source code, and at its end, and how long such a line may be.
 SIGNS = [" ", " ", "_", ".", ", ", " = ", " + ", " == ", "(", ") * (", "[i]->", " && !"]
@@ -246,6 +254,8 @@ class Writer:
                 lines = self.with_requests(lines, REQUESTS)
             elif kind == "registers":
                 lines = self.with_requests([f"{line} {self.one_of(READINGS)}" for line in lines], SETTINGS)
+            elif kind == "pages":
+                lines = self.with_requests([f"{line} {self.one_of(PLACES)}" for line in lines], SPACES)
             elif kind == "macros":
                 lines = self.with_requests([f"{line} {self.one_of(STRINGS)}" for line in lines], CALLS)
             part = "\n".join(lines) + "\n\n"
@@ -292,7 +302,13 @@ def write_document(kind, size, file, number=0):
     if kind == "tables":
         file.write(Writer(number).tables(size))
         return
-    around = {"skipped": SKIPPED, "macros": (MACROS.encode(), b""), "springs": (SPRINGING, b""), "code": (UNFILLED, b"")}
+    around = {
+        "skipped": SKIPPED,
+        "macros": (MACROS.encode(), b""),
+        "springs": (SPRINGING, b""),
+        "pages": (PAGED, b""),
+        "code": (UNFILLED, b""),
+    }
     front, behind = around.get(kind, (b"", b""))
     size -= len(front + behind)
     text = new_text(kind, min(size, NEW_TEXT), number)

@@ -24,7 +24,7 @@ PROGRAM = os.path.join(os.path.dirname(HERE), "crates", "roff", "out", "roff")
 
 SIZE = 300_000
 PRELUDE = b".nh\n"
-KINDS = ("text", "requests", "registers", "code", "macros", "loop", "skipped", "tables")
+KINDS = ("text", "requests", "registers", "code", "macros", "loop", "skipped", "pages", "tables")
 # The command that a kind of document is for, where it isn't `nroff`.
 COMMANDS = {"tables": "both"}
 
@@ -52,6 +52,7 @@ STAGES = {
         "roff_engine::formatter::Formatter::end_word",
         "roff_engine::formatter::Formatter::perform_text",
     ],
+    "pages": ["roff_pages"],
     "writing": ["roff_sinks", "roff_lines::line_bytes", "roff_lines::stretch"],
     "store": ["roff_store"],
     "tables": ["tbl_layout", "tbl_table", "tbl_core", "tbl_run"],

@@ -9,9 +9,10 @@ each byte behind a backslash, as a delimiter and in other places, and some are m
 document is formatted twice. Both runs must end alike, with the same output and messages and a status from 0 to 4; a run
 may take a few seconds of processor time and a few megabytes of memory, 20 where a table is as large as the limits let it
 be. A long document may take no more than its share beside one of a quarter of its length, is stopped by the limit that is
-named for it, or by none, and some must begin as they are said to. Short documents whose lines go far are formatted once:
-of their output, which is up to two gigabytes, the beginning and the length are compared. GNU time measures both time and
-memory. It takes about five minutes. The exit status is 1 if something is wrong.
+named for it, or by none, and some must begin as they are said to. Documents whose lines or spaces go far are formatted
+once: of their output, which is up to 200 megabytes, the beginning and the length are compared, and the line on which a
+limit stops them. GNU time measures both time and memory. It takes about five minutes. The exit status is 1 if something
+is wrong.
 """
 import pathlib
 import random
@@ -184,6 +185,17 @@ LONG.update({
     "temporary_indents_without_lines": (b"", b".ti 9n\n", b"x\n", 5 * MEGABYTE),
     "lines_spaced": (b".ls 9\n", b"x\n.br\n", b"", 5 * MEGABYTE),
     "spacings_without_lines": (b"", b".ls 2147483647\n", b".ls 1\nx\n", 5 * MEGABYTE),
+    "pages_of_one_line": (b".pl 1\n", b"a line of text\n", b"", 50 * MEGABYTE),
+    "pages_of_one_line_without_filling": (b".pl 1\n.nf\n", b"a line\n", b"", 50 * MEGABYTE),
+    "page_lengths": (b"", b".pl 9\n.pl +1\n", b"a\n", 5 * MEGABYTE),
+    "page_lengths_below_the_place": (b"a\n.br\nb\n.br\n", b".pl 9\n.pl 1\na\n.br\n", b"", 5 * MEGABYTE),
+    "page_lengths_without_text": (b"", b".pl\n", b"a\n", 4 * LINES + 2),
+    "page_lengths_too_small": (b"", b".pl 0\n", b"a\n", 6 * LINES + 2),
+    "page_that_grows": (b".nf\n", b".pl +1\na\n", b"", 9 * LINES + 4),
+    "spaces_farthest": (b"", b".sp 2147483647u\n", b"", 16 * LINES // 2),
+    "spaces_down": (b".pl 9\n", b".sp |9\na\n", b"", 5 * MEGABYTE),
+    "spacings_farthest": (b".ls 2147483647\n", b"a\n.br\n", b"", MEGABYTE),
+    "page_numbers_stepped": (b".nr % 0 1\n", b"\\n+%\n", b"", 5 * MEGABYTE),
     "tab_stops": (b".ta", b" 9", b"\na\tb\n", 2 * LINES + 8),
     "tab_stops_past_the_stack": (b".ta", b" 9", b"\na\tb\n", 3 * LINES + 8),
     "tab_stops_that_count_from_others": (b".ta", b" +9", b"\na\tb\n", 3 * LINES // 2 + 8),
@@ -304,6 +316,15 @@ BEGINS = {
     "temporary_indents_without_lines": b" " * 9 + b"x\n",
     "lines_spaced": (b"x" + b"\n" * 9) * 2,
     "spacings_without_lines": b"x\n",
+    "pages_of_one_line_without_filling": b"a line\n" * 5,
+    "page_lengths": b"a" + b"\n" * 10,
+    "page_lengths_below_the_place": b"a\nb\na\na\n",
+    "page_lengths_without_text": b"a" + b"\n" * 66,
+    "page_lengths_too_small": b"a" + b"\n" * 66,
+    "page_that_grows": b"a\n" * 100,
+    "spaces_farthest": b"\n" * 660,
+    "spaces_down": b"\n" * 9 + 5 * (b"a" + b"\n" * 9),
+    "spacings_farthest": b"a" + b"\n" * 66 + b"a",
     "tab_stops": b"a" + b" " * 8 + b"b\n",
     "tab_stops_that_count_from_others": b"a" + b" " * 8 + b"b\n",
     "tab_stops_set_again": b"a    b\n",
@@ -393,15 +414,27 @@ FAR_TABLES = {
 }
 FAR_OPTIONS = ("--width=1000000000", "--output=50000000")
 
-# Short documents whose lines go far: the document, the limit that stops it, what its output begins with, and how long it
-# is. The greatest length is 89,478,485 columns, and the greatest spacing 2,147,483,647 lines.
+# Documents whose lines or spaces go far: the document, the limit that stops it with the line on which it is reached, what
+# its output begins with, and how long it is. The greatest length is 89,478,485 columns, and the longest page has
+# 53,687,091 lines: of three of either two or three are within the limit on the output.
 FARTHEST = 89_478_485
+LONGEST = 53_687_091
 FAR = {
-    "spacing_farthest": (b".ls 2147483647\na\n", None, b"a\n\n\n", 1 + 2_147_483_647),
-    "indent_farthest": (b".in 2147483647u\na b\n", None, b" " * 9, 2 * (FARTHEST + 2)),
-    "temporary_indent_farthest": (b".ti 2147483647u\na b\n", None, b" " * 9, FARTHEST + 2 + 2),
-    "centre_farthest": (b".ll 2147483647u\n.ce\na\n", None, b" " * 9, (FARTHEST - 1) // 2 + 2),
-    "tab_farthest": (b"a\n.br\n.ta 2147483647u\nb\tc\n", "line", b"a\n", 2),
+    "spacing_farthest": (b".ls 2147483647\na\n", None, b"a\n\n\n", 1 + 66),
+    "page_longest": (b".pl 2147483647u\na\n", None, b"a\n\n\n", 1 + LONGEST),
+    "space_farthest": (b".pl 2147483647u\n.sp 2147483647u\na\n", None, b"\n\n\n", LONGEST + 1 + LONGEST),
+    "spacing_on_the_longest_page": (b".pl 2147483647u\n.ls 2147483647\na\n", None, b"a\n\n\n", 1 + LONGEST),
+    "indent_farthest": (b".in 2147483647u\na b\n", None, b" " * 9, 2 * (FARTHEST + 2) + 64),
+    "temporary_indent_farthest": (b".ti 2147483647u\na b\n", None, b" " * 9, FARTHEST + 2 + 2 + 64),
+    "centre_farthest": (b".ll 2147483647u\n.ce\na\n", None, b" " * 9, (FARTHEST - 1) // 2 + 2 + 65),
+    "tab_farthest": (b"a\n.br\n.ta 2147483647u\nb\tc\n", ("line", 4), b"a\n", 2),
+    "indents_farthest": (b".in 2147483647u\n" + 1000 * b"a b\n", ("output", 3), b" " * 9, 2 * (FARTHEST + 2)),
+    "indents_farthest_without_filling": (
+        b".nf\n.in 2147483647u\n" + 1000 * b"a\n", ("output", 5), b" " * 9, 2 * (FARTHEST + 2)),
+    "spaces_on_the_longest_page": (
+        b".pl 2147483647u\n" + LINES // 2 * b".sp 2147483647u\n", ("output", 5), b"\n\n\n", 3 * LONGEST),
+    "spacings_on_the_longest_page": (
+        b".pl 2147483647u\n.ls 2147483647\n" + 1000 * b"a\n.br\n", ("output", 10), b"a\n\n\n", 3 * (LONGEST + 1)),
 }
 
 # What nests, and how deep.
@@ -498,6 +531,12 @@ PIECES_OF_ENVIRONMENTS = (
     + [b"\n.ta 4n +4n 20n\n", b"\n.ta ", b"\n.nf\n", b"\n.fi\n", b"\n.br\n", b"\n.ll 30n\n", b"\n.in +1n\n", b"\n.tm \\n(.n\n"]
     + 2 * [b"\t", rb"\t", b"\\c\n", rb"\c", rb"\h'|9n'", b"  ", b"a word ", b".\n"]
 )
+PIECES_OF_PAGES = (
+    [b"\n.pl 1\n", b"\n.pl 3\n", b"\n.pl 9\n", b"\n.pl +1\n", b"\n.pl -1\n", b"\n.pl |2\n", b"\n.pl x\n", b"\n.pl\n"]
+    + [b"\n.sp\n", b"\n.sp 2\n", b"\n.sp 99\n", b"\n.sp |2\n", b"\n.sp -1\n", b"\n'sp 1\n", b"\n\n", b"\n.ls 3\n", b"\n.ls 1\n"]
+    + [b"\n.nr % 5 2\n", b"\n.af % i\n", b"\\n%", b"\\n+%", b"\\n-%", b"\\n(nl", b"\\n(.t", b"\\n(.p", b"\n.if o ", b"\n.if e "]
+    + 2 * [b"\n.br\n", b"\n.nf\n", b"\n.fi\n", b"\na word\n", b" a word"]
+)
 PIECES_OF_ENDS = (
     2 * [b"\n.em m\n", b"\n.em n\n", b"\n.em\n", b"\n.em "]
     + [b"\n.de m\n", b"\n.de n\n", b"\n..\n", b"\n.m\n", b"\n.if 0 .ex\n", b"\n.el .ex\n", b"\n\\\\..\n", b"\\c\n", b"\n.ev 1\n", b"\n.ev\n"]
@@ -513,6 +552,7 @@ RANDOM = {
     "random_strings": PIECES + 20 * PIECES_OF_STRINGS,
     "random_macros": PIECES + 20 * PIECES_OF_MACROS + 5 * PIECES_OF_STRINGS,
     "random_environments": PIECES + 20 * PIECES_OF_ENVIRONMENTS + 2 * PIECES_OF_MACROS,
+    "random_pages": PIECES + 20 * PIECES_OF_PAGES + 4 * PIECES_OF_ENVIRONMENTS,
     "random_ends": PIECES + 20 * PIECES_OF_ENDS + 5 * PIECES_OF_CONDITIONS,
     "random_springs": PIECES + 20 * PIECES_OF_SPRINGS + 4 * PIECES_OF_ENVIRONMENTS + 4 * PIECES_OF_ENDS,
 }
@@ -538,7 +578,7 @@ TABLES_AROUND = (
     b".TS%s\nl.\na\n.TE\n.TS\nl.\na\\\n%s\n.TE",
 )
 OPTIONS = ((), ("--stack=9", "--depth=2"), ("--line=30", "--bytes=900"), ("--conditions=1", "--environments=2"),
-           ("--store=9", "--names=2"))
+           ("--store=9", "--names=2"), ("--output=90",))
 
 
 class Run:
@@ -558,10 +598,15 @@ class Run:
         self.seconds = float(user) + float(system)
         self.kilobytes = int(kilobytes)
 
+    def stopped_at(self):
+        """The limit that stopped the run, and the line on which it was reached."""
+        told = re.search(rb": line (\d+): limit (\w+) \(\d+\) reached\n\Z", self.given[2])
+        return (told[2].decode(), int(told[1])) if told and self.given[0] == 3 else None
+
     def stopped_by(self):
-        """The limit that stopped the run."""
-        told = re.search(rb"limit (\w+) \(\d+\) reached\n\Z", self.given[2])
-        return told[1].decode() if told and self.given[0] == 3 else None
+        """The limit alone."""
+        at = self.stopped_at()
+        return at[0] if at else None
 
 
 def limit_time():
@@ -632,13 +677,13 @@ def beginning_and_length(output):
 
 
 def check_far(folder, name):
-    """A short document, of whose output only the beginning is kept."""
-    document, limit, beginning, length = FAR[name]
+    """A document of whose output only the beginning is kept."""
+    document, stop, beginning, length = FAR[name]
     (folder / "document").write_bytes(document)
     run = Run(folder, ROOM, beginning_and_length)
     wrong = too_much(run, run.kilobytes)
-    if run.stopped_by() != limit:
-        wrong.append("stopped by %s, and not by %s" % (run.stopped_by(), limit))
+    if run.stopped_at() != stop:
+        wrong.append("stopped by %s, and not by %s" % (run.stopped_at(), stop))
     if not run.given[1][0].startswith(beginning) or run.given[1][1] != length:
         wrong.append("%d bytes that begin with %r" % (run.given[1][1], run.given[1][0]))
     return ["%s: %s" % (name, what) for what in wrong]

@@ -22,8 +22,10 @@ import tempfile
 TOP = pathlib.Path(__file__).resolve().parent.parent
 PROGRAM = TOP / "crates" / "roff" / "out" / "roff"
 DATA = TOP / "crates" / "roff_rows" / "data"
-OF_TEXT = ("bytes", "store", "stack", "depth", "names", "line", "environments", "conditions")
+OF_TEXT = ("bytes", "store", "stack", "depth", "names", "line", "environments", "conditions", "output")
 OF_TABLES = ("rows", "columns", "text", "width")
+# The folders of rows about pages.
+OF_PAGES = ("pl", "sp")
 LIMITS = {"nroff": OF_TEXT, "tbl": OF_TABLES + ("bytes", "output"), "both": OF_TEXT + OF_TABLES}
 
 
@@ -121,7 +123,7 @@ def sweeps_of(document, folder):
     for limit in LIMITS[document.command]:
         yield sweep(document, "--" + limit, lambda value: within_limit(document, limit, value))
     yield sweep(document, "a source that fails behind", lambda value: behind_bytes(document, folder, value))
-    if document.command != "nroff":
+    if document.command != "nroff" or document.path.parent.name in OF_PAGES:
         yield sweep_sinks(document, folder)
 
 

@@ -3,6 +3,7 @@
 mod command_lines;
 mod devices;
 mod failing_once;
+mod limit_options;
 mod long_documents;
 mod registers;
 mod starts;

@@ -32,8 +32,8 @@ static ROWS: [Row; 5] = [
     },
     Row {
         name: "the source would fail behind its last byte",
-        input: b".nf\nab\n",
-        source_fails_after: Some(8),
+        input: b".pl 1\n.nf\nab\n",
+        source_fails_after: Some(14),
         output_capacity: AMPLE,
         message_capacity: AMPLE,
         output: b"ab\n",

@@ -16,3 +16,5 @@ mod in_memory;
 mod registers;
 #[cfg(test)]
 mod requests;
+#[cfg(test)]
+mod sinks;

@@ -7,7 +7,8 @@ use std::test::Fail;
 
 #[test]
 fn read_only_registers_tell_of_the_run(rt: HostRuntime) -> Result<(), Fail> {
-    // Behind 7 newlines, an indent of 5 columns, a line length of 60, a last line of 13.
+    // Behind 7 newlines, an indent of 5 columns, a line length of 60, a last line of 13; at the top
+    // of the second page of one line.
     let document = "\
 .pl 1
 .ll 60n
@@ -23,7 +24,7 @@ fn read_only_registers_tell_of_the_run(rt: HostRuntime) -> Result<(), Fail> {
 ";
     let expected = Expected {
         output: "     1234567890123\n",
-        messages: "6 120 1440 312 1\n40 40 24\n0 0 0 0 0 0 0 0 0 0 0\n0\n",
+        messages: "6 120 1440 312 1\n40 40 24\n0 0 0 40 40 0 0 0 0 2 0\n0\n",
         status: Status::Done,
     };
     check(&rt, rt.alloc(), Limits::default(), document, expected)

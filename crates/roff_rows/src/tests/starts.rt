@@ -15,7 +15,7 @@ fn a_hundred_files(rt: HostRuntime) -> Result<(), Fail> {
     words[1] = "nroff";
     words[2] = "y";
     let machine = Machine {
-        files: &[("y", b".nf\n"), ("x", b"x\n")],
+        files: &[("y", b".pl 1\n.nf\n"), ("x", b"x\n")],
         ..machine(alloc, words.as_slice())
     };
     let out = b"x\n".repeat(alloc, FILES - 1)?;

@@ -39,13 +39,13 @@ type Row = (&'static [&'static str], u8, &'static str, &'static str);
 static FILE_ROWS: [Row; 12] = [
     (&["roff", "tbl", "table"], 0, PICTURE, ""),
     (&["roff", "both", "table"], 0, PRINTED, ""),
-    (&["roff", "tbl"], 0, ".nf\nstandard input\n", ""),
+    (&["roff", "tbl"], 0, ".pl 1\n.nf\nstandard input\n", ""),
     (&["roff", "both"], 0, "standard input\n", ""),
     (&["roff", "tbl", "text"], 0, ".pl 1\n.nf\nno table\n", ""),
     (
         &["roff", "tbl", "text", "-"],
         0,
-        ".pl 1\n.nf\nno table\n.nf\nstandard input\n",
+        ".pl 1\n.nf\nno table\n.pl 1\n.nf\nstandard input\n",
         "",
     ),
     (
@@ -87,7 +87,7 @@ static FILE_ROWS: [Row; 12] = [
 ];
 
 /// What the options of limits do, and the line length.
-static LIMIT_ROWS: [Row; 25] = [
+static LIMIT_ROWS: [Row; 26] = [
     (&["roff", "tbl", "--bytes=29", "table"], 0, PICTURE, ""),
     (
         &["roff", "tbl", "--bytes=28", "table"],
@@ -169,6 +169,12 @@ static LIMIT_ROWS: [Row; 25] = [
     ),
     // The output of both is the formatter's.
     (&["roff", "both", "--output=16", "table"], 0, PRINTED, ""),
+    (
+        &["roff", "both", "--output=15", "table"],
+        3,
+        "ab    1\n",
+        "nroff: line 6: limit output (15) reached\n",
+    ),
     (
         &["roff", "both", "--line=6", "table"],
         3,
@@ -254,7 +260,7 @@ static MISTAKE_ROWS: [Row; 5] = [
 fn machine_with_tables<'a>(alloc: Global, words: &'a [&'a str]) -> Machine<'a, &'a str> {
     Machine {
         files: &FILES,
-        standard_input: Given::new(b".nf\nstandard input\n"),
+        standard_input: Given::new(b".pl 1\n.nf\nstandard input\n"),
         ..machine(alloc, words)
     }
 }

@@ -1,0 +1,131 @@
+//! Documents whose output, or whose messages, find room for so many bytes and no more: just these are
+//! kept, and the run ends with the failure.
+
+use roff_tools::{Job, Limits, MemSink, MemSource, Start, Status, run};
+use std::alloc::{AllocError, Global};
+use std::test::Fail;
+
+/// A document, what it writes and what it tells.
+struct Row {
+    input: &'static str,
+    output: &'static str,
+    messages: &'static str,
+}
+
+/// Room for what any row writes or tells.
+const AMPLE: usize = 1000;
+
+static ROWS: [Row; 10] = [
+    Row {
+        input: ".pl 3\na\n",
+        output: "a\n\n\n",
+        messages: "",
+    },
+    Row {
+        input: ".pl 2\n.ll 9n\nriver and road\nand one more\n",
+        output: "river and\nroad  and\none more\n\n",
+        messages: "",
+    },
+    Row {
+        input: ".pl 3\n.nf\na\n.sp 9\nb\n",
+        output: "a\n\n\nb\n\n\n",
+        messages: "",
+    },
+    Row {
+        input: ".pl 4\n.nf\n.ls 3\na\nb\n",
+        output: "a\n\n\nb\n",
+        messages: "",
+    },
+    Row {
+        input: ".pl 1\n.nf\na\\n%\nb\\n%\n",
+        output: "a1\nb2\n",
+        messages: "",
+    },
+    Row {
+        input: ".pl 5\n.nf\na\nb\n.pl 1\n.sp 0\nc\n",
+        output: "a\nb\nc\n",
+        messages: "",
+    },
+    Row {
+        input: ".pl 2\n.sp -1\n.pl 0\na\n.tm \\n(nl\n",
+        output: "a\n\n",
+        messages: "nroff: line 2: backward motion\nnroff: line 3: page length too small\n0\n",
+    },
+    Row {
+        input: ".pl 2\n.ll 12n\na bb ccc dddd eeeee\n",
+        output: "a   bb   ccc\ndddd eeeee\n",
+        messages: "",
+    },
+    Row {
+        input: ".pl 3\na\\c\nb",
+        output: "ab\n\n\n",
+        messages: "",
+    },
+    Row {
+        input: ".pl 3\n.nf\n.de m\n.sp\n\\\\$1\n.tm \\\\n%\n..\n.m x\n.m y\n",
+        output: "\nx\n\ny\n\n\n",
+        messages: "1\n2\n",
+    },
+];
+
+/// What a row keeps on sinks of these capacities, and how it ends.
+fn given(
+    alloc: Global,
+    row: &Row,
+    output: usize,
+    messages: usize,
+) -> Result<(Status, MemSink, MemSink), AllocError> {
+    let source = MemSource::new(row.input.as_bytes(), None);
+    let mut out = MemSink::new(alloc, output)?;
+    let mut err = MemSink::new(alloc, messages)?;
+    let job = Job::Nroff(Limits::default(), Start::default());
+    let (status, _source) = run(alloc, job, source, &mut out, &mut err);
+    Ok((status?, out, err))
+}
+
+/// How a run ends whose sink has room for so many bytes of a text.
+fn ended(room: usize, text: &str) -> Status {
+    if room < text.len() {
+        Status::Device
+    } else {
+        Status::Done
+    }
+}
+
+#[test]
+fn outputs_of_each_capacity(rt: HostRuntime) -> Result<(), Fail> {
+    for row in &ROWS {
+        let input = row.input;
+        for room in 0..=row.output.len() {
+            let (status, out, _err) = given(rt.alloc(), row, room, AMPLE)?;
+            let kept = &row.output.as_bytes()[..row.output.len().min(room)];
+            assert_eq!(rt; out.kept(), kept, "output of {input:?} in {room}");
+            assert_eq!(rt;
+                status,
+                ended(room, row.output),
+                "end of {input:?} in {room}"
+            );
+        }
+    }
+    Ok(())
+}
+
+#[test]
+fn messages_of_each_capacity(rt: HostRuntime) -> Result<(), Fail> {
+    for row in &ROWS {
+        let input = row.input;
+        for room in 0..=row.messages.len() {
+            let (status, out, err) = given(rt.alloc(), row, AMPLE, room)?;
+            let kept = &row.messages.as_bytes()[..row.messages.len().min(room)];
+            assert_eq!(rt; err.kept(), kept, "messages of {input:?} in {room}");
+            assert_eq!(rt;
+                status,
+                ended(room, row.messages),
+                "end of {input:?} in {room}"
+            );
+            let begins = row.output.as_bytes().starts_with(out.kept());
+            assert!(rt; begins, "output of {input:?} in {room} is no beginning");
+        }
+    }
+    Ok(())
+}
