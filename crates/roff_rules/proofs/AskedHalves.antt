@@ -17,6 +17,7 @@ use Rattle.roff_escape.specs.declared.open_escape.Decision.{Decision}
 use Rattle.roff_escape.specs.declared.open_escape.Decision.TheVariants.{Is, OnPages}
 use Rattle.roff_escape.specs.declared.open_escape.Found.TheVariants.{GoesOn, Holds}
 use Rattle.roff_rules.specs.AskingLaws.{AreDelimited, IsQuestion, Question, OddPage, EvenPage, Never, Always, SameTexts, asking, question_bytes}
+use Rattle.roff_rules.specs.BadConditions.{cut_texts, second_text}
 use Rattle.roff_rules.specs.ConditionLaws.{AreKept}
 
 -- a condition of which nothing is asked yet
@@ -95,9 +96,26 @@ gives-other p negated b is escapes blanks bang o e t n =
     ∙ ap (λ (c : Bool). g false false false false false c (b == 110) number) (differs p b 116 is t)
     ∙ ap (λ (c : Bool). g false false false false false false c number) (differs p b 110 is n)
 
+-- where the first text of two ends that are cut, if it does, and what is held of them
+abbrev pub first_end : List ℕ → Option (List ℕ) → Option ℕ
+first_end first None = None
+first_end first (Some second) = Some (length first)
+
+abbrev pub texts_so_far : List ℕ → Option (List ℕ) → List ℕ
+texts_so_far first None = first
+texts_so_far first (Some second) = first ++ second
+
+-- they are compared
+both-compared : (first second : List ℕ) → text_is_same (Some (length first)) (first ++ second) ≡ bytes_eq first second
+both-compared first second = ap₂ (λ (f g : List ℕ). bytes_eq f g) (take-append_seam first second) (drop-append_seam first second)
+
+pub cut-compared : (first : List ℕ) (second : Option (List ℕ)) → text_is_same (first_end first second) (texts_so_far first second) ≡ bytes_eq first (second_text second)
+cut-compared first None = refl
+cut-compared first (Some second) = both-compared first second
+
 module _ (negated : Bool) (d : ℕ) where
   -- two texts of which so much is read
-  abbrev compared : Option ℕ → List ℕ → List OpenEscape
+  abbrev pub compared : Option ℕ → List ℕ → List OpenEscape
   compared first text = Condition (Compared negated d first) text ∷ []
 
   -- the delimiter in front
@@ -154,6 +172,27 @@ module _ (negated : Bool) (d : ℕ) where
       (subst (λ (t : List ℕ). HalvesTaken (compared first (so_far ++ b ∷ [])) text (compared first t)) (append_assoc so_far (b ∷ []) text)
       (halves-text first (so_far ++ b ∷ []) text parts.3 (All-tail (λ c. is_dropped c ≡ false) b text kept)))
 
+  -- the first, behind its delimiter
+  halves-first : (first : List ℕ) → delimits_texts d ≡ true → is_dropped d ≡ false → is_between d first ≡ true → AreKept first
+      → HalvesTaken (choice negated) (d ∷ first) (compared None first)
+  halves-first first delimits kept between first_kept =
+      ByteTaken (choice negated) (compared None []) (compared None first) d first (IsRead (reads-front delimits kept))
+      (halves-text None [] first between first_kept)
+
+  -- the first, or both, without a delimiter behind it
+  pub halves-cut : (first : List ℕ) (second : Option (List ℕ)) → AreDelimited d first (second_text second)
+      → HalvesTaken (choice negated) (cut_texts d first second) (compared (first_end first second) (texts_so_far first second))
+  halves-cut first None are = halves-first first are.delimits are.delimiter_kept are.first_between are.first_kept
+  halves-cut first (Some second) are =
+      let both : List ℕ = first ++ second in
+      let n : Option ℕ = Some (length first) in
+      let back : HalvesTaken (compared None first) (d ∷ second) (compared n both) =
+      ByteTaken (compared None first) (compared n first) (compared n both) d second
+      (IsRead (reads-behind None first (compared n first) are.delimits are.delimiter_kept refl refl))
+      (halves-text n first second are.second_between are.second_kept) in
+      HalvesTaken-append (choice negated) (compared None first) (compared n both) (d ∷ first) (d ∷ second)
+      (halves-first first are.delimits are.delimiter_kept are.first_between are.first_kept) back
+
   -- both, between their delimiters
   halves-texts : (first second : List ℕ) → AreDelimited d first second
       → HalvesTaken (choice negated) (two_texts d first second) (whole (Is (so_unless negated (bytes_eq first second))) (first ++ second))
@@ -161,19 +200,11 @@ module _ (negated : Bool) (d : ℕ) where
       let both : List ℕ = first ++ second in
       let n : Option ℕ = Some (length first) in
       let last : List OpenEscape = whole (Is (so_unless negated (text_is_same n both))) both in
-      let front : HalvesTaken (choice negated) (d ∷ first) (compared None first) =
-      ByteTaken (choice negated) (compared None []) (compared None first) d first (IsRead (reads-front are.delimits are.delimiter_kept))
-      (halves-text None [] first are.first_between are.first_kept) in
-      let back : HalvesTaken (compared None first) (d ∷ second) (compared n both) =
-      ByteTaken (compared None first) (compared n first) (compared n both) d second
-      (IsRead (reads-behind None first (compared n first) are.delimits are.delimiter_kept refl refl))
-      (halves-text n first second are.second_between are.second_kept) in
       let end : HalvesTaken (compared n both) (d ∷ []) last =
       halves-one (compared n both) last d (IsRead (reads-behind n both last are.delimits are.delimiter_kept refl refl)) in
       subst (λ (same : Bool). HalvesTaken (choice negated) (two_texts d first second) (whole (Is (so_unless negated same)) both))
-      (ap₂ (λ (f g : List ℕ). bytes_eq f g) (take-append_seam first second) (drop-append_seam first second))
-      (HalvesTaken-append (choice negated) (compared n both) last ((d ∷ first) ++ d ∷ second) (d ∷ [])
-      (HalvesTaken-append (choice negated) (compared None first) (compared n both) (d ∷ first) (d ∷ second) front back) end)
+      (both-compared first second)
+      (HalvesTaken-append (choice negated) (compared n both) last ((d ∷ first) ++ d ∷ second) (d ∷ []) (halves-cut first (Some second) are) end)
 
 -- what is held of a question, and what decides it
 abbrev pub question_held : Question → List ℕ

@@ -21,12 +21,14 @@ use Rattle.roff_escape.specs.OpenEscape.{OpenEscape, Condition}
 use Rattle.roff_escape.specs.declared.open_escape.Decision.{Decision}
 use Rattle.roff_escape.specs.declared.open_escape.Decision.TheVariants.{Is, OnPages}
 use Rattle.roff_rules.proofs.AskedHalves.{choice, decision_of, expression, halves-asking, halves-expression, halves-question, question_held, whole}
-use Rattle.roff_rules.proofs.AskingRuns.{RoomToAsk, asked-behind, asked_at, path-front, to_hold, to_hold-front, within-asks}
+use Rattle.roff_rules.proofs.AskingRuns.{RoomToAsk, asked-behind, asked_at, asks, path-front, to_hold, to_hold-front, within-asks}
+use Rattle.roff_rules.proofs.LineRooms.{most_of}
 use Rattle.roff_rules.specs.AskingLaws.{BeforeByte, BeforeTheEnd, ConditionsChooseTheirBranch, ConditionsOfTheSourceChooseTheirBranch, ExpressionsChooseTheirBranch, ExpressionsOfTheSourceChooseTheirBranch, EndsExpression, HasCondition, IsExpression, IsQuestion, Question, OddPage, EvenPage, Never, Always, SameTexts, asking, asking_line, is_answered, question_bytes, with_branch}
 use Rattle.roff_rules.specs.CallLaws.{BeginsLine}
 use Rattle.roff_run.proofs.ItemsTaken.{Fits-IsWithin, FromAhead, FromSource, Origin, ahead_at, made-Fits, step-reads, tape_at, taken_as-going_on}
 use Rattle.roff_run.proofs.Leads.{after-add}
-use Rattle.roff_run.proofs.PlainRuns.{behind_bytes, behind_bytes-charge, behind_bytes-counts, counted, counted-ahead, counted-source}
+use Rattle.roff_run.proofs.NameBytes.{stage}
+use Rattle.roff_run.proofs.PlainRuns.{Path, behind_bytes, behind_bytes-charge, behind_bytes-counts, counted, counted-ahead, counted-source}
 use Rattle.roff_run.specs.ItemsTaken.{TakesItems}
 use Rattle.roff_run.specs.Reading.Branches.{branch_of, is_so, with_result_if}
 use Rattle.roff_run.specs.Reading.Found.{read_in}
@@ -37,7 +39,7 @@ use Rattle.roff_run.specs.Registers.{is_page_odd}
 use Rattle.roff_run.specs.declared.event.PageEvent.{PageEvent}
 use Rattle.roff_run.specs.Run.{State, after, answered, awaited_of_source, escape_ends, in_front_taken, known, made, read_waiting, source_answer, step, taken_as}
 use Rattle.roff_run.specs.Within.{IsWithin}
-use Rattle.roff_run.specs.declared.line_state.LineState.TheVariants.{Deciding}
+use Rattle.roff_run.specs.declared.line_state.LineState.TheVariants.{Deciding, LineStart}
 
 -- a run whose condition was decided so
 abbrev pub chosen_from : State → Bool → Origin → List ℕ → Bool → State
@@ -182,7 +184,7 @@ EndsThere part (Some b) = ends_condition part (Some b) ≡ true
 EndsThere part None = ⊤
 
 -- a condition that isn't read yet ends before what can't continue it
-pub step-ends : (l : Limits) (s : State) (keeps : Bool) (from : Origin) (part : ConditionPart) (text line : List ℕ) (seen : Option ℕ) → TakesItems s → FrontIs from seen
+step-ends : (l : Limits) (s : State) (keeps : Bool) (from : Origin) (part : ConditionPart) (text line : List ℕ) (seen : Option ℕ) → TakesItems s → FrontIs from seen
     → EndsThere part seen → is_decided part ≡ false
     → let u : State = asked_at s keeps from (Condition part text ∷ []) line in step l u ≡ made l u (escape_ends u)
 step-ends l s keeps _ part text line _ on (AheadIs b rest) ends waits =
@@ -207,7 +209,7 @@ step-ends l s keeps _ part text line _ on (EndIs tape ends) _ waits =
     ∙ ap (λ (a : Answer). answered l a u) answers
 
 -- what ended so is whole in that step, and decides in the next one, whatever is told in between
-pub ended-from : (l : Limits) (s : State) (keeps so : Bool) (from : Origin) (half : List OpenEscape) (text line messages : List ℕ) → BeginsLine s
+ended-from : (l : Limits) (s : State) (keeps so : Bool) (from : Origin) (half : List OpenEscape) (text line messages : List ℕ) → BeginsLine s
     → RoomToAsk l s keeps from (whole (Is so) text) [] (behind_bytes from line s.input)
     → let told : State = record s { messages = messages } in
     let u : State = asked_at s keeps from half line in
@@ -229,6 +231,27 @@ ended-from l s keeps so from half text line messages begins room ends within =
     (Fits-IsWithin l v (within-asks l s keeps from (whole (Is so) text) [] (behind_bytes from line s.input) room)))
     ∙ step-decides l told keeps from (Is so) text line begins_told within
 
+-- a condition that isn't read yet ends where its line does, or its expression: a step ends it, and one decides
+pub asked-ends : (l : Limits) (s : State) (keeps so : Bool) (from : Origin) (front bytes : List ℕ) (part : ConditionPart) (text messages : List ℕ) (seen : Option ℕ)
+    → BeginsLine s → Path (most_of s) s.input.names (stage LineStart no_arguments s.input.open_texts) front (asks s keeps (choice false))
+    → HalvesTaken (choice false) bytes (Condition part text ∷ []) → is_decided part ≡ false → EndsThere part seen → FrontIs from seen
+    → let line : List ℕ = front ++ bytes in
+    let told : State = record s { messages = messages } in
+    escape_ends (asked_at s keeps from (Condition part text ∷ []) line) ≡ asked_at told keeps from (whole (Is so) text) line
+    → s.input.ahead ≡ ahead_at from line → s.tape ≡ tape_at from line s.tape → to_hold from bytes + live_bytes s.input.calls ≤ l.stack
+    → IsWithin l s → IsWithin l (chosen_from told keeps from line so) → after l (length line + 2) s ≡ chosen_from told keeps from line so
+asked-ends l s keeps so from front bytes part text messages seen begins path halves waits ends comes is ahead tape held within chosen =
+    let line : List ℕ = front ++ bytes in
+    let told : State = record s { messages = messages } in
+    let half : List OpenEscape = Condition part text ∷ [] in
+    let u : State = asked_at s keeps from half line in
+    let one = asked-behind l s keeps from front bytes half begins path halves ahead tape within (charge-chosen l told keeps from line so chosen) held in
+    let ended : step l u ≡ made l u (asked_at told keeps from (whole (Is so) text) line) =
+    step-ends l s keeps from part text line seen begins.takes comes ends waits ∙ ap (made l u) is in
+    after-add l (length line) 2 s
+    ∙ ap (after l 2) one.0
+    ∙ ended-from l s keeps so from half text line messages begins (record { room = one.1.room; stack = one.1.stack }) ended chosen
+
 -- an expression that has ended is valued
 ends-valued : (s : State) (keeps negated : Bool) (from : Origin) (text line : List ℕ) (value : Num × ℕ) → value_at text 0 Units (Some (pos 0)) ≡ Ok value
     → escape_ends (asked_at s keeps from (expression negated text) line) ≡ asked_at s keeps from (whole (Is (so_unless negated (int_lt (pos 0) value.0.0))) text) line
@@ -241,21 +264,12 @@ ends-valued s keeps negated from text line value is =
 abbrev IsOfIt : ℕ → Type 0
 IsOfIt b = is_of_expression b ≡ true
 
--- a line up to where its expression ends, and the room behind it
-pub expression-read : (l : Limits) (s : State) (keeps : Bool) (from : Origin) (control : ℕ) (name : ShortName) (blanks : ℕ) (negated : Bool) (text : List ℕ)
-    (value : Result (Num × ℕ) NumFault) → BeginsLine s → HasCondition s.input.names control name keeps → IsExpression text value
-    → let bytes : List ℕ = asking blanks negated text in
-    let line : List ℕ = asking_line control name bytes in
-    s.input.ahead ≡ ahead_at from line → s.tape ≡ tape_at from line s.tape → to_hold from bytes + live_bytes s.input.calls ≤ l.stack
-    → IsWithin l s → s.input.charge + length line ≤ l.bytes
-    → (after l (length line) s ≡ asked_at s keeps from (expression negated text) line)
-    × RoomToAsk l s keeps from (expression negated text) [] (behind_bytes from line s.input)
-expression-read l s keeps from control name blanks negated text value begins has is ahead tape held within charged =
-    let halves : HalvesTaken (choice negated) text (expression negated text) =
+-- the bytes of an expression
+pub halves-number : (negated : Bool) (text : List ℕ) (value : Result (Num × ℕ) NumFault) → IsExpression text value
+    → HalvesTaken (choice negated) text (expression negated text)
+halves-number negated text value is =
     subst (λ (t : List ℕ). HalvesTaken (choice negated) t (expression negated t)) (sym is.bytes)
-    (halves-expression negated is.first is.others is.begins (subst (λ (t : List ℕ). All IsOfIt t) is.bytes is.are_of_it)) in
-    asked-behind l s keeps from (control ∷ name_bytes name ++ blank ∷ []) (asking blanks negated text) (expression negated text) begins (path-front s control name keeps has)
-    (halves-asking blanks negated text (expression negated text) halves) ahead tape within charged held
+    (halves-expression negated is.first is.others is.begins (subst (λ (t : List ℕ). All IsOfIt t) is.bytes is.are_of_it))
 
 expression-from : (l : Limits) (s : State) (keeps : Bool) (from : Origin) (control : ℕ) (name : ShortName) (blanks : ℕ) (negated : Bool) (text : List ℕ) (value : Num × ℕ)
     (seen : Option ℕ) → BeginsLine s → HasCondition s.input.names control name keeps → IsExpression text (Ok value) → EndsThere (Expression negated) seen → FrontIs from seen
@@ -265,16 +279,12 @@ expression-from : (l : Limits) (s : State) (keeps : Bool) (from : Origin) (contr
     s.input.ahead ≡ ahead_at from line → s.tape ≡ tape_at from line s.tape → to_hold from bytes + live_bytes s.input.calls ≤ l.stack
     → IsWithin l s → IsWithin l (chosen_from s keeps from line so) → after l (length line + 2) s ≡ chosen_from s keeps from line so
 expression-from l s keeps from control name blanks negated text value seen begins has is ends comes ahead tape held within chosen =
-    let line : List ℕ = asking_line control name (asking blanks negated text) in
+    let bytes : List ℕ = asking blanks negated text in
+    let line : List ℕ = asking_line control name bytes in
     let so : Bool = so_unless negated (int_lt (pos 0) value.0.0) in
-    let u : State = asked_at s keeps from (expression negated text) line in
-    let one = expression-read l s keeps from control name blanks negated text (Ok value) begins has is ahead tape held within (charge-chosen l s keeps from line so chosen) in
-    let ended : step l u ≡ made l u (asked_at s keeps from (whole (Is so) text) line) =
-    step-ends l s keeps from (Expression negated) text line seen begins.takes comes ends refl
-    ∙ ap (made l u) (ends-valued s keeps negated from text line value is.comes_to) in
-    after-add l (length line) 2 s
-    ∙ ap (after l 2) one.0
-    ∙ ended-from l s keeps so from (expression negated text) text line s.messages begins (record { room = one.1.room; stack = one.1.stack }) ended chosen
+    asked-ends l s keeps so from (control ∷ name_bytes name ++ blank ∷ []) bytes (Expression negated) text s.messages seen begins
+    (path-front s control name keeps has) (halves-asking blanks negated text (expression negated text) (halves-number negated text (Ok value) is)) refl ends comes
+    (ends-valued s keeps negated from text line value is.comes_to) ahead tape held within chosen
 
 pub expressions_choose_their_branch : ExpressionsChooseTheirBranch
 expressions_choose_their_branch l s control name keeps blanks negated text value b rest begins has is ends ahead within chosen =

@@ -1,6 +1,6 @@
--- Conditions that ask nothing are false, and expressions that are no numbers are told and false.
-use Rattle.std.proofs.Common.{◌≡◌, ℕ, zero, suc, ◌+◌, ◌≤◌, Bool, false, List, [], ◌∷◌, ◌++◌, length, Option, Some, None, refl, ap, sym, subst, ◌∙◌, arith}
-use Rattle.std.specs.Prelude.{Result, Err, pos}
+-- Conditions that ask nothing are false, texts that are cut are compared, and expressions that are no numbers are told and false.
+use Rattle.std.proofs.Common.{◌≡◌, ℕ, zero, suc, ◌+◌, ◌≤◌, Bool, true, false, List, [], ◌∷◌, ◌++◌, length, Option, Some, None, refl, ap, sym, subst, ◌∙◌, arith}
+use Rattle.std.specs.Prelude.{Result, Err, bytes_eq, pos}
 use Rattle.roff_num.specs.Expressions.{value_at}
 use Rattle.roff_num.specs.declared.limits.Limits.{Limits}
 use Rattle.roff_num.specs.declared.num.Num.{Num}
@@ -13,24 +13,24 @@ use Rattle.roff_source.specs.Bytes.{blank, newline}
 use Rattle.roff_source.specs.Tape.{Answer, Tape, front}
 use Rattle.roff_ahead.specs.Input.{Ahead, ByteAhead}
 use Rattle.roff_escape.specs.ConditionFronts.{NothingTaken}
-use Rattle.roff_escape.specs.Conditions.{expression_valued}
-use Rattle.roff_escape.specs.declared.open_escape.ConditionPart.TheVariants.{Choice, Expression}
+use Rattle.roff_escape.specs.Conditions.{ends_condition, expression_valued, so_unless, text_is_same}
+use Rattle.roff_escape.specs.declared.open_escape.ConditionPart.{ConditionPart}
+use Rattle.roff_escape.specs.declared.open_escape.ConditionPart.TheVariants.{Choice, Compared, Expression}
 use Rattle.roff_escape.specs.declared.open_escape.Decision.TheVariants.{Is}
-use Rattle.roff_rules.proofs.AskedHalves.{choice, expression, halves-asking, whole}
-use Rattle.roff_rules.proofs.AskingLaws.{AheadIs, EndIs, FrontIs, SourceIs, behind-expression, charge-chosen, chosen_from, ended-from, EndsThere, expression-read, held-ahead, step-ends}
-use Rattle.roff_rules.proofs.AskingRuns.{asked-behind, asked_at, asks, path-front, path-whole, to_hold}
+use Rattle.roff_rules.proofs.AskedHalves.{choice, compared, cut-compared, expression, first_end, halves-asking, halves-cut, texts_so_far, whole}
+use Rattle.roff_rules.proofs.AskingLaws.{AheadIs, EndIs, FrontIs, SourceIs, asked-ends, behind-expression, chosen_from, EndsThere, halves-number, held-ahead}
+use Rattle.roff_rules.proofs.AskingRuns.{asked_at, asks, path-front, path-whole, to_hold}
 use Rattle.roff_rules.proofs.LineRooms.{most_of}
-use Rattle.roff_rules.specs.AskingLaws.{HasCondition, IsExpression, asking, asking_line, with_branch}
-use Rattle.roff_rules.specs.BadConditions.{BadNumbersAreToldAndFalse, BadNumbersOfTheSourceAreToldAndFalse, EmptyConditionsAreFalse, EmptyConditionsOfTheSourceAreFalse, empty_condition, with_bad_number}
+use Rattle.roff_rules.specs.AskingLaws.{AreDelimited, HasCondition, IsExpression, asking, asking_line, with_branch}
+use Rattle.roff_rules.specs.BadConditions.{BadNumbersAreToldAndFalse, BadNumbersOfTheSourceAreToldAndFalse, CutTextsAreCompared, CutTextsOfTheSourceAreCompared, EmptyConditionsAreFalse, EmptyConditionsOfTheSourceAreFalse, cut_texts, empty_condition, second_text, with_bad_number}
 use Rattle.roff_rules.specs.CallLaws.{BeginsLine}
 use Rattle.roff_rules.specs.CutNames.{AtNewline, AtTheEnd, CutsLine}
 use Rattle.roff_run.proofs.ItemsTaken.{FromAhead, FromSource, Origin, ahead_at, tape_at, taken_as-going_on}
-use Rattle.roff_run.proofs.Leads.{after-add}
 use Rattle.roff_run.proofs.NameBytes.{stage}
 use Rattle.roff_run.proofs.PlainRuns.{Path, behind_bytes, counted-ahead, counted-source}
 use Rattle.roff_run.specs.Reading.Found.{read_in}
 use Rattle.roff_run.specs.Reading.Items.{PageInput}
-use Rattle.roff_run.specs.Run.{State, after, escape_ends, known, made, step, taken_as}
+use Rattle.roff_run.specs.Run.{State, after, escape_ends, known, taken_as}
 use Rattle.roff_run.specs.Within.{IsWithin}
 use Rattle.roff_run.specs.declared.event.PageEvent.{PageEvent}
 use Rattle.roff_run.specs.declared.line_state.LineState.TheVariants.{Deciding, LineStart}
@@ -54,16 +54,11 @@ bad-from : (l : Limits) (s : State) (keeps : Bool) (from : Origin) (control : �
     → IsWithin l s → IsWithin l (chosen_from (told_from s from line) keeps from line false)
     → after l (length line + 2) s ≡ chosen_from (told_from s from line) keeps from line false
 bad-from l s keeps from control name blanks negated text fault seen begins has is ends comes ahead tape held within chosen =
-    let line : List ℕ = asking_line control name (asking blanks negated text) in
-    let u : State = asked_at s keeps from (expression negated text) line in
-    let told : State = told_from s from line in
-    let one = expression-read l s keeps from control name blanks negated text (Err fault) begins has is ahead tape held within (charge-chosen l told keeps from line false chosen) in
-    let ended : step l u ≡ made l u (asked_at told keeps from (whole (Is false) text) line) =
-    step-ends l s keeps from (Expression negated) text line seen begins.takes comes ends refl
-    ∙ ap (made l u) (ends-bad s keeps negated from text line fault is.comes_to) in
-    after-add l (length line) 2 s
-    ∙ ap (after l 2) one.0
-    ∙ ended-from l s keeps false from (expression negated text) text line told.messages begins (record { room = one.1.room; stack = one.1.stack }) ended chosen
+    let bytes : List ℕ = asking blanks negated text in
+    let line : List ℕ = asking_line control name bytes in
+    asked-ends l s keeps false from (control ∷ name_bytes name ++ blank ∷ []) bytes (Expression negated) text (told_from s from line).messages seen begins
+    (path-front s control name keeps has) (halves-asking blanks negated text (expression negated text) (halves-number negated text (Err fault) is)) refl ends comes
+    (ends-bad s keeps negated from text line fault is.comes_to) ahead tape held within chosen
 
 pub bad_numbers_are_told_and_false : BadNumbersAreToldAndFalse
 bad_numbers_are_told_and_false l s control name keeps blanks negated text fault b rest begins has is ends ahead within chosen =
@@ -100,16 +95,9 @@ empty-behind : (l : Limits) (s : State) (keeps : Bool) (from : Origin) (front : 
     → IsWithin l s → IsWithin l (chosen_from s keeps from line false) → after l (length line + 2) s ≡ chosen_from s keeps from line false
 empty-behind l s keeps from front blanks negated seen begins path ends comes ahead tape held within chosen =
     let bytes : List ℕ = asking blanks negated [] in
-    let line : List ℕ = front ++ bytes in
-    let u : State = asked_at s keeps from (choice negated) line in
-    let one = asked-behind l s keeps from front bytes (choice negated) begins path (halves-asking blanks negated [] (choice negated) (NothingTaken (choice negated))) ahead tape within
-    (charge-chosen l s keeps from line false chosen) held in
-    let ended : step l u ≡ made l u (asked_at s keeps from (whole (Is false) []) line) =
-    step-ends l s keeps from (Choice negated) [] line seen begins.takes comes ends refl
-    ∙ ap (made l u) (ends-empty s keeps negated from line) in
-    after-add l (length line) 2 s
-    ∙ ap (after l 2) one.0
-    ∙ ended-from l s keeps false from (choice negated) [] line s.messages begins (record { room = one.1.room; stack = one.1.stack }) ended chosen
+    asked-ends l s keeps false from front bytes (Choice negated) [] s.messages seen begins path
+    (halves-asking blanks negated [] (choice negated) (NothingTaken (choice negated))) refl ends comes
+    (ends-empty s keeps negated from (front ++ bytes)) ahead tape held within chosen
 
 -- what is held of it, with the blank of a name of one byte or without it
 fewer_held : (from : Origin) (b : ℕ) (bytes : List ℕ) → to_hold from bytes ≤ to_hold from (b ∷ bytes)
@@ -140,16 +128,66 @@ empty_conditions_are_false l s control name keeps blanks negated rest begins has
     ∙ same
 
 -- what may cut it in the source ends it
-cuts : (negated : Bool) (tape : Tape) (answer : Answer) → front tape ≡ answer → CutsLine answer
-    → (seen : Option ℕ) × (EndsThere (Choice negated) seen × FrontIs (FromSource tape) seen)
-cuts negated tape _ is AtNewline = (Some newline, (refl, SourceIs newline tape is))
-cuts negated tape _ is AtTheEnd = (None, (tt, EndIs tape is))
+cuts : (part : ConditionPart) (tape : Tape) (answer : Answer) → front tape ≡ answer → ends_condition part (Some newline) ≡ true → CutsLine answer
+    → (seen : Option ℕ) × (EndsThere part seen × FrontIs (FromSource tape) seen)
+cuts part tape _ is ends AtNewline = (Some newline, (ends, SourceIs newline tape is))
+cuts part tape _ is ends AtTheEnd = (None, (tt, EndIs tape is))
 
 pub empty_conditions_of_the_source_are_false : EmptyConditionsOfTheSourceAreFalse
 empty_conditions_of_the_source_are_false l s control name keeps blanks negated tape begins has enough none stands cut room within chosen =
     let line : List ℕ = empty_condition control name blanks negated in
     let same = ap (λ (i : PageInput). with_branch keeps false i (record s { tape = tape })) (counted-source tape line s.input none) in
-    let seen = cuts negated tape (front tape) refl cut in
+    let seen = cuts (Choice negated) tape (front tape) refl refl cut in
     empty-from l s keeps (FromSource tape) control name.first name.second blanks negated seen.0 begins has enough seen.1.0 seen.1.1 none stands
+    (omega (arith, room)) within (subst (IsWithin l) (sym same) chosen)
+    ∙ same
+
+-- texts that are cut are compared as they end
+ends-cut : (s : State) (keeps negated : Bool) (from : Origin) (d : ℕ) (first : List ℕ) (second : Option (List ℕ)) (line : List ℕ)
+    → let text : List ℕ = texts_so_far first second in
+    escape_ends (asked_at s keeps from (compared negated d (first_end first second) text) line)
+    ≡ asked_at s keeps from (whole (Is (so_unless negated (bytes_eq first (second_text second)))) text) line
+ends-cut s keeps negated from d first second line =
+    let text : List ℕ = texts_so_far first second in
+    let u : State = asked_at s keeps from (compared negated d (first_end first second) text) line in
+    let v : Bool → State = λ same. asked_at s keeps from (whole (Is (so_unless negated same)) text) line in
+    taken_as-going_on (v (text_is_same (first_end first second) text)).input (Deciding keeps) u ∙ ap v (cut-compared first second)
+
+cut-from : (l : Limits) (s : State) (keeps : Bool) (from : Origin) (control : ℕ) (name : ShortName) (blanks : ℕ) (negated : Bool) (d : ℕ) (first : List ℕ)
+    (second : Option (List ℕ)) (seen : Option ℕ) → BeginsLine s → HasCondition s.input.names control name keeps → AreDelimited d first (second_text second)
+    → EndsThere (Compared negated d (first_end first second)) seen → FrontIs from seen
+    → let bytes : List ℕ = asking blanks negated (cut_texts d first second) in
+    let line : List ℕ = asking_line control name bytes in
+    let so : Bool = so_unless negated (bytes_eq first (second_text second)) in
+    s.input.ahead ≡ ahead_at from line → s.tape ≡ tape_at from line s.tape → to_hold from bytes + live_bytes s.input.calls ≤ l.stack
+    → IsWithin l s → IsWithin l (chosen_from s keeps from line so) → after l (length line + 2) s ≡ chosen_from s keeps from line so
+cut-from l s keeps from control name blanks negated d first second seen begins has are ends comes ahead tape held within chosen =
+    let texts : List ℕ = cut_texts d first second in
+    let bytes : List ℕ = asking blanks negated texts in
+    let line : List ℕ = asking_line control name bytes in
+    let so : Bool = so_unless negated (bytes_eq first (second_text second)) in
+    let text : List ℕ = texts_so_far first second in
+    asked-ends l s keeps so from (control ∷ name_bytes name ++ blank ∷ []) bytes (Compared negated d (first_end first second)) text s.messages seen begins
+    (path-front s control name keeps has) (halves-asking blanks negated texts (compared negated d (first_end first second) text) (halves-cut negated d first second are))
+    refl ends comes (ends-cut s keeps negated from d first second line) ahead tape held within chosen
+
+pub cut_texts_are_compared : CutTextsAreCompared
+cut_texts_are_compared l s control name keeps blanks negated d first second rest begins has are ahead within chosen =
+    let bytes : List ℕ = asking blanks negated (cut_texts d first second) in
+    let line : List ℕ = asking_line control name bytes in
+    let so : Bool = so_unless negated (bytes_eq first (second_text second)) in
+    let behind : List (Ahead PageEvent) = ByteAhead newline ∷ rest in
+    let same = ap (λ (i : PageInput). with_branch keeps so i s) (counted-ahead behind line s.input) in
+    cut-from l s keeps (FromAhead behind) control name blanks negated d first second (Some newline) begins has are refl (AheadIs newline rest) ahead refl
+    (held-ahead l s behind (control ∷ name_bytes name ++ blank ∷ []) bytes within ahead) within (subst (IsWithin l) (sym same) chosen)
+    ∙ same
+
+pub cut_texts_of_the_source_are_compared : CutTextsOfTheSourceAreCompared
+cut_texts_of_the_source_are_compared l s control name keeps blanks negated d first second tape begins has are none stands cut room within chosen =
+    let line : List ℕ = asking_line control name (asking blanks negated (cut_texts d first second)) in
+    let so : Bool = so_unless negated (bytes_eq first (second_text second)) in
+    let same = ap (λ (i : PageInput). with_branch keeps so i (record s { tape = tape })) (counted-source tape line s.input none) in
+    let seen = cuts (Compared negated d (first_end first second)) tape (front tape) refl refl cut in
+    cut-from l s keeps (FromSource tape) control name blanks negated d first second seen.0 begins has are seen.1.0 seen.1.1 none stands
     (omega (arith, room)) within (subst (IsWithin l) (sym same) chosen)
     ∙ same

@@ -75,13 +75,13 @@ abbrev escaping : Definition → Arguments → List ℕ → Option ℕ → Stage
 escaping d a text matched = record (defining d a text matched) { escapes = Backslash ∷ [] }
 
 -- a unit of its text is copied
-abbrev Copies : Named Entry → Definition → Arguments → CopyUnit → List ℕ → Option ℕ → List ℕ → Option ℕ → Type 0
+abbrev pub Copies : Named Entry → Definition → Arguments → CopyUnit → List ℕ → Option ℕ → List ℕ → Option ℕ → Type 0
 Copies names d a unit text matched there m =
     (k : Known) (i : PageInput) → definition_line k (input_at names (defining d a text matched) i) d.name d.appends d.end matched unit
     ≡ going_on (input_at names (defining d a there m) i) (Defining d.name d.appends d.end m)
 
 -- one behind which the line isn't the last one
-copies-text : (names : Named Entry) (d : Definition) (a : Arguments) (unit : CopyUnit) (text front : List ℕ) (matched : Option ℕ)
+pub copies-text : (names : Named Entry) (d : Definition) (a : Arguments) (unit : CopyUnit) (text front : List ℕ) (matched : Option ℕ)
     → front_of (end_mark d.end) matched ≡ front → line_from (end_mark d.end) matched unit ≡ IsText
     → Copies names d a unit text matched (text ++ (front ++ unit_bytes unit)) (matched_behind unit)
 copies-text names d a unit text front matched is_front is_text k i =
@@ -92,7 +92,7 @@ copies-text names d a unit text front matched is_front is_text k i =
     (grown-by d.name d.before d.others text (front ++ unit_bytes unit) here)
 
 -- one behind which it still may be
-copies-mark : (names : Named Entry) (d : Definition) (a : Arguments) (unit : CopyUnit) (text : List ℕ) (matched m : ℕ)
+pub copies-mark : (names : Named Entry) (d : Definition) (a : Arguments) (unit : CopyUnit) (text : List ℕ) (matched m : ℕ)
     → line_from (end_mark d.end) (Some matched) unit ≡ MayBeLast m → Copies names d a unit text (Some matched) text (Some m)
 copies-mark names d a unit text matched m may k i =
     ap (definition_unit k (input_at names (defining d a text (Some matched)) i) d.name d.appends d.end (front_of (end_mark d.end) (Some matched)) unit) may
@@ -143,7 +143,7 @@ pub no_newline : (b : ℕ) → StandsForItself b → (b == newline) ≡ false
 no_newline b itself = not-second (is_dropped b) (b == newline) (IsRead-itself b itself)
 
 -- the bytes of a unit, and others behind them
-onward-unit : (most : Most) (names : Named Entry) (d : Definition) (a : Arguments) (bound : ℕ) (text there : List ℕ) (matched m : Option ℕ) (unit : CopyUnit) (written bytes : List ℕ) (r : Stage)
+pub onward-unit : (most : Most) (names : Named Entry) (d : Definition) (a : Arguments) (bound : ℕ) (text there : List ℕ) (matched m : Option ℕ) (unit : CopyUnit) (written bytes : List ℕ) (r : Stage)
     → Allows most d a bound → length text ≤ bound → length there ≤ bound → Writes unit written → Copies names d a unit text matched there m
     → Path most names (defining d a there m) bytes r → Path most names (defining d a text matched) (written ++ bytes) r
 onward-unit most names d a bound text there matched m _ _ bytes r allows before small (AsItself b itself) copies path =
@@ -195,11 +195,11 @@ path-in_text most names d a bound text _ _ more r allows (OneUnit unit written l
     (subst (λ (all : List ℕ). Path most names (defining d a all (Some 0)) more r) (sym same) path)))
 
 -- where a part of the mark stands in front, the rest of it is what the line is compared with
-line_from-part : (mark done todo : List ℕ) (unit : CopyUnit) → mark ≡ done ++ todo → line_from mark (Some (length done)) unit ≡ line_with todo (length done) (unit_bytes unit)
+pub line_from-part : (mark done todo : List ℕ) (unit : CopyUnit) → mark ≡ done ++ todo → line_from mark (Some (length done)) unit ≡ line_with todo (length done) (unit_bytes unit)
 line_from-part mark done todo unit is =
     ap (λ (rest : List ℕ). line_with rest (length done) (unit_bytes unit)) (ap (λ (all : List ℕ). drop (length done) all) is ∙ drop-append_seam done todo)
 
-front_of-part : (mark done todo : List ℕ) → mark ≡ done ++ todo → front_of mark (Some (length done)) ≡ done
+pub front_of-part : (mark done todo : List ℕ) → mark ≡ done ++ todo → front_of mark (Some (length done)) ≡ done
 front_of-part mark done todo is = ap (λ (all : List ℕ). take (length done) all) is ∙ take-append_seam done todo
 
 -- a unit that isn't the next one of the mark, and the rest of the line
@@ -247,12 +247,12 @@ path-compared most names d a bound text done todo b c written line copy more r f
     (ap (λ (x : Bool). if x then MayBeLast (length done + 1) else IsText) same) path
 
 -- behind the whole mark a unit goes on with the line if its first byte does
-goes_on-unit : (unit : CopyUnit) (matched : ℕ) (copy : List ℕ) → is_end [] (unit_bytes unit ++ copy) ≡ false → line_with [] matched (unit_bytes unit) ≡ IsText
+pub goes_on-unit : (unit : CopyUnit) (matched : ℕ) (copy : List ℕ) → is_end [] (unit_bytes unit ++ copy) ≡ false → line_with [] matched (unit_bytes unit) ≡ IsText
 goes_on-unit (Byte b) matched copy goes_on = ap (λ (x : Bool). if x then IsLast b else IsText) goes_on
 goes_on-unit (Kept b) matched copy goes_on = refl
 
 -- bytes that are equal the other way
-other_way : (b c : ℕ) → (c == b) ≡ false → (b == c) ≡ false
+pub other_way : (b c : ℕ) → (c == b) ≡ false → (b == c) ≡ false
 other_way b c is = ne_eqb b c (λ same. eqb-false c b is (sym same))
 
 -- a line that doesn't end the definition

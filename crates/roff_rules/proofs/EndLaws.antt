@@ -26,7 +26,7 @@ use Rattle.roff_run.specs.declared.event.PageEvent.{PageEvent}
 use Rattle.roff_run.specs.Events.Lines.{closing_events}
 use Rattle.roff_run.specs.Run.{State, answered, ending_input, input_ended, known, made, phase_ended, source_answer, step, unless_refused, with_registers}
 use Rattle.roff_run.proofs.ItemsTaken.{step-reads}
-use Rattle.roff_rules.proofs.TapeInFront.{unread_input_is_the_tape}
+use Rattle.roff_rules.proofs.Interpolation.{unread_input_is_the_tape}
 use Rattle.roff_run.specs.declared.line_state.LineState.TheVariants.{LineStart}
 use Rattle.roff_run.specs.declared.phase.Phase.{Phase}
 use Rattle.roff_run.specs.declared.phase.Phase.TheVariants.{Reading, LastMacro, Closing}

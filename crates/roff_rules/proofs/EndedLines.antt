@@ -20,11 +20,8 @@ use Rattle.roff_escape.specs.declared.open_escape.Waiting.TheVariants.{Takes}
 use Rattle.roff_ahead.specs.Input.{Ahead, counting, lines_taken}
 use Rattle.roff_ahead.specs.Input.Names.{calling_on, dropping}
 use Rattle.roff_rules.proofs.DefinedBytes.{Allows, Definition, defining, newest-last}
-use Rattle.roff_rules.proofs.DefinitionLaws.{making-length, making-stored, remove-last}
-use Rattle.roff_rules.proofs.DefinedLines.{path-lines}
-use Rattle.roff_rules.proofs.Skipping.{skipped_behind, taking-goes_on}
-use Rattle.roff_rules.proofs.SkippingRuns.{IsPlain, IsPlain-counting, step-counting}
-use Rattle.roff_rules.proofs.SkippingRuns.{run_at as skips_at}
+use Rattle.roff_rules.proofs.DefinitionLaws.{making-length, making-stored, remove-last, path-lines}
+use Rattle.roff_rules.proofs.Skipping.{IsPlain, IsPlain-counting, skipped_behind, step-counting, taking-goes_on, run_at as skips_at}
 use Rattle.roff_rules.proofs.EventRuns.{AreQuiet, Means, Tells, after-Tells, after-meant, behind-append, behind_performed, fits-room, idle-state, perform-all, quiet-front, steps-append, steps_of, taken_as-meaning, text_at}
 use Rattle.roff_rules.proofs.TextLaws.{NoneGoesOn, first_events, glyph_line, leading_line, means-first, means-newline, neither, taking-glyph, tells-behind_blank, tells-rest}
 use Rattle.roff_rules.proofs.QuietEvents.{part_events, quiet-text}

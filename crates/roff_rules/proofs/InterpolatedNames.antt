@@ -112,7 +112,7 @@ abbrev pub read_from : Origin → NameUse → List ℕ → ℕ → State → Sta
 read_from from asks name taken s = with_text_ahead asks name taken (ahead_at from []) (source_behind from s)
 
 -- before it no quote follows the quote before
-with_text_ahead-arguments : (asks : NameUse) (name : List ℕ) (taken : ℕ) (rest : List (Ahead PageEvent)) (s : State) → ReadsEscapes s.reading
+pub with_text_ahead-arguments : (asks : NameUse) (name : List ℕ) (taken : ℕ) (rest : List (Ahead PageEvent)) (s : State) → ReadsEscapes s.reading
     → with_text_ahead asks name taken rest s
     ≡ record (stepped asks name s) {
       input = pushing (text_named (known s) s.input asks name) (record s.input { ahead = rest; arguments = settled_for s.reading s.input.arguments; charge = s.input.charge + taken });
@@ -151,39 +151,32 @@ charge-asked s reading from a half charge line _ name (ARegister (Some direction
 charge-asked s reading from a half charge line _ name AString = refl
 charge-asked s reading from a half charge line _ name AnArgument = refl
 
--- an escape is read as its text, where a run takes items
-escape-going : (l : Limits) (s : State) (reading : LineState) (from : Origin) (a : Arguments)
-    (asks : NameUse) (name : List ℕ) (names : List OpenEscape) (bytes : List ℕ) (charge line : ℕ)
-    → Interpolates asks → ReadsEscapes reading → reads_above names ≡ true → AsksAtLast (place_in (known s) reading) asks name names (Backslash ∷ names) bytes
-    → let first : State = going s reading from (backslash ∷ bytes) a names charge line in
-    let read : State = read_from from asks name (length (backslash ∷ bytes)) first in
-    IsWithin l first → IsWithin l read → after l (length (backslash ∷ bytes)) first ≡ read
-escape-going l s reading from a asks name names bytes charge line of on are last within within_read =
-    let first : State = going s reading from (backslash ∷ bytes) a names charge line in
-    let read : State = read_from from asks name (length (backslash ∷ bytes)) first in
-    let total : ℕ = charge + length (backslash ∷ bytes) in
-    let t : State = asked s reading from (settled_for reading a) names total (line_behind from s line) asks name in
-    let is : read ≡ t = read_from-asked s reading from (backslash ∷ bytes) a names charge (length (backslash ∷ bytes)) line asks name of on in
-    let within_t : IsWithin l t = subst (IsWithin l) is within_read in
-    let charged : t.input.charge ≡ total = charge-asked s reading from (settled_for reading a) names total (line_behind from s line) asks name of in
-    after-escape l s reading from a (Asks asks (Some name)) names names bytes charge line t on (goes_on-names names are) (byte_read-backslash (place_in (known s) reading) names are)
-    last (omega (arith, within_t.bytes, charged)) (Fits-IsWithin l first within)
-    (means-asks s reading from (settled_for reading a) total (line_behind from s line) asks name names of on (settled_for-settled_for reading a on))
-    (Fits-IsWithin l t within_t)
-    ∙ sym is
-
--- and in any state of such a run
+-- an escape is read as its text
 escape-reads : (l : Limits) (s : State) (from : Origin) (asks : NameUse) (name bytes : List ℕ)
     → Interpolates asks → TakesItems s → ReadsEscapes s.reading → reads_above s.input.escapes ≡ true → AsksAtLast (place_in (known s) s.reading) asks name s.input.escapes (Backslash ∷ s.input.escapes) bytes
     → s.input.ahead ≡ ahead_at from (backslash ∷ bytes) → s.tape ≡ tape_at from (backslash ∷ bytes) s.tape
     → let read : State = read_from from asks name (length (backslash ∷ bytes)) s in
     IsWithin l s → IsWithin l read → after l (length (backslash ∷ bytes)) s ≡ read
-escape-reads l s from asks name bytes of takes on are last ahead tape =
-    let Goal : State → Type 0 = λ t.
-    IsWithin l t → IsWithin l (read_from from asks name (length (backslash ∷ bytes)) t)
-    → after l (length (backslash ∷ bytes)) t ≡ read_from from asks name (length (backslash ∷ bytes)) t in
-    subst Goal (is-going s from (backslash ∷ bytes) takes ahead tape)
-    (escape-going l s s.reading from s.input.arguments asks name s.input.escapes bytes s.input.charge s.input.line of on are last)
+escape-reads l s from asks name bytes of takes on are last ahead tape within within_read =
+    let escape : List ℕ = backslash ∷ bytes in
+    let reading : LineState = s.reading in
+    let names : List OpenEscape = s.input.escapes in
+    let a : Arguments = s.input.arguments in
+    let first : State = going s reading from escape a names s.input.charge s.input.line in
+    let total : ℕ = s.input.charge + length escape in
+    let next : ℕ = line_behind from s s.input.line in
+    let t : State = asked s reading from (settled_for reading a) names total next asks name in
+    let read : State → State = read_from from asks name (length escape) in
+    let begins : first ≡ s = is-going s from escape takes ahead tape in
+    let is : read first ≡ t = read_from-asked s reading from escape a names s.input.charge (length escape) s.input.line asks name of on in
+    let within_t : IsWithin l t = subst (IsWithin l) (ap read (sym begins) ∙ is) within_read in
+    let charged : t.input.charge ≡ total = charge-asked s reading from (settled_for reading a) names total next asks name of in
+    ap (after l (length escape)) (sym begins)
+    ∙ after-escape l s reading from a (Asks asks (Some name)) names names bytes s.input.charge s.input.line t on (goes_on-names names are)
+    (byte_read-backslash (place_in (known s) reading) names are) last (omega (arith, within_t.bytes, charged)) (Fits-IsWithin l first (subst (IsWithin l) (sym begins) within))
+    (means-asks s reading from (settled_for reading a) total next asks name names of on (settled_for-settled_for reading a on)) (Fits-IsWithin l t within_t)
+    ∙ sym is
+    ∙ ap read begins
 
 -- each escape
 escapes_read_from : (l : Limits) (s : State) (from : Origin) (asks : NameUse) (name escape : List ℕ)
@@ -232,53 +225,34 @@ pub escapes_of_the_source_read_as_texts : EscapesOfTheSourceReadAsTexts
 escapes_of_the_source_read_as_texts l s asks name escape tape is_escape takes are few reads none stands =
     escapes_read_from l s (FromSource tape) asks name escape is_escape takes are few reads none stands
 
--- where text is read, nothing that isn't a byte of the line changes the input
-interrupted-reads_text : (reading : LineState) (i : PageInput) → reads_text reading ≡ true → interrupted reading i ≡ i
-interrupted-reads_text LineStart i is = refl
-interrupted-reads_text Branch i is = refl
-interrupted-reads_text Braced i is = refl
-interrupted-reads_text (InText line) i is = refl
-interrupted-reads_text (InArguments breaks request) i is = absurd (cc)
-interrupted-reads_text (Control breaks) i is = absurd (cc)
-interrupted-reads_text (NameOf breaks first) i is = absurd (cc)
-interrupted-reads_text (Deciding keeps) i is = absurd (cc)
-interrupted-reads_text (StringName appends) i is = absurd (cc)
-interrupted-reads_text (Calling name) i is = absurd (cc)
-interrupted-reads_text (StringText name appends is_front) i is = absurd (cc)
-interrupted-reads_text (Defining name appends end matched) i is = absurd (cc)
-interrupted-reads_text (Skipping opened closed behind) i is = absurd (cc)
-interrupted-reads_text Dropped i is = absurd (cc)
-interrupted-reads_text (Telling aborts is_front) i is = absurd (cc)
-interrupted-reads_text (Told aborts) i is = absurd (cc)
-interrupted-reads_text Exiting i is = absurd (cc)
-
--- and escapes are read
-reads_escapes-reads_text : (reading : LineState) → reads_text reading ≡ true → reads_escapes reading ≡ true
-reads_escapes-reads_text LineStart is = refl
-reads_escapes-reads_text Branch is = refl
-reads_escapes-reads_text Braced is = refl
-reads_escapes-reads_text (InText line) is = refl
-reads_escapes-reads_text (InArguments breaks request) is = refl
-reads_escapes-reads_text (Control breaks) is = absurd (cc)
-reads_escapes-reads_text (NameOf breaks first) is = absurd (cc)
-reads_escapes-reads_text (Deciding keeps) is = refl
-reads_escapes-reads_text (StringName appends) is = refl
-reads_escapes-reads_text (Calling name) is = refl
-reads_escapes-reads_text (StringText name appends is_front) is = refl
-reads_escapes-reads_text (Defining name appends end matched) is = refl
-reads_escapes-reads_text (Skipping opened closed behind) is = absurd (cc)
-reads_escapes-reads_text Dropped is = absurd (cc)
-reads_escapes-reads_text (Telling aborts is_front) is = refl
-reads_escapes-reads_text (Told aborts) is = absurd (cc)
-reads_escapes-reads_text Exiting is = absurd (cc)
+-- where text is read escapes are, and nothing that isn't a byte of the line changes the input
+reads-text : (reading : LineState) (i : PageInput) → reads_text reading ≡ true → (interrupted reading i ≡ i) × (reads_escapes reading ≡ true)
+reads-text LineStart i is = (refl, refl)
+reads-text Branch i is = (refl, refl)
+reads-text Braced i is = (refl, refl)
+reads-text (InText line) i is = (refl, refl)
+reads-text (InArguments breaks request) i is = absurd (cc)
+reads-text (Control breaks) i is = absurd (cc)
+reads-text (NameOf breaks first) i is = absurd (cc)
+reads-text (Deciding keeps) i is = absurd (cc)
+reads-text (StringName appends) i is = absurd (cc)
+reads-text (Calling name) i is = absurd (cc)
+reads-text (StringText name appends is_front) i is = absurd (cc)
+reads-text (Defining name appends end matched) i is = absurd (cc)
+reads-text (Skipping opened closed behind) i is = absurd (cc)
+reads-text Dropped i is = absurd (cc)
+reads-text (Telling aborts is_front) i is = absurd (cc)
+reads-text (Told aborts) i is = absurd (cc)
+reads-text Exiting i is = absurd (cc)
 
 pub escapes_of_text_read_as_texts : EscapesOfTextReadAsTexts
 escapes_of_text_read_as_texts l s name escape rest is_escape takes reads half ahead within within_read =
     let of : PageInput → State = λ i. record s {
       input = pushing (text_of_register (known s) name) (record i { ahead = rest; charge = s.input.charge + length escape });
     } in
-    let is : with_text_ahead (Register None) name (length escape) rest s ≡ of s.input = ap of (interrupted-reads_text s.reading s.input reads) in
+    let there = reads-text s.reading s.input reads in
+    let is : with_text_ahead (Register None) name (length escape) rest s ≡ of s.input = ap of there.0 in
     let few : names_in s.input.escapes < most_names = rw half (omega arith) in
-    escapes_read_as_texts l s (Register None) name escape rest is_escape takes (rw half refl) few (reads_escapes-reads_text s.reading reads) ahead
+    escapes_read_as_texts l s (Register None) name escape rest is_escape takes (rw half refl) few there.1 ahead
     within (subst (IsWithin l) (sym is) within_read)
     ∙ is

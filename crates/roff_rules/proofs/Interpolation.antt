@@ -7,9 +7,9 @@ use Rattle.roff_arguments.proofs.Settling.{settled-only_kept, held-only_kept-set
 use Rattle.roff_arguments.specs.Arguments.{Arguments, settled, only_kept, held}
 use Rattle.roff_source.specs.Bytes.{newline, backslash, is_dropped}
 use Rattle.roff_escape.specs.OpenEscapes.{byte_read}
-use Rattle.roff_escape.specs.Waiting.{is_ended_by}
+use Rattle.roff_escape.specs.Waiting.{is_ended_by, decides}
 use Rattle.roff_ahead.specs.Input.{Ahead, ByteAhead, EndAhead, cost}
-use Rattle.roff_source.specs.Tape.{Tape}
+use Rattle.roff_source.specs.Tape.{Tape, Answer, Gives, Ends, OneByte, OneNote, Ended, Failed, Stopped, front}
 use Rattle.roff_escape.specs.OpenEscape.{OpenEscape, Backslash, texts_held}
 use Rattle.roff_escape.specs.declared.open_escape.Found.{Found}
 use Rattle.roff_escape.specs.declared.open_escape.Found.TheVariants.{GoesOn}
@@ -20,7 +20,7 @@ use Rattle.roff_num.specs.declared.short_name.ShortName.{ShortName}
 use Rattle.roff_run.specs.declared.line_state.TextLine.{TextLine}
 use Rattle.roff_run.specs.declared.request.Request.{Request}
 use Rattle.roff_run.specs.declared.status.Status.{Status}
-use Rattle.roff_rules.specs.InterpolationLaws.{StandsForItself, reads_escapes, with_source_behind, cost_of_all, TextsCostTheirBytesAndOne}
+use Rattle.roff_rules.specs.InterpolationLaws.{StandsForItself, reads_escapes, with_source_behind, cost_of_all, TextsCostTheirBytesAndOne, StepsFollowTheTape, UnreadInputIsTheTape}
 use Rattle.roff_run.specs.ItemsTaken.{TakesItems}
 use Rattle.roff_run.specs.Reading.{taking, undropped_taking, interrupted}
 use Rattle.roff_run.specs.Reading.Ends.{due}
@@ -28,8 +28,47 @@ use Rattle.roff_run.specs.Reading.Items.{PageInput, Taking, going_on}
 use Rattle.roff_run.specs.Reading.Found.{place_in, read_in}
 use Rattle.roff_run.specs.Registers.{AllRegisters, Known}
 use Rattle.roff_run.specs.declared.event.PageEvent.{PageEvent}
-use Rattle.roff_run.specs.Run.{State, known, made, byte_taken, taken_as, step, after}
-use Rattle.roff_run.proofs.ItemsTaken.{Origin, ahead_at, tape_at, input_of, going, bytes_ahead_are_taken, bytes_of_the_source_are_taken, not-first, not-second, Fits, made-Fits, taken_as-going_on, FromAhead, FromSource}
+use Rattle.roff_run.specs.Run.{State, known, made, byte_taken, taken_as, step, after, answered, awaited, awaited_of_source, escape_ends, front_seen, in_front_taken, read_waiting, source_answer}
+use Rattle.roff_run.proofs.ItemsTaken.{Origin, ahead_at, tape_at, input_of, going, bytes_ahead_are_taken, bytes_of_the_source_are_taken, not-first, not-second, Fits, made-Fits, taken_as-going_on, FromAhead, FromSource, step-TakesItems}
+use Rattle.roff_ahead.specs.Shown.{seen_ahead}
+use Rattle.roff_escape.specs.declared.open_escape.Waiting.{Waiting}
+use Rattle.roff_escape.specs.declared.open_escape.Waiting.TheVariants.{Takes, Decides, Waits}
+use Rattle.roff_run.specs.Reading.Waiting.{waiting_in}
+use Rattle.roff_run.proofs.Waiting.{undecided}
+
+-- nothing ends that isn't half read: the source's answer is taken
+seen-answered : (l : Limits) (seen : Option ℕ) (a : Answer) (s : State) → s.input.ahead ≡ [] → s.input.escapes ≡ [] → source_answer s ≡ a
+    → front_seen l seen s ≡ answered l a s
+seen-answered l seen a s none half gives =
+    ap (λ (h : List OpenEscape). if is_ended_by h seen then made l s (escape_ends s) else in_front_taken l s.input.ahead s) half
+    ∙ ap (λ (items : List (Ahead PageEvent)). in_front_taken l items s) none
+    ∙ ap (λ (b : Answer). answered l b s) gives
+
+awaited-answered : (l : Limits) (a : Answer) (s : State) → s.input.ahead ≡ [] → s.input.escapes ≡ [] → source_answer s ≡ a
+    → awaited_of_source l a s ≡ answered l a s
+awaited-answered l (Gives (OneByte b)) s none half gives = seen-answered l (Some b) (Gives (OneByte b)) s none half gives
+awaited-answered l (Gives (OneNote message)) s none half gives = refl
+awaited-answered l (Ends Ended) s none half gives = seen-answered l None (Ends Ended) s none half gives
+awaited-answered l (Ends Failed) s none half gives = refl
+awaited-answered l (Ends (Stopped limit)) s none half gives = refl
+
+-- it is taken, whether a byte is waited for or not
+read-answered : (l : Limits) (w : Waiting) (s : State) → s.input.ahead ≡ [] → s.input.escapes ≡ [] → decides w ≡ false
+    → read_waiting l w s ≡ answered l (source_answer s) s
+read-answered l Takes s none half decided = ap (λ (items : List (Ahead PageEvent)). in_front_taken l items s) none
+read-answered l Decides s none half decided = absurd (cc)
+read-answered l Waits s none half decided =
+    ap (λ (items : List (Ahead PageEvent)). awaited l (seen_ahead items) s) none ∙ awaited-answered l (source_answer s) s none half refl
+
+pub unread_input_is_the_tape : UnreadInputIsTheTape
+unread_input_is_the_tape l s none half =
+    read-answered l (waiting_in s.reading s.input) s none half
+    (undecided s.reading s.input.arguments.place s.input.escapes None (ap (λ (h : List OpenEscape). is_ended_by h None) half))
+
+pub steps_follow_the_tape : StepsFollowTheTape
+steps_follow_the_tape l s takes none half =
+    step-TakesItems l s takes ∙ unread_input_is_the_tape l s none half
+    ∙ ap (λ (closed : Bool). answered l (if closed then Ends Ended else front s.tape) s) takes.is_open
 
 -- the line behind one of them
 abbrev pub line_behind : Origin → State → ℕ → ℕ

@@ -6,20 +6,17 @@ pub mod CutNames
 pub mod QuotedArguments
 pub mod MessageLaws
 pub mod Skipping
-pub mod SkippingRuns
 pub mod LineNames
 pub mod CalledArguments
 pub mod CallLaws
 pub mod UnknownNames
 pub mod DefinedBytes
-pub mod DefinedLines
 pub mod DefinitionLaws
 pub mod StringLaws
 pub mod LineRooms
 pub mod EventRuns
 pub mod QuietEvents
 pub mod TextLaws
-pub mod ElseLaws
 pub mod AskedHalves
 pub mod AskingRuns
 pub mod AskingLaws
@@ -32,6 +29,4 @@ pub mod WordCalls
 pub mod MixedArguments
 pub mod EndLaws
 pub mod EndedLines
-pub mod TapeInFront
-pub mod MessageBytes
 pub mod MessageLines

@@ -38,7 +38,7 @@ use Rattle.roff_run.specs.Stages.{Stage}
 use Rattle.roff_run.specs.Within.{IsWithin}
 use Rattle.roff_run.specs.declared.event.PageEvent.{PageEvent}
 use Rattle.roff_run.specs.declared.line_state.LineState.TheVariants.{LineStart, Told}
-use Rattle.roff_rules.proofs.MessageBytes.{held-fold, path-front, path-tell, tell, telling, told-front}
+use Rattle.roff_rules.proofs.MessageLaws.{held-fold, path-front, path-tell, tell, telling, told-front}
 use Rattle.roff_rules.proofs.CalledArguments.{most_of}
 
 -- a pushed text's end is taken
@@ -56,17 +56,17 @@ step-end l s names texts t items i on few within =
     ∙ made-Fits l u v (Fits-IsWithin l v within)
 
 -- the message is told behind its line
-step-told : (l : Limits) (u : State) → u.ended ≡ None → u.to_do ≡ [] → u.sprung ≡ None → u.reading ≡ Told false → step l u ≡ made l u (message_told u)
+pub step-told : (l : Limits) (u : State) → u.ended ≡ None → u.to_do ≡ [] → u.sprung ≡ None → u.reading ≡ Told false → step l u ≡ made l u (message_told u)
 step-told l u going idle unsprung reading = rw (going, idle, unsprung, reading) refl
 
 -- an escape that steps nothing changes nothing else
-stepped-none : (purpose : NameUse) (named : List ℕ) (s : State) → steps purpose ≡ false → stepped purpose named s ≡ s
+pub stepped-none : (purpose : NameUse) (named : List ℕ) (s : State) → steps purpose ≡ false → stepped purpose named s ≡ s
 stepped-none (Register None) named s none = refl
 stepped-none (Register (Some direction)) named s none = absurd (cc)
 stepped-none purpose named s none = refl
 
 -- what stands ahead, behind some bytes
-split-ahead : (bytes more : List ℕ) (rest : List (Ahead PageEvent)) → map ByteAhead (bytes ++ more) ++ rest ≡ map ByteAhead bytes ++ (map ByteAhead more ++ rest)
+pub split-ahead : (bytes more : List ℕ) (rest : List (Ahead PageEvent)) → map ByteAhead (bytes ++ more) ++ rest ≡ map ByteAhead bytes ++ (map ByteAhead more ++ rest)
 split-ahead [] more rest = refl
 split-ahead (b ∷ bytes) more rest = ap (λ (items : List (Ahead PageEvent)). ByteAhead b ∷ items) (split-ahead bytes more rest)
 
@@ -79,7 +79,7 @@ ends_ahead-front [] rest = refl
 ends_ahead-front (b ∷ bytes) rest = ends_ahead-front bytes rest
 
 -- the text that an escape stands for is the same in front of it
-same-text : (k j : Known) (i m : PageInput) (purpose : NameUse) (named escape : List ℕ) → IsEscapeOf purpose named escape → k ≡ j → i.names ≡ m.names → i.calls ≡ m.calls
+pub same-text : (k j : Known) (i m : PageInput) (purpose : NameUse) (named escape : List ℕ) → IsEscapeOf purpose named escape → k ≡ j → i.names ≡ m.names → i.calls ≡ m.calls
     → text_named k i purpose named ≡ text_named j m purpose named
 same-text k j i m _ _ _ (Short step x may plain) known names calls = ap (λ (n : Known). text_of_register (known_stepped step (x ∷ []) n) (x ∷ [])) known
 same-text k j i m _ _ _ (Long step x y first second) known names calls =

@@ -78,7 +78,7 @@ goes_on-names (Name asks part ∷ rest) are = refl
 goes_on-names (Condition part text ∷ rest) are = goes_on-condition part are
 
 -- nor does a byte that is read behind it in arguments too, whether the backslash is taken alone there or not
-goes_on-escape : (alone : Bool) (b : ℕ) → ends_backslash (Some b) ≡ false → (alone && ends_backslash (Some b)) ≡ false
+pub goes_on-escape : (alone : Bool) (b : ℕ) → ends_backslash (Some b) ≡ false → (alone && ends_backslash (Some b)) ≡ false
 goes_on-escape true b read = read
 goes_on-escape false b read = refl
 
@@ -127,13 +127,13 @@ byte_read-argument base x names are plain =
     ∙ name_given-names names Argument (Some (x ∷ [])) are
 
 -- the byte behind a backslash begins a name
-begun-names : (names : List OpenEscape) (asks : NameUse) → names_in names < most_names
+pub begun-names : (names : List OpenEscape) (asks : NameUse) → names_in names < most_names
     → ◌≡◌ {A = Reads} (GoesOn, (if nat_le most_names (names_in names) then names else Name asks Nothing ∷ names)) (GoesOn, Name asks Nothing ∷ names)
 begun-names names asks few =
     ap (λ (full : Bool). (GoesOn, (if full then names else Name asks Nothing ∷ names))) (lt-leb most_names (names_in names) few)
 
 -- `n`
-byte_read-n : (base : Surroundings) (names : List OpenEscape) → names_in names < most_names
+pub byte_read-n : (base : Surroundings) (names : List OpenEscape) → names_in names < most_names
     → byte_read base (Backslash ∷ names) 110 ≡ (GoesOn, Name (Register None) Nothing ∷ names)
 byte_read-n base names few = begun-names names (Register None) few
 

@@ -14,7 +14,7 @@ use Rattle.roff_rules.proofs.CalledArguments.{arguments_at, call_byte, call_byte
 use Rattle.roff_source.specs.Bytes.{blank, quote}
 
 -- between arguments none is begun
-abbrev IsClean : Place → List ℕ → Type 0
+abbrev pub IsClean : Place → List ℕ → Type 0
 IsClean Between begun = begun ≡ []
 IsClean (_) begun = ⊤
 
@@ -24,13 +24,13 @@ pub data Agrees : Arguments → Arguments → Type 0 where
   Full : (whole more : List (List ℕ)) (begun : List ℕ) (place : Place) → length whole ≡ 9 → Agrees (arguments_at whole [] Between) (arguments_at (more ++ whole) begun place)
 
 -- few are all held
-agrees-kept : (whole : List (List ℕ)) (begun : List ℕ) (place : Place) → length whole ≤ 8 → IsClean place begun
+pub agrees-kept : (whole : List (List ℕ)) (begun : List ℕ) (place : Place) → length whole ≤ 8 → IsClean place begun
     → Agrees (only_kept (arguments_at whole begun place)) (arguments_at whole begun place)
 agrees-kept whole begun place few clean =
     subst (λ (a : Arguments). Agrees a (arguments_at whole begun place)) (sym (only_kept-few whole begun place (omega (arith, few)))) (Same whole begun place few clean)
 
 -- nine or fewer are whole
-agrees-whole : (whole : List (List ℕ)) (c : Bool) → nat_le (length whole) 8 ≡ c → length whole ≤ 9 → Agrees (only_kept (arguments_at whole [] Between)) (arguments_at whole [] Between)
+pub agrees-whole : (whole : List (List ℕ)) (c : Bool) → nat_le (length whole) 8 ≡ c → length whole ≤ 9 → Agrees (only_kept (arguments_at whole [] Between)) (arguments_at whole [] Between)
 agrees-whole whole true is few = agrees-kept whole [] Between (leb-true (length whole) 8 is) refl
 agrees-whole whole false is few =
     subst (λ (a : Arguments). Agrees a (arguments_at whole [] Between)) (sym (only_kept-few whole [] Between (omega (arith, few))))

@@ -25,8 +25,7 @@ use Rattle.roff_store.specs.Texts.{Entry}
 use Rattle.roff_rules.proofs.LineNames.{Allows, ReadsAs, ReadsName, onward, reads-name}
 use Rattle.roff_rules.proofs.CalledArguments.{arguments_at}
 use Rattle.roff_rules.proofs.DefinedBytes.{AsItself, Escaped, IsCopied, NoUnit, OneUnit, Writes, grown-by, no_backslash, no_newline, none_dropped, reads-itself}
-use Rattle.roff_rules.proofs.DefinedLines.{copied-line}
-use Rattle.roff_rules.proofs.DefinitionLaws.{entered-by}
+use Rattle.roff_rules.proofs.DefinitionLaws.{copied-line, entered-by}
 use Rattle.roff_rules.specs.CallLaws.{BeginsLine}
 use Rattle.roff_rules.specs.DefinitionLaws.{HasRoomFor, with_definition}
 use Rattle.roff_rules.specs.InterpolationLaws.{StandsForItself}
@@ -54,14 +53,14 @@ use Rattle.roff_run.specs.declared.request.LineReading.TheVariants.{ByString}
 use Rattle.roff_run.specs.declared.request.Request.{Request}
 
 -- where the name of a string is read, and where its text is, beside these in the making
-abbrev naming : Bool → List (List ℕ) → List ℕ → Place → Stage
+abbrev pub naming : Bool → List (List ℕ) → List ℕ → Place → Stage
 naming appends texts begun place = stage (StringName appends) (arguments_at [] begun place) texts
 
-abbrev setting : ShortName → Bool → List (List ℕ) → Bool → List ℕ → Stage
+abbrev pub setting : ShortName → Bool → List (List ℕ) → Bool → List ℕ → Stage
 setting name appends before is_front text = stage (StringText (Some name) appends is_front) no_arguments (before ++ text ∷ [])
 
 -- a request whose line is read so
-reads-request : (names : Named Entry) (request : ShortName) (appends : Bool) (of : Request) → called_by request names ≡ ARequest of → (row_of of).line ≡ ByString appends
+pub reads-request : (names : Named Entry) (request : ShortName) (appends : Bool) (of : Request) → called_by request names ≡ ARequest of → (row_of of).line ≡ ByString appends
     → ReadsAs names request (StringName appends)
 reads-request names request appends of stands_for line = record {
   called = ARequest of;
@@ -133,20 +132,20 @@ turns-named names appends texts first (Some second) k i = refl
 turns-blank : (names : Named Entry) (name : ShortName) (appends : Bool) (before : List (List ℕ)) → Turns names (setting name appends before true []) blank (setting name appends before true [])
 turns-blank names name appends before k i = refl
 
-turns-quote : (names : Named Entry) (name : ShortName) (appends : Bool) (before : List (List ℕ)) → Turns names (setting name appends before true []) quote (setting name appends before false [])
+pub turns-quote : (names : Named Entry) (name : ShortName) (appends : Bool) (before : List (List ℕ)) → Turns names (setting name appends before true []) quote (setting name appends before false [])
 turns-quote names name appends before k i = refl
 
 -- what the reading of a text has room for
-abbrev most_for : ShortName → List (List ℕ) → ℕ → Most
+abbrev pub most_for : ShortName → List (List ℕ) → ℕ → Most
 most_for name before bound = record { held = length (name_bytes name); stored = sum_by length before + bound; texts = length before + 1 }
 
-making-few : (before : List (List ℕ)) (text : List ℕ) (bound : ℕ) → length text ≤ bound → sum_by length (before ++ text ∷ []) ≤ sum_by length before + bound
+pub making-few : (before : List (List ℕ)) (text : List ℕ) (bound : ℕ) → length text ≤ bound → sum_by length (before ++ text ∷ []) ≤ sum_by length before + bound
 making-few before text bound few =
     let size : List ℕ → ℕ = length in
     omega (arith, few, sum_by-append size before (text ∷ []), sum_by-cons size text [])
 
 -- a byte at which the text becomes another
-onward-text : (names : Named Entry) (name : ShortName) (appends : Bool) (before : List (List ℕ)) (bound : ℕ) (is_front goes_on_front : Bool) (text there : List ℕ) (b : ℕ) (bytes : List ℕ) (r : Stage)
+pub onward-text : (names : Named Entry) (name : ShortName) (appends : Bool) (before : List (List ℕ)) (bound : ℕ) (is_front goes_on_front : Bool) (text there : List ℕ) (b : ℕ) (bytes : List ℕ) (r : Stage)
     → length there ≤ bound → Turns names (setting name appends before is_front text) b (setting name appends before goes_on_front there)
     → Path (most_for name before bound) names (setting name appends before goes_on_front there) bytes r
     → Path (most_for name before bound) names (setting name appends before is_front text) (b ∷ bytes) r
@@ -160,7 +159,7 @@ none-newline true none = absurd (cc)
 none-newline false none = refl
 
 -- a unit of the text, where it isn't a blank or a quote in front
-abbrev StaysInText : Bool → CopyUnit → Type 0
+abbrev pub StaysInText : Bool → CopyUnit → Type 0
 StaysInText is_front (Byte b) = (is_front && (b == blank || b == quote)) ≡ false
 StaysInText is_front (Kept b) = is_front ≡ is_front
 
@@ -200,7 +199,7 @@ gives-unit names name appends before is_front text half unit b k i is_kept reads
     ap (λ (c : Bool). if c then going_on here reading else undropped_taking k reading here b) is_kept
     ∙ ap (read_in k (StringText (Some name) appends is_front) here) reads
 
-path-unit : (names : Named Entry) (name : ShortName) (appends : Bool) (before : List (List ℕ)) (bound : ℕ) (is_front : Bool) (text : List ℕ) (unit : CopyUnit) (written bytes : List ℕ) (r : Stage)
+pub path-unit : (names : Named Entry) (name : ShortName) (appends : Bool) (before : List (List ℕ)) (bound : ℕ) (is_front : Bool) (text : List ℕ) (unit : CopyUnit) (written bytes : List ℕ) (r : Stage)
     → Writes unit written → matched_behind unit ≡ None → StaysInText is_front unit → length text ≤ bound → length (text ++ unit_bytes unit) ≤ bound
     → Path (most_for name before bound) names (setting name appends before false (text ++ unit_bytes unit)) bytes r
     → Path (most_for name before bound) names (setting name appends before is_front text) (written ++ bytes) r
@@ -226,7 +225,7 @@ record ReadsText (names : Named Entry) (name : ShortName) (appends : Bool) (befo
   ends_front : Bool
   path : Path (most_for name before bound) names (setting name appends before is_front text) line (setting name appends before ends_front (text ++ copy))
 
-stays-behind : (unit : CopyUnit) → StaysInText false unit
+pub stays-behind : (unit : CopyUnit) → StaysInText false unit
 stays-behind (Byte b) = refl
 stays-behind (Kept b) = refl
 
@@ -234,7 +233,7 @@ neither-is : (c : Bool) → not c ≡ true → c ≡ false
 neither-is true is = absurd (cc)
 neither-is false is = refl
 
-stays-front : (quoted : Bool) (unit : CopyUnit) (copy : List ℕ) → may_stand quoted (unit_bytes unit ++ copy) ≡ true → StaysInText (not quoted) unit
+pub stays-front : (quoted : Bool) (unit : CopyUnit) (copy : List ℕ) → may_stand quoted (unit_bytes unit ++ copy) ≡ true → StaysInText (not quoted) unit
 stays-front true unit copy stands = stays-behind unit
 stays-front false (Byte b) copy stands = neither-is (b == blank || b == quote) stands
 stays-front false (Kept b) copy stands = refl
@@ -272,7 +271,7 @@ reads-behind names name appends before bound true text copy copies stands few =
           (turns-quote names name appends before) rest.path;
     }
 
-path-blanks : (names : Named Entry) (name : ShortName) (appends : Bool) (before : List (List ℕ)) (bound blanks : ℕ)
+pub path-blanks : (names : Named Entry) (name : ShortName) (appends : Bool) (before : List (List ℕ)) (bound blanks : ℕ)
     → Path (most_for name before bound) names (setting name appends before true []) (replicate blanks blank) (setting name appends before true [])
 path-blanks names name appends before bound zero = Here (setting name appends before true [])
 path-blanks names name appends before bound (suc blanks) =
@@ -298,7 +297,7 @@ onward-named names appends before bound first second bytes r path =
     (record { none_half = refl; held_few = omega arith; stored_few = making-few before [] bound (omega arith); texts_few = omega (arith, length-append before ([] ∷ [])) })
     (omega arith) path
 
-path-name : (names : Named Entry) (appends : Bool) (before : List (List ℕ)) (bound first : ℕ) (second : Option ℕ) (bytes : List ℕ) (r : Stage)
+pub path-name : (names : Named Entry) (appends : Bool) (before : List (List ℕ)) (bound first : ℕ) (second : Option ℕ) (bytes : List ℕ) (r : Stage)
     → let name : ShortName = record { first = first; second = second } in
     All IsOfWord (name_bytes name) → Path (most_for name before bound) names (setting name appends before true []) bytes r
     → Path (most_for name before bound) names (naming appends before [] Between) (name_bytes name ++ blank ∷ bytes) r
@@ -314,12 +313,12 @@ path-name names appends before bound first (Some second) bytes r words path =
     (onward-named names appends before bound first (Some second) bytes r path))
 
 -- a run that set a string
-abbrev set_from : State → Origin → List ℕ → ShortName → Bool → List ℕ → State
+abbrev pub set_from : State → Origin → List ℕ → ShortName → Bool → List ℕ → State
 set_from s from line name appends text =
     record s { tape = tape_at from [] s.tape; input = with_definition name appends text s.input.open_texts (counted from line s.input) }
 
 -- the newline of the line enters its text
-newline-sets : (s : State) (from : Origin) (front : List ℕ) (name : ShortName) (appends is_front : Bool) (text : List ℕ) → BeginsLine s
+pub newline-sets : (s : State) (from : Origin) (front : List ℕ) (name : ShortName) (appends is_front : Bool) (text : List ℕ) → BeginsLine s
     → byte_taken newline (run_at s s.input.names (setting name appends s.input.open_texts is_front text) from [] (behind_byte from newline (behind_bytes from front s.input)))
     ≡ set_from s from (front ++ newline ∷ []) name appends text
 newline-sets s from front name appends is_front text begins =

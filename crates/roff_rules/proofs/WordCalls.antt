@@ -30,7 +30,7 @@ use Rattle.roff_run.specs.Within.{IsWithin}
 use Rattle.roff_run.specs.declared.line_state.LineState.TheVariants.{Calling, LineStart}
 
 -- the bytes behind the blank go to the arguments
-path-call : (names : Named Entry) (name : ShortName) (texts : List (List ℕ)) (most : ℕ) (a : Arguments) (bytes : List ℕ) → All StandsForItself bytes
+pub path-call : (names : Named Entry) (name : ShortName) (texts : List (List ℕ)) (most : ℕ) (a : Arguments) (bytes : List ℕ) → All StandsForItself bytes
     → held (fold call_byte a bytes) ≤ most
     → Path (most_of most texts) names (stage (Calling name) a texts) bytes (stage (Calling name) (fold call_byte a bytes) texts)
 path-call names name texts most a [] themselves few = Here (stage (Calling name) a texts)

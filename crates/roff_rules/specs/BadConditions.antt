@@ -1,14 +1,14 @@
--- Laws of conditions that ask nothing, and of expressions that are no numbers (manual, section 16).
-use Rattle.std.specs.Prelude.{◌≡◌, ℕ, ◌+◌, ◌≤◌, Bool, true, false, List, [], ◌∷◌, ◌++◌, length, map, Some, Err}
+-- Laws of conditions that ask nothing, of texts that are cut, and of expressions that are no numbers (manual, section 16).
+use Rattle.std.specs.Prelude.{◌≡◌, ℕ, ◌+◌, ◌≤◌, Bool, true, false, List, [], ◌∷◌, ◌++◌, length, map, bytes_eq, Option, Some, None, Err}
 use Rattle.roff_num.specs.declared.limits.Limits.{Limits}
 use Rattle.roff_num.specs.declared.num.NumFault.{NumFault}
 use Rattle.roff_num.specs.declared.short_name.ShortName.{ShortName}
 use Rattle.roff_num.specs.ShortNames.{name_bytes}
 use Rattle.roff_source.specs.Bytes.{newline}
 use Rattle.roff_source.specs.Tape.{Tape, OneByte, front, items_then}
-use Rattle.roff_escape.specs.Conditions.{ends_expression}
+use Rattle.roff_escape.specs.Conditions.{ends_expression, so_unless}
 use Rattle.roff_ahead.specs.Input.{Ahead, ByteAhead, lines_taken, pushed}
-use Rattle.roff_rules.specs.AskingLaws.{EndsExpression, HasCondition, IsExpression, asking, asking_line, with_branch}
+use Rattle.roff_rules.specs.AskingLaws.{AreDelimited, EndsExpression, HasCondition, IsExpression, asking, asking_line, with_branch}
 use Rattle.roff_rules.specs.CallLaws.{BeginsLine}
 use Rattle.roff_rules.specs.CutNames.{CutsLine}
 use Rattle.roff_run.specs.Messages.{message_lines}
@@ -76,3 +76,41 @@ EmptyConditionsOfTheSourceAreFalse =
     let chosen : State = with_branch keeps false (lines_taken line s.input) (record s { tape = tape }) in
     pushed s.input + length (asking blanks negated []) ≤ l.stack → IsWithin l s → IsWithin l chosen →
     after l (length line + 2) s ≡ chosen
+
+-- two texts behind delimiters, of which the second is cut, or the first, and then the second isn't there
+abbrev pub cut_texts : ℕ → List ℕ → Option (List ℕ) → List ℕ
+cut_texts delimiter first None = delimiter ∷ first
+cut_texts delimiter first (Some second) = delimiter ∷ first ++ delimiter ∷ second
+
+-- the second of them as it is compared: one that isn't there is empty
+abbrev pub second_text : Option (List ℕ) → List ℕ
+second_text None = []
+second_text (Some second) = second
+
+-- Texts that a newline cuts are compared as far as they stand: a first one that is cut is compared with nothing. One step ends what is
+-- asked, and one decides; the newline is the first byte of the branch.
+abbrev pub CutTextsAreCompared : Type 0
+CutTextsAreCompared =
+    (l : Limits) (s : State) (control : ℕ) (name : ShortName) (keeps : Bool) (blanks : ℕ) (negated : Bool) (delimiter : ℕ)
+    (first : List ℕ) (second : Option (List ℕ)) (rest : List (Ahead PageEvent)) →
+    BeginsLine s → HasCondition s.input.names control name keeps → AreDelimited delimiter first (second_text second) →
+    let line : List ℕ = asking_line control name (asking blanks negated (cut_texts delimiter first second)) in
+    s.input.ahead ≡ map ByteAhead line ++ ByteAhead newline ∷ rest →
+    let so : Bool = so_unless negated (bytes_eq first (second_text second)) in
+    let behind : PageInput = record s.input { ahead = ByteAhead newline ∷ rest; charge = s.input.charge + length line } in
+    let chosen : State = with_branch keeps so behind s in
+    IsWithin l s → IsWithin l chosen → after l (length line + 2) s ≡ chosen
+
+-- and so it is where the line stands in the source itself, before a newline or at the end of all input, and there is room for them
+abbrev pub CutTextsOfTheSourceAreCompared : Type 0
+CutTextsOfTheSourceAreCompared =
+    (l : Limits) (s : State) (control : ℕ) (name : ShortName) (keeps : Bool) (blanks : ℕ) (negated : Bool) (delimiter : ℕ)
+    (first : List ℕ) (second : Option (List ℕ)) (tape : Tape) →
+    BeginsLine s → HasCondition s.input.names control name keeps → AreDelimited delimiter first (second_text second) →
+    s.input.ahead ≡ [] →
+    let asked : List ℕ = asking blanks negated (cut_texts delimiter first second) in
+    let line : List ℕ = asking_line control name asked in
+    s.tape ≡ items_then (map OneByte line) tape → CutsLine (front tape) →
+    let so : Bool = so_unless negated (bytes_eq first (second_text second)) in
+    let chosen : State = with_branch keeps so (lines_taken line s.input) (record s { tape = tape }) in
+    pushed s.input + length asked ≤ l.stack → IsWithin l s → IsWithin l chosen → after l (length line + 2) s ≡ chosen

@@ -6,6 +6,8 @@ ghost use Rattle.roff_rules.specs.AskingLaws.{ExpressionsChooseTheirBranch};
 ghost use Rattle.roff_rules.specs.AskingLaws.{ExpressionsOfTheSourceChooseTheirBranch};
 ghost use Rattle.roff_rules.specs.BadConditions.{BadNumbersAreToldAndFalse};
 ghost use Rattle.roff_rules.specs.BadConditions.{BadNumbersOfTheSourceAreToldAndFalse};
+ghost use Rattle.roff_rules.specs.BadConditions.{CutTextsAreCompared};
+ghost use Rattle.roff_rules.specs.BadConditions.{CutTextsOfTheSourceAreCompared};
 ghost use Rattle.roff_rules.specs.BadConditions.{EmptyConditionsAreFalse};
 ghost use Rattle.roff_rules.specs.BadConditions.{EmptyConditionsOfTheSourceAreFalse};
 ghost use Rattle.roff_rules.specs.BranchLaws.{ExactlyOneBranchIsRead};
@@ -70,6 +72,14 @@ pub fn bad_numbers()
 pub fn empty_conditions()
     ensures ahead { EmptyConditionsAreFalse }
     ensures source { EmptyConditionsOfTheSourceAreFalse }
+{}
+
+/// Two texts between delimiters that a newline, or the end of all input, cuts are compared as far
+/// as they stand: the first with an empty second one where no delimiter stands behind it. The
+/// newline is read behind the decision, as the first byte of the branch.
+pub fn cut_texts()
+    ensures ahead { CutTextsAreCompared }
+    ensures source { CutTextsOfTheSourceAreCompared }
 {}
 
 /// Of the branch behind a condition whose result is kept and the one of the next line that has the

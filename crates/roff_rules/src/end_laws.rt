@@ -51,6 +51,8 @@ pub fn end_rows()
         ≡ gives (codes "a b end\n") (codes "") Done }
     ensures behind_an_interrupted_line { formatted (codes ".pl 1\n.nf\n.de Z\nend\n..\n.em Z\na\\c")
         ≡ gives (codes "a\nend\n") (codes "") Done }
+    ensures before_any_byte_of_a_name { formatted (codes ".pl 1\na\\n\nb\\*\nc\\$\nd\\(")
+        ≡ gives (codes "a b c d\n") (codes "nroff: line 5: unknown character: \n") Done }
     ensures read_once { formatted
         (codes ".pl 1\n.nf\n.de Z\nend\n.em Z\n.ex\nnever\n..\n.em Z\na\n")
         ≡ gives (codes "a\nend\n") (codes "") Done }

@@ -2,6 +2,10 @@
 
 ghost use Rattle.roff_rules.specs.CutNames.{CutNamesAreTheirFirstByte};
 ghost use Rattle.roff_rules.specs.CutNames.{CutNamesOfTheSourceAreTheirFirstByte};
+ghost use Rattle.roff_rules.specs.CutNames.{NamelessCharactersAreTold};
+ghost use Rattle.roff_rules.specs.CutNames.{NamelessCharactersOfTheSourceAreTold};
+ghost use Rattle.roff_rules.specs.CutNames.{NamelessEscapesOfTheSourceReadAsNothing};
+ghost use Rattle.roff_rules.specs.CutNames.{NamelessEscapesReadAsNothing};
 ghost use Rattle.roff_rules.specs.InterpolationLaws.{UnreadInputIsTheTape, StepsFollowTheTape};
 ghost use Rattle.roff_rules.specs.InterpolationLaws.{EscapesReadAsTexts};
 ghost use Rattle.roff_rules.specs.InterpolationLaws.{EscapesOfTheSourceReadAsTexts};
@@ -50,6 +54,16 @@ pub fn escapes()
 pub fn cut_names()
     ensures ahead { CutNamesAreTheirFirstByte }
     ensures source { CutNamesOfTheSourceAreTheirFirstByte }
+{}
+
+/// Where a newline or the end of all input cuts the escape of a register, a string or an argument
+/// before any byte of its name, nothing is read in its place, and nothing is stepped or told. The
+/// escape of a character that is cut so on a text line is told as that of an unknown one.
+pub fn nameless_escapes()
+    ensures ahead { NamelessEscapesReadAsNothing }
+    ensures source { NamelessEscapesOfTheSourceReadAsNothing }
+    ensures character { NamelessCharactersAreTold }
+    ensures character_of_the_source { NamelessCharactersOfTheSourceAreTold }
 {}
 
 /// A byte that is read again costs what it would if it stood in the source; the end of its text

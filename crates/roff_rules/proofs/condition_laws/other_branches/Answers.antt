@@ -1,5 +1,5 @@
 use Rattle.roff_rules.proofs.condition_laws.other_branches.Goals as goal
-use Rattle.roff_rules.proofs.ElseLaws.{else_of_the_source_takes_the_newest_result, else_takes_the_newest_result}
+use Rattle.roff_rules.proofs.BranchLaws.{else_of_the_source_takes_the_newest_result, else_takes_the_newest_result}
 
 pub returns-clause-ahead : goal.returns-clause-ahead
 returns-clause-ahead c = else_takes_the_newest_result

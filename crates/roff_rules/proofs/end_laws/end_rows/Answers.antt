@@ -23,6 +23,10 @@ pub returns-clause-behind_an_interrupted_line : goal.returns-clause-behind_an_in
 unfolding folded_onto operand_within value_at
 returns-clause-behind_an_interrupted_line c = refl
 
+pub returns-clause-before_any_byte_of_a_name : goal.returns-clause-before_any_byte_of_a_name
+unfolding folded_onto operand_within value_at digits
+returns-clause-before_any_byte_of_a_name c = refl
+
 pub returns-clause-read_once : goal.returns-clause-read_once
 unfolding folded_onto operand_within value_at
 returns-clause-read_once c = refl

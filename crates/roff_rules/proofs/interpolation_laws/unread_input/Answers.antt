@@ -1,4 +1,4 @@
-use Rattle.roff_rules.proofs.TapeInFront.{steps_follow_the_tape, unread_input_is_the_tape}
+use Rattle.roff_rules.proofs.Interpolation.{steps_follow_the_tape, unread_input_is_the_tape}
 use Rattle.roff_rules.proofs.interpolation_laws.unread_input.Goals as goal
 
 pub returns-clause-tape : goal.returns-clause-tape
