@@ -1,0 +1,281 @@
+-- A body that a line calls gets the arguments that the line's parts are read as.
+use Rattle.std.proofs.Common.{◌≡◌, ℕ, ◌+◌, ◌≤◌, Bool, true, false, List, [], ◌∷◌, ◌++◌, length, refl, ap, sym, subst, ◌∙◌, arith, append_assoc}
+use Rattle.std.specs.Prelude.{All, ◌||◌, fold, nat_le, reverse, ◌==◌}
+use Rattle.std.proofs.lemmas.List.{length-append}
+use Rattle.std.proofs.lemmas.List.Elements.{All-append, All-cons, All-head, All-nil, All-tail, All-weaker}
+use Rattle.std.proofs.lemmas.List.Sums.{fold-append}
+use Rattle.roff_num.specs.declared.limits.Limits.{Limits}
+use Rattle.roff_num.specs.declared.short_name.ShortName.{ShortName}
+use Rattle.roff_num.specs.ShortNames.{name_bytes}
+use Rattle.roff_arguments.proofs.Settling.{held-only_kept-settled}
+use Rattle.roff_arguments.specs.Arguments.{Arguments, arguments_read, held, is_behind_quote, live_bytes, no_arguments, only_kept, settled, settled_at, with_argument_byte}
+use Rattle.roff_arguments.specs.declared.arguments.Place.{Place}
+use Rattle.roff_arguments.specs.declared.arguments.Place.TheVariants.{BehindQuote, Between, InPlain, InQuotes}
+use Rattle.roff_source.specs.Bytes.{backslash, blank, is_dropped, newline, tab}
+use Rattle.roff_store.specs.Named.{Named}
+use Rattle.roff_store.specs.Texts.{Entry}
+use Rattle.roff_ahead.specs.Input.{bytes_ahead, counting, ends_ahead, lines_taken}
+use Rattle.roff_rewriting.proofs.PartRuns.{NoPart, OnBytes, OnText, PartsPath, RoomFor, after-parts, behind_bytes-append, behind_bytes-charged, bytes_ahead-front, ends_ahead-front, knows-behind}
+use Rattle.roff_rewriting.proofs.ReadTexts.{IsOfOneLine, More, charged}
+use Rattle.roff_rewriting.specs.Parts.{AreParts, Escape, MayHave, MayRead, MayWrite, Part, Written, bytes_of, cost_of_texts, rewritten}
+use Rattle.roff_rewriting.specs.TextsInCalls.{AreThemselves, BodiesGetTheTextsRead, BodiesOfTheSourceGetTheTextsRead, HasRoomForTexts, LinesAreReadAsRewritten, NoneBehindQuote, behind_part, parts_read_as}
+use Rattle.roff_rules.proofs.CallLaws.{called_from, newline-calls, reads-body}
+use Rattle.roff_rules.proofs.CalledArguments.{arguments_at, call_byte, most_of, only_kept-few, turns-call}
+use Rattle.roff_rules.proofs.Interpolation.{is_no_newline}
+use Rattle.roff_rules.proofs.LineNames.{Allows, ReadsName, onward, reads-name}
+use Rattle.roff_rules.proofs.ReadArguments.{Agrees, Full, IsClean, Same, agrees-bytes, agrees-kept, agrees-whole, given-agrees, held-call_byte}
+use Rattle.roff_rules.proofs.WordCalls.{path-call}
+use Rattle.roff_rules.specs.CallLaws.{BeginsLine, IsApostrophe, IsControl, IsDot, with_call}
+use Rattle.roff_rules.specs.InterpolationLaws.{StandsForItself, text_named}
+use Rattle.roff_rules.specs.WordCalls.{NamesBody, call_with}
+use Rattle.roff_run.proofs.ItemsTaken.{FromAhead, FromSource, Origin, ahead_at, not-second, tape_at}
+use Rattle.roff_run.proofs.Leads.{after-add}
+use Rattle.roff_run.proofs.NameBytes.{stage}
+use Rattle.roff_run.proofs.PlainRuns.{HasRoom, HasRoom-start, Here, Most, Path, Path-append, after-Path, behind_byte, behind_bytes, behind_bytes-charge, behind_bytes-counts, counted-ahead, counted-source, is-run_at, run_at, step-taken}
+use Rattle.roff_run.specs.Reading.Items.{PageInput}
+use Rattle.roff_run.specs.Registers.{Known}
+use Rattle.roff_run.specs.Reading.ControlLines.{BelongsToName, ends_name}
+use Rattle.roff_run.specs.Run.{State, after, byte_taken, known}
+use Rattle.roff_run.specs.Stages.{Stage}
+use Rattle.roff_run.specs.Within.{IsWithin}
+use Rattle.roff_run.specs.declared.line_state.LineState.TheVariants.{Calling, LineStart}
+
+-- of bytes as many are held at the most
+held-bytes : (a : Arguments) (bytes : List ℕ) → held (fold call_byte a bytes) ≤ held a + length bytes
+held-bytes a [] = omega arith
+held-bytes a (b ∷ bytes) = omega (arith, (held-call_byte a b).1, held-bytes (call_byte a b) bytes)
+
+-- what is held in front of an escape is what the line was read as there
+same-settled : (whole : List (List ℕ)) (begun : List ℕ) (place : Place) → length whole ≤ 8 → IsClean place begun
+    → Agrees (only_kept (settled (arguments_at whole begun place))) (settled (arguments_at whole begun place))
+same-settled whole begun Between few clean = agrees-kept whole begun Between few clean
+same-settled whole begun InPlain few clean = agrees-kept whole begun InPlain few clean
+same-settled whole begun InQuotes few clean = agrees-kept whole begun InQuotes few clean
+same-settled whole begun BehindQuote few clean =
+    agrees-whole (reverse begun ∷ whole) (nat_le (length (reverse begun ∷ whole)) 8) refl (omega (arith, few))
+
+full-settled : (whole more : List (List ℕ)) (begun : List ℕ) (place : Place) → length whole ≡ 9
+    → Agrees (arguments_at whole [] Between) (settled (arguments_at (more ++ whole) begun place))
+full-settled whole more begun Between full = Full whole more begun Between full
+full-settled whole more begun InPlain full = Full whole more begun InPlain full
+full-settled whole more begun InQuotes full = Full whole more begun InQuotes full
+full-settled whole more begun BehindQuote full = Full whole (reverse begun ∷ more) [] Between full
+
+agrees-settled : (a u : Arguments) → Agrees a u → Agrees (only_kept (settled a)) (settled u)
+agrees-settled _ _ (Same whole begun place few clean) = same-settled whole begun place few clean
+agrees-settled _ _ (Full whole more begun place full) =
+    subst (λ (a : Arguments). Agrees a (settled (arguments_at (more ++ whole) begun place))) (sym (only_kept-few whole [] Between (omega (arith, full))))
+    (full-settled whole more begun place full)
+
+-- parts are read behind arguments that are held
+record ReadsParts (k : Known) (j : PageInput) (names : Named Entry) (name : ShortName) (texts : List (List ℕ)) (most : ℕ) (a u : Arguments) (parts : List Part) : Type 0 where
+  there : Arguments
+  path : PartsPath k j (most_of most texts) names (stage (Calling name) a texts) parts (stage (Calling name) there texts)
+  agrees : Agrees there (fold (behind_part k j) u parts)
+
+-- by the first of them
+reads-part : (k : Known) (j : PageInput) (names : Named Entry) (name : ShortName) (texts : List (List ℕ)) (most : ℕ) (a u : Arguments) (part : Part) (parts : List Part)
+    → MayHave AreThemselves k j part → held a + length (rewritten k j (part ∷ parts)) ≤ most → Agrees a u
+    → ((b v : Arguments) → held b + length (rewritten k j parts) ≤ most → Agrees b v → ReadsParts k j names name texts most b v parts)
+    → ReadsParts k j names name texts most a u (part ∷ parts)
+reads-part k j names name texts most a u _ parts (MayWrite bytes themselves) few agrees reads =
+    let next : Arguments = fold call_byte a bytes in
+    let all : length (bytes ++ rewritten k j parts) ≡ length bytes + length (rewritten k j parts) = length-append bytes (rewritten k j parts) in
+    let others = reads next (fold with_argument_byte u bytes) (omega (arith, few, all, held-bytes a bytes)) (agrees-bytes a u bytes agrees) in
+    record {
+      there = others.there;
+      path =
+          OnBytes (stage (Calling name) a texts) (stage (Calling name) next texts) (stage (Calling name) others.there texts) bytes parts
+          (All-weaker StandsForItself (λ b. (b == newline) ≡ false) is_no_newline bytes themselves)
+          (path-call names name texts most a bytes themselves (omega (arith, few, all, held-bytes a bytes)))
+          others.path;
+      agrees = others.agrees;
+    }
+reads-part k j names name texts most a u _ parts (MayRead purpose escape bytes is none themselves) few agrees reads =
+    let text : List ℕ = text_named k j purpose escape in
+    let begun : Arguments = only_kept (settled a) in
+    let next : Arguments = fold call_byte begun text in
+    let same : held begun ≡ held a = held-only_kept-settled a in
+    let all : length (text ++ rewritten k j parts) ≡ length text + length (rewritten k j parts) = length-append text (rewritten k j parts) in
+    let others =
+    reads next (fold with_argument_byte (settled u) text) (omega (arith, few, all, same, held-bytes begun text)) (agrees-bytes begun (settled u) text (agrees-settled a u agrees)) in
+    record {
+      there = others.there;
+      path =
+          OnText (Calling name) (Calling name) a next texts texts (stage (Calling name) others.there texts) purpose escape bytes parts refl refl is none
+          (path-call names name texts most begun text themselves (omega (arith, few, all, same, held-bytes begun text)))
+          others.path;
+      agrees = others.agrees;
+    }
+
+reads-parts : (k : Known) (j : PageInput) (names : Named Entry) (name : ShortName) (texts : List (List ℕ)) (most : ℕ) (a u : Arguments) (parts : List Part)
+    → AreParts AreThemselves k j parts → held a + length (rewritten k j parts) ≤ most → Agrees a u → ReadsParts k j names name texts most a u parts
+reads-parts k j names name texts most a u [] may few agrees = record { there = a; path = NoPart (stage (Calling name) a texts); agrees = agrees }
+reads-parts k j names name texts most a u (part ∷ parts) may few agrees =
+    reads-part k j names name texts most a u part parts (All-head (MayHave AreThemselves k j) part parts may) few agrees
+    (λ b v. reads-parts k j names name texts most b v parts (All-tail (MayHave AreThemselves k j) part parts may))
+
+-- a line up to the blank behind its name
+abbrev pub line_front : ℕ → ShortName → List ℕ
+line_front control name = (control ∷ name_bytes name) ++ blank ∷ []
+
+none-third : (w x y z : Bool) → (w || (x || (y || z))) ≡ false → y ≡ false
+none-third true x y z none = absurd (cc)
+none-third false true y z none = absurd (cc)
+none-third false false true z none = absurd (cc)
+none-third false false false z none = refl
+
+pub no_newline-name : (b : ℕ) → BelongsToName b → (b == newline) ≡ false
+no_newline-name b belongs =
+    none-third (b == blank) (b == tab) (b == newline) (b == backslash) (not-second (is_dropped b) (ends_name b) belongs)
+
+pub no_newline-control : (control : ℕ) → IsControl control → (control == newline) ≡ false
+no_newline-control _ IsDot = refl
+no_newline-control _ IsApostrophe = refl
+
+pub name-of_line : (control : ℕ) (name : ShortName) → IsControl control → All BelongsToName (name_bytes name) → IsOfOneLine (line_front control name)
+name-of_line control name begins is_name =
+    let NoNewline : ℕ → Type 0 = λ b. (b == newline) ≡ false in
+    All-append NoNewline (control ∷ name_bytes name) (blank ∷ [])
+    (All-cons NoNewline control (name_bytes name) (no_newline-control control begins)
+    (All-weaker BelongsToName NoNewline no_newline-name (name_bytes name) is_name))
+    (All-cons NoNewline blank [] refl (All-nil NoNewline))
+
+reads-front : (names : Named Entry) (name : ShortName) (texts : List (List ℕ)) (most control : ℕ) (body : List ℕ) → NamesBody names control name body
+    → Path (most_of most texts) names (stage LineStart no_arguments texts) (line_front control name) (stage (Calling name) no_arguments texts)
+reads-front names name texts most control body call =
+    let allows : Allows (most_of most texts) no_arguments texts = record { held_few = omega arith; stored_few = omega arith; texts_few = omega arith } in
+    let begins : ReadsName (most_of most texts) names no_arguments texts (control ∷ name_bytes name) (Calling name) =
+    reads-name (most_of most texts) names no_arguments texts control name (Calling name) call.begins call.is_name allows (reads-body names name body call.stands_for) in
+    let mid : Stage = stage begins.reading no_arguments texts in
+    let end : Stage = stage (Calling name) no_arguments texts in
+    Path-append (most_of most texts) names (stage LineStart no_arguments texts) mid end (control ∷ name_bytes name) (blank ∷ []) begins.path
+    (onward (most_of most texts) names no_arguments texts begins.reading (Calling name) blank [] end begins.does.none_due
+    (λ k i. begins.does.at_blank k mid i ∙ turns-call names name no_arguments texts blank refl k i) allows (Here end))
+
+-- a run that has paid for texts before it reads their line
+abbrev pub paid : State → ℕ → State
+paid s cost = record s { input = charged cost s.input }
+
+-- the whole line
+called-with-texts : (l : Limits) (s : State) (from : Origin) (control : ℕ) (name : ShortName) (body : List ℕ) (parts : List Part)
+    → BeginsLine s → NamesBody s.input.names control name body → AreParts AreThemselves (known s) s.input parts
+    → let line : List ℕ = call_with control name (bytes_of parts) in
+    let cost : ℕ = cost_of_texts (known s) s.input parts in
+    let called : State = called_from (paid s cost) from line body (parts_read_as (known s) s.input parts) in
+    s.input.ahead ≡ ahead_at from line → s.tape ≡ tape_at from line s.tape → HasRoomForTexts l s (rewritten (known s) s.input parts) → IsWithin l s → IsWithin l called
+    → after l (length line + cost) s ≡ called
+called-with-texts l s from control name body parts begins call may ahead tape has_room within within_called =
+    let k : Known = known s in
+    let j : PageInput = s.input in
+    let names : Named Entry = s.input.names in
+    let texts : List (List ℕ) = s.input.open_texts in
+    let front : List ℕ = line_front control name in
+    let bytes : List ℕ = bytes_of parts in
+    let last : List ℕ = bytes ++ newline ∷ [] in
+    let line : List ℕ = call_with control name bytes in
+    let cost : ℕ = cost_of_texts k j parts in
+    let arguments : List (List ℕ) = parts_read_as k j parts in
+    let called : State = called_from (paid s cost) from line body arguments in
+    let most : Most = most_of (length (rewritten k j parts)) texts in
+    let start : Stage = stage LineStart no_arguments texts in
+    let mid : Stage = stage (Calling name) no_arguments texts in
+    let in_line : List ℕ = control ∷ name_bytes name in
+    let same : line ≡ front ++ last = append_assoc in_line (blank ∷ bytes) (newline ∷ []) ∙ sym (append_assoc in_line (blank ∷ []) last) in
+    let is : run_at s names start from (front ++ last) s.input ≡ s =
+    is-run_at s from (front ++ last) start begins.reading begins.escapes begins.arguments refl (ahead ∙ ap (ahead_at from) same) (tape ∙ ap (λ (all : List ℕ). tape_at from all s.tape) same) in
+    let charge : s.input.charge + cost + length line ≤ l.bytes = omega (arith, within_called.bytes, behind_bytes-charge from line (charged cost s.input)) in
+    let sizes : length line ≡ length front + length last = ap length same ∙ length-append front last in
+    let stands : bytes_ahead s.input.ahead ≡ bytes_ahead (ahead_at from (front ++ last)) = ap bytes_ahead (ahead ∙ ap (ahead_at from) same) in
+    let begun : HasRoom l s names from most start (front ++ last) s.input =
+    HasRoom-start l s names from most start (front ++ last) s.input (subst (IsWithin l) (sym is) within)
+    (omega (arith, charge, ap length same)) (omega (arith, has_room.beside)) within.store within.making in
+    let i1 : PageInput = behind_bytes from front s.input in
+    let one = after-Path l s names from most start mid front last s.input begins.takes (reads-front names name texts (length (rewritten k j parts)) control body call) begun in
+    let reads = reads-parts k j names name texts (length (rewritten k j parts)) no_arguments no_arguments parts may (omega arith) (Same [] [] Between (omega arith) refl) in
+    let end : Stage = stage (Calling name) reads.there texts in
+    let room : RoomFor l s names from most mid (length (rewritten k j parts) + 0) (cost + 0) last i1 = record {
+      room = one.1;
+      charged_all = omega (arith, charge, sizes, behind_bytes-charge from front s.input);
+      stack =
+          omega (arith, has_room.beside, stands, bytes_ahead-front from front last, ap (λ (m : PageInput). live_bytes m.calls) (behind_bytes-counts from front s.input));
+      deep = omega (arith, has_room.deep, ap ends_ahead (ahead ∙ ap (ahead_at from) same), ends_ahead-front from front last);
+    } in
+    let behind =
+    after-parts l s names from most k j begins.takes refl mid end parts (newline ∷ []) 0 0 i1 (More newline []) reads.path
+    (record { none_half = refl; held_few = omega arith; stored_few = omega arith; texts_few = omega arith })
+    (knows-behind s k j from front s.input (name-of_line control name call.begins call.is_name) (record { is_known = refl; calls = refl })) room in
+    let i2 : PageInput = charged cost (behind_bytes from bytes i1) in
+    let counts : i2 ≡ behind_bytes from (front ++ bytes) (charged cost s.input) =
+    ap (charged cost) (behind_bytes-append from front bytes s.input) ∙ sym (behind_bytes-charged from (front ++ bytes) cost s.input) in
+    let taken : byte_taken newline (run_at s names end from [] (behind_byte from newline i2)) ≡ called =
+    ap (λ (m : PageInput). byte_taken newline (run_at s names end from [] (behind_byte from newline m))) counts
+    ∙ newline-calls (paid s cost) from name body (front ++ bytes) arguments (Calling name) reads.there
+    (record {
+      takes = record { going = begins.takes.going; is_open = begins.takes.is_open; idle = begins.takes.idle; unsprung = begins.takes.unsprung; none_due = begins.takes.none_due };
+      reading = begins.reading;
+      escapes = begins.escapes;
+      arguments = begins.arguments;
+    })
+    call.stands_for (given-agrees reads.there (fold (behind_part k j) no_arguments parts) reads.agrees)
+    (record { none_due = refl; at_blank = λ k p i. refl; at_newline = λ k p i. refl })
+    ∙ ap (λ (all : List ℕ). called_from (paid s cost) from all body arguments) (append_assoc front bytes (newline ∷ []) ∙ sym same) in
+    let sum : length line + cost ≡ length front + ((length bytes + cost) + 1) = omega (arith, sizes, length-append bytes (newline ∷ [])) in
+    ap (λ (n : ℕ). after l n s) sum
+    ∙ after-add l (length front) ((length bytes + cost) + 1) s
+    ∙ ap (after l ((length bytes + cost) + 1)) (ap (after l (length front)) (sym is) ∙ one.0)
+    ∙ after-add l (length bytes + cost) 1 (run_at s names mid from last i1)
+    ∙ ap (after l 1) behind.leads
+    ∙ step-taken l s names from end newline [] i2 called begins.takes refl refl (omega (arith, behind.room.charged_all)) taken within_called
+
+pub bodies_get_the_texts_read : BodiesGetTheTextsRead
+bodies_get_the_texts_read l s control name body parts rest begins call may ahead room within within_called =
+    let line : List ℕ = call_with control name (bytes_of parts) in
+    let cost : ℕ = cost_of_texts (known s) s.input parts in
+    let arguments : List (List ℕ) = parts_read_as (known s) s.input parts in
+    let of : ℕ → State = λ n. record s { input = with_call body arguments (record s.input { ahead = rest; charge = n }) } in
+    let sum : s.input.charge + cost + length line ≡ s.input.charge + (length line + cost) = omega arith in
+    let is : called_from (paid s cost) (FromAhead rest) line body arguments ≡ of (s.input.charge + (length line + cost)) =
+    ap (λ (i : PageInput). record s { input = with_call body arguments i }) (counted-ahead rest line (charged cost s.input)) ∙ ap of sum in
+    called-with-texts l s (FromAhead rest) control name body parts begins call may ahead refl room within (subst (IsWithin l) (sym is) within_called) ∙ is
+
+-- lines of the source, and what was paid before
+pub lines_taken-charged : (bytes : List ℕ) (n : ℕ) (i : PageInput) → lines_taken bytes (charged n i) ≡ record (lines_taken bytes i) { charge = i.charge + (length bytes + n) }
+lines_taken-charged [] n i = ap (λ (c : ℕ). record i { charge = c }) (omega arith)
+lines_taken-charged (b ∷ bytes) n i =
+    let first : i.charge + n + 1 ≡ i.charge + 1 + n = omega arith in
+    let sum : i.charge + 1 + (length bytes + n) ≡ i.charge + (length (b ∷ bytes) + n) = omega arith in
+    ap (λ (c : ℕ). lines_taken bytes (record (counting b i) { charge = c })) first
+    ∙ lines_taken-charged bytes n (counting b i)
+    ∙ ap (λ (c : ℕ). record (lines_taken bytes (counting b i)) { charge = c }) sum
+
+pub bodies_of_the_source_get_the_texts_read : BodiesOfTheSourceGetTheTextsRead
+bodies_of_the_source_get_the_texts_read l s control name body parts tape begins call may none stands room within within_called =
+    let line : List ℕ = call_with control name (bytes_of parts) in
+    let cost : ℕ = cost_of_texts (known s) s.input parts in
+    let arguments : List (List ℕ) = parts_read_as (known s) s.input parts in
+    let of : PageInput → State = λ i. record s { tape = tape; input = with_call body arguments i } in
+    let is : called_from (paid s cost) (FromSource tape) line body arguments ≡ of (record (lines_taken line s.input) { charge = s.input.charge + (length line + cost) }) =
+    ap of (counted-source tape line (charged cost s.input) none ∙ lines_taken-charged line cost s.input) in
+    called-with-texts l s (FromSource tape) control name body parts begins call may none stands room within (subst (IsWithin l) (sym is) within_called) ∙ is
+
+-- where no quote was closed, nothing else follows it
+settled-none : (place : Place) (a : Arguments) → is_behind_quote place ≡ false → settled_at place a ≡ a
+settled-none Between a none = refl
+settled-none InPlain a none = refl
+settled-none InQuotes a none = refl
+settled-none BehindQuote a none = absurd (cc)
+
+read-rewritten : (k : Known) (i : PageInput) (a : Arguments) (parts : List Part) → NoneBehindQuote k i a parts
+    → fold (behind_part k i) a parts ≡ fold with_argument_byte a (rewritten k i parts)
+read-rewritten k i a [] none = refl
+read-rewritten k i a (Written bytes ∷ parts) none =
+    read-rewritten k i (fold with_argument_byte a bytes) parts none ∙ sym (fold-append with_argument_byte a bytes (rewritten k i parts))
+read-rewritten k i a (Escape purpose name bytes ∷ parts) none =
+    let text : List ℕ = text_named k i purpose name in
+    read-rewritten k i (fold with_argument_byte (settled a) text) parts none.1
+    ∙ ap (λ (b : Arguments). fold with_argument_byte (fold with_argument_byte b text) (rewritten k i parts)) (settled-none a.place a none.0)
+    ∙ sym (fold-append with_argument_byte a text (rewritten k i parts))
+
+pub lines_are_read_as_rewritten : LinesAreReadAsRewritten
+lines_are_read_as_rewritten k i parts none = ap arguments_read (read-rewritten k i no_arguments parts none)

@@ -1,0 +1,5 @@
+pub mod Parts
+pub mod TextsInCalls
+pub mod TextsInDefinitions
+pub mod TextsInMessages
+pub mod TextsInStrings

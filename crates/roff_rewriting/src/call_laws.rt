@@ -1,0 +1,24 @@
+//! Facts about lines that call a body with escapes among their arguments, as contracts of functions
+//! that do nothing.
+
+ghost use Rattle.roff_rewriting.specs.TextsInCalls.{BodiesGetTheTextsRead};
+ghost use Rattle.roff_rewriting.specs.TextsInCalls.{BodiesOfTheSourceGetTheTextsRead};
+ghost use Rattle.roff_rewriting.specs.TextsInCalls.{LinesAreReadAsRewritten};
+
+/// A body that a line calls gets the first nine of the arguments that the line is read as, where
+/// the escape of a register, a string or an argument is read as its text: blanks of the text
+/// separate, and quotes quote. So it is of any number of them, if no escape makes a step, and each
+/// byte beside them and of their texts stands for itself. Each byte of the line and of the texts is
+/// a step, and costs one, and so is the end of each text, if the limits allow the state before and
+/// the state behind, and the line and its texts beside all that stands ahead.
+pub fn called_with_texts()
+    ensures ahead { BodiesGetTheTextsRead }
+    ensures source { BodiesOfTheSourceGetTheTextsRead }
+{}
+
+/// That is what the line is read as that has the texts in the places of the escapes, where no
+/// escape stands behind the quote that closes an argument: there a quote that the text begins with
+/// opens another argument, and isn't the second one of two.
+pub fn rewritten_lines()
+    ensures { LinesAreReadAsRewritten }
+{}

@@ -1,0 +1,8 @@
+//! The rules of reading as laws, of lines with escapes among their bytes that are read as texts:
+//! facts about the definitions alone, as contracts of functions that do nothing.
+#![tactic(auto)]
+
+pub mod call_laws;
+pub mod definition_laws;
+pub mod message_laws;
+pub mod string_laws;
