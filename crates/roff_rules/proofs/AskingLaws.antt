@@ -13,7 +13,7 @@ use Rattle.roff_source.specs.Bytes.{blank}
 use Rattle.roff_source.specs.Tape.{Answer, Tape, Ended, Ends, Gives, OneByte, front}
 use Rattle.roff_ahead.specs.Input.{Ahead, ByteAhead, bytes_ahead}
 use Rattle.roff_escape.specs.ConditionFronts.{HalvesTaken, is_of_expression}
-use Rattle.roff_escape.specs.Conditions.{ends_condition, expression_valued, is_decided, so_unless}
+use Rattle.roff_escape.specs.Conditions.{ends_condition, ends_expression, expression_valued, is_decided, so_unless}
 use Rattle.roff_escape.specs.declared.open_escape.ConditionPart.{ConditionPart}
 use Rattle.roff_escape.specs.declared.open_escape.ConditionPart.TheVariants.{Choice, Compared, Decided, Expression}
 use Rattle.roff_escape.specs.declared.open_escape.Waiting.TheVariants.{Decides, Waits}
@@ -23,7 +23,7 @@ use Rattle.roff_escape.specs.declared.open_escape.Decision.TheVariants.{Is, OnPa
 use Rattle.roff_rules.proofs.AskedHalves.{choice, decision_of, expression, halves-asking, halves-expression, halves-question, question_held, whole}
 use Rattle.roff_rules.proofs.AskingRuns.{RoomToAsk, asked-behind, asked_at, asks, path-front, to_hold, to_hold-front, within-asks}
 use Rattle.roff_rules.proofs.LineRooms.{most_of}
-use Rattle.roff_rules.specs.AskingLaws.{BeforeByte, BeforeTheEnd, ConditionsChooseTheirBranch, ConditionsOfTheSourceChooseTheirBranch, ExpressionsChooseTheirBranch, ExpressionsOfTheSourceChooseTheirBranch, EndsExpression, HasCondition, IsExpression, IsQuestion, Question, OddPage, EvenPage, Never, Always, SameTexts, asking, asking_line, is_answered, question_bytes, with_branch}
+use Rattle.roff_rules.specs.AskingLaws.{BeforeByte, BeforeTheEnd, BlankEnds, NewlineEnds, TabEnds, EndsIt, ConditionsChooseTheirBranch, ConditionsOfTheSourceChooseTheirBranch, ExpressionsChooseTheirBranch, ExpressionsOfTheSourceChooseTheirBranch, EndsExpression, HasCondition, IsExpression, IsQuestion, Question, OddPage, EvenPage, Never, Always, SameTexts, asking, asking_line, is_answered, question_bytes, with_branch}
 use Rattle.roff_rules.specs.CallLaws.{BeginsLine}
 use Rattle.roff_run.proofs.ItemsTaken.{Fits-IsWithin, FromAhead, FromSource, Origin, ahead_at, made-Fits, step-reads, tape_at, taken_as-going_on}
 use Rattle.roff_run.proofs.Leads.{after-add}
@@ -286,6 +286,12 @@ expression-from l s keeps from control name blanks negated text value seen begin
     (path-front s control name keeps has) (halves-asking blanks negated text (expression negated text) (halves-number negated text (Ok value) is)) refl ends comes
     (ends-valued s keeps negated from text line value is.comes_to) ahead tape held within chosen
 
+-- a byte that ends an expression
+pub ends-it : (b : ℕ) → EndsIt b → ends_expression (Some b) ≡ true
+ends-it _ BlankEnds = refl
+ends-it _ TabEnds = refl
+ends-it _ NewlineEnds = refl
+
 pub expressions_choose_their_branch : ExpressionsChooseTheirBranch
 expressions_choose_their_branch l s control name keeps blanks negated text value b rest begins has is ends ahead within chosen =
     let bytes : List ℕ = asking blanks negated text in
@@ -293,14 +299,14 @@ expressions_choose_their_branch l s control name keeps blanks negated text value
     let so : Bool = so_unless negated (int_lt (pos 0) value.0.0) in
     let behind : List (Ahead PageEvent) = ByteAhead b ∷ rest in
     let same = ap (λ (i : PageInput). with_branch keeps so i s) (counted-ahead behind line s.input) in
-    expression-from l s keeps (FromAhead behind) control name blanks negated text value (Some b) begins has is ends (AheadIs b rest) ahead refl
+    expression-from l s keeps (FromAhead behind) control name blanks negated text value (Some b) begins has is (ends-it b ends) (AheadIs b rest) ahead refl
     (held-ahead l s behind (control ∷ name_bytes name ++ blank ∷ []) bytes within ahead) within (subst (IsWithin l) (sym same) chosen)
     ∙ same
 
 -- what may stand behind an expression in the source ends it
 pub behind-expression : (negated : Bool) (tape : Tape) (answer : Answer) → front tape ≡ answer → EndsExpression answer
     → (seen : Option ℕ) × (EndsThere (Expression negated) seen × FrontIs (FromSource tape) seen)
-behind-expression negated tape _ is (BeforeByte b ends) = (Some b, (ends, SourceIs b tape is))
+behind-expression negated tape _ is (BeforeByte b ends) = (Some b, (ends-it b ends, SourceIs b tape is))
 behind-expression negated tape _ is BeforeTheEnd = (None, (tt, EndIs tape is))
 
 pub expressions_of_the_source_choose_their_branch : ExpressionsOfTheSourceChooseTheirBranch

@@ -18,7 +18,7 @@ use Rattle.roff_escape.specs.declared.open_escape.ConditionPart.{ConditionPart}
 use Rattle.roff_escape.specs.declared.open_escape.ConditionPart.TheVariants.{Choice, Compared, Expression}
 use Rattle.roff_escape.specs.declared.open_escape.Decision.TheVariants.{Is}
 use Rattle.roff_rules.proofs.AskedHalves.{choice, compared, cut-compared, expression, first_end, halves-asking, halves-cut, texts_so_far, whole}
-use Rattle.roff_rules.proofs.AskingLaws.{AheadIs, EndIs, FrontIs, SourceIs, asked-ends, behind-expression, chosen_from, EndsThere, halves-number, held-ahead}
+use Rattle.roff_rules.proofs.AskingLaws.{AheadIs, EndIs, FrontIs, SourceIs, asked-ends, behind-expression, chosen_from, EndsThere, ends-it, halves-number, held-ahead}
 use Rattle.roff_rules.proofs.AskingRuns.{asked_at, asks, path-front, path-whole, to_hold}
 use Rattle.roff_rules.proofs.LineRooms.{most_of}
 use Rattle.roff_rules.specs.AskingLaws.{AreDelimited, HasCondition, IsExpression, asking, asking_line, with_branch}
@@ -66,7 +66,7 @@ bad_numbers_are_told_and_false l s control name keeps blanks negated text fault 
     let line : List ℕ = asking_line control name bytes in
     let behind : List (Ahead PageEvent) = ByteAhead b ∷ rest in
     let same = ap (λ (i : PageInput). with_bad_number i.line (with_branch keeps false i s)) (counted-ahead behind line s.input) in
-    bad-from l s keeps (FromAhead behind) control name blanks negated text fault (Some b) begins has is ends (AheadIs b rest) ahead refl
+    bad-from l s keeps (FromAhead behind) control name blanks negated text fault (Some b) begins has is (ends-it b ends) (AheadIs b rest) ahead refl
     (held-ahead l s behind (control ∷ name_bytes name ++ blank ∷ []) bytes within ahead) within (subst (IsWithin l) (sym same) chosen)
     ∙ same
 

@@ -13,7 +13,7 @@ use Rattle.roff_rules.proofs.AskingLaws.{conditions_choose_their_branch, conditi
 use Rattle.roff_rules.specs.AskingLaws.{asking, asking_line, question_bytes}
 use Rattle.roff_rules.specs.BranchLaws.{AreKeptOutside, AreKeptWithin, ExactlyOneBranchIsRead, ExactlyOneBranchOfTheSourceIsRead, OneBranchOfAnExpressionIsRead, OneBranchOfAnExpressionOfTheSourceIsRead, OneIsRead, ResultsEndWithTheirBody}
 use Rattle.roff_rules.specs.CallLaws.{BeginsLine, IsControl}
-use Rattle.roff_rules.specs.ElseLaws.{else_front, ElseOfTheSourceTakesTheNewestResult, ElseTakesTheNewestResult, HasElse}
+use Rattle.roff_rules.specs.ElseLaws.{else_front, is_other_read, ElseOfTheSourceTakesTheNewestResult, ElseTakesTheNewestResult, HasElse}
 use Rattle.roff_run.proofs.ItemsTaken.{Fits, made-Fits, step-reads, FromAhead, FromSource, Origin, ahead_at, not-first, not-second, tape_at, taken_as-going_on}
 use Rattle.roff_run.specs.Reading.Branches.{branch_of, reads_else, branch_taking}
 use Rattle.roff_run.specs.Reading.Returns.{behind_return}
@@ -99,7 +99,11 @@ blank-else names control name k i breaks has is_names none_half =
 -- a run behind the front of the line
 abbrev else_from : State → Origin → List ℕ → State
 else_from s from front =
-    record s { tape = tape_at from [] s.tape; input = without_last (counted from front s.input); reading = branch_of (reads_else (last_result s.input)) }
+    record s { tape = tape_at from [] s.tape; input = without_last (counted from front s.input); reading = branch_of (is_other_read s.input.results) }
+
+reads-newest : (results : List (Bool × ℕ)) → reads_else (elim results [ [] ↦ None | result ∷ others ↦ Some result.0 ]) ≡ is_other_read results
+reads-newest [] = refl
+reads-newest (result ∷ others) = refl
 
 is-else : (s : State) (from : Origin) (front : List ℕ) (b : ℕ) → BeginsLine s
     → without s from [] (behind_byte from b (behind_bytes from front s.input)) ≡ else_from s from (front ++ b ∷ [])
@@ -115,6 +119,7 @@ is-else s from front b begins =
     ap (λ (k : PageInput). of k no_arguments []) (counted-last from front b s.input)
     ∙ ap (λ (a : Arguments). of j a []) (sym begins.arguments)
     ∙ ap (λ (h : List OpenEscape). of j s.input.arguments h) (sym begins.escapes)
+    ∙ ap (λ (so : Bool). record s { tape = tape_at from [] s.tape; input = without_last j; reading = branch_of so }) (reads-newest s.input.results)
 
 -- the control character and the first byte of the name
 path-first : (s : State) (control first : ℕ) → IsControl control → BelongsToName first
@@ -198,16 +203,12 @@ else-from l s from control first (Some second) begins has ahead tape within char
 pub else_takes_the_newest_result : ElseTakesTheNewestResult
 else_takes_the_newest_result l s control name rest begins has ahead within charged =
     else-from l s (FromAhead rest) control name.first name.second begins has ahead refl within charged
-    ∙ ap (λ (i : PageInput). record s { input = without_last i; reading = branch_of (reads_else (last_result s.input)) }) (counted-ahead rest (else_front control name) s.input)
+    ∙ ap (λ (i : PageInput). record s { input = without_last i; reading = branch_of (is_other_read s.input.results) }) (counted-ahead rest (else_front control name) s.input)
 
 pub else_of_the_source_takes_the_newest_result : ElseOfTheSourceTakesTheNewestResult
 else_of_the_source_takes_the_newest_result l s control name tape begins has none stands within charged =
     else-from l s (FromSource tape) control name.first name.second begins has none stands within charged
-    ∙ ap (λ (i : PageInput). record s { tape = tape; input = without_last i; reading = branch_of (reads_else (last_result s.input)) }) (counted-source tape (else_front control name) s.input none)
-
--- the newest of some results, and the others
-abbrev newest : List (Bool × ℕ) → Option Bool
-newest results = elim results [ [] ↦ None | result ∷ others ↦ Some result.0 ]
+    ∙ ap (λ (i : PageInput). record s { tape = tape; input = without_last i; reading = branch_of (is_other_read s.input.results) }) (counted-source tape (else_front control name) s.input none)
 
 -- bytes of the source keep no result
 results-lines : (bytes : List ℕ) (i : PageInput) → (lines_taken bytes i).results ≡ i.results
@@ -216,17 +217,17 @@ results-lines (b ∷ bytes) i = results-lines bytes (counting b i)
 
 -- of both branches, by what their lines lead to
 one-is-read : (l : Limits) (so : Bool) (s t first other : State) (n m calls : ℕ) → after l n s ≡ first → first.reading ≡ branch_of so → after l m t ≡ other
-    → other.reading ≡ branch_of (reads_else (last_result t.input)) → other.input.results ≡ drop 1 t.input.results → t.input.results ≡ (so, calls) ∷ s.input.results
+    → other.reading ≡ branch_of (is_other_read t.input.results) → other.input.results ≡ drop 1 t.input.results → t.input.results ≡ (so, calls) ∷ s.input.results
     → OneIsRead l so s n t m
 one-is-read l so s t first other n m calls one read_first two read_other left kept = record {
   first_is = ap (λ (u : State). u.reading) one ∙ read_first;
-  other_is = ap (λ (u : State). u.reading) two ∙ read_other ∙ ap (λ (results : List (Bool × ℕ)). branch_of (reads_else (newest results))) kept;
+  other_is = ap (λ (u : State). u.reading) two ∙ read_other ∙ ap (λ (results : List (Bool × ℕ)). branch_of (is_other_read results)) kept;
   none_kept = ap (λ (u : State). u.input.results) two ∙ left ∙ ap (λ (results : List (Bool × ℕ)). drop 1 results) kept;
 }
 
 -- and of those in the source
 one-of-the-source : (l : Limits) (so : Bool) (s t first other : State) (n m : ℕ) (line front : List ℕ) → after l n s ≡ first → first.reading ≡ branch_of so → after l m t ≡ other
-    → other.reading ≡ branch_of (reads_else (last_result t.input)) → other.input.results ≡ drop 1 (lines_taken front t.input).results
+    → other.reading ≡ branch_of (is_other_read t.input.results) → other.input.results ≡ drop 1 (lines_taken front t.input).results
     → t.input.results ≡ (with_result so (lines_taken line s.input)).results → OneIsRead l so s n t m
 one-of-the-source l so s t first other n m line front one read_first two read_other left kept =
     let i : PageInput = lines_taken line s.input in

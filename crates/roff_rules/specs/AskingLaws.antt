@@ -7,12 +7,12 @@ use Rattle.roff_num.specs.declared.num.NumFault.{NumFault}
 use Rattle.roff_num.specs.declared.num.Scale.TheVariants.{Units}
 use Rattle.roff_num.specs.declared.short_name.ShortName.{ShortName}
 use Rattle.roff_num.specs.ShortNames.{name_bytes}
-use Rattle.roff_source.specs.Bytes.{blank, is_dropped}
+use Rattle.roff_source.specs.Bytes.{blank, is_dropped, newline, tab}
 use Rattle.roff_source.specs.Tape.{Answer, Tape, Ended, Ends, Gives, OneByte, front, items_then}
 use Rattle.roff_store.specs.Named.{Named}
 use Rattle.roff_store.specs.Texts.{Entry}
 use Rattle.roff_escape.specs.ConditionFronts.{is_of_expression}
-use Rattle.roff_escape.specs.Conditions.{begins_expression, ends_expression, so_unless}
+use Rattle.roff_escape.specs.Conditions.{begins_expression, so_unless}
 use Rattle.roff_escape.specs.EscapeLaws.{delimits_texts, is_between, two_texts}
 use Rattle.roff_ahead.specs.Input.{Ahead, ByteAhead, lines_taken, pushed}
 use Rattle.roff_rules.specs.CallLaws.{BeginsLine, IsControl}
@@ -123,13 +123,19 @@ pub record IsExpression (text : List ℕ) (value : Result (Num × ℕ) NumFault)
   pub are_of_it : All (λ b. is_of_expression b ≡ true) text
   pub comes_to : value_at text 0 Units (Some (pos 0)) ≡ value
 
--- An expression up to a blank, a tab or a newline is so where its value is above 0. Behind its bytes one step ends it, and one
+-- a byte that ends an expression: a blank, a tab or a newline
+pub data EndsIt : ℕ → Type 0 where
+  BlankEnds : EndsIt blank
+  TabEnds : EndsIt tab
+  NewlineEnds : EndsIt newline
+
+-- An expression up to such a byte is so where its value is above 0. Behind its bytes one step ends it, and one
 -- decides; the byte that ended it stands where it stood.
 abbrev pub ExpressionsChooseTheirBranch : Type 0
 ExpressionsChooseTheirBranch =
     (l : Limits) (s : State) (control : ℕ) (name : ShortName) (keeps : Bool) (blanks : ℕ) (negated : Bool) (text : List ℕ)
     (value : Num × ℕ) (b : ℕ) (rest : List (Ahead PageEvent)) →
-    BeginsLine s → HasCondition s.input.names control name keeps → IsExpression text (Ok value) → ends_expression (Some b) ≡ true →
+    BeginsLine s → HasCondition s.input.names control name keeps → IsExpression text (Ok value) → EndsIt b →
     let line : List ℕ = asking_line control name (asking blanks negated text) in
     s.input.ahead ≡ map ByteAhead line ++ ByteAhead b ∷ rest →
     let so : Bool = so_unless negated (int_lt (pos 0) value.0.0) in
@@ -139,7 +145,7 @@ ExpressionsChooseTheirBranch =
 
 -- what may stand behind an expression in the source: a byte that ends it, or the end of all input
 pub data EndsExpression : Answer → Type 0 where
-  BeforeByte : (b : ℕ) → ends_expression (Some b) ≡ true → EndsExpression (Gives (OneByte b))
+  BeforeByte : (b : ℕ) → EndsIt b → EndsExpression (Gives (OneByte b))
   BeforeTheEnd : EndsExpression (Ends Ended)
 
 -- and so it is where the line stands in the source itself, with nothing ahead of it, and there is room for the expression

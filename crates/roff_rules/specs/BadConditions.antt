@@ -1,14 +1,14 @@
 -- Laws of conditions that ask nothing, of texts that are cut, and of expressions that are no numbers (manual, section 16).
-use Rattle.std.specs.Prelude.{◌≡◌, ℕ, ◌+◌, ◌≤◌, Bool, true, false, List, [], ◌∷◌, ◌++◌, length, map, bytes_eq, Option, Some, None, Err}
+use Rattle.std.specs.Prelude.{◌≡◌, ℕ, ◌+◌, ◌≤◌, Bool, false, List, [], ◌∷◌, ◌++◌, length, map, bytes_eq, Option, Some, None, Err}
 use Rattle.roff_num.specs.declared.limits.Limits.{Limits}
 use Rattle.roff_num.specs.declared.num.NumFault.{NumFault}
 use Rattle.roff_num.specs.declared.short_name.ShortName.{ShortName}
 use Rattle.roff_num.specs.ShortNames.{name_bytes}
 use Rattle.roff_source.specs.Bytes.{newline}
 use Rattle.roff_source.specs.Tape.{Tape, OneByte, front, items_then}
-use Rattle.roff_escape.specs.Conditions.{ends_expression, so_unless}
+use Rattle.roff_escape.specs.Conditions.{so_unless}
 use Rattle.roff_ahead.specs.Input.{Ahead, ByteAhead, lines_taken, pushed}
-use Rattle.roff_rules.specs.AskingLaws.{AreDelimited, EndsExpression, HasCondition, IsExpression, asking, asking_line, with_branch}
+use Rattle.roff_rules.specs.AskingLaws.{AreDelimited, EndsExpression, EndsIt, HasCondition, IsExpression, asking, asking_line, with_branch}
 use Rattle.roff_rules.specs.CallLaws.{BeginsLine}
 use Rattle.roff_rules.specs.CutNames.{CutsLine}
 use Rattle.roff_run.specs.Messages.{message_lines}
@@ -28,7 +28,7 @@ abbrev pub BadNumbersAreToldAndFalse : Type 0
 BadNumbersAreToldAndFalse =
     (l : Limits) (s : State) (control : ℕ) (name : ShortName) (keeps : Bool) (blanks : ℕ) (negated : Bool) (text : List ℕ)
     (fault : NumFault) (b : ℕ) (rest : List (Ahead PageEvent)) →
-    BeginsLine s → HasCondition s.input.names control name keeps → IsExpression text (Err fault) → ends_expression (Some b) ≡ true →
+    BeginsLine s → HasCondition s.input.names control name keeps → IsExpression text (Err fault) → EndsIt b →
     let line : List ℕ = asking_line control name (asking blanks negated text) in
     s.input.ahead ≡ map ByteAhead line ++ ByteAhead b ∷ rest →
     let behind : PageInput = record s.input { ahead = ByteAhead b ∷ rest; charge = s.input.charge + length line } in

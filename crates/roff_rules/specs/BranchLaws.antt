@@ -1,12 +1,12 @@
 -- Laws of the two branches of a condition together, and of results at the end of a called body (manual, sections 7 and 16).
-use Rattle.std.specs.Prelude.{◌≡◌, ℕ, ◌+◌, ◌<◌, ◌≤◌, Bool, true, not, pos, int_lt, List, [], ◌∷◌, ◌++◌, length, map, drop, All, Some, Ok}
+use Rattle.std.specs.Prelude.{◌≡◌, ℕ, ◌+◌, ◌<◌, ◌≤◌, Bool, true, not, pos, int_lt, List, [], ◌∷◌, ◌++◌, length, map, drop, All, Ok}
 use Rattle.roff_num.specs.declared.limits.Limits.{Limits}
 use Rattle.roff_num.specs.declared.num.Num.{Num}
 use Rattle.roff_num.specs.declared.short_name.ShortName.{ShortName}
 use Rattle.roff_source.specs.Tape.{Tape, OneByte, front, items_then}
-use Rattle.roff_escape.specs.Conditions.{ends_expression, so_unless}
+use Rattle.roff_escape.specs.Conditions.{so_unless}
 use Rattle.roff_ahead.specs.Input.{Ahead, ByteAhead, ReturnAhead, lines_taken, pushed}
-use Rattle.roff_rules.specs.AskingLaws.{EndsExpression, HasCondition, IsExpression, IsQuestion, Question, asking, asking_line, is_answered, question_bytes, with_branch}
+use Rattle.roff_rules.specs.AskingLaws.{EndsExpression, EndsIt, HasCondition, IsExpression, IsQuestion, Question, asking, asking_line, is_answered, question_bytes, with_branch}
 use Rattle.roff_rules.specs.CallLaws.{BeginsLine}
 use Rattle.roff_rules.specs.ElseLaws.{HasElse, else_front}
 use Rattle.roff_run.specs.Reading.Branches.{branch_of}
@@ -62,7 +62,7 @@ abbrev pub OneBranchOfAnExpressionIsRead : Type 0
 OneBranchOfAnExpressionIsRead =
     (l : Limits) (s t : State) (control : ℕ) (name : ShortName) (blanks : ℕ) (negated : Bool) (text : List ℕ) (value : Num × ℕ) (b : ℕ)
     (rest : List (Ahead PageEvent)) (other_control : ℕ) (other_name : ShortName) (other_rest : List (Ahead PageEvent)) →
-    BeginsLine s → HasCondition s.input.names control name true → IsExpression text (Ok value) → ends_expression (Some b) ≡ true →
+    BeginsLine s → HasCondition s.input.names control name true → IsExpression text (Ok value) → EndsIt b →
     let line : List ℕ = asking_line control name (asking blanks negated text) in
     let other : List ℕ = else_front other_control other_name in
     s.input.ahead ≡ map ByteAhead line ++ ByteAhead b ∷ rest →

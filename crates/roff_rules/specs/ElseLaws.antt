@@ -1,5 +1,5 @@
 -- Laws of the other branch of a condition, and of the results that are kept for it (manual, section 16).
-use Rattle.std.specs.Prelude.{◌≡◌, ℕ, ◌+◌, ◌≤◌, List, [], ◌∷◌, ◌++◌, length, map, All}
+use Rattle.std.specs.Prelude.{◌≡◌, ℕ, ◌+◌, ◌≤◌, Bool, false, not, List, [], ◌∷◌, ◌++◌, drop, length, map, All}
 use Rattle.roff_num.specs.declared.limits.Limits.{Limits}
 use Rattle.roff_num.specs.declared.short_name.ShortName.{ShortName}
 use Rattle.roff_num.specs.ShortNames.{name_bytes}
@@ -8,10 +8,10 @@ use Rattle.roff_source.specs.Tape.{Tape, OneByte, items_then}
 use Rattle.roff_store.specs.Named.{Named}
 use Rattle.roff_store.specs.Texts.{Entry}
 use Rattle.roff_ahead.specs.Input.{Ahead, ByteAhead, lines_taken}
-use Rattle.roff_ahead.specs.Input.Calls.{last_result, without_last}
 use Rattle.roff_rules.specs.CallLaws.{BeginsLine, IsControl}
-use Rattle.roff_run.specs.Reading.Branches.{branch_of, reads_else}
+use Rattle.roff_run.specs.Reading.Branches.{branch_of}
 use Rattle.roff_run.specs.Reading.ControlLines.{BelongsToName}
+use Rattle.roff_run.specs.Reading.Items.{PageInput}
 use Rattle.roff_run.specs.Requests.{called_by, row_of}
 use Rattle.roff_run.specs.Run.{State, after}
 use Rattle.roff_run.specs.Within.{IsWithin}
@@ -32,6 +32,10 @@ pub record HasElse (names : Named Entry) (control : ℕ) (name : ShortName) : Ty
   pub stands_for : called_by name names ≡ ARequest of_request
   pub reads_branch : (row_of of_request).line ≡ ByElse
 
+-- whether the other branch is read, by the results that are kept, the newest first: that was that the condition isn't so
+abbrev pub is_other_read : List (Bool × ℕ) → Bool
+is_other_read results = elim results [ [] ↦ false | result ∷ others ↦ not result.0 ]
+
 -- The other branch takes the newest result that is kept, which is kept no more: it is read from its beginning where that was that
 -- the condition isn't so, and else it is skipped, also where none is kept.
 abbrev pub ElseTakesTheNewestResult : Type 0
@@ -41,8 +45,12 @@ ElseTakesTheNewestResult =
     IsWithin l s → s.input.charge + length (else_front control name) ≤ l.bytes →
     after l (length (else_front control name)) s
     ≡ record s {
-      input = without_last (record s.input { ahead = rest; charge = s.input.charge + length (else_front control name) });
-      reading = branch_of (reads_else (last_result s.input));
+      input = record s.input {
+        ahead = rest;
+        charge = s.input.charge + length (else_front control name);
+        results = drop 1 s.input.results;
+      };
+      reading = branch_of (is_other_read s.input.results);
     }
 
 -- and so it is where the line stands in the source itself, with nothing ahead of it
@@ -52,9 +60,10 @@ ElseOfTheSourceTakesTheNewestResult =
     BeginsLine s → HasElse s.input.names control name → s.input.ahead ≡ [] →
     s.tape ≡ items_then (map OneByte (else_front control name)) tape →
     IsWithin l s → s.input.charge + length (else_front control name) ≤ l.bytes →
+    let behind : PageInput = lines_taken (else_front control name) s.input in
     after l (length (else_front control name)) s
     ≡ record s {
       tape = tape;
-      input = without_last (lines_taken (else_front control name) s.input);
-      reading = branch_of (reads_else (last_result s.input));
+      input = record behind { results = drop 1 behind.results };
+      reading = branch_of (is_other_read s.input.results);
     }
