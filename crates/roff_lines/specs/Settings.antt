@@ -1,12 +1,12 @@
--- The parameters of an environment (manual, sections 4 and 6).
+-- The parameters of an environment (manual, sections 4, 5, 6 and 14).
 use Rattle.std.specs.Prelude.{ℕ, ◌-◌, Bool, true, ◌&&◌, Option, Some, ◌==◌}
 use Rattle.roff_lines.specs.declared.settings.Settings.{Settings}
 use Rattle.roff_lines.specs.declared.settings.Param.{Param}
-use Rattle.roff_lines.specs.declared.settings.Param.TheVariants.{Filling, Adjusting, Mode, LineLength, Indent, TemporaryIndent, Centring, Spacing}
+use Rattle.roff_lines.specs.declared.settings.Param.TheVariants.{Filling, Adjusting, Mode, LineLength, Indent, TemporaryIndent, Centring, Spacing, TitleLength}
 use Rattle.roff_lines.specs.declared.settings.AdjustMode.TheVariants.{Both}
 
--- at first: filling, both edges even, a line of 65 columns, no indent, nothing to centre, and no blank line behind a
--- line
+-- at first: filling, both edges even, a line of 65 columns, no indent, nothing to centre, no blank line behind a line, and titles
+-- of 65 columns
 abbrev pub initial_settings : Settings
 initial_settings = record {
   filling = true;
@@ -19,6 +19,8 @@ initial_settings = record {
   centring = 0;
   spacing = 1;
   previous_spacing = 1;
+  title_length = 65;
+  previous_title_length = 65;
 }
 
 -- what is in force after a change: a length or a spacing that is set puts the one before it into "previous"
@@ -30,6 +32,7 @@ settings_with (LineLength n) s = record s { line_length = n; previous_line_lengt
 settings_with (Indent n) s = record s { indent = n; previous_indent = s.indent }
 settings_with (Centring n) s = record s { centring = n }
 settings_with (Spacing n) s = record s { spacing = n; previous_spacing = s.spacing }
+settings_with (TitleLength n) s = record s { title_length = n; previous_title_length = s.title_length }
 settings_with (_) s = s
 
 -- whether words are measured and lines adjusted: in filling, unless lines are centred

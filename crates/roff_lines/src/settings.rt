@@ -1,4 +1,4 @@
-//! The parameters of an environment (manual, sections 4 and 6).
+//! The parameters of an environment (manual, sections 4, 5, 6 and 14).
 
 ghost use Rattle.std.specs.Prelude.{◌≡◌};
 ghost use Rattle.roff_lines.specs.Clauses.{initial_settings, settings_with, fills, counted};
@@ -35,6 +35,8 @@ pub enum Param {
     Centring(u32),
     /// The line spacing (`ls`): so many lines less one are left blank behind each line.
     Spacing(u32),
+    /// The title length (`lt`).
+    TitleLength(u32),
     /// No tab stops are left.
     NoStops,
     /// One more tab stop, at this column. Of more than 32 the first ones are kept.
@@ -64,11 +66,15 @@ pub struct Settings {
     pub spacing: u32,
     /// The line spacing before the last one that was set.
     pub previous_spacing: u32,
+    /// The title length.
+    pub title_length: u32,
+    /// The title length before the last one that was set.
+    pub previous_title_length: u32,
 }
 
 impl Settings {
-    /// What is in force at first: filling, both edges even, a line of 65 columns (6.5 inches), no
-    /// indent.
+    /// What is in force at first: filling, both edges even, a line and a title of 65 columns (6.5
+    /// inches), no indent.
     pub fn initial() -> Settings
         ensures { result ≡ initial_settings }
     {
@@ -83,6 +89,8 @@ impl Settings {
             centring: 0,
             spacing: 1,
             previous_spacing: 1,
+            title_length: 65,
+            previous_title_length: 65,
         }
     }
 
@@ -107,6 +115,10 @@ impl Settings {
             Param::Spacing(lines) => {
                 changed.previous_spacing = self.spacing;
                 changed.spacing = lines;
+            }
+            Param::TitleLength(columns) => {
+                changed.previous_title_length = self.title_length;
+                changed.title_length = columns;
             }
             Param::TemporaryIndent(_) | Param::NoStops | Param::Stop(_) => {}
         }

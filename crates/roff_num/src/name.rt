@@ -45,7 +45,6 @@ impl Name {
     }
 
     /// Whether two names are the same, byte by byte.
-    #[inline(always)]
     pub fn is_same(&self, other: &Name) -> bool
         ensures { IsTrue result ↔ (self.now ≡ other.now) }
     {

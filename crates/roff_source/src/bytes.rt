@@ -53,6 +53,7 @@ fn is_text_byte(byte: u8) -> bool
 
 /// How many of these bytes are plain text, up to the first that is a control byte, DEL or a
 /// backslash.
+#[inline(always)]
 pub fn text_in_front(bytes: &[u8]) -> usize
     ensures { result ≡ length (take_while is_text_byte bytes.now) }
 {
