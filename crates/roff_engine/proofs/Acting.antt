@@ -1,7 +1,7 @@
 -- What the code does with an item that it took, as a step of the definition.
 use Rattle.std.proofs.Common.{◌≡◌, ℕ, ◌+◌, ◌*◌, ◌-◌, List, [], ◌∷◌, ◌++◌, ◌≤◌, arith, length, Option, Some, None, Result, Ok, Err, OnOk, inl, inr, refl, subst, sym, ap, append-nil, ◌∙◌}
 use Rattle.roff_num.specs.declared.limit.Limit.{Limit}
-use Rattle.roff_num.specs.declared.limit.Limit.TheVariants.{Names, Stack, Depth, Store, Diversions, Conditions}
+use Rattle.roff_num.specs.declared.limit.Limit.TheVariants.{Names, Line, Stack, Depth, Store, Diversions, Conditions}
 use Rattle.roff_num.specs.declared.limits.Limits.{Limits}
 use Rattle.roff_ahead.specs.Input.{DoAhead, depth, result_count}
 use Rattle.roff_ahead.specs.Input.Names.{names_added, stored}
@@ -35,9 +35,9 @@ use Rattle.roff_run.specs.Reading.Units.{settling}
 use Rattle.roff_run.specs.Registers.{AllRegisters, Known}
 use Rattle.roff_run.specs.Run.{State, initial, ahead_taken, ending_as, known_at, made, step, taken_as, unless_refused, grown}
 use Rattle.roff_run.specs.Run.Counts.{counts_in, first_passed}
-use Rattle.roff_run.specs.declared.event.PageEvent.{PageEvent}
+use Rattle.roff_run.specs.PageEvents.{PageEvent}
 use Rattle.roff_run.specs.declared.line_state.LineState.{LineState}
-use Rattle.roff_run.specs.declared.line_state.LineState.TheVariants.{LineStart, Branch, Braced, Text as InText, Control, Name, Arguments as InArguments, Deciding, StringName, StringText, Skipping, Dropped, Telling, Told, Exiting, Calling, Defining}
+use Rattle.roff_run.specs.declared.line_state.LineState.TheVariants.{LineStart, Branch, Braced, Text as InText, Control, Name, Arguments as InArguments, Deciding, StringName, StringText, Skipping, Dropped, Telling, Told, Exiting, Calling, Defining, TitleFront, Title as InTitle}
 use Rattle.roff_run.specs.declared.phase.Phase.{Phase}
 use Rattle.roff_run.specs.declared.status.Status.{Status}
 use Rattle.roff_run.specs.declared.status.Status.TheVariants.{Done}
@@ -45,6 +45,7 @@ use Rattle.roff_run.proofs.InputCounts.{pushed-settling}
 use Rattle.roff_run.proofs.Keeping.{Keeps-interrupted}
 use Rattle.roff_run.proofs.Leads.{Leads-to}
 use Rattle.roff_run.specs.Environments.{interrupted_line}
+use Rattle.roff_run.specs.TitleTexts.{title_length}
 use Rattle.roff_run.specs.TurnsToCome.{begun, lines_left, phases_left, turns_to_come, turns_within}
 use Rattle.roff_engine.proofs.Halting.{rest_over}
 use Rattle.roff_engine.proofs.LinesLeft.{last_left}
@@ -161,6 +162,7 @@ IsBehind-taken t tape start now old new taken h messages phase more sprung becam
   stands = subst (λ (l : Limits). StandFor l came.history new.formatter.composer) (sym limits) came.stands;
   ready = record {
     cap = rw (became.registers, became.input) ready.cap;
+    line = rw (became.registers, became.input) ready.line;
     within = rw (became.registers, became.input) became.within;
   };
   limits = rw (became.input, limits) kept;
@@ -309,7 +311,7 @@ DoesItem-as does other line old new now behind r same acts = record {
 counts_in-settling : (rs : AllRegisters) (i : PageInput) → counts_in rs (settling i) ≡ counts_in rs i
 counts_in-settling rs i =
     let first : List (Limit × ℕ) → List (Limit × ℕ) = λ rest.
-    (Names, length rs.named) ∷ (Store, stored i) ∷ (Names, names_added i) ∷ (Diversions, length i.open_texts - 1) ∷ rest in
+    (Names, length rs.named) ∷ (Line, title_length rs.title) ∷ (Store, stored i) ∷ (Names, names_added i) ∷ (Diversions, length i.open_texts - 1) ∷ rest in
     ap (λ bytes. first ((Stack, bytes) ∷ (Depth, depth i) ∷ (Conditions, result_count i) ∷ [])) (pushed-settling i)
 
 -- nor where something that isn't a byte of the line has come
@@ -331,6 +333,8 @@ counts_in-interrupted rs (Told aborts) i = refl
 counts_in-interrupted rs Exiting i = refl
 counts_in-interrupted rs (Skipping opened closed behind) i = refl
 counts_in-interrupted rs Dropped i = refl
+counts_in-interrupted rs TitleFront i = refl
+counts_in-interrupted rs (InTitle delimiter) i = refl
 
 -- so no limit refuses what it didn't refuse before
 within-interrupted : (l : Limits) (rs : AllRegisters) (reading : LineState) (i : PageInput)
@@ -348,12 +352,12 @@ last_of (Err halt) = Err halt
 
 -- what is performed of it, by the answer
 pub TakingDone-performed : (l : Limits) (t : Beginning) (start now : Seen) (from done : State) (e : PageEvent) (h : PageHistory) (kept rest : List PageEvent) (r : Result (Option ShortName) Halt) (es : ComposerOf)
-    → PerformedOne l t start now done e (behind_event e h) rest r es → TakingDone l t start now from done (e ∷ []) h kept rest (last_of r) es
+    → PerformedOne l t start now done e (behind_event done.registers e h) rest r es → TakingDone l t start now from done (e ∷ []) h kept rest (last_of r) es
 TakingDone-performed l t start now from done e h kept rest (Ok name) es p = record {
-  history = behind_event e h;
-  reaches = subst (λ (there : State). Reaches l t start now there) (sprung-last name kept rest (acting done [] (behind_event e h))) p.reaches;
+  history = behind_event done.registers e h;
+  reaches = subst (λ (there : State). Reaches l t start now there) (sprung-last name kept rest (acting done [] (behind_event done.registers e h))) p.reaches;
   stands = p.stands;
-  few = last_left e [] h;
+  few = last_left done.registers e [] h;
   last = λ counts. last-none name kept;
 }
 TakingDone-performed l t start now from done e h kept rest (Err (Limited limit)) es p = p
@@ -396,7 +400,7 @@ event_does event old new before behind out_old out_new err r input performs = re
       within-interrupted before.limits old.reader.registers.all old.reader.reading before.input ready.within in
       let step_is : step before.limits from ≡ done = opens.opens ∙ ap (λ (o : Option Limit). unless_refused before.limits o from done) allowed in
       TakingDone-performed before.limits t0 start _ from done event h new.reader.meaning.events rest r new.composer
-      (performs.one before.limits t0 start failures err done h rest stands (record {
+      (performs.one before.limits t0 start failures err done h rest stands refl (record {
         comes = Leads-to before.limits (initial before.limits t0.start t0.tape) from done reaches.comes step_is;
         text = rw (← opens.wrote) reaches.text;
         messages = rw (append-nil (messages ++ []), append-nil messages, ← opens.said) reaches.messages;

@@ -13,7 +13,7 @@ use Rattle.roff_engine.specs.Engine.Outcome.{IsLeftOf}
 use Rattle.roff_run.specs.Reading.Items.{PageInput}
 use Rattle.roff_run.specs.Reading.Items.{PageUnread}
 use Rattle.roff_run.specs.Registers.{AllRegisters}
-use Rattle.roff_run.specs.declared.event.PageEvent.{PageEvent}
+use Rattle.roff_run.specs.PageEvents.{PageEvent}
 use Rattle.roff_run.specs.Run.Counts.{counts_in, first_passed}
 use Rattle.roff_run.specs.TurnsToCome.{turns_to_come, turns_within}
 use Rattle.roff_run.proofs.InFront.{Given, WasAsked, WasNot, Given-asked, Looks-looking, items_asked, limits-taking}

@@ -14,7 +14,7 @@ use Rattle.roff_run.proofs.Leads.{Leads-to}
 use Rattle.roff_run.specs.Events.Lines.{closing_events}
 use Rattle.roff_run.specs.Reading.Items.{PageInput, PageUnread, going_on, meaning_events}
 use Rattle.roff_run.specs.Run.{State, initial, step, taken_as, unless_refused}
-use Rattle.roff_run.specs.declared.event.PageEvent.{PageEvent}
+use Rattle.roff_run.specs.PageEvents.{PageEvent}
 use Rattle.roff_run.specs.declared.line_state.LineState.{LineState}
 use Rattle.roff_run.specs.declared.line_state.LineState.TheVariants.{LineStart}
 use Rattle.roff_run.specs.declared.step.Step.{Step}
@@ -65,7 +65,7 @@ closing_taking old new reader u out_old out_new err r kept is performed =
           let same : reader.meaning.events ≡ new.reader.meaning.events = ap (λ (s : ReaderState). s.meaning.events) (sym performs.reader) in
           subst (λ (events : List PageEvent). TakingDone u.limits t0 start (seen failures out_new err) from s closing_events h events rest r new.composer) same
           (TakingDone-came u.limits t0 start _ from s closing_events h reader.meaning.events rest r new.composer
-          (performs.all u.limits t0 start failures err s h rest stood (record {
+          (performs.all u.limits t0 start failures err s h rest stood (sym (ap (λ (s : ReaderState). s.registers.all) is)) (record {
             comes = Leads-to u.limits (initial u.limits t0.start t0.tape) from s reached.comes goes;
             text = rw (← opens.wrote) reached.text;
             messages = rw (append-nil (messages ++ []), append-nil messages, ← opens.said) reached.messages;

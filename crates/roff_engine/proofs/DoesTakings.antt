@@ -17,10 +17,11 @@ use Rattle.roff_engine.specs.declared.sprung.Sprung.{Sprung}
 use Rattle.roff_run.specs.Reading.Items.{PageUnread}
 use Rattle.roff_run.specs.Reading.Items.{PageInput, Taking}
 use Rattle.roff_run.specs.Registers.{AllRegisters, Known, changed_by_all}
+use Rattle.roff_run.specs.Registers.Capped.{Capped}
 use Rattle.roff_run.specs.Run.{State, known_at, taken_as, unless_refused}
 use Rattle.roff_run.specs.Run.Counts.{counts_in, first_passed}
 use Rattle.roff_run.specs.Events.Steps.{events_of, messages_of}
-use Rattle.roff_run.specs.declared.event.PageEvent.{PageEvent}
+use Rattle.roff_run.specs.PageEvents.{PageEvent}
 use Rattle.roff_run.specs.declared.step.Step.{Step}
 use Rattle.roff_run.specs.declared.message.Message.{Message}
 use Rattle.roff_run.specs.declared.phase.Phase.{Phase}
@@ -98,7 +99,8 @@ module _ (t : Known → Taking) (old mid : Formatter) (before behind : PageUnrea
       let took = takes.takes before.limits h stood ready in
       let state : State = taken_as (t k) (going tape before.input old.reader.reading old.reader.registers.all h messages phase is_closed to_do) in
       subst (λ (es : List PageEvent). MeaningDone before.limits t0 start (seen failures told_new.out told_new.err) from state es h mid.reader.meaning.events to_do r new.composer) took.events
-      (done.does before.limits t0 start failures from _ h to_do (subst (λ (es : ComposerOf). StandFor before.limits h es) (sym same) stood) reached
+      (done.does before.limits t0 start failures from _ h to_do (subst (λ (es : ComposerOf). StandFor before.limits h es) (sym same) stood)
+      (sym (ap (λ (r : Capped). r.all) took.became.registers)) reached
       (means_taken before.limits from tape before.input old.reader.reading old.reader.registers.all h messages phase is_closed to_do (t k) opens
       line _ _ took.became.within (is_line ∙ ap (λ (u : PageUnread). u.input.line) took.became.input) took.messages took.events))
 

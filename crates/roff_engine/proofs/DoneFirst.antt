@@ -26,16 +26,20 @@ use Rattle.roff_engine.specs.declared.formatter.Formatter.{Formatter}
 use Rattle.roff_engine.specs.declared.halt.Halt.{Halt}
 use Rattle.roff_engine.specs.declared.halt.Halt.TheVariants.{Limit as Limited, Refused, Over, Output, Messages}
 use Rattle.roff_engine.specs.Engine.Outcome.{Beginning, Seen, Reaches, seen}
-use Rattle.roff_engine.specs.Formatter.Performing.{EndsWordFirst, Performs, PerformsOnly, StoppedAt, acting}
+use Rattle.roff_engine.specs.Formatter.Performing.{EndsWordFirst, OnePerformed, Performs, PerformedOne, PerformsOne, PerformsOnly, StoppedAt, acting, behind_event}
 use Rattle.roff_engine.specs.Formatter.Paging.{PutsFinished, PutsOnPage, ReadyFor, halted_by}
 use Rattle.roff_engine.specs.Formatter.Setting.{DoesBy, DoesOnPage, SetsOnPage, may_put}
+use Rattle.roff_engine.specs.Formatter.Sprung.{none_sprung}
 use Rattle.roff_run.specs.Environments.{PageHistory, environments, text_of, trap_behind}
 use Rattle.roff_run.specs.Layouts.{laid_out}
 use Rattle.roff_run.specs.Output.{happens, layout_of, text_laid, written, written_by}
+use Rattle.roff_run.specs.Registers.{AllRegisters}
 use Rattle.roff_run.specs.Springs.{needs_page, springs}
+use Rattle.roff_run.specs.Titles.{title_told, told}
 use Rattle.roff_run.specs.declared.event.InputTrap.{InputTrap}
-use Rattle.roff_run.specs.declared.event.PageEvent.{PageEvent}
-use Rattle.roff_run.specs.declared.event.PageEvent.TheVariants.{Text, Page}
+use Rattle.roff_run.specs.PageEvents.{PageEvent, PastEvent}
+use Rattle.roff_run.specs.declared.event.PageEvent.TheVariants.{Text, Page, Title}
+use Rattle.roff_run.specs.declared.title.WhichTitle.{WhichTitle}
 use Rattle.roff_run.specs.Run.{State, performed, step, unless_refused}
 use Rattle.roff_run.specs.Run.Counts.{first_passed, refusal, written_counted}
 use Rattle.roff_sinks.specs.Sinks.{Fails, Sunk, Writes}
@@ -48,7 +52,7 @@ use Rattle.roff_engine.proofs.Placed.{nothing_allowed, nothing_written, page_cou
 
 -- A formatter performed this where it is done first, in front of which no page begins: for each state of a run that has an event
 -- to do where it is, behind which these are left.
-pub record PerformsHere (x : PageEvent) (old new : Formatter) (out out_new : Sunk) (r : Result (Unit {0}) Halt) : Type 0 where
+pub record PerformsHere (x : PastEvent) (old new : Formatter) (out out_new : Sunk) (r : Result (Unit {0}) Halt) : Type 0 where
   pub here : (l : Limits) (t : Beginning) (before : Seen) (failures : ℕ) (err : Sunk) (s : State) (h : PageHistory) (e : PageEvent) (rest left : List PageEvent)
       → StandFor l h old.composer
       → step l (acting s (e ∷ rest) h) ≡ unless_refused l (refusal l h x) (acting s (e ∷ rest) h) (performed x left (acting s (e ∷ rest) h))
@@ -56,76 +60,106 @@ pub record PerformsHere (x : PageEvent) (old new : Formatter) (out out_new : Sun
       → Performs l t before (seen failures out_new err) s (x ∷ h) left r new.composer
   pub reader : new.reader ≡ old.reader
 
--- the same with the first page's beginning
-pub record PerformsFirst (x : PageEvent) (old new : Formatter) (out out_new : Sunk) (r : Result (Unit {0}) Halt) : Type 0 where
+-- the same of an event as it happens, with the first page's beginning
+pub record PerformsFirst (x : PageEvent) (p : PastEvent) (old new : Formatter) (out out_new : Sunk) (r : Result (Unit {0}) Halt) : Type 0 where
   pub first : (l : Limits) (t : Beginning) (before : Seen) (failures : ℕ) (err : Sunk) (s : State) (h : PageHistory) (e : PageEvent) (rest left : List PageEvent)
-      → StandFor l h old.composer → ((g : PageHistory) → text_of g ≡ text_of h → DoneFirst e x rest left g)
-      → springs (begun_for x h) x ≡ None → Reaches l t before (seen failures out err) (acting s (e ∷ rest) h)
-      → Performs l t before (seen failures out_new err) s (x ∷ begun_for x h) left r new.composer
+      → StandFor l h old.composer → told s.registers x ≡ p → ((g : PageHistory) → text_of g ≡ text_of h → DoneFirst e x rest left g)
+      → springs (begun_for x h) p ≡ None → Reaches l t before (seen failures out err) (acting s (e ∷ rest) h)
+      → Performs l t before (seen failures out_new err) s (p ∷ begun_for x h) left r new.composer
   pub reader : new.reader ≡ old.reader
 
 -- a formatter that is ready for an event performs it first
-pub ready_then : (x : PageEvent) (old mid new : Formatter) (out out_new : Sunk) (r : Result (Unit {0}) Halt) → ReadyFor x old mid
-    → PerformsHere x mid new out out_new r → PerformsFirst x old new out out_new r
-ready_then x old mid new out out_new r ready here = record {
-  first = λ l t before failures err s h e rest left stood done unsprung reached.
+pub ready_then : (x : PageEvent) (p : PastEvent) (old mid new : Formatter) (out out_new : Sunk) (r : Result (Unit {0}) Halt) → ReadyFor x old mid
+    → PerformsHere p mid new out out_new r → PerformsFirst x p old new out out_new r
+ready_then x p old mid new out out_new r ready here = record {
+  first = λ l t before failures err s h e rest left stood is done unsprung reached.
       let now = begun l t before failures err s h e x rest left out (done h refl) old mid ready stood reached in
-      here.here l t before failures err s (begun_for x h) e rest left now.stands ((done (begun_for x h) now.text).itself l s now.none) unsprung now.reaches;
+      let steps = subst (λ (p : PastEvent). step l (acting s (e ∷ rest) (begun_for x h))
+      ≡ unless_refused l (refusal l (begun_for x h) p) (acting s (e ∷ rest) (begun_for x h)) (performed p left (acting s (e ∷ rest) (begun_for x h)))) is
+      ((done (begun_for x h) now.text).itself l s now.none) in
+      here.here l t before failures err s (begun_for x h) e rest left now.stands steps unsprung now.reaches;
   reader = here.reader ∙ ready.reader;
 }
 
--- it is performed with what comes before it
-pub only_first : (x : PageEvent) (old new : Formatter) (out out_new : Sunk) (r : Result (Unit {0}) Halt) → PerformsFirst x old new out out_new r
-    → PerformsOnly (x ∷ []) old new out out_new r
-only_first x old new out out_new r done = record {
+-- it is performed with what comes before it, where it happens so with any registers
+pub only_first : (x : PageEvent) (p : PastEvent) (old new : Formatter) (out out_new : Sunk) (r : Result (Unit {0}) Halt)
+    → ((rs : AllRegisters) → told rs x ≡ p) → PerformsFirst x p old new out out_new r → PerformsOnly (x ∷ []) old new out out_new r
+only_first x p old new out out_new r always done = record {
   events_performed = record {
     performs = λ l t before failures err s h rest stood flows reached.
-        let is = behind-alone x h flows.0 in
-        subst (λ (g : PageHistory). Performs l t before (seen failures out_new err) s (x ∷ g) rest r new.composer) (sym is)
-        (done.first l t before failures err s h x rest rest stood (λ g same. done_alone x rest g (word_end-same x g h same ∙ flows.0))
-        (subst (λ (g : PageHistory). springs g x ≡ None) is flows.1) reached);
+        let is = behind-alone s.registers x h flows.0 in
+        let same : told s.registers x ≡ p = always s.registers in
+        subst (λ (g : PageHistory). Performs l t before (seen failures out_new err) s (told s.registers x ∷ g) rest r new.composer) (sym is)
+        (subst (λ (p : PastEvent). Performs l t before (seen failures out_new err) s (p ∷ begun_for x h) rest r new.composer) (sym same)
+        (done.first l t before failures err s h x rest rest stood same (λ g same. done_alone x rest g (word_end-same x g h same ∙ flows.0))
+        (subst (λ (p : PastEvent). springs (begun_for x h) p ≡ None) same (subst (λ (g : PageHistory). springs g (told s.registers x) ≡ None) is flows.1)) reached));
   };
   reader = done.reader;
 }
 
+-- how far one event was performed that springs nothing
+one_done : (l : Limits) (t : Beginning) (before now : Seen) (s : State) (e : PageEvent) (behind : PageHistory) (rest : List PageEvent) (r : Result (Unit {0}) Halt) (es : ComposerOf)
+    → Performs l t before now s behind rest r es → PerformedOne l t before now s e behind rest (none_sprung r) es
+one_done l t before now s e behind rest (Ok done) es p = record { reaches = p.reaches; stands = p.stands; springs = tt }
+one_done l t before now s e behind rest (Err (Limited limit)) es p = p
+one_done l t before now s e behind rest (Err (Refused limit)) es p = p
+one_done l t before now s e behind rest (Err Output) es p = p
+one_done l t before now s e behind rest (Err Over) es p = p
+one_done l t before now s e behind rest (Err Messages) es p = p
+
+-- a title is performed, as it happens with the formatter's registers
+pub title_first : (which : WhichTitle) (old new : Formatter) (out out_new : Sunk) (r : Result (Unit {0}) Halt)
+    → PerformsFirst (Title which) (Title (title_told old.reader.registers.all which)) old new out out_new r
+    → PerformsOne (Title which) old new out out_new (none_sprung r)
+title_first which old new out out_new r done = record {
+  one = λ l t before failures err s h rest stood same reached.
+      let is : told s.registers (Title which) ≡ Title (title_told old.reader.registers.all which) = ap (λ (rs : AllRegisters). told rs (Title which)) same in
+      one_done l t before (seen failures out_new err) s (Title which) (behind_event s.registers (Title which) h) rest r new.composer
+      (subst (λ (g : PageHistory). Performs l t before (seen failures out_new err) s (told s.registers (Title which) ∷ g) rest r new.composer)
+      (sym (behind-alone s.registers (Title which) h refl))
+      (subst (λ (p : PastEvent). Performs l t before (seen failures out_new err) s (p ∷ begun_for (Title which) h) rest r new.composer) (sym is)
+      (done.first l t before failures err s h (Title which) rest rest stood is (λ g same. done_alone (Title which) rest g refl) refl reached)));
+  reader = done.reader;
+}
+
 -- so is the end of a word where that comes before an event
-pub word_first : (old new : Formatter) (out out_new : Sunk) (r : Result (Unit {0}) Halt) → PerformsFirst (Text WordEnd) old new out out_new r
+pub word_first : (old new : Formatter) (out out_new : Sunk) (r : Result (Unit {0}) Halt) → PerformsFirst (Text WordEnd) (Text WordEnd) old new out out_new r
     → EndsWordFirst old new out out_new r
 word_first old new out out_new r done = record {
   first = λ l t before failures err s h e rest stood own reached.
       subst (λ (g : PageHistory). Performs l t before (seen failures out_new err) s (Text WordEnd ∷ g) (e ∷ rest) r new.composer)
-      (sym (behind-alone (Text WordEnd) h refl))
-      (done.first l t before failures err s h e rest (e ∷ rest) stood (λ g same. done_own e (Text WordEnd) rest g (word_end-same e g h same ∙ own)) refl reached);
+      (sym (behind-alone s.registers (Text WordEnd) h refl))
+      (done.first l t before failures err s h e rest (e ∷ rest) stood refl (λ g same. done_own e (Text WordEnd) rest g (word_end-same e g h same ∙ own)) refl reached);
   reader = done.reader;
 }
 
 -- one that no limit refuses, and that writes nothing
-pub changes_here : (x : PageEvent) (old new : Formatter) (told : Sunk)
+pub changes_here : (x : PastEvent) (old new : Formatter) (out : Sunk)
     → ((l : Limits) (h : PageHistory) → StandFor l h old.composer → refusal l h x ≡ None)
     → ((l : Limits) (h : PageHistory) → StandFor l h old.composer → StandFor l (x ∷ h) new.composer)
     → ((l : Limits) (h : PageHistory) → StandFor l h old.composer → written_by h x ≡ [])
-    → new.reader ≡ old.reader → PerformsHere x old new told told (Ok tt)
-changes_here x old new told allowed stands nothing reader = record {
+    → new.reader ≡ old.reader → PerformsHere x old new out out (Ok tt)
+changes_here x old new out allowed stands nothing reader = record {
   here = λ l t before failures err s h e rest left stood steps unsprung reached. record {
-    reaches = event_performed l t before failures err s h e rest told reached x left steps None unsprung told (allowed l h stood) (stands l h stood).goes_on
-        (subst (λ (bytes : List ℕ). Writes told told bytes) (sym (nothing l h stood)) (Writes-nothing told));
+    reaches = event_performed l t before failures err s h e rest out reached x left steps None unsprung out (allowed l h stood) (stands l h stood).goes_on
+        (subst (λ (bytes : List ℕ). Writes out out bytes) (sym (nothing l h stood)) (Writes-nothing out));
     stands = stands l h stood;
   };
   reader = reader;
 }
 
 -- one that a limit refuses
-pub stopped_here : (x : PageEvent) (old new : Formatter) (told : Sunk) (limit : Limit)
+pub stopped_here : (x : PastEvent) (old new : Formatter) (out : Sunk) (limit : Limit)
     → ((l : Limits) (h : PageHistory) → StandFor l h old.composer → refusal l h x ≡ Some limit)
-    → new.reader ≡ old.reader → PerformsHere x old new told told (Err (Limited limit))
-stopped_here x old new told limit refused reader = record {
+    → new.reader ≡ old.reader → PerformsHere x old new out out (Err (Limited limit))
+stopped_here x old new out limit refused reader = record {
   here = λ l t before failures err s h e rest left stood steps unsprung reached.
-      event_stopped l t before failures err s h e rest told reached x left steps limit (refused l h stood);
+      event_stopped l t before failures err s h e rest out reached x left steps limit (refused l h stood);
   reader = reader;
 }
 
 -- one with which something happens to the pages that may write
-module _ (x : PageEvent) (y : Happening) (old new : Formatter) (out out_new : Sunk) (r : Result (Unit {0}) Halt)
+module _ (x : PastEvent) (y : Happening) (old new : Formatter) (out out_new : Sunk) (r : Result (Unit {0}) Halt)
     (put : PutsOnPage y old.composer.pages new.composer.pages out out_new r)
     (is : (l : Limits) (h : PageHistory) → StandFor l h old.composer → happens h x ≡ Some y)
     (counted : (l : Limits) (h : PageHistory) → StandFor l h old.composer → refusal l h x ≡ first_passed l (written_counted h (Some y)))
@@ -204,21 +238,21 @@ lines_behind e es lines stays behind l h stood =
     }
 
 -- an event of the text that finishes no line
-pub text_changes_here : (e : Event) (old new : Formatter) (told : Sunk)
+pub text_changes_here : (e : Event) (old new : Formatter) (out : Sunk)
     → ((l : Limits) (h : PageHistory) → StandFor l h old.composer → StandBy l (environments (Text e ∷ h)) new.composer.environments)
     → new.composer.pages ≡ old.composer.pages
     → ((l : Limits) (h : PageHistory) → StandFor l h old.composer → happens h (Text e) ≡ None)
-    → new.reader ≡ old.reader → PerformsHere (Text e) old new told told (Ok tt)
-text_changes_here e old new told stands same none reader =
-    changes_here (Text e) old new told (λ l h stood. text_allowed l h e (stands l h stood).in_force.lines.within (none l h stood))
+    → new.reader ≡ old.reader → PerformsHere (Text e) old new out out (Ok tt)
+text_changes_here e old new out stands same none reader =
+    changes_here (Text e) old new out (λ l h stood. text_allowed l h e (stands l h stood).in_force.lines.within (none l h stood))
     (λ l h stood. stands_quietly l h (Text e) old.composer new.composer stood (none l h stood) (stands l h stood) same)
     (λ l h stood. ap (λ (o : Option Happening). text_laid o (layout_of h)) (none l h stood)) reader
 
 -- one for which the pending line would be too long
-pub text_stopped_here : (e : Event) (old new : Formatter) (told : Sunk)
+pub text_stopped_here : (e : Event) (old new : Formatter) (out : Sunk)
     → ((l : Limits) (h : PageHistory) → StandFor l h old.composer → l.line < pending_length (e ∷ text_of h))
-    → new.reader ≡ old.reader → PerformsHere (Text e) old new told told (Err (Limited Line))
-text_stopped_here e old new told longer reader = stopped_here (Text e) old new told Line (λ l h stood. text_refused l h e (longer l h stood)) reader
+    → new.reader ≡ old.reader → PerformsHere (Text e) old new out out (Err (Limited Line))
+text_stopped_here e old new out longer reader = stopped_here (Text e) old new out Line (λ l h stood. text_refused l h e (longer l h stood)) reader
 
 -- one whose line was placed, if it finished one
 pub text_put_here : (e : Event) (line : Option Finished) (old new : Formatter) (out out_new : Sunk) (r : Result (Unit {0}) Halt)
@@ -240,18 +274,18 @@ text_put_here e (Some line) old new out out_new r is stands put reader =
     ∙ ap (λ (o : Option Happening). first_passed l (written_counted h o)) (places l h stood)) stands reader
 
 -- an event of the pages that sets something, or is refused
-pub set_here : (e : LayoutEvent) (old new : Formatter) (told : Sunk) (r : Result (Unit {0}) Halt) → may_put e ≡ false
+pub set_here : (e : LayoutEvent) (old new : Formatter) (out : Sunk) (r : Result (Unit {0}) Halt) → may_put e ≡ false
     → SetsOnPage e old.composer.pages new.composer.pages r → new.composer.environments ≡ old.composer.environments
-    → new.reader ≡ old.reader → PerformsHere (Page e) old new told told r
-set_here e old new told (Ok done) sets set stay reader =
+    → new.reader ≡ old.reader → PerformsHere (Page e) old new out out r
+set_here e old new out (Ok done) sets set stay reader =
     let nothing : (h : PageHistory) → device_text (Does e) (layout_of h) ≡ [] = λ h. nothing_written (Does e) (layout_of h) (sets_nothing e (layout_of h) sets) in
-    changes_here (Page e) old new told
+    changes_here (Page e) old new out
     (λ l h stood. page_counted l h e old.composer stood set.1 ∙ nothing_allowed l h (Does e) old.composer stood (nothing h))
     (λ l h stood. stands_set l h (Page e) (Does e) old.composer new.composer stood refl (subst (λ (es : EnvironmentsOf). StandBy l (environments h) es) (sym stay) stood.environments)
     (set.0.stands (layout_of h) stood.pages) (nothing h) set.0.written set.0.limits (sets_goes_on e (layout_of h) sets ∙ stood.goes_on))
     (λ l h stood. nothing h) reader
-set_here e old new told (Err (Limited limit)) sets set stay reader =
-    stopped_here (Page e) old new told limit (λ l h stood. page_refused l h e limit old.composer stood set.0) reader
+set_here e old new out (Err (Limited limit)) sets set stay reader =
+    stopped_here (Page e) old new out limit (λ l h stood. page_refused l h e limit old.composer stood set.0) reader
 set_here e old new told (Err (Refused limit)) sets set stay reader = absurd set
 set_here e old new told (Err Over) sets set stay reader = absurd set
 set_here e old new told (Err Output) sets set stay reader = absurd set
@@ -270,28 +304,29 @@ page_here e old new out out_new r done stay reader = by (may_put e) refl done
     by false puts done = subst (λ (now : Sunk). PerformsHere (Page e) old new out now r) (sym done.1) (set_here e old new out r puts done.0 stay reader)
 
 -- an event that needs no page, and with which nothing happens to them
-pub changes_only : (x : PageEvent) (old new : Formatter) (told : Sunk) → ((h : PageHistory) → needs_page h x ≡ false) → ((h : PageHistory) → happens h x ≡ None)
-    → ((l : Limits) (h : PageHistory) → StandFor l h old.composer → refusal l h x ≡ None)
-    → ((l : Limits) (h : PageHistory) → StandFor l h old.composer → StandBy l (environments (x ∷ h)) new.composer.environments)
-    → new.composer.pages ≡ old.composer.pages → new.reader ≡ old.reader → PerformsOnly (x ∷ []) old new told told (Ok tt)
-changes_only x old new told needless none allowed stands same reader =
-    only_first x old new told told (Ok tt) (ready_then x old old new told told (Ok tt) (ready_always x old needless)
-    (changes_here x old new told allowed (λ l h stood. stands_quietly l h x old.composer new.composer stood (none h) (stands l h stood) same)
+pub changes_only : (x : PageEvent) (p : PastEvent) (old new : Formatter) (out : Sunk) → ((rs : AllRegisters) → told rs x ≡ p)
+    → ((h : PageHistory) → needs_page h x ≡ false) → ((h : PageHistory) → happens h p ≡ None)
+    → ((l : Limits) (h : PageHistory) → StandFor l h old.composer → refusal l h p ≡ None)
+    → ((l : Limits) (h : PageHistory) → StandFor l h old.composer → StandBy l (environments (p ∷ h)) new.composer.environments)
+    → new.composer.pages ≡ old.composer.pages → new.reader ≡ old.reader → PerformsOnly (x ∷ []) old new out out (Ok tt)
+changes_only x p old new out always needless none allowed stands same reader =
+    only_first x p old new out out (Ok tt) always (ready_then x p old old new out out (Ok tt) (ready_always x old needless)
+    (changes_here p old new out allowed (λ l h stood. stands_quietly l h p old.composer new.composer stood (none h) (stands l h stood) same)
     (λ l h stood. ap (λ (o : Option Happening). text_laid o (layout_of h)) (none h)) reader))
 
 -- one of the text
-pub text_changes_only : (e : Event) (old new : Formatter) (told : Sunk) → ((h : PageHistory) → needs_page h (Text e) ≡ false)
+pub text_changes_only : (e : Event) (old new : Formatter) (out : Sunk) → ((h : PageHistory) → needs_page h (Text e) ≡ false)
     → ((h : PageHistory) → happens h (Text e) ≡ None)
     → ((l : Limits) (h : PageHistory) → StandFor l h old.composer → StandBy l (environments (Text e ∷ h)) new.composer.environments)
-    → new.composer.pages ≡ old.composer.pages → new.reader ≡ old.reader → PerformsOnly (Text e ∷ []) old new told told (Ok tt)
-text_changes_only e old new told needless none stands same reader =
-    only_first (Text e) old new told told (Ok tt) (ready_then (Text e) old old new told told (Ok tt) (ready_always (Text e) old needless)
-    (text_changes_here e old new told stands same (λ l h stood. none h) reader))
+    → new.composer.pages ≡ old.composer.pages → new.reader ≡ old.reader → PerformsOnly (Text e ∷ []) old new out out (Ok tt)
+text_changes_only e old new out needless none stands same reader =
+    only_first (Text e) (Text e) old new out out (Ok tt) (λ rs. refl) (ready_then (Text e) (Text e) old old new out out (Ok tt) (ready_always (Text e) old needless)
+    (text_changes_here e old new out stands same (λ l h stood. none h) reader))
 
 -- one that needs no page, and that a limit refuses
-pub stopped_only : (x : PageEvent) (old new : Formatter) (told : Sunk) (limit : Limit) → ((h : PageHistory) → needs_page h x ≡ false)
-    → ((l : Limits) (h : PageHistory) → StandFor l h old.composer → refusal l h x ≡ Some limit)
-    → new.reader ≡ old.reader → PerformsOnly (x ∷ []) old new told told (Err (Limited limit))
-stopped_only x old new told limit needless refused reader =
-    only_first x old new told told (Err (Limited limit)) (ready_then x old old new told told (Err (Limited limit)) (ready_always x old needless)
-    (stopped_here x old new told limit refused reader))
+pub stopped_only : (x : PageEvent) (p : PastEvent) (old new : Formatter) (out : Sunk) (limit : Limit) → ((rs : AllRegisters) → told rs x ≡ p)
+    → ((h : PageHistory) → needs_page h x ≡ false) → ((l : Limits) (h : PageHistory) → StandFor l h old.composer → refusal l h p ≡ Some limit)
+    → new.reader ≡ old.reader → PerformsOnly (x ∷ []) old new out out (Err (Limited limit))
+stopped_only x p old new out limit always needless refused reader =
+    only_first x p old new out out (Err (Limited limit)) always (ready_then x p old old new out out (Err (Limited limit)) (ready_always x old needless)
+    (stopped_here p old new out limit refused reader))

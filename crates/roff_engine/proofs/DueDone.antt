@@ -14,7 +14,7 @@ use Rattle.roff_run.specs.Run.Counts.{counts_in, first_passed}
 use Rattle.roff_run.specs.declared.line_state.Due.{Due}
 use Rattle.roff_run.specs.declared.line_state.Due.TheVariants.{Leaves as LeavesInput, Tells}
 use Rattle.roff_run.specs.declared.line_state.LineState.{LineState}
-use Rattle.roff_run.specs.declared.line_state.LineState.TheVariants.{LineStart, Branch, Braced, Text as InText, Control, Name, Arguments as InArguments, Deciding, StringName, StringText, Skipping, Dropped, Telling, Told, Exiting, Calling, Defining}
+use Rattle.roff_run.specs.declared.line_state.LineState.TheVariants.{LineStart, Branch, Braced, Text as InText, Control, Name, Arguments as InArguments, Deciding, StringName, StringText, Skipping, Dropped, Telling, Told, Exiting, Calling, Defining, TitleFront, Title as InTitle}
 use Rattle.roff_run.specs.declared.status.Status.TheVariants.{Aborted, Device}
 use Rattle.roff_run.proofs.InputCounts.{NoMore-leaving, NoMore-released, first_passed-no_more}
 use Rattle.roff_engine.specs.declared.running.Running.{Running as Coded}
@@ -60,6 +60,8 @@ due-line Dropped what left is = omega arith
 due-line (Telling aborts is_front) what left is = omega arith
 due-line (Told aborts) what left is = omega arith
 due-line Exiting what left is = omega arith
+due-line TitleFront what left is = omega arith
+due-line (InTitle delimiter) what left is = omega arith
 
 -- nothing is taken, over this tape
 abbrev IsTape : Tape → Tape → Type 0
@@ -185,7 +187,7 @@ told_due old failures out err told is writes = record {
             one_more (Leaves-nothing tape old.unread) failures failures out err (omega arith) t tape start refl at told (message_told from)
             line (step-of old false is failures out err told t tape start at false is) refl (append-nil (at.messages ++ line)) writes;
         stands = at.stands;
-        ready = record { cap = at.ready.cap; within = released_within old at.ready.within };
+        ready = record { cap = at.ready.cap; line = at.ready.line; within = released_within old at.ready.within };
         limits = at.limits;
       };
   none_due = refl;
@@ -240,7 +242,7 @@ left_due old now is = record {
           faults = at.reaches.faults;
         };
         stands = at.stands;
-        ready = record { cap = at.ready.cap; within = within };
+        ready = record { cap = at.ready.cap; line = at.ready.line; within = within };
         limits = at.limits;
       };
   none_due = refl;

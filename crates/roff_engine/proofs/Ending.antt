@@ -1,7 +1,7 @@
 -- What the code does where the input ends: what is half read ends, and a line, and the phases.
 use Rattle.std.proofs.Common.{◌≡◌, ◌⊎◌, ℕ, Bool, true, false, List, [], ◌∷◌, length, Option, None, Err, inl, inr, refl, subst, sym, ap, append-nil, ◌∙◌}
 use Rattle.std.proofs.Math.Dec.{eqb-suc-zero}
-use Rattle.std.specs.Prelude.{not, ◌==◌}
+use Rattle.std.specs.Prelude.{not, pos, ◌==◌}
 use Rattle.roff_num.specs.declared.limit.Limit.{Limit}
 use Rattle.roff_num.specs.declared.limits.Limits.{Limits}
 use Rattle.roff_escape.specs.OpenEscapes.{reading_ended}
@@ -10,7 +10,7 @@ use Rattle.roff_scan.specs.Looking.{is_closed, looked_then}
 use Rattle.roff_scan.specs.declared.looked.Looked.{Looked}
 use Rattle.roff_scan.specs.declared.looked.Looked.TheVariants.{Nothing}
 use Rattle.roff_escape.specs.OpenEscape.{OpenEscape}
-use Rattle.roff_escape.specs.declared.open_escape.Surroundings.TheVariants.{Arguments as AboveArguments, Copy as AboveCopy}
+use Rattle.roff_escape.specs.declared.open_escape.Surroundings.TheVariants.{Arguments as AboveArguments, Copy as AboveCopy, Text as AboveText}
 use Rattle.roff_engine.specs.declared.running.Running.{Running as Coded}
 use Rattle.roff_engine.specs.Engine.Outcome.{Seen, IsRest}
 use Rattle.roff_engine.specs.Running.Turning.{DoesItem, MayEnd, input_ends, state_at}
@@ -24,7 +24,7 @@ use Rattle.roff_run.specs.Registers.{Known}
 use Rattle.roff_run.specs.Run.{State, initial, ending_as, escape_ends, input_ended, known, phase_ended, step, unless_refused, grown}
 use Rattle.roff_run.specs.Run.Counts.{counts_in, first_passed}
 use Rattle.roff_run.specs.declared.line_state.LineState.{LineState}
-use Rattle.roff_run.specs.declared.line_state.LineState.TheVariants.{LineStart, Branch, Braced, Text as InText, Control, Name, Arguments as InArguments, Deciding, StringName, StringText, Skipping, Dropped, Telling, Told, Exiting, Calling, Defining}
+use Rattle.roff_run.specs.declared.line_state.LineState.TheVariants.{LineStart, Branch, Braced, Text as InText, Control, Name, Arguments as InArguments, Deciding, StringName, StringText, Skipping, Dropped, Telling, Told, Exiting, Calling, Defining, TitleFront, Title as InTitle}
 use Rattle.roff_run.specs.declared.phase.Phase.TheVariants.{Closing}
 use Rattle.roff_run.specs.declared.status.Status.TheVariants.{Done}
 use Rattle.roff_run.proofs.Keeping.{Keeps-escape_ended}
@@ -58,6 +58,10 @@ line-nothing_ended k (Told aborts) i none = refl
 line-nothing_ended k Exiting i none = refl
 line-nothing_ended k (Skipping opened closed behind) i none = refl
 line-nothing_ended k Dropped i none = refl
+line-nothing_ended k TitleFront i none =
+    subst (λ (half : List OpenEscape). (read_in k TitleFront i (reading_ended AboveArguments half)).input.line ≡ i.line) (sym none) refl
+line-nothing_ended k (InTitle delimiter) i none =
+    subst (λ (half : List OpenEscape). (read_in k (InTitle delimiter) i (reading_ended (AboveText (pos 0)) half)).input.line ≡ i.line) (sym none) refl
 
 -- the line stays where what is half read ends
 pub line-escape_ended : (k : Known) (reading : LineState) (i : PageInput) → (escape_ended k reading i).input.line ≡ i.line

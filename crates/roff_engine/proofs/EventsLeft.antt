@@ -3,8 +3,8 @@ use Rattle.std.proofs.Common.{◌≡◌, ℕ, zero, suc, ◌+◌, List, [], ◌�
 use Rattle.std.specs.Prelude.{drop, slice_get}
 use Rattle.roff_lines.specs.declared.event.Event.TheVariants.{Print, Tab, WordEnd, Gap, LineEnd, Count, Break, Interrupt as Interrupted, Resume, Set}
 use Rattle.roff_run.specs.Springs.{may_spring}
-use Rattle.roff_run.specs.declared.event.PageEvent.{PageEvent}
-use Rattle.roff_run.specs.declared.event.PageEvent.TheVariants.{Text, Page, Interrupt, Environment, Back, InputTrap as SetsTrap}
+use Rattle.roff_run.specs.PageEvents.{PageEvent}
+use Rattle.roff_run.specs.declared.event.PageEvent.TheVariants.{Text, Page, Interrupt, Environment, Back, InputTrap as SetsTrap, Title}
 use Rattle.roff_run.specs.Springs.{CountsLast}
 
 -- of nothing, nothing is left
@@ -55,6 +55,7 @@ counts-drop (Interrupt untold ∷ events) (suc i) counts = counts-drop events i 
 counts-drop (Environment number ∷ events) (suc i) counts = counts-drop events i counts
 counts-drop (Back ∷ events) (suc i) counts = counts-drop events i counts
 counts-drop (SetsTrap trap ∷ events) (suc i) counts = counts-drop events i counts
+counts-drop (Title which ∷ events) (suc i) counts = counts-drop events i counts
 
 -- nor behind any event that may spring a macro
 none-behind : (e : PageEvent) (others : List PageEvent) → may_spring e ≡ true → CountsLast (e ∷ others) → others ≡ []
@@ -73,6 +74,7 @@ none-behind (Interrupt untold) others may counts = absurd (cc)
 none-behind (Environment number) others may counts = absurd (cc)
 none-behind Back others may counts = absurd (cc)
 none-behind (SetsTrap trap) others may counts = absurd (cc)
+none-behind (Title which) others may counts = absurd (cc)
 
 pub left-counted : (events : List PageEvent) (i : ℕ) (e : PageEvent) → CountsLast events → drop i events ≡ e ∷ drop (i + 1) events → may_spring e ≡ true
     → drop (i + 1) events ≡ []
@@ -99,3 +101,4 @@ counts_last-one (Interrupt untold) = tt
 counts_last-one (Environment number) = tt
 counts_last-one Back = tt
 counts_last-one (SetsTrap trap) = tt
+counts_last-one (Title which) = tt

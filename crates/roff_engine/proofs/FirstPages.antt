@@ -23,8 +23,10 @@ use Rattle.roff_run.specs.Environments.{PageHistory, text_of}
 use Rattle.roff_run.specs.Layouts.{laid_out}
 use Rattle.roff_run.specs.Output.{layout_of, written_by}
 use Rattle.roff_run.specs.Springs.{begins, needs_page, next, own_word_end, page_begin_or, word_end_of}
-use Rattle.roff_run.specs.declared.event.PageEvent.{PageEvent}
-use Rattle.roff_run.specs.declared.event.PageEvent.TheVariants.{Text, Interrupt, Environment, Back, InputTrap as SetsTrap, Page}
+use Rattle.roff_run.specs.PageEvents.{PageEvent}
+use Rattle.roff_run.specs.Registers.{AllRegisters}
+use Rattle.roff_run.specs.Titles.{told}
+use Rattle.roff_run.specs.declared.event.PageEvent.TheVariants.{Text, Interrupt, Environment, Back, InputTrap as SetsTrap, Page, Title}
 use Rattle.roff_run.specs.Run.{State, performed, performing, step, unless_refused}
 use Rattle.roff_run.specs.Run.Counts.{refusal}
 use Rattle.roff_sinks.specs.Sinks.{Sunk, Writes}
@@ -107,6 +109,7 @@ word_end-same (Environment number) g h same = refl
 word_end-same Back g h same = refl
 word_end-same (SetsTrap trap) g h same = refl
 word_end-same (Page event) g h same = refl
+word_end-same (Title which) g h same = refl
 
 -- what comes before an event, by the word end that does, and whether the page begins
 pub next-alone : (h : PageHistory) (e : PageEvent) (b : Bool) → word_end_of h e ≡ None → begins h e ≡ b → next h e ≡ page_begin_or b None
@@ -124,7 +127,8 @@ next-own h e own b some is =
 pub record DoneFirst (e x : PageEvent) (rest left : List PageEvent) (h : PageHistory) : Type 0 where
   pub page : begins h x ≡ true → next h e ≡ Some (Page Begin)
   pub itself : (l : Limits) (s : State) → begins h x ≡ false
-      → step l (acting s (e ∷ rest) h) ≡ unless_refused l (refusal l h x) (acting s (e ∷ rest) h) (performed x left (acting s (e ∷ rest) h))
+      → step l (acting s (e ∷ rest) h)
+      ≡ unless_refused l (refusal l h (told s.registers x)) (acting s (e ∷ rest) h) (performed (told s.registers x) left (acting s (e ∷ rest) h))
 
 -- the event itself, where no word end comes before it
 pub done_alone : (e : PageEvent) (rest : List PageEvent) (h : PageHistory) → word_end_of h e ≡ None → DoneFirst e e rest rest h
@@ -218,19 +222,19 @@ ready_needing e old new takes needs = record {
     by true needs none is = absurd (cc)
 
 -- the history behind an event and what comes before it: the page's beginning, where no word end does
-pub behind-alone : (e : PageEvent) (h : PageHistory) → word_end_of h e ≡ None → behind_next 2 e h ≡ begun_for e h
-behind-alone e h none = by (begins h e) refl
+pub behind-alone : (rs : AllRegisters) (e : PageEvent) (h : PageHistory) → word_end_of h e ≡ None → behind_next rs 2 e h ≡ begun_for e h
+behind-alone rs e h none = by (begins h e) refl
   where
-    again : (g : PageHistory) → text_of g ≡ text_of h → begins g e ≡ false → behind_next 1 e g ≡ g
+    again : (g : PageHistory) → text_of g ≡ text_of h → begins g e ≡ false → behind_next rs 1 e g ≡ g
     again g same is =
-        ap (λ (o : Option PageEvent). elim o [ None ↦ g | Some first ↦ first ∷ g ]) (next-alone g e false (word_end-same e g h same ∙ none) is)
+        ap (λ (o : Option PageEvent). elim o [ None ↦ g | Some first ↦ told rs first ∷ g ]) (next-alone g e false (word_end-same e g h same ∙ none) is)
 
-    by : (b : Bool) → begins h e ≡ b → behind_next 2 e h ≡ begun_for e h
+    by : (b : Bool) → begins h e ≡ b → behind_next rs 2 e h ≡ begun_for e h
     by false is =
-        ap (λ (o : Option PageEvent). elim o [ None ↦ h | Some first ↦ behind_next 1 e (first ∷ h) ]) (next-alone h e false none is)
+        ap (λ (o : Option PageEvent). elim o [ None ↦ h | Some first ↦ behind_next rs 1 e (told rs first ∷ h) ]) (next-alone h e false none is)
         ∙ ap (λ (b : Bool). begun_by b h) (sym is)
     by true is =
-        ap (λ (o : Option PageEvent). elim o [ None ↦ h | Some first ↦ behind_next 1 e (first ∷ h) ]) (next-alone h e true none is)
+        ap (λ (o : Option PageEvent). elim o [ None ↦ h | Some first ↦ behind_next rs 1 e (told rs first ∷ h) ]) (next-alone h e true none is)
         ∙ again (Page Begin ∷ h) refl (begins-taken (Page Begin ∷ h) e (begun-takes h))
         ∙ ap (λ (b : Bool). begun_by b h) (sym is)
 
@@ -255,48 +259,48 @@ needs-finishing (Set param) h not-Print not-Tab not-Break = refl
 
 -- what comes before an event that has a word end of its own: that with the page's beginning, and then the page's beginning, where
 -- the event itself needs it
-module _ (e : PageEvent) (h : PageHistory) (owns : (g : PageHistory) → word_end_of g e ≡ own_word_end (has_open_word (text_of g))) where
+module _ (rs : AllRegisters) (e : PageEvent) (h : PageHistory) (owns : (g : PageHistory) → word_end_of g e ≡ own_word_end (has_open_word (text_of g))) where
   -- behind a word end that page begins in front of
-  own-begun : has_open_word (text_of h) ≡ true → begins h (Text WordEnd) ≡ true → behind_next 2 e (Text WordEnd ∷ Page Begin ∷ h) ≡ behind_next 2 e h
+  own-begun : has_open_word (text_of h) ≡ true → begins h (Text WordEnd) ≡ true → behind_next rs 2 e (Text WordEnd ∷ Page Begin ∷ h) ≡ behind_next rs 2 e h
   own-begun some is =
       let there : PageHistory = Text WordEnd ∷ Page Begin ∷ h in
       let own : word_end_of h e ≡ Some (Text WordEnd) = owns h ∙ ap own_word_end some in
       let again : word_end_of (Page Begin ∷ h) e ≡ Some (Text WordEnd) = owns (Page Begin ∷ h) ∙ ap own_word_end some in
       let none : begins there e ≡ false = begins-taken there e (takes-begun (layout_of there) (begun-text (Page Begin ∷ h) WordEnd (omega arith))) in
-      behind-alone e there (owns there) ∙ ap (λ (b : Bool). begun_by b there) none
-      ∙ sym (ap (λ (o : Option PageEvent). elim o [ None ↦ h | Some first ↦ behind_next 1 e (first ∷ h) ]) (next-own h e (Text WordEnd) true own is)
-      ∙ ap (λ (o : Option PageEvent). elim o [ None ↦ Page Begin ∷ h | Some first ↦ first ∷ Page Begin ∷ h ])
+      behind-alone rs e there (owns there) ∙ ap (λ (b : Bool). begun_by b there) none
+      ∙ sym (ap (λ (o : Option PageEvent). elim o [ None ↦ h | Some first ↦ behind_next rs 1 e (told rs first ∷ h) ]) (next-own h e (Text WordEnd) true own is)
+      ∙ ap (λ (o : Option PageEvent). elim o [ None ↦ Page Begin ∷ h | Some first ↦ told rs first ∷ Page Begin ∷ h ])
       (next-own (Page Begin ∷ h) e (Text WordEnd) false again (begins-taken (Page Begin ∷ h) (Text WordEnd) (begun-takes h))))
 
   -- or doesn't
-  own-unbegun : has_open_word (text_of h) ≡ true → begins h (Text WordEnd) ≡ false → behind_next 2 e (Text WordEnd ∷ h) ≡ behind_next 2 e h
+  own-unbegun : has_open_word (text_of h) ≡ true → begins h (Text WordEnd) ≡ false → behind_next rs 2 e (Text WordEnd ∷ h) ≡ behind_next rs 2 e h
   own-unbegun some is =
       let there : PageHistory = Text WordEnd ∷ h in
       let own : word_end_of h e ≡ Some (Text WordEnd) = owns h ∙ ap own_word_end some in
-      behind-alone e there (owns there) ∙ sym (once (begins there e) refl)
-      ∙ sym (ap (λ (o : Option PageEvent). elim o [ None ↦ h | Some first ↦ behind_next 1 e (first ∷ h) ]) (next-own h e (Text WordEnd) false own is))
+      behind-alone rs e there (owns there) ∙ sym (once (begins there e) refl)
+      ∙ sym (ap (λ (o : Option PageEvent). elim o [ None ↦ h | Some first ↦ behind_next rs 1 e (told rs first ∷ h) ]) (next-own h e (Text WordEnd) false own is))
     where
-      by : (b : Bool) → elim (page_begin_or b None) [ None ↦ Text WordEnd ∷ h | Some first ↦ first ∷ Text WordEnd ∷ h ] ≡ begun_by b (Text WordEnd ∷ h)
+      by : (b : Bool) → elim (page_begin_or b None) [ None ↦ Text WordEnd ∷ h | Some first ↦ told rs first ∷ Text WordEnd ∷ h ] ≡ begun_by b (Text WordEnd ∷ h)
       by false = refl
       by true = refl
 
-      once : (b : Bool) → begins (Text WordEnd ∷ h) e ≡ b → behind_next 1 e (Text WordEnd ∷ h) ≡ begun_for e (Text WordEnd ∷ h)
+      once : (b : Bool) → begins (Text WordEnd ∷ h) e ≡ b → behind_next rs 1 e (Text WordEnd ∷ h) ≡ begun_for e (Text WordEnd ∷ h)
       once b begun =
-          ap (λ (o : Option PageEvent). elim o [ None ↦ Text WordEnd ∷ h | Some first ↦ first ∷ Text WordEnd ∷ h ])
+          ap (λ (o : Option PageEvent). elim o [ None ↦ Text WordEnd ∷ h | Some first ↦ told rs first ∷ Text WordEnd ∷ h ])
           (next-alone (Text WordEnd ∷ h) e b (owns (Text WordEnd ∷ h)) begun)
           ∙ by b ∙ ap (λ (b : Bool). begun_by b (Text WordEnd ∷ h)) (sym begun)
 
   own-some : (begun : Bool) → has_open_word (text_of h) ≡ true → begins h (Text WordEnd) ≡ begun
-      → behind_next 2 e (behind_word true h) ≡ behind_next 2 e h
+      → behind_next rs 2 e (behind_word rs true h) ≡ behind_next rs 2 e h
   own-some true some is =
-      ap (λ (g : PageHistory). behind_next 2 e (Text WordEnd ∷ g)) (behind-alone (Text WordEnd) h refl ∙ ap (λ (b : Bool). begun_by b h) is) ∙ own-begun some is
+      ap (λ (g : PageHistory). behind_next rs 2 e (Text WordEnd ∷ g)) (behind-alone rs (Text WordEnd) h refl ∙ ap (λ (b : Bool). begun_by b h) is) ∙ own-begun some is
   own-some false some is =
-      ap (λ (g : PageHistory). behind_next 2 e (Text WordEnd ∷ g)) (behind-alone (Text WordEnd) h refl ∙ ap (λ (b : Bool). begun_by b h) is) ∙ own-unbegun some is
+      ap (λ (g : PageHistory). behind_next rs 2 e (Text WordEnd ∷ g)) (behind-alone rs (Text WordEnd) h refl ∙ ap (λ (b : Bool). begun_by b h) is) ∙ own-unbegun some is
 
-  own-either : (b : Bool) → has_open_word (text_of h) ≡ b → behind_next 2 e (behind_word b h) ≡ behind_next 2 e h
+  own-either : (b : Bool) → has_open_word (text_of h) ≡ b → behind_next rs 2 e (behind_word rs b h) ≡ behind_next rs 2 e h
   own-either false closed = refl
   own-either true some = own-some (begins h (Text WordEnd)) some refl
 
-pub behind-own : (e : PageEvent) (h : PageHistory) → ((g : PageHistory) → word_end_of g e ≡ own_word_end (has_open_word (text_of g)))
-    → behind_next 2 e (behind_word (has_open_word (text_of h)) h) ≡ behind_next 2 e h
-behind-own e h owns = own-either e h owns (has_open_word (text_of h)) refl
+pub behind-own : (rs : AllRegisters) (e : PageEvent) (h : PageHistory) → ((g : PageHistory) → word_end_of g e ≡ own_word_end (has_open_word (text_of g)))
+    → behind_next rs 2 e (behind_word rs (has_open_word (text_of h)) h) ≡ behind_next rs 2 e h
+behind-own rs e h owns = own-either rs e h owns (has_open_word (text_of h)) refl

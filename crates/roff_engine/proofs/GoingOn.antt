@@ -1,7 +1,9 @@
 -- A run that goes on behind events, of which one may have sprung a macro that is read.
 use Rattle.std.proofs.Common.{◌∙◌, ◌≡◌, ◌≤◌, ◌<◌, ◌+◌, ℕ, List, [], ◌∷◌, ◌++◌, length, Option, Some, None, Result, Ok, Err, ap, append-nil, arith, refl, subst, sym}
-use Rattle.std.specs.Prelude.{drop, false, is_some, map, slice_get, ◌-◌}
-use Rattle.roff_ahead.specs.Input.{Ahead, DoAhead, events_ahead, most_events, putting_all_back, putting_back}
+use Rattle.std.specs.Prelude.{false, is_some, map, nat_lt}
+use Rattle.std.proofs.lemmas.Bool.{le-ltb}
+use Rattle.std.proofs.lemmas.Bool.Decides.{nat_tests}
+use Rattle.roff_ahead.specs.Input.{putting_all_back}
 use Rattle.roff_ahead.specs.Input.Calls.{called_text}
 use Rattle.roff_ahead.specs.Input.Names.{body_named}
 use Rattle.roff_num.specs.ShortNames.{name_bytes}
@@ -10,7 +12,7 @@ use Rattle.roff_num.specs.declared.limits.Limits.{Limits}
 use Rattle.roff_num.specs.declared.short_name.ShortName.{ShortName}
 use Rattle.roff_scan.specs.Unread.{input_refusal, unless_passed}
 use Rattle.roff_source.specs.Tape.{Tape}
-use Rattle.roff_reader.proofs.TakesAs.{few_names}
+use Rattle.roff_reader.proofs.TakesAs.{few_names, short_title}
 use Rattle.roff_reader.specs.Reader.Springs.{Springs, SpringsBody, SpringsNothing, sprung_input}
 use Rattle.roff_reader.specs.Reader.State.{ReaderState}
 use Rattle.roff_reader.specs.Reader.Taken.{IsReady}
@@ -24,11 +26,15 @@ use Rattle.roff_run.proofs.Readings.{begun-behind_return}
 use Rattle.roff_run.specs.Reading.Items.{PageInput, PageUnread}
 use Rattle.roff_run.specs.Reading.Returns.{back_of, in_sprung}
 use Rattle.roff_run.specs.Requests.{called_by}
+use Rattle.roff_laws.proofs.RunsStayWithin.{named-keeping, title-keeping}
+use Rattle.roff_run.specs.Registers.{AllRegisters}
+use Rattle.roff_run.specs.TitleTexts.{title_length}
+use Rattle.roff_run.specs.Titles.{keeping, put_back}
 use Rattle.roff_run.specs.Run.{State, initial, made, sprung_at, sprung_read, step, unless_refused}
 use Rattle.roff_run.specs.Run.Counts.{counts_in, first_passed}
-use Rattle.roff_run.specs.declared.event.PageEvent.{PageEvent}
+use Rattle.roff_run.specs.PageEvents.{PageEvent}
 use Rattle.roff_run.specs.declared.line_state.LineState.{LineState}
-use Rattle.roff_run.specs.declared.line_state.LineState.TheVariants.{LineStart, Branch, Braced, Text as InText, Control, Name, Arguments as InArguments, Deciding, StringName, StringText, Skipping, Dropped, Telling, Told, Exiting, Calling, Defining}
+use Rattle.roff_run.specs.declared.line_state.LineState.TheVariants.{LineStart, Branch, Braced, Text as InText, Control, Name, Arguments as InArguments, Deciding, StringName, StringText, Skipping, Dropped, Telling, Told, Exiting, Calling, Defining, TitleFront, Title as InTitle}
 use Rattle.roff_run.specs.declared.request.Called.{Called}
 use Rattle.roff_run.specs.declared.request.Called.TheVariants.{Request as ARequest, Body as ABody, Nothing as Unknown}
 use Rattle.roff_run.specs.declared.status.Status.{Status}
@@ -40,7 +46,7 @@ use Rattle.roff_engine.specs.Formatter.Sprung.{left_of}
 use Rattle.roff_engine.specs.Running.Springing.{GoesOn, IsBehind, PutsBack}
 use Rattle.roff_engine.specs.Running.Turning.{Halts, IsAt, line_turns, lines_left_in, state_at, turns_of_run}
 use Rattle.roff_engine.proofs.Acting.{IsLeftOf-looked_then}
-use Rattle.roff_engine.proofs.EventsLeft.{drop-at, drop-past, drop-past-next}
+use Rattle.roff_engine.proofs.PuttingBack.{is-back, with_back}
 use Rattle.roff_engine.proofs.TurnsLeft.{lines_left_in-few}
 
 -- nothing sprang
@@ -58,72 +64,14 @@ goes_on_quietly run now = record {
   turns = λ t tape start at. omega arith;
 }
 
--- the run with these events put back
-abbrev pub with_back : List PageEvent → Coded → Coded
-with_back events run = record run { unread = record run.unread { input = putting_all_back events run.unread.input } }
-
--- none
-pub puts_none : (run : Coded) → PutsBack [] run run
-puts_none run = record { puts = λ room. refl; others = refl }
-
--- events that are put back are so many more
-events_ahead-back : (events : List PageEvent) (items : List (Ahead PageEvent)) → events_ahead (map DoAhead events ++ items) ≡ length events + events_ahead items
-events_ahead-back [] items = omega arith
-events_ahead-back (e ∷ events) items = omega (arith, events_ahead-back events items)
-
--- one more in front of others
-pub puts_one : (event : PageEvent) (others : List PageEvent) (old mid : Coded) (left : PageUnread) → PutsBack others old mid
-    → (events_ahead mid.unread.input.ahead < most_events mid.unread.limits.depth → left ≡ record mid.unread { input = putting_back event mid.unread.input })
-    → PutsBack (event ∷ others) old (record mid { unread = left })
-puts_one event others old mid left puts put = record {
-  others = ap (λ (run : Coded). record run { unread = left }) puts.others;
-  puts = λ room.
-      let enough : events_ahead old.unread.input.ahead + length (event ∷ others) ≤ most_events old.unread.limits.depth = room (omega arith) in
-      let is : mid ≡ with_back others old = puts.puts (λ some. omega (arith, enough)) in
-      let allowed : events_ahead mid.unread.input.ahead < most_events mid.unread.limits.depth =
-      rw is (omega (arith, enough, events_ahead-back others old.unread.input.ahead)) in
-      let there : left ≡ record mid.unread { input = putting_back event mid.unread.input } = put allowed in
-      ap (λ (u : PageUnread). record mid { unread = u }) there
-      ∙ ap (λ (run : Coded). record run { unread = record run.unread { input = putting_back event run.unread.input } }) is;
-}
+-- what no test finds above a limit isn't
+not_above : (n most : ℕ) → nat_lt most n ≡ false → n ≤ most
+not_above n most none = grind (arith, nat_tests, none)
 
 -- what isn't there
 pub not_some : {A : Type 0} (o : Option A) → is_some o ≡ false → o ≡ None
 not_some None is = refl
 not_some (Some x) is = cc
-
--- the events that the reader keeps stay as others are put back
-kept_same : (events : List PageEvent) (old mid : Coded) → PutsBack events old mid
-    → mid.formatter.reader.meaning.events ≡ old.formatter.reader.meaning.events
-kept_same events old mid puts = ap (λ (run : Coded). run.formatter.reader.meaning.events) puts.others
-
--- one more of those that the reader keeps is put back, in front of those behind it
-pub puts_at : (old mid : Coded) (left : PageUnread) (index : ℕ) (event : PageEvent) → 1 ≤ index
-    → PutsBack (drop index old.formatter.reader.meaning.events) old mid
-    → slice_get mid.formatter.reader.meaning.events (index - 1) ≡ Some event
-    → (events_ahead mid.unread.input.ahead < most_events mid.unread.limits.depth → left ≡ record mid.unread { input = putting_back event mid.unread.input })
-    → PutsBack (drop (index - 1) old.formatter.reader.meaning.events) old (record mid { unread = left })
-puts_at old mid left index event some puts at put =
-    let events : List PageEvent = old.formatter.reader.meaning.events in
-    let next : index - 1 + 1 ≡ index = omega (arith, some) in
-    let stands : slice_get events (index - 1) ≡ Some event =
-    subst (λ (es : List PageEvent). slice_get es (index - 1) ≡ Some event) (kept_same (drop index events) old mid puts) at in
-    let opened : drop (index - 1) events ≡ event ∷ drop index events =
-    drop-at events (index - 1) event stands ∙ ap (λ (n : ℕ). event ∷ drop n events) next in
-    subst (λ (es : List PageEvent). PutsBack es old (record mid { unread = left })) (sym opened)
-    (puts_one event (drop index events) old mid left puts put)
-
--- where there is none, none is there behind it either
-pub puts_past : (old mid : Coded) (index : ℕ) → 1 ≤ index → PutsBack (drop index old.formatter.reader.meaning.events) old mid
-    → slice_get mid.formatter.reader.meaning.events (index - 1) ≡ None → PutsBack (drop (index - 1) old.formatter.reader.meaning.events) old mid
-puts_past old mid index some puts at =
-    let events : List PageEvent = old.formatter.reader.meaning.events in
-    let next : index - 1 + 1 ≡ index = omega (arith, some) in
-    let stands : slice_get events (index - 1) ≡ None =
-    subst (λ (es : List PageEvent). slice_get es (index - 1) ≡ None) (kept_same (drop index events) old mid puts) at in
-    let none : drop (index - 1) events ≡ drop index events =
-    drop-past events (index - 1) stands ∙ sym (subst (λ (n : ℕ). drop n events ≡ []) next (drop-past-next events (index - 1) stands)) in
-    subst (λ (es : List PageEvent). PutsBack es old mid) (sym none) puts
 
 -- what a change of the input says that was made
 changed-Ok : (refused : Option Limit) (i : PageInput) (u v : PageUnread) → (Ok tt, v) ≡ unless_passed refused i u
@@ -159,6 +107,8 @@ line_turns-sprung Dropped left few = omega arith
 line_turns-sprung (Telling aborts is_front) left few = omega arith
 line_turns-sprung (Told aborts) left few = omega arith
 line_turns-sprung Exiting left few = omega arith
+line_turns-sprung TitleFront left few = omega arith
+line_turns-sprung (InTitle delimiter) left few = omega arith
 
 -- they count in no limit
 NoMore-back : (events : List PageEvent) (i : PageInput) → NoMore (putting_all_back events i) i
@@ -170,6 +120,18 @@ NoMore-back events i = record {
   names = omega arith;
   open_texts = omega arith;
 }
+
+-- so none of what is counted is above its limit where they are put back
+within-back : (l : Limits) (events : List PageEvent) (rs : AllRegisters) (i : PageInput) → first_passed l (counts_in rs i) ≡ None
+    → nat_lt l.names (length rs.named) ≡ false → nat_lt l.line (title_length rs.title) ≡ false
+    → first_passed l (counts_in (keeping events rs) (putting_all_back (map put_back events) i)) ≡ None
+within-back l events rs i within few short =
+    let back : PageInput = putting_all_back (map put_back events) i in
+    let named : nat_lt l.names (length (keeping events rs).named) ≡ false = rw (named-keeping events rs) few in
+    let title : nat_lt l.line (title_length (keeping events rs).title) ≡ false =
+    le-ltb l.line (title_length (keeping events rs).title) (title-keeping l events rs (not_above (title_length rs.title) l.line short)) in
+    first_passed-few_names l (keeping events rs) back named title ∙ sym (first_passed-few_names l rs back few short)
+    ∙ first_passed-no_more l rs back i (NoMore-back (map put_back events) i) within
 
 -- The run of the code stands where this sprang, with what was left put back: the definition has still to read it.
 pub record IsSprung (t : Beginning) (tape : Tape) (start now : Seen) (name : ShortName) (run : Coded) : Type 0 where
@@ -191,8 +153,9 @@ is_sprung t tape start now sprung run at =
       stands = at.stands;
       ready = record {
         cap = at.ready.cap;
-        within = first_passed-no_more run.unread.limits run.formatter.reader.registers.all (putting_all_back left run.unread.input) run.unread.input
-            (NoMore-back left run.unread.input) at.ready.within;
+        line = at.ready.line;
+        within = within-back run.unread.limits left run.formatter.reader.registers.all run.unread.input at.ready.within
+            (few_names run.formatter.reader.registers run.unread at.ready) (short_title run.formatter.reader.registers run.unread at.ready);
       };
       limits = at.limits;
     }
@@ -251,7 +214,7 @@ module _ (run : Coded) (name : ShortName) (reader : ReaderState) (unread : PageU
       let there : PageUnread = record run.unread { input = i } in
       let reads : ReaderState = record run.formatter.reader { reading = in_sprung run.formatter.reader.reading } in
       let passed : first_passed run.unread.limits (counts_in rs i) ≡ None =
-      first_passed-few_names run.unread.limits rs i (few_names run.formatter.reader.registers run.unread at.ready) ∙ changed.0 in
+      first_passed-few_names run.unread.limits rs i (few_names run.formatter.reader.registers run.unread at.ready) (short_title run.formatter.reader.registers run.unread at.ready) ∙ changed.0 in
       let allowed : first_passed run.limits (counts_in rs i) ≡ None = subst (λ (l : Limits). first_passed l (counts_in rs i) ≡ None) at.limits passed in
       let done : State = sprung_read (ABody body) from in
       let goes : step run.limits from ≡ done =
@@ -268,7 +231,7 @@ module _ (run : Coded) (name : ShortName) (reader : ReaderState) (unread : PageU
           faults = at.reaches.faults;
         };
         stands = at.stands;
-        ready = record { cap = at.ready.cap; within = passed };
+        ready = record { cap = at.ready.cap; line = at.ready.line; within = passed };
         limits = at.limits;
       }))
 
@@ -280,7 +243,7 @@ module _ (run : Coded) (name : ShortName) (reader : ReaderState) (unread : PageU
       let rs = run.formatter.reader.registers.all in
       let changed = changed-Err (input_refusal run.unread.limits i) limit i run.unread unread springs.input in
       let passed : first_passed run.unread.limits (counts_in rs i) ≡ Some limit =
-      first_passed-few_names run.unread.limits rs i (few_names run.formatter.reader.registers run.unread at.ready) ∙ changed.0 in
+      first_passed-few_names run.unread.limits rs i (few_names run.formatter.reader.registers run.unread at.ready) (short_title run.formatter.reader.registers run.unread at.ready) ∙ changed.0 in
       let done : State = sprung_read (ABody body) from in record {
         state = from;
         reaches = at.reaches;
@@ -308,22 +271,22 @@ module _ (run : Coded) (name : ShortName) (reader : ReaderState) (unread : PageU
 
 -- where nothing is read no more turns are to come, with what was put back
 turns-nothing : (events : List PageEvent) (old : Coded) (reader : ReaderState) (unread : PageUnread)
-    → SpringsNothing old.formatter.reader reader (with_back events old).unread unread (Ok tt)
+    → SpringsNothing (with_back events old).formatter.reader reader (with_back events old).unread unread (Ok tt)
     → turns_of_run (with_read (with_back events old) reader unread) ≤ turns_of_run old
 turns-nothing events old reader unread springs =
     subst (λ (u : PageUnread). turns_of_run (with_read (with_back events old) reader u) ≤ turns_of_run old) (sym springs.input)
     (subst (λ (r : ReaderState). turns_of_run (with_read (with_back events old) r (with_back events old).unread) ≤ turns_of_run old) (sym springs.reader)
-    (omega (arith, free_ahead-back events old.unread.input.ahead)))
+    (omega (arith, free_ahead-back (map put_back events) old.unread.input.ahead)))
 
 -- nor are they where a body is read
 turns-read : (c : Called) (events : List PageEvent) (old : Coded) (reader : ReaderState) (unread : PageUnread)
-    → Springs c old.formatter.reader reader (with_back events old).unread unread (Ok tt)
+    → Springs c (with_back events old).formatter.reader reader (with_back events old).unread unread (Ok tt)
     → turns_of_run (with_read (with_back events old) reader unread) ≤ turns_of_run old
 turns-read (ABody body) events old reader unread springs =
     let mid : Coded = with_back events old in
     let i : PageInput = sprung_input body old.formatter.reader.reading mid.unread.input in
     let changed = changed-Ok (input_refusal mid.unread.limits i) i mid.unread unread springs.input in
-    let reads : ReaderState = record old.formatter.reader { reading = in_sprung old.formatter.reader.reading } in
+    let reads : ReaderState = record mid.formatter.reader { reading = in_sprung old.formatter.reader.reading } in
     let left : ℕ = lines_left_in old.formatter.composer in
     let there : Coded = with_read mid reads (record mid.unread { input = i }) in
     let few : turns_of_run there ≤ turns_of_run old =
@@ -331,7 +294,7 @@ turns-read (ABody body) events old reader unread springs =
     omega (
       arith,
       free_ahead-called text (back_of old.formatter.reader.reading) mid.unread.input.ahead,
-      free_ahead-back events old.unread.input.ahead,
+      free_ahead-back (map put_back events) old.unread.input.ahead,
       begun-behind_return 0 old.formatter.reader.reading,
       line_turns-sprung old.formatter.reader.reading left (lines_left_in-few old.formatter.composer),
     )) in
@@ -351,13 +314,13 @@ goes_on_sprung sprung old mid reader unread now puts springs =
       goes = λ t tape start at.
           let P : Coded → Type 0 = λ run. Springs (called_by sprung.name run.unread.input.names) run.formatter.reader reader run.unread unread (Ok tt)
           → IsAt t tape start now (with_read run reader unread) in
-          subst P (sym (puts.puts at.room))
+          subst P (sym (is-back left old mid puts at.room))
           (λ reads. called_read (with_back left old) sprung.name reader unread t tape start now (is_sprung t tape start now sprung old at)
           (called_by sprung.name old.unread.input.names) refl reads) springs;
       turns = λ t tape start at.
           let P : Coded → Type 0 = λ run. Springs (called_by sprung.name run.unread.input.names) run.formatter.reader reader run.unread unread (Ok tt)
           → turns_of_run (with_read run reader unread) ≤ turns_of_run old in
-          subst P (sym (puts.puts at.room)) (λ reads. turns-read (called_by sprung.name old.unread.input.names) left old reader unread reads) springs;
+          subst P (sym (is-back left old mid puts at.room)) (λ reads. turns-read (called_by sprung.name old.unread.input.names) left old reader unread reads) springs;
     }
 
 -- or a limit refuses that
@@ -374,7 +337,7 @@ stops_sprung sprung old mid new limit line now behind status puts springs same l
           let P : Coded → Type 0 = λ run. Springs (called_by sprung.name run.unread.input.names) run.formatter.reader new.formatter.reader run.unread new.unread (Err limit)
           → Halts run.limits t tape run.unread.input.line (Limited limit) start now in
           let halts : Halts mid.limits t tape mid.unread.input.line (Limited limit) start now =
-          subst P (sym (puts.puts at.room))
+          subst P (sym (is-back left old mid puts at.room))
           (λ reads. called_refused (with_back left old) sprung.name new.formatter.reader new.unread t tape start now (is_sprung t tape start now sprung old at)
           (called_by sprung.name old.unread.input.names) limit refl reads) springs in
           ends t tape start (rw (same, line_is) halts);

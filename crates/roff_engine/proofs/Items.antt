@@ -53,6 +53,7 @@ pub ready_behind : {gave gives : Tape → Type 0} {taken : List Item} (r : Cappe
     → IsReady r u → IsReady r left
 ready_behind r u left leaves ready = record {
   cap = ready.cap ∙ ap (λ (l : Limits). l.names) (sym leaves.limits);
+  line = ready.line ∙ ap (λ (l : Limits). l.line) (sym leaves.limits);
   within = rw leaves.limits (leaves.within r.all ready.within);
 }
 

@@ -8,6 +8,7 @@ pub mod DoesTakings
 pub mod Halting
 pub mod TurnsLeft
 pub mod Acting
+pub mod PuttingBack
 pub mod GoingOn
 pub mod Ending
 pub mod Closing
@@ -25,6 +26,9 @@ pub mod Turned
 pub mod PassingOn
 pub mod PassingEnds
 pub mod Telling
+pub mod TitleRuns
+pub mod TitleNumbers
+pub mod Titling
 pub mod DueDone
 pub mod NamedSteps
 pub mod EventsLeft

@@ -3,13 +3,15 @@ use Rattle.std.proofs.Common.{◌≡◌, ◌≤◌, ℕ, zero, suc, Bool, true, 
 use Rattle.roff_lines.specs.declared.event.Event.TheVariants.{Print, Tab, WordEnd, Gap, LineEnd, Count, Break, Interrupt as Interrupted, Resume, Set}
 use Rattle.roff_run.proofs.LinesLeft.{left_by-fewer, lines_left-event, most_left-fewer}
 use Rattle.roff_run.specs.Environments.{PageHistory, interrupted_line, text_of}
-use Rattle.roff_run.specs.declared.event.PageEvent.{PageEvent}
-use Rattle.roff_run.specs.declared.event.PageEvent.TheVariants.{Text, Page, Interrupt, Environment, Back, InputTrap as SetsTrap}
+use Rattle.roff_run.specs.PageEvents.{PageEvent}
+use Rattle.roff_run.specs.declared.event.PageEvent.TheVariants.{Text, Page, Interrupt, Environment, Back, InputTrap as SetsTrap, Title}
 use Rattle.roff_run.specs.TurnsToCome.{lines_left}
 use Rattle.roff_num.specs.declared.limits.Limits.{Limits}
 use Rattle.roff_requests.specs.Composer.Standing.{StandFor}
 use Rattle.roff_requests.specs.declared.composer.Composer.{Composer as ComposerOf}
+use Rattle.roff_run.specs.Registers.{AllRegisters}
 use Rattle.roff_run.specs.Run.{State}
+use Rattle.roff_run.specs.Titles.{told}
 use Rattle.roff_engine.specs.Engine.Outcome.{Beginning, Seen, Reaches}
 use Rattle.roff_engine.specs.Formatter.Performing.{acting, behind_event, behind_events, behind_next}
 use Rattle.roff_run.specs.TurnsToCome.{left_by, most_left}
@@ -42,6 +44,7 @@ leaves-word_end h (Interrupt untold) = tt
 leaves-word_end h (Environment number) = tt
 leaves-word_end h Back = tt
 leaves-word_end h (SetsTrap trap) = tt
+leaves-word_end h (Title which) = tt
 
 -- and so does the first page's beginning
 leaves-page : (does : Bool) (other : Option PageEvent) → LeavesAll other → LeavesAll (page_begin_or does other)
@@ -54,33 +57,33 @@ leaves-first h e None leaves = leaves-page (begins h e) None tt
 leaves-first h e (Some own) leaves = leaves-page (begins h own) (Some own) leaves
 
 -- so no more are left behind what comes before an event
-lines_left-first : (n : ℕ) (e : PageEvent) (h : PageHistory) (first : Option PageEvent) → LeavesAll first
-    → ((g : PageHistory) → lines_left (interrupted_line (behind_next n e g)) ≤ lines_left (interrupted_line g))
-    → lines_left (interrupted_line (elim first [ None ↦ h | Some first ↦ behind_next n e (first ∷ h) ])) ≤ lines_left (interrupted_line h)
-lines_left-first n e h None leaves more = omega arith
-lines_left-first n e h (Some first) leaves more =
-    omega (arith, more (first ∷ h), lines_left-event first h, leaves (lines_left (interrupted_line h)))
+lines_left-first : (rs : AllRegisters) (n : ℕ) (e : PageEvent) (h : PageHistory) (first : Option PageEvent) → LeavesAll first
+    → ((g : PageHistory) → lines_left (interrupted_line (behind_next rs n e g)) ≤ lines_left (interrupted_line g))
+    → lines_left (interrupted_line (elim first [ None ↦ h | Some first ↦ behind_next rs n e (told rs first ∷ h) ])) ≤ lines_left (interrupted_line h)
+lines_left-first rs n e h None leaves more = omega arith
+lines_left-first rs n e h (Some first) leaves more =
+    omega (arith, more (told rs first ∷ h), lines_left-event rs first h, leaves (lines_left (interrupted_line h)))
 
-lines_left-next : (n : ℕ) (e : PageEvent) (h : PageHistory) → lines_left (interrupted_line (behind_next n e h)) ≤ lines_left (interrupted_line h)
-lines_left-next zero e h = omega arith
-lines_left-next (suc n) e h =
-    lines_left-first n e h (next h e) (leaves-first h e (word_end_of h e) (leaves-word_end h e)) (λ g. lines_left-next n e g)
+lines_left-next : (rs : AllRegisters) (n : ℕ) (e : PageEvent) (h : PageHistory) → lines_left (interrupted_line (behind_next rs n e h)) ≤ lines_left (interrupted_line h)
+lines_left-next rs zero e h = omega arith
+lines_left-next rs (suc n) e h =
+    lines_left-first rs n e h (next h e) (leaves-first h e (word_end_of h e) (leaves-word_end h e)) (λ g. lines_left-next rs n e g)
 
 -- nor behind the event
-pub lines_left-behind : (e : PageEvent) (h : PageHistory) → lines_left (interrupted_line (behind_event e h)) ≤ left_by e (lines_left (interrupted_line h))
-lines_left-behind e h =
-    let before : PageHistory = behind_next 2 e h in
-    let fewer = left_by-fewer e (lines_left (interrupted_line before)) (lines_left (interrupted_line h)) (lines_left-next 2 e h) in
-    omega (arith, lines_left-event e before, fewer)
+pub lines_left-behind : (rs : AllRegisters) (e : PageEvent) (h : PageHistory) → lines_left (interrupted_line (behind_event rs e h)) ≤ left_by e (lines_left (interrupted_line h))
+lines_left-behind rs e h =
+    let before : PageHistory = behind_next rs 2 e h in
+    let fewer = left_by-fewer e (lines_left (interrupted_line before)) (lines_left (interrupted_line h)) (lines_left-next rs 2 e h) in
+    omega (arith, lines_left-event rs e before, fewer)
 
 -- behind all of some events, each with what comes before it, no more are left than any leaves
-pub lines_left-all : (events : List PageEvent) (h : PageHistory)
-    → lines_left (interrupted_line (behind_events events h)) ≤ most_left events (lines_left (interrupted_line h))
-lines_left-all [] h = omega arith
-lines_left-all (e ∷ events) h =
-    let behind : PageHistory = behind_event e h in
-    let more = most_left-fewer events (lines_left (interrupted_line behind)) (left_by e (lines_left (interrupted_line h))) (lines_left-behind e h) in
-    omega (arith, more, lines_left-all events behind)
+pub lines_left-all : (rs : AllRegisters) (events : List PageEvent) (h : PageHistory)
+    → lines_left (interrupted_line (behind_events rs events h)) ≤ most_left events (lines_left (interrupted_line h))
+lines_left-all rs [] h = omega arith
+lines_left-all rs (e ∷ events) h =
+    let behind : PageHistory = behind_event rs e h in
+    let more = most_left-fewer events (lines_left (interrupted_line behind)) (left_by e (lines_left (interrupted_line h))) (lines_left-behind rs e h) in
+    omega (arith, more, lines_left-all rs events behind)
 
 -- the definition has performed some of these events, and these are left
 pub record CameSoFar (l : Limits) (t : Beginning) (before now : Seen) (s : State) (events : List PageEvent) (h : PageHistory) (left rest : List PageEvent) (es : ComposerOf) : Type 0 where
@@ -90,14 +93,14 @@ pub record CameSoFar (l : Limits) (t : Beginning) (before now : Seen) (s : State
   pub few : most_left left (lines_left (interrupted_line history)) ≤ most_left events (lines_left (interrupted_line h))
 
 -- an event more is performed
-pub more_left : (e : PageEvent) (others : List PageEvent) (h : PageHistory)
-    → most_left others (lines_left (interrupted_line (behind_event e h))) ≤ most_left (e ∷ others) (lines_left (interrupted_line h))
-more_left e others h =
-    let more : most_left others (lines_left (interrupted_line (behind_event e h))) ≤ most_left others (left_by e (lines_left (interrupted_line h))) =
-    most_left-fewer others (lines_left (interrupted_line (behind_event e h))) (left_by e (lines_left (interrupted_line h))) (lines_left-behind e h) in
+pub more_left : (rs : AllRegisters) (e : PageEvent) (others : List PageEvent) (h : PageHistory)
+    → most_left others (lines_left (interrupted_line (behind_event rs e h))) ≤ most_left (e ∷ others) (lines_left (interrupted_line h))
+more_left rs e others h =
+    let more : most_left others (lines_left (interrupted_line (behind_event rs e h))) ≤ most_left others (left_by e (lines_left (interrupted_line h))) =
+    most_left-fewer others (lines_left (interrupted_line (behind_event rs e h))) (left_by e (lines_left (interrupted_line h))) (lines_left-behind rs e h) in
     omega (arith, more)
 
 -- where it is the last one that is, too
-pub last_left : (e : PageEvent) (others : List PageEvent) (h : PageHistory)
-    → lines_left (interrupted_line (behind_event e h)) ≤ most_left (e ∷ others) (lines_left (interrupted_line h))
-last_left e others h = omega (arith, lines_left-behind e h)
+pub last_left : (rs : AllRegisters) (e : PageEvent) (others : List PageEvent) (h : PageHistory)
+    → lines_left (interrupted_line (behind_event rs e h)) ≤ most_left (e ∷ others) (lines_left (interrupted_line h))
+last_left rs e others h = omega (arith, lines_left-behind rs e h)

@@ -10,7 +10,8 @@ use Rattle.roff_run.specs.declared.event.PageEvent.TheVariants.{Text}
 use Rattle.roff_engine.specs.Formatter.Performing.{Flows, behind_event}
 use Rattle.roff_engine.specs.Formatter.Sprung.{quiet_events}
 use Rattle.roff_run.specs.Events.Steps.{events_of, messages_of}
-use Rattle.roff_run.specs.declared.event.PageEvent.{PageEvent}
+use Rattle.roff_run.specs.PageEvents.{PageEvent}
+use Rattle.roff_run.specs.Registers.{AllRegisters}
 use Rattle.roff_run.specs.declared.message.Message.{Message}
 use Rattle.roff_run.specs.declared.step.Step.{Step}
 use Rattle.roff_run.specs.declared.step.Step.TheVariants.{Nothing, Glyph, Tab, Gap, Break, LineEnd, BlankLine, Meaning}
@@ -49,19 +50,20 @@ quiet-events BlankLine others = refl
 quiet-events Meaning others = refl
 
 -- before which no word end comes
-flows-leading : (leading : ℕ) (e : PageEvent) (h : PageHistory) → ((g : PageHistory) → Flows (e ∷ []) g) → Flows (leading_glyph leading ++ e ∷ []) h
-flows-leading leading e h flows = by_test (leading == 0)
+flows-leading : (rs : AllRegisters) (leading : ℕ) (e : PageEvent) (h : PageHistory) → ((g : PageHistory) → Flows rs (e ∷ []) g)
+    → Flows rs (leading_glyph leading ++ e ∷ []) h
+flows-leading rs leading e h flows = by_test (leading == 0)
   where
-    by_test : (b : Bool) → Flows ((if b then [] else Text (Print (Blanks leading)) ∷ []) ++ e ∷ []) h
+    by_test : (b : Bool) → Flows rs ((if b then [] else Text (Print (Blanks leading)) ∷ []) ++ e ∷ []) h
     by_test true = flows h
-    by_test false = (refl, refl, flows (behind_event (Text (Print (Blanks leading))) h))
+    by_test false = (refl, refl, flows (behind_event rs (Text (Print (Blanks leading))) h))
 
-pub quiet-flows : (step : Step) (h : PageHistory) → Flows (quiet_events step) h
-quiet-flows Nothing h = tt
-quiet-flows (Glyph b leading) h = flows-leading leading (print_event b) h (λ g. (refl, refl, tt))
-quiet-flows (Tab leading) h = flows-leading leading (Text PageTab) h (λ g. (refl, refl, tt))
-quiet-flows Gap h = (refl, refl, (refl, refl, tt))
-quiet-flows Break h = (refl, refl, (refl, refl, tt))
-quiet-flows LineEnd h = tt
-quiet-flows BlankLine h = (refl, refl, (refl, refl, (refl, refl, tt)))
-quiet-flows Meaning h = tt
+pub quiet-flows : (rs : AllRegisters) (step : Step) (h : PageHistory) → Flows rs (quiet_events step) h
+quiet-flows rs Nothing h = tt
+quiet-flows rs (Glyph b leading) h = flows-leading rs leading (print_event b) h (λ g. (refl, refl, tt))
+quiet-flows rs (Tab leading) h = flows-leading rs leading (Text PageTab) h (λ g. (refl, refl, tt))
+quiet-flows rs Gap h = (refl, refl, (refl, refl, tt))
+quiet-flows rs Break h = (refl, refl, (refl, refl, tt))
+quiet-flows rs LineEnd h = tt
+quiet-flows rs BlankLine h = (refl, refl, (refl, refl, (refl, refl, tt)))
+quiet-flows rs Meaning h = tt

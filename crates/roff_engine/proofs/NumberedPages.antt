@@ -1,5 +1,5 @@
 -- The page gets a number before anything is read: its history has that, and nothing is written.
-use Rattle.std.proofs.Common.{◌≡◌, ℕ, ◌≤◌, Bool, true, false, not, ◌||◌, List, [], ◌∷◌, ◌++◌, length, Option, Some, None, refl, sym, ap, subst, ◌∙◌, append-nil}
+use Rattle.std.proofs.Common.{◌≡◌, ℕ, Bool, true, false, not, ◌||◌, List, [], ◌∷◌, ◌++◌, Option, Some, None, refl, sym, ap, subst, ◌∙◌, append-nil}
 use Rattle.std.specs.Prelude.{Result, ◌==◌, if◌then◌else◌}
 use Rattle.std.proofs.lemmas.Bool.{ne_eqb}
 use Rattle.roff_num.specs.declared.limit.Limit.{Limit}
@@ -14,11 +14,9 @@ use Rattle.roff_pages.specs.Pages.Stands.{Happens}
 use Rattle.roff_pages.specs.Stops.{is_diverted}
 use Rattle.roff_pages.specs.declared.layout_event.LayoutEvent.TheVariants.{Number}
 use Rattle.roff_reader.specs.Reader.State.{ReaderState}
+use Rattle.roff_requests.proofs.GivenPages.{StandFor-quiet}
 use Rattle.roff_requests.specs.Composer.Standing.{StandFor}
-use Rattle.roff_requests.specs.Environments.Standing.{StandBy}
 use Rattle.roff_requests.specs.declared.composer.Composer.{Composer as ComposerOf}
-use Rattle.roff_requests.specs.declared.environments.Environments.{Environments as EnvironmentsOf}
-use Rattle.roff_run.specs.Environments.{environments}
 use Rattle.roff_run.specs.Output.{PageHistory, layout_of, written}
 use Rattle.roff_run.specs.Registers.{is_page}
 use Rattle.roff_run.specs.Registers.Capped.{admitted, after}
@@ -43,18 +41,7 @@ written-given next h quiet = written-numbered (number_of_page (next.0 ∷ []) ne
 pub StandFor-numbered : (n : Num) (old new : ComposerOf) → new.environments ≡ old.environments → Happens (Does (Number n)) old.pages new.pages
     → (l : Limits) (h : PageHistory) → StandFor l h old → StandFor l (Page (Number n) ∷ h) new
 StandFor-numbered n old new same numbered l h stands =
-    let wrote : new.pages.written ≡ length (written (page_numbered (Some n) ++ h)) =
-    numbered.written ∙ stands.written ∙ ap (λ (text : List ℕ). length text) (sym (written-numbered (Some n) h)) in
-    record {
-      environments = subst (λ (es : EnvironmentsOf). StandBy l (environments h) es) (sym same) stands.environments;
-      pages = numbered.stands (layout_of h) stands.pages;
-      written = wrote;
-      within = subst (λ (n : ℕ). n ≤ new.pages.output) (sym numbered.written) (subst (λ (n : ℕ). old.pages.written ≤ n) (sym numbered.limits.output) stands.within);
-      output = numbered.limits.output ∙ stands.output;
-      traps = numbered.limits.traps ∙ stands.traps;
-      diversions = numbered.limits.diversions ∙ stands.diversions;
-      goes_on = stands.goes_on;
-    }
+    StandFor-quiet (Number n) old new same numbered l h (written-numbered (Some n) h) stands.goes_on stands
 
 -- a name of one byte is the page number's by that byte
 is_page-one : (name : ℕ) (is : Bool) → (name == 37) ≡ is → is_page (name ∷ []) ≡ is

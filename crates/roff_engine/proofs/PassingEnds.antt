@@ -25,11 +25,11 @@ use Rattle.roff_run.specs.Registers.{AllRegisters}
 use Rattle.roff_run.specs.Run.{Leads, State, in_front_taken, made, read_waiting, step, stopped_by, unless_refused}
 use Rattle.roff_run.specs.Run.Counts.{counts_in, first_passed}
 use Rattle.roff_run.specs.TurnsToCome.{begun, free_ahead, turns_to_come, turns_within}
-use Rattle.roff_run.specs.declared.event.PageEvent.{PageEvent}
+use Rattle.roff_run.specs.PageEvents.{PageEvent}
 use Rattle.roff_run.specs.declared.line_state.LineState.{LineState}
 use Rattle.roff_run.proofs.InputCounts.{IsWithin-allowed, first_passed-few_names}
 use Rattle.roff_run.proofs.ItemsTaken.{step-reads}
-use Rattle.roff_reader.proofs.TakesAs.{few_names}
+use Rattle.roff_reader.proofs.TakesAs.{few_names, short_title}
 use Rattle.roff_engine.specs.declared.formatter.Formatter.{Formatter}
 use Rattle.roff_engine.specs.declared.running.Running.{Running as Coded}
 use Rattle.roff_engine.specs.Engine.Outcome.{Beginning, Seen}
@@ -95,14 +95,14 @@ module _ (item : Ahead PageEvent) (reads_on : LineState → LineState) (ends : I
       let t : State = record s { input = i; reading = reads_on s.reading } in
       let inside : IsWithin there = subst IsWithin is within in
       let fits : first_passed l (counts_in rs i) ≡ None =
-      first_passed-few_names l rs i (few_names old.formatter.reader.registers old.unread at.ready) ∙ IsWithin-allowed there inside in
+      first_passed-few_names l rs i (few_names old.formatter.reader.registers old.unread at.ready) (short_title old.formatter.reader.registers old.unread at.ready) ∙ IsWithin-allowed there inside in
       let leads : Leads l s t = record {
         steps = suc zero;
         there = step-end l s refl refl refl none_due front takes allowed fits;
       } in
       subst (λ (u : PageUnread). IsAt whole tape start now (record old { formatter = over; unread = u })) (sym is)
       (IsAt-leads whole tape tape start now old over there at.history at
-      (subst (λ (k : Limits). Leads k s t) at.limits leads) refl at.stands (record { cap = at.ready.cap; within = fits }) at.limits)
+      (subst (λ (k : Limits). Leads k s t) at.limits leads) refl at.stands (record { cap = at.ready.cap; line = at.ready.line; within = fits }) at.limits)
 
   -- fewer turns are to come
   fewer-end : turns_left (record old { formatter = over; unread = after }) < turns_left old

@@ -14,7 +14,7 @@ use Rattle.roff_engine.specs.Formatter.Performing.{StoppedAt, FailedAt, LostAt, 
 use Rattle.roff_run.specs.Messages.{message_lines}
 use Rattle.roff_run.specs.declared.message.Message.{Message}
 use Rattle.roff_run.specs.Output.{PageHistory, layout_of, written, written_by}
-use Rattle.roff_run.specs.declared.event.PageEvent.{PageEvent}
+use Rattle.roff_run.specs.PageEvents.{PageEvent, PastEvent}
 use Rattle.roff_run.specs.Run.{State, done_if, initial, output, performed, sprung_at, step, unless_refused}
 use Rattle.roff_run.specs.Springs.{springs}
 use Rattle.roff_run.specs.Run.Counts.{refusal}
@@ -55,7 +55,7 @@ output-performed false sprung left behind = output-sprung sprung left behind
 -- A step at an event in front of others, at a state of a run: in it this happens, the event or what comes before it, and these are
 -- left.
 module _ (l : Limits) (t : Beginning) (before : Seen) (failures : ℕ) (err : Sunk) (s : State) (h : PageHistory) (e : PageEvent) (rest : List PageEvent) (old : Sunk)
-    (reached : Reaches l t before (seen failures old err) (acting s (e ∷ rest) h)) (happens : PageEvent) (left : List PageEvent)
+    (reached : Reaches l t before (seen failures old err) (acting s (e ∷ rest) h)) (happens : PastEvent) (left : List PageEvent)
     (steps : step l (acting s (e ∷ rest) h)
     ≡ unless_refused l (refusal l h happens) (acting s (e ∷ rest) h) (performed happens left (acting s (e ∷ rest) h))) where
   -- one that no limit refuses is performed by the step
@@ -206,7 +206,7 @@ performs_both first others old mid new told told_mid told_new r one more = recor
   events_performed = record {
     performs = λ l t before failures err s h rest stood flows reached.
         let now = one.events_performed.performs l t before failures err s h (others ++ rest) stood (flows.0, flows.1, tt) reached in
-        more.events_performed.performs l t before failures err s (behind_event first h) rest now.stands flows.2 now.reaches;
+        more.events_performed.performs l t before failures err s (behind_event s.registers first h) rest now.stands flows.2 now.reaches;
   };
   reader = more.reader ∙ one.reader;
 }
@@ -217,7 +217,7 @@ pub performs_first_halted : (first : PageEvent) (others : List PageEvent) (old n
 performs_first_halted first others old new told told_new halt one = record {
   events_performed = record {
     performs = λ l t before failures err s h rest stood flows reached.
-        performs_halted l t before _ s (behind_event first h) (behind_events others (behind_event first h)) (others ++ rest) rest halt _ _
+        performs_halted l t before _ s (behind_event s.registers first h) (behind_events s.registers others (behind_event s.registers first h)) (others ++ rest) rest halt _ _
         (one.events_performed.performs l t before failures err s h (others ++ rest) stood (flows.0, flows.1, tt) reached);
   };
   reader = one.reader;
@@ -228,9 +228,9 @@ pub told_then_performed : (line : ℕ) (messages : List Message) (events : List 
     → Puts {F = Halt} err err_new (message_lines line messages) (Ok tt) → PerformsAll events old new out out_new r
     → DoesMeaning line messages events old new (sinks out err) (sinks out_new err_new) r
 told_then_performed line messages events old new out out_new err err_new r puts performed = record {
-  does = λ l t before failures from s h rest stood reached means.
+  does = λ l t before failures from s h rest stood same reached means.
       does_events l t before _ from s events h old.reader.meaning.events rest r _
-      (performed.all l t before failures err_new s h rest stood
+      (performed.all l t before failures err_new s h rest stood same
       (messages_told l t before failures out err err_new from s h line messages events rest reached means puts.ok));
   reader = performed.reader;
 }
@@ -240,7 +240,7 @@ pub not_told : (line : ℕ) (messages : List Message) (events : List PageEvent) 
     → Puts {F = Halt} err err_new (message_lines line messages) (Err halt) → halt ≡ Messages
     → DoesMeaning line messages events f f (sinks out err) (sinks out err_new) (Err halt)
 not_told line messages events f out err err_new halt puts is_messages = record {
-  does = λ l t before failures from s h rest stood reached means.
+  does = λ l t before failures from s h rest stood same reached means.
       rw is_messages (messages_lost l t before failures out err err_new from s h line messages events rest reached means puts.err);
   reader = refl;
 }

@@ -26,7 +26,7 @@ use Rattle.roff_engine.specs.Formatter.Setting.{HasRoomFor, IsPastItsLimit, may_
 use Rattle.roff_run.specs.Environments.{PageHistory, environments, text_of}
 use Rattle.roff_run.specs.Layouts.{laid_out}
 use Rattle.roff_run.specs.Output.{happens, layout_of, text_laid, written, written_by}
-use Rattle.roff_run.specs.declared.event.PageEvent.{PageEvent}
+use Rattle.roff_run.specs.PageEvents.{PastEvent}
 use Rattle.roff_run.specs.declared.environment_number.EnvironmentNumber.{EnvironmentNumber}
 use Rattle.roff_run.specs.declared.event.PageEvent.TheVariants.{Text, Environment, Page}
 use Rattle.roff_run.specs.Run.Counts.{first_passed, refusal, written_counted}
@@ -218,7 +218,7 @@ page_refused l h EndDivert limit es stood past = absurd past
 
 -- Behind an event with which something happens to the pages, whose text is counted, environments and pages stand for what they
 -- stand for together.
-pub stands_put : (l : Limits) (h : PageHistory) (x : PageEvent) (y : Happening) (old new : ComposerOf) → StandFor l h old → happens h x ≡ Some y
+pub stands_put : (l : Limits) (h : PageHistory) (x : PastEvent) (y : Happening) (old new : ComposerOf) → StandFor l h old → happens h x ≡ Some y
     → StandBy l (environments (x ∷ h)) new.environments → StandsAs (with_event y (layout_of h)) new.pages
     → new.pages.written ≡ old.pages.written + length (device_text y (layout_of h))
     → old.pages.written + length (device_text y (layout_of h)) ≤ old.pages.output → SameLimits old.pages new.pages
@@ -238,14 +238,14 @@ stands_put l h x y old new stood is environments pages counted few limits goes_o
     }
 
 -- nothing is written
-pub stands_set : (l : Limits) (h : PageHistory) (x : PageEvent) (y : Happening) (old new : ComposerOf) → StandFor l h old → happens h x ≡ Some y
+pub stands_set : (l : Limits) (h : PageHistory) (x : PastEvent) (y : Happening) (old new : ComposerOf) → StandFor l h old → happens h x ≡ Some y
     → StandBy l (environments (x ∷ h)) new.environments → StandsAs (with_event y (layout_of h)) new.pages → device_text y (layout_of h) ≡ []
     → new.pages.written ≡ old.pages.written → SameLimits old.pages new.pages → (with_event y (layout_of h)).is_over ≡ false → StandFor l (x ∷ h) new
 stands_set l h x y old new stood is environments pages nothing same limits goes_on =
     stands_put l h x y old new stood is environments pages (omega (arith, ap length nothing, same)) (omega (arith, ap length nothing, stood.within)) limits goes_on
 
 -- with which nothing happens to them
-pub stands_quietly : (l : Limits) (h : PageHistory) (x : PageEvent) (old new : ComposerOf) → StandFor l h old → happens h x ≡ None
+pub stands_quietly : (l : Limits) (h : PageHistory) (x : PastEvent) (old new : ComposerOf) → StandFor l h old → happens h x ≡ None
     → StandBy l (environments (x ∷ h)) new.environments → new.pages ≡ old.pages → StandFor l (x ∷ h) new
 stands_quietly l h x old new stood none environments same =
     let bytes : length (written (x ∷ h)) ≡ length (written h) =

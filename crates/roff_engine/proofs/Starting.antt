@@ -13,7 +13,7 @@ use Rattle.roff_engine.specs.Running.Turning.{StartStops, state_at}
 use Rattle.roff_engine.specs.declared.formatter.Formatter.{Formatter}
 use Rattle.roff_engine.specs.declared.running.Running.{Running as Coded}
 use Rattle.roff_engine.proofs.NumberedPages.{written-given}
-use Rattle.roff_reader.proofs.TakesAs.{few_names}
+use Rattle.roff_reader.proofs.TakesAs.{few_names, short_title}
 use Rattle.roff_reader.specs.Reader.State.{ReaderState}
 use Rattle.roff_reader.specs.Reader.Taken.{IsReady}
 use Rattle.roff_requests.specs.Composer.Standing.{StandFor}
@@ -22,8 +22,10 @@ use Rattle.roff_run.specs.Output.{PageHistory, written}
 use Rattle.roff_run.specs.Reading.Items.{PageInput}
 use Rattle.roff_run.specs.Registers.{AllRegisters, Change, changed_by}
 use Rattle.roff_run.specs.Registers.Capped.{Capped, is_past_cap, with_change}
+use Rattle.roff_laws.proofs.RunsStayWithin.{title-given}
+use Rattle.roff_run.specs.TitleTexts.{TitleText, title_length}
 use Rattle.roff_run.specs.Run.{State, initial, stopped_by, unless_refused, with_registers}
-use Rattle.roff_run.specs.Starts.{given_change, history_given}
+use Rattle.roff_run.specs.Starts.{given_change, history_given, pages_given}
 use Rattle.roff_run.specs.declared.start.Start.{Start}
 use Rattle.roff_run.specs.declared.status.Status.{Status}
 use Rattle.roff_scan.specs.Looking.{is_closed, looked_then}
@@ -45,18 +47,18 @@ admitted_err : (past : Bool) (limit : Limit) (r : Result (Unit {0}) Limit) → r
 admitted_err true limit r is err = (refl, cc)
 admitted_err false limit r is err = cc
 
--- so far these registers of all that are given were set, and the others are to be
-pub record SetSoFar (old now : Coded) (given rest : List (ℕ × Num)) : Type 0 where
+-- so far these registers of all that are given were set, behind a history, and the others are to be
+pub record SetSoFar (first : PageHistory) (old now : Coded) (given rest : List (ℕ × Num)) : Type 0 where
   pub history : PageHistory
   pub some : SetsSome old now history
-  pub goes_on : HasRoom old → (tape : Tape) → with_registers old.limits given (state_at tape old [] []) ≡ with_registers old.limits rest (state_at tape now history [])
-  pub stands : (l : Limits) → StandFor l [] old.formatter.composer → StandFor l history now.formatter.composer
+  pub goes_on : HasRoom old → (tape : Tape) → with_registers old.limits given (state_at tape old first []) ≡ with_registers old.limits rest (state_at tape now history [])
+  pub stands : (l : Limits) → StandFor l first old.formatter.composer → StandFor l history now.formatter.composer
 
 -- none was set yet
-pub SetSoFar-none : (old : Coded) (given : List (ℕ × Num)) → SetSoFar old old given given
-SetSoFar-none old given = record {
-  history = [];
-  some = record { sets = refl; reader = refl; room = λ room. room; quiet = refl };
+pub SetSoFar-none : (first : PageHistory) (old : Coded) (given : List (ℕ × Num)) → written first ≡ [] → SetSoFar first old old given given
+SetSoFar-none first old given quiet = record {
+  history = first;
+  some = record { sets = refl; reader = refl; room = λ room. room; quiet = quiet };
   goes_on = λ room tape. refl;
   stands = λ l stood. stood;
 }
@@ -69,7 +71,7 @@ same_reader first now new rs was is =
     ∙ ap (λ (r : ReaderState). record first { registers = r.registers }) (sym is)
 
 -- the next one, and those behind it
-module _ (old now : Coded) (given rest : List (ℕ × Num)) (next : ℕ × Num) (far : SetSoFar old now given (next ∷ rest)) where
+module _ (first : PageHistory) (old now : Coded) (given rest : List (ℕ × Num)) (next : ℕ × Num) (far : SetSoFar first old now given (next ∷ rest)) where
   -- the change, the registers before it, and those behind it
   abbrev change : Change
   change = given_change next.0 next.1
@@ -112,7 +114,7 @@ module _ (old now : Coded) (given rest : List (ℕ × Num)) (next : ℕ × Num) 
 
   -- where it is set or refused the definition does that
   by : (past : Bool) → is_past_cap changed ≡ past → HasRoom old → (tape : Tape)
-      → with_registers old.limits given (state_at tape old [] []) ≡ (if past then stopped_by old.limits Names (before tape) else others tape)
+      → with_registers old.limits given (state_at tape old first []) ≡ (if past then stopped_by old.limits Names (before tape) else others tape)
   by past is had tape =
       let counted : nat_lt old.limits.names (length behind.named) ≡ past = ap (λ (n : ℕ). nat_lt n (length behind.named)) (sym (cap had)) ∙ is in
       far.goes_on had tape
@@ -133,7 +135,8 @@ module _ (old now : Coded) (given rest : List (ℕ × Num)) (next : ℕ × Num) 
       let few : nat_lt l.names (length behind.named) ≡ false = ap (λ (n : ℕ). nat_lt n (length behind.named)) (sym room.ready.cap) ∙ is in
       record {
         cap = room.ready.cap;
-        within = first_passed-few_names l behind i few ∙ sym (first_passed-few_names l rs.all i (few_names rs now.unread room.ready)) ∙ room.ready.within;
+        line = room.ready.line;
+        within = first_passed-few_names l behind i few (ap (λ (t : TitleText). nat_lt l.line (title_length t)) (title-given next rs.all) ∙ short_title rs now.unread room.ready) ∙ sym (first_passed-few_names l rs.all i (few_names rs now.unread room.ready) (short_title rs now.unread room.ready)) ∙ room.ready.within;
       }
 
   -- behind it, in a formatter with these registers
@@ -152,7 +155,7 @@ module _ (old now : Coded) (given rest : List (ℕ × Num)) (next : ℕ × Num) 
     }
 
     -- it was set
-    pub set_next : r ≡ Ok tt → SetSoFar old (over f) given rest
+    pub set_next : r ≡ Ok tt → SetSoFar first old (over f) given rest
     set_next ok =
         let few : is_past_cap changed ≡ false = admitted_ok (is_past_cap changed) r gives.answer ok in
         let h : PageHistory = history_given next far.history in
@@ -165,21 +168,22 @@ module _ (old now : Coded) (given rest : List (ℕ × Num)) (next : ℕ × Num) 
         }
 
     -- or it was refused
-    pub refused_next : (limit : Limit) → r ≡ Err limit → IsRefused old (over f) given limit
+    pub refused_next : (limit : Limit) → r ≡ Err limit → IsRefused first old (over f) given limit
     refused_next limit err =
         let past = admitted_err (is_past_cap changed) limit r gives.answer err in
         let is : f.reader ≡ reading rs =
         gives.reader ∙ ap (λ (past : Bool). reading (if past then rs else changed)) past.0 in
-        subst (λ (n : Limit). IsRefused old (over f) given n) (sym past.1) (record {
+        subst (λ (n : Limit). IsRefused first old (over f) given n) (sym past.1) (record {
           history = far.history;
           some = some-behind far.history rs is (λ had. (far.some.room had).ready) far.some.quiet;
           stops = λ had tape. by true past.0 had tape ∙ ap (λ (r : ReaderState). stopped_by old.limits Names (at tape far.history r)) (sym is);
         })
 
 -- all were set
-pub Begins-all : (old new : Coded) (given rest : List (ℕ × Num)) → length rest ≡ 0 → SetSoFar old new given rest → Begins old new given
-Begins-all old new given [] none far = record { history = far.history; some = far.some; goes_on = far.goes_on; stands = far.stands }
-Begins-all old new given (next ∷ rest) none far = absurd (omega (arith, none))
+pub Begins-all : (first : PageHistory) (old new : Coded) (given rest : List (ℕ × Num)) → length rest ≡ 0 → SetSoFar first old new given rest
+    → Begins first old new given
+Begins-all first old new given [] none far = record { history = far.history; some = far.some; goes_on = far.goes_on; stands = far.stands }
+Begins-all first old new given (next ∷ rest) none far = absurd (omega (arith, none))
 
 -- a limit refused one, where nothing of the source was looked at: nothing was read or written yet
 pub stops_at_start : (run : Coded) (given : Start) (tape : Tape) (h : PageHistory) (limit : Limit) (line : ℕ) (now : Seen)
@@ -201,8 +205,8 @@ stops_at_start run given tape h limit line now unread quiet stops line_is = reco
 
 -- a run in which one was refused ends so
 pub begin_refused : (old mid : Coded) (given : Start) (tape : Tape) (limit : Limit) (status : Status) (now behind : Seen)
-    → IsRefused old mid given.registers.items limit → HasRoom old → old.unread.looked ≡ Nothing
-    → initial old.limits given tape ≡ with_registers old.limits given.registers.items (state_at tape old [] [])
+    → IsRefused (pages_given given) old mid given.registers.items limit → HasRoom old → old.unread.looked ≡ Nothing
+    → initial old.limits given tape ≡ with_registers old.limits given.registers.items (state_at tape old (pages_given given) [])
     → ((h : PageHistory) → mid.unread.looked ≡ Nothing → written h ≡ [] → initial mid.limits given tape ≡ stopped_by mid.limits limit (state_at tape mid h [])
     → Outcome mid.limits given tape tape status now behind)
     → Outcome old.limits given tape tape status now behind

@@ -35,7 +35,7 @@ use Rattle.roff_run.specs.Run.Counts.{counts_in, first_passed}
 use Rattle.roff_run.specs.Telling.{Prints, page_told}
 use Rattle.roff_run.specs.TurnsToCome.{turns_within}
 use Rattle.roff_requests.specs.declared.composer.Composer.{Composer as ComposerOf}
-use Rattle.roff_run.specs.declared.event.PageEvent.{PageEvent}
+use Rattle.roff_run.specs.PageEvents.{PageEvent}
 use Rattle.roff_run.specs.declared.line_state.LineState.{LineState}
 use Rattle.roff_run.specs.declared.phase.Phase.{Phase}
 use Rattle.roff_run.proofs.ItemsTaken.{FromAhead, FromSource, IsOpenFor, Origin, ahead_at, tape_at}
@@ -57,7 +57,7 @@ use Rattle.roff_run.specs.Reading.Items.{Taking}
 use Rattle.roff_run.specs.Registers.{no_registers}
 use Rattle.roff_run.specs.Run.{first_input, known_at}
 use Rattle.roff_run.specs.TurnsToCome.{unended}
-use Rattle.roff_run.specs.declared.line_state.LineState.TheVariants.{LineStart, Branch, Braced, Text as InText, Control, Name, Arguments as InArguments, Deciding, StringName, StringText, Skipping, Dropped, Telling, Told, Exiting, Calling, Defining}
+use Rattle.roff_run.specs.declared.line_state.LineState.TheVariants.{LineStart, Branch, Braced, Text as InText, Control, Name, Arguments as InArguments, Deciding, StringName, StringText, Skipping, Dropped, Telling, Told, Exiting, Calling, Defining, TitleFront, Title as InTitle}
 
 -- the environments with these lines in force
 abbrev with_lines : EnvironmentsOf → Env → EnvironmentsOf
@@ -183,6 +183,8 @@ lines-told Dropped prints one other = refl
 lines-told (Telling aborts is_front) prints one other = refl
 lines-told (Told aborts) prints one other = refl
 lines-told Exiting prints one other = refl
+lines-told TitleFront prints one other = refl
+lines-told (InTitle delimiter) prints one other = refl
 
 -- the run of the definition leads on over bytes that are told; of none nothing is asked
 leads-bytes : (l : Limits) (reading : LineState) (rs : AllRegisters) (messages : List ℕ) (phase : Phase) (closed : Bool) (from : Origin) (tape : Tape)
@@ -246,7 +248,7 @@ module _ (old : Coded) (f : Formatter) (front : List ℕ) (count : ℕ) (told : 
       IsAt-leads whole tape t start now old formatter_behind (record old.unread { input = input }) (page_told bytes at.history) at
       (subst (λ (l : Limits). Leads l from there) at.limits leads)
       (written-told old.unread.limits.line bytes at.history (quiet whole tape start now at))
-      (told.stands old.limits at.history at.stands) (record { cap = at.ready.cap; within = within }) at.limits
+      (told.stands old.limits at.history at.stands) (record { cap = at.ready.cap; line = at.ready.line; within = within }) at.limits
 
   -- from there
   IsAt-from : (from : Origin) (whole : Beginning) (t taken : Tape) (start now : Seen) (input : PageInput) → IsOpenFor from (is_closed old.unread.looked) → old.unread.input.ahead ≡ ahead_at from bytes

@@ -15,7 +15,7 @@ use Rattle.roff_run.specs.Reading.Items.{PageUnread}
 use Rattle.roff_run.specs.Reading.Items.{PageInput}
 use Rattle.roff_run.specs.Registers.{AllRegisters, Known}
 use Rattle.roff_run.specs.Registers.Capped.{Capped}
-use Rattle.roff_run.specs.declared.event.PageEvent.{PageEvent}
+use Rattle.roff_run.specs.PageEvents.{PageEvent}
 use Rattle.roff_run.specs.Run.{State, Leads, after, known_at}
 use Rattle.roff_run.specs.Run.Counts.{counts_in, first_passed}
 use Rattle.roff_run.specs.Stages.{Stage, Turned, stage_of}
@@ -26,7 +26,7 @@ use Rattle.roff_run.specs.declared.line_state.LineState.{LineState}
 use Rattle.roff_run.proofs.InputCounts.{IsWithin-allowed, first_passed-few_names}
 use Rattle.roff_run.proofs.ItemsTaken.{FromAhead, FromSource, IsOpenFor, Origin, ahead_at, tape_at}
 use Rattle.roff_run.proofs.PlainRuns.{behind_bytes, counted, counted-source, is-run_at, run_at}
-use Rattle.roff_reader.proofs.TakesAs.{few_names}
+use Rattle.roff_reader.proofs.TakesAs.{few_names, short_title}
 use Rattle.roff_reader.proofs.TurnedRuns.{FitsAt, Turned-none, after-Turned, counted-bytes_taken, input-passed, stage_input, stage_input-counted, turns_left-turned}
 use Rattle.roff_engine.specs.declared.running.Running.{Running as Coded}
 use Rattle.roff_engine.specs.Engine.Outcome.{Beginning, Seen, seen}
@@ -65,7 +65,7 @@ IsAt-turned whole t taken start now old reading input from bytes is_open read as
     let there : State = state_at t (reads old reading input) at.history at.messages in
     let ready : IsReady old.formatter.reader.registers old.unread = at.ready in
     let fits : first_passed l (counts_in rs input) ≡ None =
-    first_passed-few_names l rs input (few_names old.formatter.reader.registers old.unread ready) ∙ read.within in
+    first_passed-few_names l rs input (few_names old.formatter.reader.registers old.unread ready) (short_title old.formatter.reader.registers old.unread ready) ∙ read.within in
     let before : FitsAt l rs i.names p from bytes i =
     subst (λ (items : List (Ahead PageEvent)). first_passed l (counts_in rs (record i { ahead = items })) ≡ None) read.ahead ready.within in
     let behind : FitsAt l rs i.names q from [] (behind_bytes from bytes i) =
@@ -78,7 +78,7 @@ IsAt-turned whole t taken start now old reading input from bytes is_open read as
     ∙ ap (λ (tape : Tape). record s { tape = tape; input = input; reading = reading }) left in
     let leads : Leads l s there = record { steps = length bytes; there = ap (after l (length bytes)) (sym stands) ∙ comes ∙ is } in
     IsAt-leads whole taken t start now old (record old.formatter { reader = record old.formatter.reader { reading = reading } }) (record old.unread { input = input }) at.history at
-    (subst (λ (k : Limits). Leads k s there) at.limits leads) refl at.stands (record { cap = ready.cap; within = fits }) at.limits
+    (subst (λ (k : Limits). Leads k s there) at.limits leads) refl at.stands (record { cap = ready.cap; line = ready.line; within = fits }) at.limits
 
 -- fewer turns are to come, by one for each byte
 turns-read : (old : Coded) (reading : LineState) (input : PageInput) (from : Origin) (bytes : List ℕ) → ReadFrom from bytes old reading input

@@ -10,7 +10,7 @@ use Rattle.roff_scan.specs.Unread.{asks_to_take, taking}
 use Rattle.roff_ahead.specs.Shown.{Shown, ShowsByte, ShowsEnd, ShowsReturn, ShowsDo, ShowsNote, ShowsEnding, ShowsRefusal}
 use Rattle.roff_scan.specs.Unread.Calls.{Takes}
 use Rattle.roff_escape.specs.OpenEscape.{OpenEscape}
-use Rattle.roff_run.specs.declared.event.PageEvent.{PageEvent}
+use Rattle.roff_run.specs.PageEvents.{PageEvent}
 use Rattle.roff_run.specs.declared.message.Message.TheVariants.{ReadFailed}
 use Rattle.roff_run.specs.declared.status.Status.{Status}
 use Rattle.roff_run.specs.declared.status.Status.TheVariants.{Device, Limit as Limited}

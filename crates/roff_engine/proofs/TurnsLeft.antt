@@ -17,7 +17,7 @@ use Rattle.roff_run.specs.Reading.Ends.{is_unfinished}
 use Rattle.roff_run.specs.Run.{State, escape_ends, input_ended, known, phase_ended}
 use Rattle.roff_run.specs.TurnsToCome.{begun, lines_left, phases_left, turns_within, unended}
 use Rattle.roff_run.specs.declared.line_state.LineState.{LineState}
-use Rattle.roff_run.specs.declared.line_state.LineState.TheVariants.{LineStart, Branch, Braced, Text as InText, Control, Name, Arguments as InArguments, Deciding, StringName, StringText, Skipping, Dropped, Telling, Told, Exiting, Calling, Defining}
+use Rattle.roff_run.specs.declared.line_state.LineState.TheVariants.{LineStart, Branch, Braced, Text as InText, Control, Name, Arguments as InArguments, Deciding, StringName, StringText, Skipping, Dropped, Telling, Told, Exiting, Calling, Defining, TitleFront, Title as InTitle}
 use Rattle.roff_run.specs.declared.line_state.TextLine.{TextLine}
 use Rattle.roff_run.specs.declared.phase.Phase.{Phase}
 use Rattle.roff_run.specs.declared.phase.Phase.TheVariants.{Reading, LastMacro, Closing}
@@ -55,6 +55,8 @@ line_turns-few Dropped left few = omega arith
 line_turns-few (Telling aborts is_front) left few = omega arith
 line_turns-few (Told aborts) left few = omega arith
 line_turns-few Exiting left few = omega arith
+line_turns-few TitleFront left few = omega arith
+line_turns-few (InTitle delimiter) left few = omega arith
 
 -- nor less than this
 line_turns-least : (reading : LineState) (left : ℕ) → 2 * unended reading ≤ line_turns reading left
@@ -75,6 +77,8 @@ line_turns-least Dropped left = omega arith
 line_turns-least (Telling aborts is_front) left = omega arith
 line_turns-least (Told aborts) left = omega arith
 line_turns-least Exiting left = omega arith
+line_turns-least TitleFront left = omega arith
+line_turns-least (InTitle delimiter) left = omega arith
 
 -- where fewer lines are left, no more
 pub line_turns-more : (reading : LineState) (left more : ℕ) → left ≤ more → line_turns reading left ≤ line_turns reading more
@@ -95,6 +99,8 @@ line_turns-more Dropped left more few = omega arith
 line_turns-more (Telling aborts is_front) left more few = omega arith
 line_turns-more (Told aborts) left more few = omega arith
 line_turns-more Exiting left more few = omega arith
+line_turns-more TitleFront left more few = omega arith
+line_turns-more (InTitle delimiter) left more few = omega arith
 
 -- less than a turn counts
 pub line_turns-less : (reading : LineState) (left : ℕ) → left ≤ 1 → line_turns reading left ≤ 3

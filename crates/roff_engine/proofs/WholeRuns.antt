@@ -14,7 +14,8 @@ use Rattle.roff_reader.specs.Reader.State.{ReaderState, fresh_reader}
 use Rattle.roff_reader.specs.Reader.Taken.{IsReady}
 use Rattle.roff_run.specs.Reading.Items.{PageUnread}
 use Rattle.roff_run.specs.Registers.{no_registers}
-use Rattle.roff_run.specs.Run.{State, Leads, blank_state, first_input, first_unread, initial, item_read, reading_by, step, with_registers}
+use Rattle.roff_run.specs.Run.{State, Leads, first_input, first_unread, initial, item_read, paged_state, reading_by, step, with_registers}
+use Rattle.roff_run.specs.Starts.{pages_given}
 use Rattle.roff_run.specs.declared.phase.Phase.{Phase}
 use Rattle.roff_run.specs.declared.phase.Phase.TheVariants.{Reading}
 use Rattle.roff_run.specs.declared.start.Start.{Start}
@@ -58,39 +59,41 @@ read_turn gave gives noted notes old new now behind r none_due turn =
 none_passed-fresh : (l : Limits) → first_passed l (counts_in no_registers first_input) ≡ None
 none_passed-fresh l =
     let none : (limit : ℕ) → nat_lt limit 0 ≡ false = λ limit. le-ltb limit 0 (omega arith) in
-    rw (none l.names, none l.stack, none l.depth, none l.store, none l.diversions, none l.conditions) refl
+    rw (none l.names, none l.line, none l.stack, none l.depth, none l.store, none l.diversions, none l.conditions) refl
 
 -- a run before anything is given to it has room
 pub HasRoom-fresh : (run : Coded) → IsFresh run.limits run.formatter run.unread → HasRoom run
 HasRoom-fresh run fresh =
     let l : Limits = run.limits in
     let P : PageUnread → ReaderState → Type 0 = λ u r. IsReady r.registers u in
-    let first : P (first_unread l) (fresh_reader l.names) = record { cap = refl; within = none_passed-fresh l } in record {
+    let first : P (first_unread l) (fresh_reader l.names l.line) = record { cap = refl; line = refl; within = none_passed-fresh l } in record {
       ready = subst (λ (u : PageUnread). P u run.formatter.reader) (sym fresh.unread) (subst (λ (r : ReaderState). P (first_unread l) r) (sym fresh.reader) first);
       limits = ap (λ (u : PageUnread). u.limits) fresh.unread;
     }
 
--- and stands at the definition's blank state
-pub blank-fresh : (tape : Tape) (run : Coded) → run.phase ≡ Reading → IsFresh run.limits run.formatter run.unread → state_at tape run [] [] ≡ blank_state tape
-blank-fresh tape run first fresh =
+-- and stands at the definition's state in which the pages are given
+pub paged-fresh : (given : Start) (tape : Tape) (run : Coded) → run.phase ≡ Reading → IsFresh run.limits run.formatter run.unread
+    → state_at tape run (pages_given given) [] ≡ paged_state given tape
+paged-fresh given tape run first fresh =
     let l : Limits = run.limits in
-    let at : PageUnread → ReaderState → Phase → State = λ u r p. going (looked_then u.looked tape) u.input r.reading r.registers.all [] [] p (is_closed u.looked) [] in
+    let at : PageUnread → ReaderState → Phase → State =
+    λ u r p. going (looked_then u.looked tape) u.input r.reading r.registers.all (pages_given given) [] p (is_closed u.looked) [] in
     ap (λ (u : PageUnread). at u run.formatter.reader run.phase) fresh.unread
     ∙ ap (λ (r : ReaderState). at (first_unread l) r run.phase) fresh.reader
-    ∙ ap (λ (p : Phase). at (first_unread l) (fresh_reader l.names) p) first
+    ∙ ap (λ (p : Phase). at (first_unread l) (fresh_reader l.names l.line) p) first
 
--- the definition begins as a run of the code that stands at its blank state
+-- the definition begins as a run of the code that stands there
 pub initial-fresh : (run : Coded) (given : Start) → run.phase ≡ Reading → IsFresh run.limits run.formatter run.unread
-    → (tape : Tape) → initial run.limits given tape ≡ with_registers run.limits given.registers.items (state_at tape run [] [])
-initial-fresh run given first fresh tape = ap (with_registers run.limits given.registers.items) (sym (blank-fresh tape run first fresh))
+    → (tape : Tape) → initial run.limits given tape ≡ with_registers run.limits given.registers.items (state_at tape run (pages_given given) [])
+initial-fresh run given first fresh tape = ap (with_registers run.limits given.registers.items) (sym (paged-fresh given tape run first fresh))
 
 -- registers were given to a run: it stands where the definition begins
-begun : (old new : Coded) (given : Start) → old.phase ≡ Reading → IsFresh old.limits old.formatter old.unread → (begins : Begins old new given.registers.items)
+begun : (old new : Coded) (given : Start) → old.phase ≡ Reading → IsFresh old.limits old.formatter old.unread → (begins : Begins (pages_given given) old new given.registers.items)
     → (tape : Tape) → initial old.limits given tape ≡ state_at tape new begins.history []
 begun old new given first fresh begins tape = initial-fresh old given first fresh tape ∙ begins.goes_on (HasRoom-fresh old fresh) tape
 
 -- so no limit refused one of them
-pub not_refused : (old new : Coded) (given : Start) → old.phase ≡ Reading → IsFresh old.limits old.formatter old.unread → Begins old new given.registers.items
+pub not_refused : (old new : Coded) (given : Start) → old.phase ≡ Reading → IsFresh old.limits old.formatter old.unread → Begins (pages_given given) old new given.registers.items
     → (tape : Tape) → IsSome (initial old.limits given tape).ended → ⊥
 not_refused old new given first fresh begins tape refused =
     let wrong : false ≡ true = subst (λ (s : State). IsSome s.ended) (begun old new given first fresh begins tape) refused in
@@ -98,8 +101,8 @@ not_refused old new given first fresh begins tape refused =
 
 -- and it has come to its first turn
 pub started : (old new : Coded) (given : Start) (failures : ℕ) (out err : Sunk) (gives : Tape → Type 0) → old.phase ≡ Reading
-    → StandFor old.limits [] old.formatter.composer → IsFresh old.limits old.formatter old.unread
-    → Begins old new given.registers.items → HasCome given gives gives (seen failures out err) (seen failures out err) new
+    → StandFor old.limits (pages_given given) old.formatter.composer → IsFresh old.limits old.formatter old.unread
+    → Begins (pages_given given) old new given.registers.items → HasCome given gives gives (seen failures out err) (seen failures out err) new
 started old new given failures out err gives first stands fresh begins =
     let had : HasRoom old = HasRoom-fresh old fresh in
     let room : HasRoom new = begins.some.room had in

@@ -4,6 +4,7 @@ pub use Rattle.roff_engine.specs.Formatter.Performing.{DoesMeaning, DoesTaking, 
 pub use Rattle.roff_engine.specs.Formatter.Paging.{BeginsFor, BeginsPage, ReadyFor, halted_by, PutsBy, PutsFinished, PutsOnPage}
 pub use Rattle.roff_engine.specs.Formatter.Setting.{DoesOnPage, Gives, IsOfTraps, PutsNothing, SetsOnPage}
 pub use Rattle.roff_engine.specs.Formatter.Sprung.{none_sprung, quiet_events}
+pub use Rattle.roff_run.specs.Starts.{pages_given}
 pub use Rattle.roff_run.specs.Messages.{message_line, message_lines, text_told, told_line}
 pub use Rattle.roff_run.specs.Events.Lines.{closing_events}
 pub use Rattle.roff_reader.specs.Reader.State.{fresh_reader}

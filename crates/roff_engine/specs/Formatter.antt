@@ -4,3 +4,4 @@ pub mod Performing
 pub mod Paging
 pub mod Setting
 pub mod Telling
+pub mod Titling

@@ -1,6 +1,6 @@
 //! The engine: a whole run, from a source to its sinks.
 
-ghost use Rattle.std.specs.Prelude.{◌≡◌, [], IfOk, IsSome};
+ghost use Rattle.std.specs.Prelude.{◌≡◌, IfOk, IsSome};
 ghost use Rattle.roff_engine.specs.Clauses.{StandFor, Limits, Runs, Tape, seen, IsFresh};
 ghost use Rattle.roff_run.specs.Run.{initial};
 
@@ -24,8 +24,7 @@ pub struct Engine {
 }
 
 impl Model for Engine {
-    ghost use Rattle.std.specs.Prelude.{[]};
-    ghost use Rattle.roff_engine.specs.Clauses.{IsFresh, StandFor};
+    ghost use Rattle.roff_engine.specs.Clauses.{IsFresh, StandFor, pages_given};
     ghost use Rattle.roff_engine.specs.Engine.Setup.{Setup};
 
     ghost Value = { Setup };
@@ -33,7 +32,8 @@ impl Model for Engine {
     ghost view = { λ e. record { limits = e.limits; start = e.start } };
 
     ghost invariant = { λ e.
-        StandFor e.limits [] e.formatter.composer × IsFresh e.limits e.formatter e.unread };
+        StandFor e.limits (pages_given e.start) e.formatter.composer
+        × IsFresh e.limits e.formatter e.unread };
 }
 
 impl Engine {
@@ -45,11 +45,13 @@ impl Engine {
     pub fn new(alloc: Global, limits: Limits, start: Start) -> Result<Engine, AllocError>
         ensures { IfOk result (λ e. e ≡ record { limits = limits; start = start }) }
     {
+        let formatter = Formatter::new(alloc, limits, &start)?;
+        let unread = first_unread(alloc, limits)?;
         Ok(Engine {
             limits,
             start,
-            formatter: Formatter::new(alloc, limits)?,
-            unread: first_unread(alloc, limits)?,
+            formatter,
+            unread,
         })
     }
 

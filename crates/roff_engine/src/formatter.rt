@@ -1,7 +1,7 @@
 //! The formatter: what each item of the input does.
 
-ghost use Rattle.std.specs.Prelude.{◌≡◌, [], IfOk};
-ghost use Rattle.roff_engine.specs.Clauses.{fresh_reader, Gives, StandFor};
+ghost use Rattle.std.specs.Prelude.{◌≡◌, IfOk};
+ghost use Rattle.roff_engine.specs.Clauses.{fresh_reader, Gives, StandFor, pages_given};
 
 mod ending;
 mod first_page;
@@ -10,10 +10,12 @@ mod paging;
 mod performing;
 mod taking;
 mod text_events;
+mod titles;
 
 use roff_num::{Limit, Limits, Num};
 use roff_reader::Reader;
 use roff_requests::Composer;
+use roff_run::Start;
 use std::alloc::{AllocError, Global};
 
 /// What is read, and the environments and pages in which lines are filled and placed.
@@ -24,14 +26,15 @@ pub(crate) struct Formatter {
 }
 
 impl Formatter {
-    /// A formatter before the first line, with room for what these limits allow.
-    pub(crate) fn new(alloc: Global, limits: Limits) -> Result<Self, AllocError>
-        ensures stands { IfOk result (λ f. StandFor limits [] f.composer) }
-        ensures reader { IfOk result (λ f. f.reader ≡ fresh_reader limits.names) }
+    /// A formatter before the first line, with room for what these limits allow. What is given of
+    /// the pages is set; registers are not.
+    pub(crate) fn new(alloc: Global, limits: Limits, start: &Start) -> Result<Self, AllocError>
+        ensures stands { IfOk result (λ f. StandFor limits (pages_given start.now) f.composer) }
+        ensures reader { IfOk result (λ f. f.reader ≡ fresh_reader limits.names limits.line) }
     {
         Ok(Formatter {
-            reader: Reader::new(alloc, limits.names)?,
-            composer: Composer::new(alloc, limits)?,
+            reader: Reader::new(alloc, limits.names, limits.line)?,
+            composer: composed(alloc, limits, start)?,
         })
     }
 
@@ -48,5 +51,18 @@ impl Formatter {
             self.composer.pages.set_number(value);
         }
         self.reader.give(name, value)
+    }
+}
+
+/// The environments and the pages, with what is given of these.
+fn composed(alloc: Global, limits: Limits, start: &Start) -> Result<Composer, AllocError>
+    ensures { IfOk result (λ c. StandFor limits (pages_given start.now) c) }
+{
+    match Composer::new(alloc, limits) {
+        Ok(mut composer) => {
+            composer.give_pages(start);
+            Ok(composer)
+        }
+        Err(error) => Err(error),
     }
 }

@@ -22,7 +22,7 @@ use Rattle.roff_num.specs.ShortNames.{name_or_none}
 use Rattle.roff_run.specs.declared.step.Step.{Step}
 use Rattle.roff_num.specs.declared.short_name.ShortName.{ShortName}
 use Rattle.roff_run.specs.declared.request.LineReading.{LineReading}
-use Rattle.roff_run.specs.declared.request.LineReading.TheVariants.{ByArguments, ByCondition, ByElse, ByLastLine, ByMessage, ByString, ByLines}
+use Rattle.roff_run.specs.declared.request.LineReading.TheVariants.{ByArguments, ByCondition, ByElse, ByLastLine, ByMessage, ByString, ByLines, ByTitle}
 use Rattle.roff_run.specs.declared.request.LinesFor.{LinesFor}
 use Rattle.roff_run.specs.declared.request.Request.{Request}
 use Rattle.roff_run.proofs.InputCounts.{NoMore}
@@ -37,6 +37,7 @@ arguments_ended-obeyed k i breaks request (ByCondition keeps) no_lines = refl
 arguments_ended-obeyed k i breaks request (ByString appends) no_lines = refl
 arguments_ended-obeyed k i breaks request ByLastLine no_lines = refl
 arguments_ended-obeyed k i breaks request (ByMessage aborts) no_lines = refl
+arguments_ended-obeyed k i breaks request ByTitle no_lines = refl
 arguments_ended-obeyed k i breaks request ByElse no_lines = refl
 arguments_ended-obeyed k i breaks request (ByLines lines) no_lines = absurd (no_lines lines refl)
 

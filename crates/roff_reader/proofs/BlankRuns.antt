@@ -40,7 +40,7 @@ counts-blank k i line n b none_half no_glyph some is =
     let next : LineState = InText (led line (min (n + 1) most_leading)) in
     let more : (n == 0) ≡ false = ne_eqb n 0 (λ none. absurd (omega (arith, none, some))) in
     subst (λ (c : ℕ). taking k (InText (led line n)) i c ≡ going_on i next) (sym (eqb-true b blank is))
-    (sym (plain-found k (InText (led line n)) i blank refl none_half refl)
+    (sym (plain-found k (InText (led line n)) i blank none_half refl)
     ∙ ap (λ (c : Bool). if c then meaning_events i (InText (led line n)) (Text WordEnd ∷ Text (Gap 1) ∷ []) else meaning_events i next (if n == 0 then Text WordEnd ∷ Text Break ∷ [] else [])) no_glyph
     ∙ ap (λ (c : Bool). meaning_events i next (if c then Text WordEnd ∷ Text Break ∷ [] else [])) more)
 

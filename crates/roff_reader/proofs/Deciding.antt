@@ -6,7 +6,7 @@ use Rattle.std.proofs.lemmas.Bool.{lt-ltb, ltb-true}
 use Rattle.roff_requests.specs.Composer.Standing.{StandFor}
 use Rattle.roff_requests.specs.declared.composer.Composer.{Composer as ComposerOf}
 use Rattle.roff_num.specs.declared.limit.Limit.{Limit}
-use Rattle.roff_num.specs.declared.limit.Limit.TheVariants.{Names, Stack, Depth, Store, Diversions, Conditions}
+use Rattle.roff_num.specs.declared.limit.Limit.TheVariants.{Line, Names, Stack, Depth, Store, Diversions, Conditions}
 use Rattle.roff_num.specs.declared.limits.Limits.{Limits}
 use Rattle.roff_source.specs.Bytes.{tab, newline, blank, apostrophe, dot, backslash, is_silent}
 use Rattle.roff_escape.specs.Characters.{character}
@@ -35,15 +35,16 @@ use Rattle.roff_run.specs.Reading.TextLines.{character_printed, escape_meant, es
 use Rattle.roff_run.specs.Reading.Units.{no_unit_found}
 use Rattle.roff_run.specs.Registers.{AllRegisters, Known, changed_by_all}
 use Rattle.roff_run.specs.Registers.Capped.{Capped}
-use Rattle.roff_run.specs.declared.event.PageEvent.{PageEvent}
+use Rattle.roff_run.specs.PageEvents.{PageEvent}
 use Rattle.roff_run.specs.Run.{known_at}
 use Rattle.roff_run.specs.Run.Counts.{counts_in, first_passed}
+use Rattle.roff_run.specs.TitleTexts.{title_length}
 use Rattle.roff_run.specs.declared.step.Step.{Step}
 use Rattle.roff_run.specs.declared.step.Step.TheVariants.{Nothing}
 use Rattle.roff_run.specs.declared.line_state.LineState.TheVariants.{Branch, Deciding}
 use Rattle.roff_run.specs.declared.line_state.TextLine.{TextLine}
 use Rattle.roff_run.proofs.InputCounts.{first_passed-few_names}
-use Rattle.roff_reader.proofs.TakesAs.{TakesAs-asked, few_names-of, passed_none, passed_one}
+use Rattle.roff_reader.proofs.TakesAs.{TakesAs-asked, few_names_in, short_title_in, passed_none, passed_one}
 
 -- a taking behind which a result is kept too
 abbrev with_kept : Bool → Taking → Taking
@@ -159,12 +160,13 @@ first_passed-with_result : (l : Limits) (rs : AllRegisters) (so : Bool) (i : Pag
     → first_passed l (counts_in rs i) ≡ Some limit → first_passed l (counts_in rs (with_result so i)) ≡ Some limit
 first_passed-with_result l rs so i limit passed =
     unless_first limit Names _ _ (nat_lt l.names (length rs.named))
+    (unless_first limit Line _ _ (nat_lt l.line (title_length rs.title))
     (unless_first limit Store _ _ (nat_lt l.store (stored i))
     (unless_first limit Names _ _ (nat_lt l.names (names_added i))
     (unless_first limit Diversions _ _ (nat_lt l.diversions (length i.open_texts - 1))
     (unless_first limit Stack _ _ (nat_lt l.stack (pushed i))
     (unless_first limit Depth _ _ (nat_lt l.depth (depth i))
-    (results_more limit l.conditions (result_count i) (result_count (with_result so i)) (nat_lt l.conditions (result_count i)) refl (omega arith))))))) passed
+    (results_more limit l.conditions (result_count i) (result_count (with_result so i)) (nat_lt l.conditions (result_count i)) refl (omega arith)))))))) passed
 
 -- the limit that a taking would pass, if it would pass one
 abbrev passed_by : Limits → AllRegisters → Taking → Option Limit
@@ -187,18 +189,20 @@ TakesAs-not_begun true so freed es old new before behind limit begins = record {
 record Begun (t : Taking) (old : Capped) (before mid : PageUnread) : Type 0 where
   came : mid ≡ record before { input = t.input }
   few : nat_lt before.limits.names (length (changed_by_all t.effect.changes old.all).named) ≡ false
+  short : nat_lt before.limits.line (title_length (changed_by_all t.effect.changes old.all).title) ≡ false
 
 Begun-took : (t : Taking) (old : Capped) (new : ReaderState) (before mid : PageUnread) (m : Step) → Took t old new before mid m → Begun t old before mid
 Begun-took t old new before mid m took = record {
   came = took.became.input;
-  few = few_names-of Names (input_refusal before.limits t.input) _ took.became.within;
+  few = few_names_in before.limits (changed_by_all t.effect.changes old.all) t.input took.became.within;
+  short = short_title_in before.limits (changed_by_all t.effect.changes old.all) t.input took.became.within;
 }
 
 -- by the input that keeps a result behind it
 passed_by-kept : (so : Bool) (t : Taking) (old : Capped) (before mid : PageUnread) → Begun t old before mid
     → passed_by before.limits old.all (with_kept so t) ≡ input_refusal mid.limits (with_result so mid.input)
 passed_by-kept so t old before mid begun =
-    first_passed-few_names before.limits (changed_by_all t.effect.changes old.all) (with_result so t.input) begun.few
+    first_passed-few_names before.limits (changed_by_all t.effect.changes old.all) (with_result so t.input) begun.few begun.short
     ∙ ap (λ (u : PageUnread). input_refusal u.limits (with_result so u.input)) (sym begun.came)
 
 -- a branch began, and a limit refuses to keep the result

@@ -1,5 +1,5 @@
 -- What is left of names and texts behind the line that ends a definition: nothing is given to a request or a body there.
-use Rattle.std.proofs.Common.{◌≡◌, ℕ, Bool, true, false, List, [], ◌∷◌, length, Option, Some, None, inl, inr, refl, sym, ap, ◌∙◌, subst, ◌==◌}
+use Rattle.std.proofs.Common.{◌≡◌, ℕ, ◌≤◌, Bool, true, false, List, [], ◌∷◌, length, Option, Some, None, inl, inr, refl, sym, ap, ◌∙◌, subst, ◌==◌, arith}
 use Rattle.std.specs.Prelude.{◌||◌, ◌&&◌, if◌then◌else◌}
 use Rattle.std.proofs.lemmas.Bool.{cases_Bool, eqb-true}
 use Rattle.roff_source.specs.Bytes.{blank, newline, tab}
@@ -21,15 +21,16 @@ use Rattle.roff_run.specs.Registers.{AllRegisters, Change, Known, changed_by_all
 use Rattle.roff_run.specs.declared.event.PageEvent.TheVariants.{Back}
 use Rattle.roff_run.specs.Requests.{Effect, called_by, meant_by, request_effect, row_of}
 use Rattle.roff_run.specs.Requests.Effects.{happens, no_such_environment}
-use Rattle.roff_run.specs.declared.line_state.LineState.TheVariants.{Arguments as InArguments}
+use Rattle.roff_run.specs.TitleTexts.{TitleText, title_length}
+use Rattle.roff_run.specs.declared.line_state.LineState.TheVariants.{Arguments as InArguments, TitleFront}
 use Rattle.roff_num.specs.declared.short_name.ShortName.{ShortName}
 use Rattle.roff_run.specs.declared.request.Called.{Called}
 use Rattle.roff_run.specs.declared.request.Called.TheVariants.{Request as ARequest, Body as ABody, Nothing as Unknown}
 use Rattle.roff_run.specs.declared.request.LineReading.{LineReading}
-use Rattle.roff_run.specs.declared.request.LineReading.TheVariants.{ByArguments, ByCondition, ByElse, ByLastLine, ByMessage, ByString, ByLines}
+use Rattle.roff_run.specs.declared.request.LineReading.TheVariants.{ByArguments, ByCondition, ByElse, ByLastLine, ByMessage, ByString, ByLines, ByTitle}
 use Rattle.roff_run.specs.declared.request.LinesFor.TheVariants.{Macro, Nobody}
 use Rattle.roff_run.specs.declared.request.Request.{Request}
-use Rattle.roff_run.specs.declared.request.Request.TheVariants.{Abort, Adjust, AppendString, AssignFormat, Break, DefineString, Else, EndMacro, Exit, Fill, If, IfElse, Indent, LineLength, NoAdjust, NoFill, NumberRegister, PageLength, RemoveNames, RemoveRegisters, Rename, Space as SpaceDown, TellMessage, WithoutEffect, LeftOut, AppendMacro, DefineMacro, Ignore, Centre, Environment as SwitchEnvironment, InputTrap, LineSpacing, TabStops, TemporaryIndent}
+use Rattle.roff_run.specs.declared.request.Request.TheVariants.{Abort, Adjust, AppendString, AssignFormat, Break, DefineString, Else, EndMacro, Exit, Fill, If, IfElse, Indent, LineLength, NoAdjust, NoFill, NumberRegister, PageLength, PageNumber, PageOffset, RemoveNames, RemoveRegisters, Rename, Space as SpaceDown, TellMessage, WithoutEffect, LeftOut, AppendMacro, DefineMacro, Ignore, Centre, Environment as SwitchEnvironment, InputTrap, LineSpacing, TabStops, TemporaryIndent, PageCharacter, Title as TitleRequest, TitleLength}
 
 -- what names stand for, how many did at first, and the texts in the making
 pub record NamesAndTexts : Type 0 where
@@ -40,22 +41,32 @@ pub record NamesAndTexts : Type 0 where
 abbrev pub names_and_texts : PageInput → NamesAndTexts
 names_and_texts i = record { names = i.names; first_names = i.first_names; open_texts = i.open_texts }
 
--- a step leaves them as they are in this input, and as many registers have names
+-- a step leaves them as they are in this input, as many registers have names, and the title has no more bytes
 pub record LeavesTexts (i : PageInput) (t : Taking) : Type 0 where
   pub texts : names_and_texts t.input ≡ names_and_texts i
   pub registers : (rs : AllRegisters) → length (changed_by_all t.effect.changes rs).named ≡ length rs.named
+  pub title : (rs : AllRegisters) → title_length (changed_by_all t.effect.changes rs).title ≤ title_length rs.title
 
 -- one that changes no register
 still : (i : PageInput) (t : Taking) → names_and_texts t.input ≡ names_and_texts i → t.effect.changes ≡ [] → LeavesTexts i t
 still i t texts none = record {
   texts = texts;
   registers = λ rs. ap (λ (changes : List Change). length (changed_by_all changes rs).named) none;
+  title = λ rs. omega (arith, ap (λ (changes : List Change). title_length (changed_by_all changes rs).title) none);
 }
 
--- an effect calls nothing, and as many registers have names
+-- what limits are on of registers: the names that have one, and the title that is read
+record Counted : Type 0 where
+  names : ℕ
+  title : TitleText
+
+abbrev counted : AllRegisters → Counted
+counted rs = record { names = length rs.named; title = rs.title }
+
+-- an effect calls nothing, as many registers have names, and the title stays
 record CallsNothing (e : Effect) : Type 0 where
   calls : e.calls ≡ []
-  registers : (rs : AllRegisters) → length (changed_by_all e.changes rs).named ≡ length rs.named
+  registers : (rs : AllRegisters) → counted (changed_by_all e.changes rs) ≡ counted rs
 
 -- that of going back to an environment, if one was left
 CallsNothing-switch : (breaks has_left : Bool) → CallsNothing (meant_by breaks (if has_left then happens [] (Back ∷ []) else no_such_environment))
@@ -88,13 +99,18 @@ CallsNothing-request k breaks LineSpacing = record { calls = refl; registers = �
 CallsNothing-request k breaks NoAdjust = record { calls = refl; registers = λ rs. refl }
 CallsNothing-request k breaks NoFill = record { calls = refl; registers = λ rs. refl }
 CallsNothing-request k breaks NumberRegister = record { calls = refl; registers = λ rs. refl }
+CallsNothing-request k breaks PageCharacter = record { calls = refl; registers = λ rs. refl }
 CallsNothing-request k breaks PageLength = record { calls = refl; registers = λ rs. refl }
+CallsNothing-request k breaks PageNumber = record { calls = refl; registers = λ rs. refl }
+CallsNothing-request k breaks PageOffset = record { calls = refl; registers = λ rs. refl }
 CallsNothing-request k breaks RemoveNames = record { calls = refl; registers = λ rs. refl }
 CallsNothing-request k breaks RemoveRegisters = record { calls = refl; registers = λ rs. refl }
 CallsNothing-request k breaks Rename = record { calls = refl; registers = λ rs. refl }
 CallsNothing-request k breaks SpaceDown = record { calls = refl; registers = λ rs. refl }
 CallsNothing-request k breaks TabStops = record { calls = refl; registers = λ rs. refl }
 CallsNothing-request k breaks TemporaryIndent = record { calls = refl; registers = λ rs. refl }
+CallsNothing-request k breaks TitleRequest = record { calls = refl; registers = λ rs. refl }
+CallsNothing-request k breaks TitleLength = record { calls = refl; registers = λ rs. refl }
 CallsNothing-request k breaks TellMessage = record { calls = refl; registers = λ rs. refl }
 CallsNothing-request k breaks (WithoutEffect name) = record { calls = refl; registers = λ rs. refl }
 CallsNothing-request k breaks (LeftOut name) = record { calls = refl; registers = λ rs. refl }
@@ -103,7 +119,8 @@ CallsNothing-request k breaks (LeftOut name) = record { calls = refl; registers 
 LeavesTexts-ended_by : (i : PageInput) (request : Request) (e : Effect) → CallsNothing e → LeavesTexts i (ended_by (beginning_line i) request e)
 LeavesTexts-ended_by i request e nothing = record {
   texts = ap (λ (calls : List Call). names_and_texts (calling_all calls (beginning_line i))) nothing.calls;
-  registers = nothing.registers;
+  registers = λ rs. ap (λ (c : Counted). c.names) (nothing.registers rs);
+  title = λ rs. omega (arith, ap (λ (c : Counted). title_length c.title) (nothing.registers rs));
 }
 
 LeavesTexts-line_ended : (k : Known) (i : PageInput) (breaks : Bool) (request : Request) → LeavesTexts i (line_ended k (beginning_line i) breaks request)
@@ -116,6 +133,7 @@ LeavesTexts-arguments_ended k i breaks request (ByLines (Macro appends)) = still
 LeavesTexts-arguments_ended k i breaks request (ByLines Nobody) = still i _ refl refl
 LeavesTexts-arguments_ended k i breaks request ByArguments = LeavesTexts-line_ended k i breaks request
 LeavesTexts-arguments_ended k i breaks request (ByCondition keeps) = LeavesTexts-line_ended k i breaks request
+LeavesTexts-arguments_ended k i breaks request ByTitle = LeavesTexts-line_ended k i breaks request
 LeavesTexts-arguments_ended k i breaks request ByElse = LeavesTexts-line_ended k i breaks request
 LeavesTexts-arguments_ended k i breaks request ByLastLine = LeavesTexts-line_ended k i breaks request
 LeavesTexts-arguments_ended k i breaks request (ByMessage aborts) = LeavesTexts-line_ended k i breaks request
@@ -153,6 +171,14 @@ LeavesTexts-arguments k i breaks request = record {
   at_newline = LeavesTexts-arguments_ended k i breaks request (row_of request).line;
 }
 
+-- behind that of the request for a title, where there is none yet
+LeavesTexts-title : (k : Known) (i : PageInput) → BehindMark (λ b. LeavesTexts i (read_in k TitleFront (beginning_line i) (byte_read AboveArguments [] b)))
+LeavesTexts-title k i = record {
+  at_blank = still i _ refl refl;
+  at_tab = record { texts = refl; registers = λ rs. refl; title = λ rs. omega arith };
+  at_newline = record { texts = refl; registers = λ rs. refl; title = λ rs. omega arith };
+}
+
 -- and behind any request's name
 LeavesTexts-line : (k : Known) (i : PageInput) (breaks : Bool) (request : Request) (line : LineReading)
     → BehindMark (λ b. LeavesTexts i (line_taking k (beginning_line i) breaks request line b))
@@ -163,6 +189,7 @@ LeavesTexts-line k i breaks request (ByCondition true) = record { at_blank = sti
 LeavesTexts-line k i breaks request (ByCondition false) = record { at_blank = still i _ refl refl; at_tab = still i _ refl refl; at_newline = still i _ refl refl }
 LeavesTexts-line k i breaks request (ByString appends) = record { at_blank = still i _ refl refl; at_tab = still i _ refl refl; at_newline = still i _ refl refl }
 LeavesTexts-line k i breaks request (ByMessage aborts) = record { at_blank = still i _ refl refl; at_tab = still i _ refl refl; at_newline = still i _ refl refl }
+LeavesTexts-line k i breaks request ByTitle = LeavesTexts-title k i
 LeavesTexts-line k i breaks request ByElse = LeavesTexts-branch k i (reads_else (last_result i))
 
 -- behind a name that a line begins with

@@ -1,13 +1,13 @@
 -- The line that ends a definition: its text enters a name first, and what limit refuses that refuses the whole step.
-use Rattle.std.proofs.Common.{◌≡◌, ℕ, ◌+◌, ◌-◌, Bool, true, false, List, ◌++◌, length, Option, Some, None, Result, Ok, Err, refl, sym, subst, ap, ◌∙◌, arith}
-use Rattle.std.specs.Prelude.{nat_lt, sum_by, if◌then◌else◌}
+use Rattle.std.proofs.Common.{◌≡◌, ℕ, ◌+◌, ◌-◌, Bool, true, false, List, [], ◌∷◌, ◌++◌, length, Option, Some, None, Result, Ok, Err, refl, sym, subst, ap, ◌∙◌, arith}
+use Rattle.std.specs.Prelude.{is_some, nat_lt, sum_by, if◌then◌else◌}
 use Rattle.roff_requests.specs.declared.composer.Composer.{Composer as ComposerOf}
 use Rattle.roff_num.specs.declared.limit.Limit.{Limit}
 use Rattle.roff_num.specs.declared.limit.Limit.TheVariants.{Conditions, Depth, Diversions, Names, Stack, Store}
 use Rattle.roff_num.specs.declared.limits.Limits.{Limits}
 use Rattle.roff_escape.specs.OpenEscape.{unit_bytes}
 use Rattle.roff_ahead.specs.Input.{beginning_line, depth, pushed, result_count}
-use Rattle.roff_ahead.specs.Input.Names.{calling_on}
+use Rattle.roff_ahead.specs.Input.Names.{calling_on, dropping}
 use Rattle.roff_scan.specs.Unread.{input_refusal}
 use Rattle.roff_escape.specs.declared.open_escape.CopyUnit.{CopyUnit}
 use Rattle.roff_escape.specs.declared.open_escape.Found.{Found}
@@ -15,27 +15,30 @@ use Rattle.roff_escape.specs.declared.open_escape.Found.TheVariants.{GoesOn, Uni
 use Rattle.roff_store.specs.TextCalls.{Call, Enter}
 use Rattle.roff_store.specs.Texts.{bytes_in, newest}
 use Rattle.roff_run.specs.Definitions.{end_mark, ends_mark, front_of, line_from, matched_behind}
+use Rattle.roff_run.specs.Events.Steps.{events_of, messages_of}
 use Rattle.roff_run.specs.Output.{PageHistory}
 use Rattle.roff_reader.specs.Reader.State.{ReaderState}
 use Rattle.roff_reader.specs.Reader.Taken.{InputCameTo, Takes, TakesAs}
 use Rattle.roff_run.specs.Reading.Items.{PageUnread}
 use Rattle.roff_run.specs.Reading.DefinedLines.{behind_definition, definition_found, definition_line, definition_unit}
-use Rattle.roff_run.specs.Reading.Definitions.{definition_grown}
+use Rattle.roff_run.specs.Reading.Definitions.{definition_cut, definition_dropped, definition_grown}
 use Rattle.roff_run.specs.Reading.Items.{PageInput, Taking, going_on}
 use Rattle.roff_run.specs.Reading.Strings.{string_entered}
 use Rattle.roff_run.specs.Reading.Units.{no_unit_found}
 use Rattle.roff_num.specs.ShortNames.{name_bytes}
 use Rattle.roff_run.specs.Registers.{AllRegisters, Known, changed_by_all}
 use Rattle.roff_run.specs.Run.{known_at}
+use Rattle.roff_run.specs.TitleTexts.{title_length}
 use Rattle.roff_run.specs.declared.definition.DefinitionLine.{DefinitionLine}
 use Rattle.roff_run.specs.declared.definition.DefinitionLine.TheVariants.{IsText}
 use Rattle.roff_run.specs.declared.step.Step.{Step}
-use Rattle.roff_run.specs.declared.line_state.LineState.TheVariants.{Defining}
+use Rattle.roff_run.specs.declared.line_state.LineState.TheVariants.{Defining, LineStart}
+use Rattle.roff_run.specs.declared.message.Message.TheVariants.{DefinitionNotEnded}
 use Rattle.roff_num.specs.declared.short_name.ShortName.{ShortName}
 use Rattle.roff_reader.proofs.DefinitionEnds.{LeavesTexts, LeavesTexts-behind_definition, NamesAndTexts, names_and_texts}
-use Rattle.roff_run.proofs.InputCounts.{NoMore, first_passed-few_names, first_passed-no_more}
+use Rattle.roff_run.proofs.InputCounts.{NoMore, first_passed-few_names, first_passed-no_more, not_above}
 use Rattle.roff_reader.proofs.Strings.{refused_none}
-use Rattle.roff_reader.proofs.TakesAs.{Takes-elsewhere, few_names}
+use Rattle.roff_reader.proofs.TakesAs.{Takes-elsewhere, few_names, short_title}
 
 -- what is no unit of a definition's text
 pub definition_found-no_unit : (k : Known) (i : PageInput) (name : Option ShortName) (appends : Bool) (end : Option ShortName) (matched : Option ℕ) (found : Found)
@@ -125,7 +128,10 @@ TakesAs-not_entered name appends end b es old new before behind limit ends refus
       let within = refused_none old.registers before ready in
       let few : nat_lt before.limits.names (length (changed_by_all step.effect.changes old.registers.all).named) ≡ false =
       ap (λ (n : ℕ). nat_lt before.limits.names n) (leaves.registers old.registers.all) ∙ few_names old.registers before ready in
-      first_passed-few_names before.limits (changed_by_all step.effect.changes old.registers.all) step.input few
+      let short : nat_lt before.limits.line (title_length (changed_by_all step.effect.changes old.registers.all).title) ≡ false =
+      not_above before.limits.line (title_length old.registers.all.title) (title_length (changed_by_all step.effect.changes old.registers.all).title)
+      (leaves.title old.registers.all) (short_title old.registers before ready) in
+      first_passed-few_names before.limits (changed_by_all step.effect.changes old.registers.all) step.input few short
       ∙ refused-behind before.limits name appends before.input step.input limit within leaves.texts (refused.becomes within);
 }
 
@@ -140,10 +146,10 @@ TakesAs-entered t name appends es old new before mid behind done result became t
       let now = became.becomes (refused_none old.registers before ready) in
       let moved : TakesAs (λ k. t k i) es old new (record before { input = i }) behind result =
       subst (λ (u : PageUnread). TakesAs (λ k. t k u.input) es old new u behind result) now.0 takes in
-      let within = first_passed-few_names before.limits old.registers.all i (few_names old.registers before ready) ∙ now.1 in
+      let within = first_passed-few_names before.limits old.registers.all i (few_names old.registers before ready) (short_title old.registers before ready) ∙ now.1 in
       subst (λ (k : Known). Takes (t k i) old.registers new before behind result) (known-entered name appends h old.registers.all before.input)
       (Takes-elsewhere (t (known_at h old.registers.all i) i) old.registers new before behind i result
-      (moved.takes l h stands (record { cap = ready.cap; within = within })));
+      (moved.takes l h stands (record { cap = ready.cap; line = ready.line; within = within })));
 }
 
 -- a line of which nothing was read counts for no more
@@ -162,7 +168,7 @@ TakesAs-line_begun t es old new before mid behind result begins takes =
       takes = λ l h stands ready.
           let within = first_passed-no_more before.limits old.registers.all i before.input (NoMore-beginning before.input) ready.within in
           Takes-elsewhere (t (known_at h old.registers.all before.input) i) old.registers new before behind i result
-          (moved.takes l h stands (record { cap = ready.cap; within = within }));
+          (moved.takes l h stands (record { cap = ready.cap; line = ready.line; within = within }));
     }
 
 -- a unit of a line that isn't the last one is text, behind what stood in front of it
@@ -173,3 +179,32 @@ definition_line-text k i name appends end matched behind unit front stands goes_
     ap (λ (bytes : List ℕ). going_on (definition_grown name (bytes ++ unit_bytes unit) i) (Defining name appends end behind)) stands
     ∙ ap (λ (m : Option ℕ). going_on (definition_grown name (front_of (end_mark end) matched ++ unit_bytes unit) i) (Defining name appends end m)) goes_on
     ∙ ap (λ (line : DefinitionLine). definition_unit k i name appends end (front_of (end_mark end) matched) unit line) (sym is)
+
+-- the text of a definition that ends with the input is dropped, if a name would have got it
+pub definition_dropped-some : (name : Option ShortName) (i : PageInput) → is_some name ≡ true → definition_dropped name i ≡ dropping i
+definition_dropped-some None i is = cc
+definition_dropped-some (Some name) i is = refl
+
+pub definition_dropped-none : (name : Option ShortName) (i : PageInput) → is_some name ≡ false → definition_dropped name i ≡ i
+definition_dropped-none None i is = refl
+definition_dropped-none (Some name) i is = cc
+
+pub TakesAs-cut : (name : Option ShortName) (es : ComposerOf) (old new : ReaderState) (before behind : PageUnread) (m : Step)
+    → behind ≡ record before { input = definition_dropped name before.input }
+    → (input_refusal before.limits before.input ≡ None → input_refusal before.limits (definition_dropped name before.input) ≡ None)
+    → new ≡ record old { reading = LineStart; meaning = new.meaning }
+    → messages_of new.meaning.message m ≡ DefinitionNotEnded ∷ [] → events_of new.meaning.events m ≡ []
+    → TakesAs (λ k. definition_cut before.input name) es old new before behind (Ok m)
+TakesAs-cut name es old new before behind m dropped allowed came says none = record {
+  takes = λ l h stands ready. record {
+    became = record {
+      input = dropped;
+      reading = ap (λ (s : ReaderState). s.reading) came;
+      registers = ap (λ (s : ReaderState). s.registers) came;
+      within = first_passed-few_names before.limits old.registers.all (definition_dropped name before.input) (few_names old.registers before ready)
+          (short_title old.registers before ready) ∙ allowed (refused_none old.registers before ready);
+    };
+    messages = says;
+    events = none;
+  };
+}

@@ -8,7 +8,7 @@ use Rattle.roff_run.specs.Reading.TextLines.{leading_glyph}
 use Rattle.roff_run.specs.Springs.{AreFewBehind}
 use Rattle.roff_run.specs.declared.event.LineEvents.{LineEvents}
 use Rattle.roff_run.specs.declared.event.LineEvents.TheVariants.{Nothing, LineEnd, Break, BlankLine, Closing, Number, Gap, Interrupt, Tab, Leading, Printed, Blanks as PrintedBlanks, Two, Three, Four}
-use Rattle.roff_run.specs.declared.event.PageEvent.{PageEvent}
+use Rattle.roff_run.specs.PageEvents.{PageEvent}
 use Rattle.roff_run.specs.declared.event.PageEvent.TheVariants.{Text}
 use Rattle.roff_run.proofs.PutBack.{few-short}
 use Rattle.roff_reader.specs.Reader.State.{kept_events}

@@ -27,4 +27,5 @@ pub mod TakenRuns
 pub mod ControlFronts
 pub mod LineEnds
 pub mod WaitingAlone
+pub mod Titles
 pub mod FewBehind

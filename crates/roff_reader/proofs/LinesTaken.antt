@@ -31,21 +31,21 @@ use Rattle.roff_run.specs.Reading.Strings.{string_line_ended}
 use Rattle.roff_run.specs.Reading.Units.{no_unit_found, settling}
 use Rattle.roff_run.specs.Registers.{Known}
 use Rattle.roff_run.specs.Registers.Capped.{Capped}
-use Rattle.roff_run.specs.declared.event.PageEvent.{PageEvent}
+use Rattle.roff_run.specs.PageEvents.{PageEvent}
 use Rattle.roff_run.specs.Requests.{saying}
 use Rattle.roff_run.specs.Run.{known_at}
 use Rattle.roff_run.specs.declared.message.Message.{Message}
 use Rattle.roff_run.specs.declared.step.Step.{Step}
 use Rattle.roff_run.specs.declared.step.Step.TheVariants.{Nothing}
 use Rattle.roff_run.specs.declared.line_state.LineState.{LineState}
-use Rattle.roff_run.specs.declared.line_state.LineState.TheVariants.{StringName, StringText, LineStart, Branch, Braced, Text as InText, Control, Name, Arguments as InArguments, Deciding, Skipping, Dropped, Telling, Told, Exiting, Calling, Defining}
+use Rattle.roff_run.specs.declared.line_state.LineState.TheVariants.{StringName, StringText, LineStart, Branch, Braced, Text as InText, Control, Name, Arguments as InArguments, Deciding, Skipping, Dropped, Telling, Told, Exiting, Calling, Defining, TitleFront, Title as InTitle}
 use Rattle.roff_num.specs.declared.short_name.ShortName.{ShortName}
 use Rattle.roff_run.specs.declared.line_state.TextLine.{TextLine}
 use Rattle.roff_run.specs.declared.line_state.TextStep.{TextStep}
 use Rattle.roff_run.specs.declared.request.Request.{Request}
 use Rattle.roff_run.specs.TextLine.Stepping.{step_at}
 use Rattle.roff_run.proofs.InputCounts.{NoMore, first_passed-few_names, first_passed-no_more}
-use Rattle.roff_reader.proofs.TakesAs.{TakesAs-where, TakesAs-as, passed_none, passed_one, few_names, keeps-meaning, TakesAs-asked, TakesAs-ended_at}
+use Rattle.roff_reader.proofs.TakesAs.{TakesAs-where, TakesAs-as, passed_none, passed_one, few_names, short_title, keeps-meaning, TakesAs-asked, TakesAs-ended_at}
 
 -- This is read on, and some messages and events are meant.
 pub TakesAs-said : (t : Known → Taking) (behind : LineState) (messages : List Message) (events : List PageEvent) (es : ComposerOf) (old new : ReaderState) (u : PageUnread) (m : Step)
@@ -96,7 +96,7 @@ TakesAs-changed i place es old new before behind m done changes came none = reco
           input = passed.0;
           reading = ap (λ (s : ReaderState). s.reading) came;
           registers = ap (λ (s : ReaderState). s.registers) came;
-          within = first_passed-few_names before.limits old.registers.all i (few_names old.registers before ready) ∙ passed.1;
+          within = first_passed-few_names before.limits old.registers.all i (few_names old.registers before ready) (short_title old.registers before ready) ∙ passed.1;
         };
         messages = ap (messages_of new.meaning.message) none;
         events = ap (events_of new.meaning.events) none;
@@ -125,7 +125,7 @@ pub TakesAs-not_changed : (i : PageInput) (place : LineState) (es : ComposerOf) 
 TakesAs-not_changed i place es old new before behind limit changes = record {
   takes = λ l h stands ready.
       let refused = passed_one (input_refusal before.limits i) i before behind limit changes in
-      first_passed-few_names before.limits old.registers.all i (few_names old.registers before ready) ∙ refused;
+      first_passed-few_names before.limits old.registers.all i (few_names old.registers before ready) (short_title old.registers before ready) ∙ refused;
 }
 
 -- a step that begins a text line, by the interrupted line that the environments have
@@ -177,6 +177,8 @@ first_taking-any k i (Telling aborts is_front) b in_branch in_brace = refl
 first_taking-any k i (Told aborts) b in_branch in_brace = refl
 first_taking-any k i Exiting b in_branch in_brace = refl
 first_taking-any k i Dropped b in_branch in_brace = refl
+first_taking-any k i TitleFront b in_branch in_brace = refl
+first_taking-any k i (InTitle delimiter) b in_branch in_brace = refl
 
 -- behind a backslash and a newline a line begins, but in a branch
 pub first_escape-newline : (k : Known) (i : PageInput) (at : LineState) → (at ≡ Branch → ⊥) → going_on i LineStart ≡ first_escape k i at newline
@@ -197,6 +199,8 @@ first_escape-newline k i (Telling aborts is_front) none = refl
 first_escape-newline k i (Told aborts) none = refl
 first_escape-newline k i Exiting none = refl
 first_escape-newline k i Dropped none = refl
+first_escape-newline k i TitleFront none = refl
+first_escape-newline k i (InTitle delimiter) none = refl
 
 -- and so it is with an escape
 pub first_escape-any : (k : Known) (i : PageInput) (at : LineState) (b : ℕ) → (at ≡ Branch → (b == 123) ≡ false) → (b == newline) ≡ false
@@ -220,6 +224,8 @@ first_escape-any k i (Telling aborts is_front) b in_branch no_newline = ap (λ (
 first_escape-any k i (Told aborts) b in_branch no_newline = ap (λ (c : Bool). if c then going_on i LineStart else escape_begun k i b) (sym no_newline)
 first_escape-any k i Exiting b in_branch no_newline = ap (λ (c : Bool). if c then going_on i LineStart else escape_begun k i b) (sym no_newline)
 first_escape-any k i Dropped b in_branch no_newline = ap (λ (c : Bool). if c then going_on i LineStart else escape_begun k i b) (sym no_newline)
+first_escape-any k i TitleFront b in_branch no_newline = ap (λ (c : Bool). if c then going_on i LineStart else escape_begun k i b) (sym no_newline)
+first_escape-any k i (InTitle delimiter) b in_branch no_newline = ap (λ (c : Bool). if c then going_on i LineStart else escape_begun k i b) (sym no_newline)
 
 -- by whether a byte is dropped
 pub taking-of : (k : Known) (r : LineState) (i : PageInput) (b : ℕ) (c : Bool) → c ≡ is_dropped b
@@ -234,36 +240,39 @@ TakesAs-undropped b es old new before behind result is takes =
     TakesAs-as (λ k. undropped_taking k old.reading before.input b) (λ k. taking k old.reading before.input b) es old new before behind result
     (λ k. taking-of k old.reading before.input b false is) takes
 
--- within a line the end of the input is a newline, where no interrupted line ends with it, but of a definition
+-- within a line the end of the input is a newline, where no interrupted line ends with it, but of a definition or a title
 pub end_taking-newline : (k : Known) (r : LineState) (i : PageInput) → (r ≡ LineStart → ⊥) → (r ≡ Dropped → ⊥) → (r ≡ Exiting → ⊥)
     → (r ≡ Braced → ⊥) → ((breaks : Bool) → r ≡ Control breaks → ⊥) → ((appends : Bool) → r ≡ StringName appends → ⊥)
     → ((name : Option ShortName) (appends is_front : Bool) → r ≡ StringText name appends is_front → ⊥)
     → ((opened closed : ℕ) (behind : Bool) → r ≡ Skipping opened closed behind → ⊥)
     → ((name : Option ShortName) (appends : Bool) (end : Option ShortName) (matched : Option ℕ) → r ≡ Defining name appends end matched → ⊥)
-    → ((keeps : Bool) → r ≡ Deciding keeps → ⊥) → ((aborts : Bool) → r ≡ Told aborts → ⊥)
+    → ((keeps : Bool) → r ≡ Deciding keeps → ⊥) → ((aborts : Bool) → r ≡ Told aborts → ⊥) → ((delimiter : ℕ) → r ≡ InTitle delimiter → ⊥)
     → undropped_taking k r i newline ≡ end_taking k r i
-end_taking-newline k LineStart i begun dropped left braced control named strings skips defines decides told = absurd (begun refl)
-end_taking-newline k Branch i begun dropped left braced control named strings skips defines decides told = refl
-end_taking-newline k Braced i begun dropped left braced control named strings skips defines decides told = absurd (braced refl)
-end_taking-newline k (InText line) i begun dropped left braced control named strings skips defines decides told = refl
-end_taking-newline k (Control breaks) i begun dropped left braced control named strings skips defines decides told =
+end_taking-newline k LineStart i begun dropped left braced control named strings skips defines decides told titled = absurd (begun refl)
+end_taking-newline k Branch i begun dropped left braced control named strings skips defines decides told titled = refl
+end_taking-newline k Braced i begun dropped left braced control named strings skips defines decides told titled = absurd (braced refl)
+end_taking-newline k (InText line) i begun dropped left braced control named strings skips defines decides told titled = refl
+end_taking-newline k (Control breaks) i begun dropped left braced control named strings skips defines decides told titled =
     absurd (control breaks refl)
-end_taking-newline k (Name breaks first) i begun dropped left braced control named strings skips defines decides told = refl
-end_taking-newline k (InArguments breaks request) i begun dropped left braced control named strings skips defines decides told = refl
-end_taking-newline k (Deciding keeps) i begun dropped left braced control named strings skips defines decides told = absurd (decides keeps refl)
-end_taking-newline k (Skipping opened closed behind) i begun dropped left braced control named strings skips defines decides told =
+end_taking-newline k (Name breaks first) i begun dropped left braced control named strings skips defines decides told titled = refl
+end_taking-newline k (InArguments breaks request) i begun dropped left braced control named strings skips defines decides told titled = refl
+end_taking-newline k (Deciding keeps) i begun dropped left braced control named strings skips defines decides told titled = absurd (decides keeps refl)
+end_taking-newline k (Skipping opened closed behind) i begun dropped left braced control named strings skips defines decides told titled =
     absurd (skips opened closed behind refl)
-end_taking-newline k (StringName appends) i begun dropped left braced control named strings skips defines decides told =
+end_taking-newline k (StringName appends) i begun dropped left braced control named strings skips defines decides told titled =
     absurd (named appends refl)
-end_taking-newline k (StringText name appends is_front) i begun dropped left braced control named strings skips defines decides told =
+end_taking-newline k (StringText name appends is_front) i begun dropped left braced control named strings skips defines decides told titled =
     absurd (strings name appends is_front refl)
-end_taking-newline k (Calling name) i begun dropped left braced control named strings skips defines decides told = refl
-end_taking-newline k (Defining name appends end matched) i begun dropped left braced control named strings skips defines decides told =
+end_taking-newline k (Calling name) i begun dropped left braced control named strings skips defines decides told titled = refl
+end_taking-newline k (Defining name appends end matched) i begun dropped left braced control named strings skips defines decides told titled =
     absurd (defines name appends end matched refl)
-end_taking-newline k (Telling aborts is_front) i begun dropped left braced control named strings skips defines decides told = refl
-end_taking-newline k (Told aborts) i begun dropped left braced control named strings skips defines decides told = absurd (told aborts refl)
-end_taking-newline k Exiting i begun dropped left braced control named strings skips defines decides told = absurd (left refl)
-end_taking-newline k Dropped i begun dropped left braced control named strings skips defines decides told = absurd (dropped refl)
+end_taking-newline k (Telling aborts is_front) i begun dropped left braced control named strings skips defines decides told titled = refl
+end_taking-newline k (Told aborts) i begun dropped left braced control named strings skips defines decides told titled = absurd (told aborts refl)
+end_taking-newline k Exiting i begun dropped left braced control named strings skips defines decides told titled = absurd (left refl)
+end_taking-newline k Dropped i begun dropped left braced control named strings skips defines decides told titled = absurd (dropped refl)
+end_taking-newline k TitleFront i begun dropped left braced control named strings skips defines decides told titled = refl
+end_taking-newline k (InTitle delimiter) i begun dropped left braced control named strings skips defines decides told titled =
+    absurd (titled delimiter refl)
 
 -- a string's line leaves the line's beginning
 pub string_line_ended-going : (i : PageInput) (appends : Bool) (name : Option (Option ShortName))
@@ -288,7 +297,7 @@ TakesAs-last_line t es old mid new before behind ends m goes_on line interrupted
           let two : TakesAs (λ k. last_line_ended k i) es mid new there there (Ok m) = interrupted there in
           let registers : mid.registers ≡ old.registers = one.became.registers in
           let at_mid : IsReady mid.registers there =
-          subst (λ (r : Capped). IsReady r there) (sym registers) (record { cap = ready.cap; within = one.became.within }) in
+          subst (λ (r : Capped). IsReady r there) (sym registers) (record { cap = ready.cap; line = ready.line; within = one.became.within }) in
           let taken = two.takes l h stands at_mid in
           record {
             became = record {

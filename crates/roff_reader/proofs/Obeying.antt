@@ -1,5 +1,5 @@
 -- A request that is obeyed, and how it changes registers, as the definition takes its line's end.
-use Rattle.std.proofs.Common.{◌≡◌, ℕ, ◌≤◌, Bool, true, false, List, [], ◌∷◌, length, fold, Some, None, Ok, Err, sym, subst, ap, ◌∙◌, arith}
+use Rattle.std.proofs.Common.{◌≡◌, ℕ, ◌≤◌, Bool, true, false, List, [], ◌∷◌, length, fold, Some, None, Ok, Err, refl, sym, subst, ap, ◌∙◌, arith}
 use Rattle.std.proofs.lemmas.Bool.{le-ltb, ltb-false}
 use Rattle.std.specs.Prelude.{reverse, nat_lt, if◌then◌else◌}
 use Rattle.roff_num.specs.declared.limits.Limits.{Limits}
@@ -22,9 +22,15 @@ use Rattle.roff_reader.specs.Reader.Taken.{ChangedTo, Refused, TakesAs, Took, be
 use Rattle.roff_run.specs.Reading.Items.{PageUnread}
 use Rattle.roff_run.specs.Reading.Arguments.{calling_all, ended_by, line_ended, reading_behind}
 use Rattle.roff_run.specs.Reading.Items.{PageInput}
-use Rattle.roff_run.specs.Registers.{AllRegisters, Change, Remove, changed_by_all}
+use Rattle.roff_run.specs.Registers.{AllRegisters, Change, Remove, changed_by, changed_by_all, is_page, is_read_only}
 use Rattle.roff_run.specs.Registers.Capped.{Capped, is_past_cap, with_change}
+use Rattle.roff_requests.specs.Registers.Coded.{change_of}
 use Rattle.roff_requests.specs.Request.Coded.{calls_of, changes_of, effect_of}
+use Rattle.roff_requests.specs.declared.registers.Change.{Change as CodedChange}
+use Rattle.roff_requests.specs.declared.registers.Change.TheVariants.{SetTo, FormatAs, ReadLast, CharacterIs}
+use Rattle.roff_requests.specs.declared.requests.effects.Changes.{Changes}
+use Rattle.roff_requests.specs.declared.requests.effects.Changes.TheVariants.{Nothing, One, RemoveGiven, RemoveNamesGiven, Rename as RenameGiven}
+use Rattle.roff_run.specs.TitleTexts.{TitleText, title_length}
 use Rattle.roff_run.specs.Requests.{Effect, request_effect, row_of}
 use Rattle.roff_run.specs.Run.{known_at}
 use Rattle.roff_run.specs.Run.Counts.{counts_in, first_passed}
@@ -32,9 +38,9 @@ use Rattle.roff_run.specs.declared.step.Step.{Step}
 use Rattle.roff_run.specs.declared.request.Request.{Request}
 use Rattle.roff_requests.specs.declared.requests.effects.Effect.{Effect as CodedEffect}
 use Rattle.roff_reader.proofs.FewerNames.{NoMore-calls}
-use Rattle.roff_run.proofs.InputCounts.{NoMore, NoMore-released, NoMore-trans, first_passed-few_names, input_refusal-no_more}
+use Rattle.roff_run.proofs.InputCounts.{behind_title, NoMore, NoMore-released, NoMore-trans, first_passed-few_names, input_refusal-no_more, one_of}
 use Rattle.roff_reader.proofs.RemovedNames.{calling_all-arguments}
-use Rattle.roff_reader.proofs.TakesAs.{few_names}
+use Rattle.roff_reader.proofs.TakesAs.{few_names, short_title}
 
 -- where names go, no more have a register
 length-without : (names : List (List ℕ)) (named : Registers) → length (fold (λ named name. without_entry name named) named names) ≤ length named
@@ -81,6 +87,24 @@ few_behind : (changes : List Change) (old : Capped) (u : PageUnread) (passes : B
     → is_past_cap (behind_changes changes old) ≡ passes → nat_lt u.limits.names (length (changed_by_all changes old.all).named) ≡ passes
 few_behind changes old u passes cap is = ap (λ (n : ℕ). nat_lt n (length (changed_by_all changes old.all).named)) (sym cap) ∙ is
 
+-- no request changes the title that is read
+title-change_of : (change : CodedChange) (rs : AllRegisters) → (changed_by (change_of change) rs).title ≡ rs.title
+title-change_of (SetTo name value increment) rs =
+    one_of (λ (now : AllRegisters). now.title ≡ rs.title) (is_read_only name) _ _ refl
+    (one_of (λ (now : AllRegisters). now.title ≡ rs.title) (is_page name) _ _ refl refl)
+title-change_of (FormatAs name format) rs =
+    one_of (λ (now : AllRegisters). now.title ≡ rs.title) (is_read_only name) _ _ refl
+    (one_of (λ (now : AllRegisters). now.title ≡ rs.title) (is_page name) _ _ refl refl)
+title-change_of (ReadLast name) rs = refl
+title-change_of (CharacterIs character) rs = refl
+
+title-changes_of : (as_given : List (List ℕ)) (changes : Changes) (rs : AllRegisters) → (changed_by_all (changes_of as_given changes) rs).title ≡ rs.title
+title-changes_of as_given Nothing rs = refl
+title-changes_of as_given (One change) rs = title-change_of change rs
+title-changes_of as_given RemoveGiven rs = refl
+title-changes_of as_given RemoveNamesGiven rs = refl
+title-changes_of as_given (RenameGiven from to) rs = refl
+
 -- a request was obeyed, its changes made, and its arguments released
 pub TakesAs-obeyed : (es : ComposerOf) (old new : ReaderState) (before mid change behind : PageUnread) (breaks : Bool) (request : Request) (e : CodedEffect) (m : Step)
     → mid ≡ line_finished before → Obeys es old.registers.all mid breaks request e
@@ -101,8 +125,11 @@ TakesAs-obeyed es old new before mid change behind breaks request e m finishes o
       ap (λ (n : ℕ). nat_lt n (length old.registers.all.named)) ready.cap ∙ few_names old.registers before ready in
       let few_now : nat_lt before.limits.names (length (changed_by_all changes old.registers.all).named) ≡ false =
       few_behind changes old.registers before false ready.cap (ap is_past_cap (sym registers) ∙ changed.within few) in
+      let short_now : nat_lt before.limits.line (title_length (changed_by_all changes old.registers.all).title) ≡ false =
+      ap (λ (t : TitleText). nat_lt before.limits.line (title_length t)) (title-changes_of (arguments_given i) e.changes old.registers.all)
+      ∙ short_title old.registers before ready in
       let none_before : input_refusal before.limits i ≡ None =
-      sym (first_passed-few_names before.limits old.registers.all i (few_names old.registers before ready)) ∙ ready.within in
+      sym (first_passed-few_names before.limits old.registers.all i (few_names old.registers before ready) (short_title old.registers before ready)) ∙ ready.within in
       let without : PageInput = record i { arguments = no_arguments } in
       let ended : PageInput = calling_all (calls_of (arguments_given i) e.changes) without in
       let less : NoMore ended i = NoMore-trans ended without i (NoMore-calls (arguments_given i) e.changes without) (NoMore-released i) in
@@ -115,7 +142,7 @@ TakesAs-obeyed es old new before mid change behind breaks request e m finishes o
           input = input;
           reading = begins;
           registers = registers;
-          within = first_passed-few_names before.limits (changed_by_all changes old.registers.all) ended few_now
+          within = first_passed-few_names before.limits (changed_by_all changes old.registers.all) ended few_now short_now
               ∙ input_refusal-no_more before.limits ended i less none_before;
         };
         messages = says ∙ ap (λ (u : PageUnread). (effect_of (texts_read u) e).messages) finishes;
@@ -140,5 +167,5 @@ TakesAs-not_obeyed es old new before mid behind breaks request e limit finishes 
       few_behind changes old.registers before true ready.cap past in
       let ended : PageInput = calling_all (calls_of (arguments_given i) e.changes) (record i { arguments = no_arguments }) in
       subst (λ (effect : Effect). first_passed before.limits (counts_in (changed_by_all effect.changes old.registers.all) (ended_by i request effect).input) ≡ Some limit) (obeys.effect_is l h stands)
-      (ap (λ (many : Bool). if many then Some Names else input_refusal before.limits ended) many ∙ ap (λ (l : Limit). Some l) (sym refused.limit_is));
+      (ap (λ (many : Bool). if many then Some Names else behind_title before.limits (changed_by_all changes old.registers.all) ended) many ∙ ap (λ (l : Limit). Some l) (sym refused.limit_is));
 }

@@ -31,7 +31,7 @@ use Rattle.roff_run.specs.Output.{PageHistory, text_laid, text_of, written}
 use Rattle.roff_run.specs.Reading.Ends.{due}
 use Rattle.roff_run.specs.Reading.Items.{PageInput, Taking, meaning_events}
 use Rattle.roff_run.specs.Registers.{AllRegisters}
-use Rattle.roff_run.specs.declared.event.PageEvent.{PageEvent}
+use Rattle.roff_run.specs.PageEvents.{PageEvent}
 use Rattle.roff_run.specs.declared.event.PageEvent.TheVariants.{Text}
 use Rattle.roff_run.specs.Run.{State, Leads, byte_taken, known_at, done_if, made, performed, performing, sprung_at, step, taken_as, unless_refused}
 use Rattle.roff_run.specs.Springs.{begins, needs_page, next, page_begin_or, springs}
@@ -140,14 +140,14 @@ module _ (l : Limits) (reading : LineState) (rs : AllRegisters) (messages : List
   }
 
   -- a step at an event that no limit refuses, before which nothing comes, and which springs nothing and ends no run
-  step-event : (tape : Tape) (input : PageInput) (h : PageHistory) (e : PageEvent) (rest : List PageEvent) → next h e ≡ None → springs h e ≡ None
-      → refusal l h e ≡ None → (layout_of (e ∷ h)).is_over ≡ false → step l (told_at tape input h (e ∷ rest)) ≡ told_at tape input (e ∷ h) rest
+  step-event : (tape : Tape) (input : PageInput) (h : PageHistory) (e : Event) (rest : List PageEvent) → next h (Text e) ≡ None → springs h (Text e) ≡ None
+      → refusal l h (Text e) ≡ None → (layout_of (Text e ∷ h)).is_over ≡ false → step l (told_at tape input h (Text e ∷ rest)) ≡ told_at tape input (Text e ∷ h) rest
   step-event tape input h e rest none unsprung may goes_on =
-      let before : State = told_at tape input h (e ∷ rest) in
-      let behind : State = record before { history = e ∷ h } in
-      ap (λ (own : Option PageEvent). performing l own e rest before) none
-      ∙ ap (λ (r : Option Limit). unless_refused l r before (performed e rest before)) may
-      ∙ ap (λ (is_over : Bool). done_if is_over behind (sprung_at (springs h e) rest behind)) goes_on
+      let before : State = told_at tape input h (Text e ∷ rest) in
+      let behind : State = record before { history = Text e ∷ h } in
+      ap (λ (own : Option PageEvent). performing l own (Text e) rest before) none
+      ∙ ap (λ (r : Option Limit). unless_refused l r before (performed (Text e) rest before)) may
+      ∙ ap (λ (is_over : Bool). done_if is_over behind (sprung_at (springs h (Text e)) rest behind)) goes_on
       ∙ ap (λ (sprung : Option ShortName). sprung_at sprung rest behind) unsprung
 
   -- the steps at the events of a byte
@@ -162,14 +162,14 @@ module _ (l : Limits) (reading : LineState) (rs : AllRegisters) (messages : List
       record {
         steps = 2;
         there = ap (step l)
-            (step-event tape input h (Text WordEnd) (Text (Gap 1) ∷ []) (unbegun h (Text WordEnd) takes) refl (allowed l h WordEnd quiet within) behind.goes_on)
-            ∙ step-event tape input ended (Text (Gap 1)) [] (unbegun ended (Text (Gap 1)) behind) refl (allowed l ended (Gap 1) refl within) behind.goes_on;
+            (step-event tape input h WordEnd (Text (Gap 1) ∷ []) (unbegun h (Text WordEnd) takes) refl (allowed l h WordEnd quiet within) behind.goes_on)
+            ∙ step-event tape input ended (Gap 1) [] (unbegun ended (Text (Gap 1)) behind) refl (allowed l ended (Gap 1) refl within) behind.goes_on;
       }
   leads-events false b tape input h within quiet takes =
-      let e : PageEvent = Text (Print (Printed b)) in
+      let e : Event = Print (Printed b) in
       record {
         steps = 1;
-        there = step-event tape input h e [] (unbegun h e takes) refl (allowed l h (Print (Printed b)) refl within) takes.goes_on;
+        there = step-event tape input h e [] (unbegun h (Text e) takes) refl (allowed l h (Print (Printed b)) refl within) takes.goes_on;
       }
 
   -- what a byte means is to be done

@@ -35,9 +35,10 @@ use Rattle.roff_run.proofs.InputCounts.{NoMore, NoMore-released, input_refusal-n
 use Rattle.roff_reader.proofs.Strings.{TakesAs-not_became, other, refused_none}
 use Rattle.roff_run.specs.Registers.{AllRegisters}
 use Rattle.roff_run.specs.Run.Counts.{counts_in, first_passed}
+use Rattle.roff_run.specs.TitleTexts.{title_length}
 use Rattle.roff_run.specs.declared.line_state.LineState.{LineState}
 use Rattle.roff_scan.proofs.AddedFronts.{adding-texts, texts_added}
-use Rattle.roff_reader.proofs.TakesAs.{TakesAs-as, few_names}
+use Rattle.roff_reader.proofs.TakesAs.{TakesAs-as, few_names, short_title}
 
 -- the first of the limits that is passed
 abbrev first_of : Bool → Bool → Bool → Bool → Bool → Bool → Option Limit
@@ -199,14 +200,15 @@ TakesAs-not_begun name appends (Byte b) es old new before behind limit no_newlin
     rw newline (byte-not_begun (b == 32) (b == 34) name appends b es old new before behind limit fits refused)
 
 -- where the store has no room for what it adds, that is refused first
-refused-first : (l : Limits) (rs : AllRegisters) (i : PageInput) → nat_lt l.names (length rs.named) ≡ false → l.store < stored i
-    → first_passed l (counts_in rs i) ≡ Some Store
-refused-first l rs i few full = rw (few, lt-ltb l.store (stored i) full) refl
+refused-first : (l : Limits) (rs : AllRegisters) (i : PageInput) → nat_lt l.names (length rs.named) ≡ false
+    → nat_lt l.line (title_length rs.title) ≡ false → l.store < stored i → first_passed l (counts_in rs i) ≡ Some Store
+refused-first l rs i few short full = rw (few, short, lt-ltb l.store (stored i) full) refl
 
 TakesAs-full : (i : PageInput) (place : LineState) (es : ComposerOf) (old new : ReaderState) (before behind : PageUnread)
     → before.limits.store < stored i → TakesAs (λ k. going_on i place) es old new before behind (Err Store)
 TakesAs-full i place es old new before behind full = record {
-  takes = λ l h stands ready. refused-first before.limits old.registers.all i (few_names old.registers before ready) full;
+  takes = λ l h stands ready.
+      refused-first before.limits old.registers.all i (few_names old.registers before ready) (short_title old.registers before ready) full;
 }
 
 byte-full : (is_blank is_quote : Bool) (name : Option ShortName) (appends : Bool) (b : ℕ) (es : ComposerOf) (old new : ReaderState) (before behind : PageUnread)

@@ -34,7 +34,7 @@ use Rattle.roff_run.specs.declared.line_state.LineState.{LineState}
 use Rattle.roff_run.specs.declared.line_state.LineState.TheVariants.{StringName, StringText, Telling}
 use Rattle.roff_num.specs.declared.short_name.ShortName.{ShortName}
 use Rattle.roff_run.proofs.InputCounts.{first_passed-few_names}
-use Rattle.roff_reader.proofs.TakesAs.{Takes-elsewhere, few_names, passed_none, passed_one}
+use Rattle.roff_reader.proofs.TakesAs.{Takes-elsewhere, few_names, short_title, passed_none, passed_one}
 
 -- what is no unit there
 pub string_name_found-no_unit : (k : Known) (i : PageInput) (appends : Bool) (found : Found) → ((unit : CopyUnit) → found ≡ OneUnit unit → ⊥) → ((b : ℕ) → found ≡ Escape b → ⊥)
@@ -74,7 +74,7 @@ InputCameTo-changing i before behind result changes = record { becomes = λ with
 
 -- no limit refuses the input of a reader that is ready
 pub refused_none : (r : Capped) (u : PageUnread) → IsReady r u → input_refusal u.limits u.input ≡ None
-refused_none r u ready = sym (first_passed-few_names u.limits r.all u.input (few_names r u ready)) ∙ ready.within
+refused_none r u ready = sym (first_passed-few_names u.limits r.all u.input (few_names r u ready) (short_title r u ready)) ∙ ready.within
 
 -- the input became this, and this is read on
 pub TakesAs-became : (i : PageInput) (place : LineState) (es : ComposerOf) (old new : ReaderState) (before behind : PageUnread) (m : Step) (done : Unit {0})
@@ -88,7 +88,7 @@ TakesAs-became i place es old new before behind m done became came none = record
           input = now.0;
           reading = ap (λ (s : ReaderState). s.reading) came;
           registers = ap (λ (s : ReaderState). s.registers) came;
-          within = first_passed-few_names before.limits old.registers.all i (few_names old.registers before ready) ∙ now.1;
+          within = first_passed-few_names before.limits old.registers.all i (few_names old.registers before ready) (short_title old.registers before ready) ∙ now.1;
         };
         messages = ap (messages_of new.meaning.message) none;
         events = ap (events_of new.meaning.events) none;
@@ -100,7 +100,7 @@ pub TakesAs-not_became : (i : PageInput) (place : LineState) (es : ComposerOf) (
     → InputCameTo i before behind (Err limit) → TakesAs (λ k. going_on i place) es old new before behind (Err limit)
 TakesAs-not_became i place es old new before behind limit became = record {
   takes = λ l h stands ready.
-      first_passed-few_names before.limits old.registers.all i (few_names old.registers before ready)
+      first_passed-few_names before.limits old.registers.all i (few_names old.registers before ready) (short_title old.registers before ready)
       ∙ became.becomes (refused_none old.registers before ready);
 }
 
@@ -181,8 +181,8 @@ TakesAs-elsewhere t i es old new before mid behind done result became takes = re
       let now = became.becomes (refused_none old.registers before ready) in
       let moved : TakesAs (λ k. t i) es old new (record before { input = i }) behind result =
       subst (λ (u : PageUnread). TakesAs (λ k. t u.input) es old new u behind result) now.0 takes in
-      let within = first_passed-few_names before.limits old.registers.all i (few_names old.registers before ready) ∙ now.1 in
-      Takes-elsewhere (t i) old.registers new before behind i result (moved.takes l h stands (record { cap = ready.cap; within = within }));
+      let within = first_passed-few_names before.limits old.registers.all i (few_names old.registers before ready) (short_title old.registers before ready) ∙ now.1 in
+      Takes-elsewhere (t i) old.registers new before behind i result (moved.takes l h stands (record { cap = ready.cap; line = ready.line; within = within }));
 }
 
 -- another unit than a newline or a quote may be the text's first one, where no quote follows the quote before

@@ -6,7 +6,7 @@ use Rattle.roff_run.specs.Events.Steps.{events_of, messages_of}
 use Rattle.roff_requests.specs.Composer.Standing.{StandFor}
 use Rattle.roff_requests.specs.declared.composer.Composer.{Composer as ComposerOf}
 use Rattle.roff_num.specs.declared.limit.Limit.{Limit}
-use Rattle.roff_num.specs.declared.limit.Limit.TheVariants.{Names}
+use Rattle.roff_num.specs.declared.limit.Limit.TheVariants.{Line, Names}
 use Rattle.roff_num.specs.Ranges.{is_in_range}
 use Rattle.roff_escape.specs.OpenEscape.{OpenEscape, texts_held}
 use Rattle.roff_escape.specs.OpenEscapes.{Reads, byte_read, reading_ended}
@@ -43,7 +43,8 @@ use Rattle.roff_run.specs.declared.line_state.LineState.{LineState}
 use Rattle.roff_run.specs.declared.request.LineReading.{LineReading}
 use Rattle.roff_run.specs.declared.request.Request.{Request}
 use Rattle.roff_reader.specs.ControlFronts.{half_begun}
-use Rattle.roff_run.proofs.InputCounts.{NoMore, NoMore-interrupted, NoMore-same, NoMore-settling, first_passed-few_names, first_passed-no_more, one_of}
+use Rattle.roff_run.specs.TitleTexts.{TitleText, title_length}
+use Rattle.roff_run.proofs.InputCounts.{behind_title, NoMore, NoMore-interrupted, NoMore-same, NoMore-settling, first_passed-few_names, first_passed-no_more, one_of}
 
 -- what is taken where other units are half read, and something else was read of the line
 pub Takes-elsewhere : (t : Taking) (old : Capped) (new : ReaderState) (before behind : PageUnread) (i : PageInput) (result : Result Step Limit)
@@ -98,7 +99,7 @@ TakesAs-read t r es old new before mid behind found result reads fewer takes =
       takes = λ l h stands ready.
           let within = first_passed-no_more before.limits old.registers.all half before.input (NoMore-with_escapes r.1 before.input fewer) ready.within in
           Takes-elsewhere (t (known_at h old.registers.all before.input) half r.0) old.registers new before behind half result
-          (moved.takes l h stands (record { cap = ready.cap; within = within }));
+          (moved.takes l h stands (record { cap = ready.cap; line = ready.line; within = within }));
     }
 
 -- the same from where something else is read of the line
@@ -137,7 +138,7 @@ TakesAs-settled t es old new before mid behind result settles takes =
       takes = λ l h stands ready.
           let within = first_passed-no_more before.limits old.registers.all i before.input (NoMore-settling before.input) ready.within in
           Takes-elsewhere (t (known_at h old.registers.all before.input) i) old.registers new before behind i result
-          (moved.takes l h stands (record { cap = ready.cap; within = within }));
+          (moved.takes l h stands (record { cap = ready.cap; line = ready.line; within = within }));
     }
 
 -- of as many newlines and the same calls the same is known
@@ -158,7 +159,7 @@ TakesAs-less i t es old new before behind result less newlines calls takes = rec
       known_at-same h old.registers.all i before.input newlines calls in
       Takes-elsewhere (t (known_at h old.registers.all before.input)) old.registers new before behind i result
       (subst (λ (k : Known). Takes (t k) old.registers new (record before { input = i }) behind result) known
-      (takes.takes l h stands (record { cap = ready.cap; within = within })));
+      (takes.takes l h stands (record { cap = ready.cap; line = ready.line; within = within })));
 }
 
 -- what the first byte behind a name does, by how the line of its request is read
@@ -199,13 +200,36 @@ length-step_changes (Some direction) name rs =
     (one_of (SameNames rs) (is_page name) rs (record rs { named = with_step direction name rs.named }) refl
     (length-stepped name _ rs.named (is_some (entry_of name rs.named)) (is_in_range (next_value direction (register_of name rs.named))) refl))
 
+-- and the title stays as it is
+title-step_changes : (step : Option Direction) (name : List ℕ) (rs : AllRegisters) → (changed_by_all (step_changes step name) rs).title ≡ rs.title
+title-step_changes None name rs = refl
+title-step_changes (Some direction) name rs =
+    one_of (λ (now : AllRegisters). now.title ≡ rs.title) (is_read_only name) _ _ refl
+    (one_of (λ (now : AllRegisters). now.title ≡ rs.title) (is_page name) rs (record rs { named = with_step direction name rs.named }) refl refl)
+
 -- no count is above its limit, so no more names than may have a register
-pub few_names-of : {A : Type 0} (x : A) (rest : Option A) (many : Bool) → (if many then Some x else rest) ≡ None → many ≡ false
+few_names-of : {A : Type 0} (x : A) (rest : Option A) (many : Bool) → (if many then Some x else rest) ≡ None → many ≡ false
 few_names-of x rest true none = cc
 few_names-of x rest false none = refl
 
+pub few_names_in : (l : Limits) (rs : AllRegisters) (i : PageInput) → first_passed l (counts_in rs i) ≡ None → nat_lt l.names (length rs.named) ≡ false
+few_names_in l rs i within = few_names-of Names (behind_title l rs i) (nat_lt l.names (length rs.named)) within
+
 pub few_names : (r : Capped) (u : PageUnread) → IsReady r u → nat_lt u.limits.names (length r.all.named) ≡ false
-few_names r u ready = few_names-of Names (input_refusal u.limits u.input) (nat_lt u.limits.names (length r.all.named)) ready.within
+few_names r u ready = few_names_in u.limits r.all u.input ready.within
+
+-- and the title that is read has no more bytes than it may
+behind_names : {A : Type 0} (x : A) (rest : Option A) (many : Bool) → (if many then Some x else rest) ≡ None → rest ≡ None
+behind_names x rest true none = cc
+behind_names x rest false none = none
+
+pub short_title_in : (l : Limits) (rs : AllRegisters) (i : PageInput) → first_passed l (counts_in rs i) ≡ None → nat_lt l.line (title_length rs.title) ≡ false
+short_title_in l rs i within =
+    few_names-of Line (input_refusal l i) (nat_lt l.line (title_length rs.title))
+    (behind_names Names (behind_title l rs i) (nat_lt l.names (length rs.named)) within)
+
+pub short_title : (r : Capped) (u : PageUnread) → IsReady r u → nat_lt u.limits.line (title_length r.all.title) ≡ false
+short_title r u ready = short_title_in u.limits r.all u.input ready.within
 
 -- behind a step the input's counts decide
 passed-stepped : (step : Option Direction) (name : List ℕ) (r : Capped) (u : PageUnread) (i : PageInput) → IsReady r u
@@ -213,7 +237,9 @@ passed-stepped : (step : Option Direction) (name : List ℕ) (r : Capped) (u : P
 passed-stepped step name r u i ready =
     let names : nat_lt u.limits.names (length (changed_by_all (step_changes step name) r.all).named) ≡ false =
     ap (nat_lt u.limits.names) (length-step_changes step name r.all) ∙ few_names r u ready in
-    first_passed-few_names u.limits (changed_by_all (step_changes step name) r.all) i names
+    let title : nat_lt u.limits.line (title_length (changed_by_all (step_changes step name) r.all).title) ≡ false =
+    ap (λ (t : TitleText). nat_lt u.limits.line (title_length t)) (title-step_changes step name r.all) ∙ short_title r u ready in
+    first_passed-few_names u.limits (changed_by_all (step_changes step name) r.all) i names title
 
 -- what a register's text is, as it is known at a history
 pub record KnowsText (es : ComposerOf) (rs : AllRegisters) (i : PageInput) (step : Option Direction) (name text : List ℕ) : Type 0 where

@@ -1,5 +1,5 @@
 -- Bytes that are read as themselves: neither dropped nor a backslash, where nothing is half read.
-use Rattle.std.proofs.Common.{◌≡◌, ℕ, ◌==◌, Bool, true, false, List, [], ◌∷◌, Option, Ok, refl, sym, ap, ◌∙◌}
+use Rattle.std.proofs.Common.{◌≡◌, ℕ, ◌==◌, Bool, false, List, [], ◌∷◌, Option, Ok, refl, sym, ap, ◌∙◌}
 use Rattle.std.specs.Prelude.{if◌then◌else◌, length, not}
 use Rattle.std.proofs.lemmas.Bool.{eqb-true, not-false}
 use Rattle.std.proofs.lemmas.List.{nil_from_length}
@@ -11,13 +11,12 @@ use Rattle.roff_escape.specs.declared.open_escape.CopyUnit.TheVariants.{Byte}
 use Rattle.roff_escape.specs.declared.open_escape.Found.TheVariants.{GoesOn, Unit as GivesUnit}
 use Rattle.roff_run.specs.Environments.{PageHistory, interrupted_line}
 use Rattle.roff_run.specs.Events.Steps.{events_of, messages_of}
-use Rattle.roff_run.specs.Reading.{undropped_taking}
 use Rattle.roff_run.specs.Reading.Beginnings.{beginning_text, going_on_told, line_begun, line_begun_as}
-use Rattle.roff_run.specs.Reading.Found.{found_in, has_place, place_in, read_in}
+use Rattle.roff_run.specs.Reading.Found.{found_in, place_in, read_in}
 use Rattle.roff_run.specs.Reading.Items.{PageInput, PageUnread, Taking, behind_events, meaning_events}
 use Rattle.roff_run.specs.Reading.TextLines.{text_taking}
 use Rattle.roff_run.specs.Registers.{AllRegisters, Known}
-use Rattle.roff_run.specs.declared.event.PageEvent.{PageEvent}
+use Rattle.roff_run.specs.PageEvents.{PageEvent}
 use Rattle.roff_run.specs.declared.line_state.LineState.{LineState}
 use Rattle.roff_run.specs.declared.line_state.TextLine.{TextLine}
 use Rattle.roff_run.specs.declared.message.Message.{Message}
@@ -26,7 +25,6 @@ use Rattle.roff_requests.specs.Composer.Standing.{StandFor}
 use Rattle.roff_requests.specs.declared.composer.Composer.{Composer as ComposerOf}
 use Rattle.roff_reader.specs.Reader.State.{ReaderState}
 use Rattle.roff_reader.specs.Reader.Taken.{TakesAs}
-use Rattle.roff_reader.proofs.Placed.{kept-placed}
 use Rattle.roff_reader.proofs.TakesAs.{TakesAs-as, TakesAs-asked, keeps-meaning}
 use Rattle.roff_reader.proofs.LinesTaken.{TakesAs-said}
 
@@ -35,14 +33,13 @@ pub none_half : (half : List OpenEscape) → not (length half == 0) ≡ false �
 none_half half is = nil_from_length half (eqb-true (length half) 0 (not-false (length half == 0) is))
 
 -- a byte that is no backslash is found as itself, where something may be half read
-pub plain-found : (k : Known) (r : LineState) (i : PageInput) (b : ℕ) → has_place r ≡ true → i.escapes ≡ [] → (b == backslash) ≡ false
-    → found_in k i r (GivesUnit (Byte b)) ≡ undropped_taking k r i b
-plain-found k r i b placed none_half no_escape =
+pub plain-found : (k : Known) (r : LineState) (i : PageInput) (b : ℕ) → i.escapes ≡ [] → (b == backslash) ≡ false
+    → found_in k i r (GivesUnit (Byte b)) ≡ read_in k r i (byte_read (place_in k r) i.escapes b)
+plain-found k r i b none_half no_escape =
     sym
     (ap (λ (half : List OpenEscape). read_in k r i (byte_read (place_in k r) half b)) none_half
     ∙ ap (λ (c : Bool). read_in k r i (if c then (GoesOn, Backslash ∷ []) else (GivesUnit (Byte b), []))) no_escape
     ∙ ap (λ (half : List OpenEscape). found_in k (record i { escapes = half }) r (GivesUnit (Byte b))) (sym none_half))
-    ∙ kept-placed k i r b placed
 
 -- a byte of a text line, or the first of one: what its step means, whatever is kept
 pub TakesAs-named : (t : Known → Taking) (behind : LineState) (es : ComposerOf) (old new : ReaderState) (u : PageUnread) (m : Step)

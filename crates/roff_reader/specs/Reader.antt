@@ -4,3 +4,4 @@ pub mod Taken
 pub mod Stages
 pub mod Springs
 pub mod Runs
+pub mod Titles

@@ -33,6 +33,7 @@ mod runs;
 mod string_names;
 mod strings;
 mod text_lines;
+mod titles;
 mod waiting;
 
 use crate::meaning::Meaning;
@@ -68,13 +69,13 @@ impl Model for Reader {
 }
 
 impl Reader {
-    /// At a line's beginning, without registers, with room for so many.
-    pub fn new(alloc: Global, names_cap: u32) -> Result<Self, AllocError>
-        ensures { IfOk result (λ r. r ≡ fresh_reader names_cap) }
+    /// At a line's beginning, without registers, with room for so many, and for titles of so many bytes.
+    pub fn new(alloc: Global, names_cap: u32, line: u32) -> Result<Self, AllocError>
+        ensures { IfOk result (λ r. r ≡ fresh_reader names_cap line) }
     {
         Ok(Reader {
             reading: LineState::LineStart,
-            registers: RunRegisters::new(alloc, names_cap)?,
+            registers: RunRegisters::new(alloc, names_cap, line)?,
             meaning: Meaning::new(),
         })
     }

@@ -7,3 +7,6 @@ pub mod FewBehind
 pub mod Heights
 pub mod PageLengths
 pub mod PageSteps
+pub mod GivenPages
+pub mod TitleTexts
+pub mod TitleFronts

@@ -9,7 +9,7 @@ use Rattle.roff_requests.specs.Events.{stop_at, stops_set}
 use Rattle.roff_run.specs.Numbers.{at_least_zero, rounded_in_range}
 use Rattle.roff_lines.specs.declared.event.Event.TheVariants.{Set}
 use Rattle.roff_lines.specs.declared.settings.Param.TheVariants.{NoStops}
-use Rattle.roff_run.specs.declared.event.PageEvent.{PageEvent}
+use Rattle.roff_run.specs.PageEvents.{PageEvent}
 use Rattle.roff_run.specs.declared.event.PageEvent.TheVariants.{Text}
 use Rattle.roff_run.specs.Requests.Effects.{Response, bad_number, happens, meant_by, saying}
 use Rattle.roff_run.specs.Requests.Tabs.{setting_stops, stop_place, stop_places, stop_set}

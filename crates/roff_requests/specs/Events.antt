@@ -2,7 +2,7 @@
 use Rattle.std.specs.Prelude.{ℕ, List, [], ◌∷◌, map}
 use Rattle.roff_lines.specs.declared.event.Event.TheVariants.{Set}
 use Rattle.roff_lines.specs.declared.settings.Param.TheVariants.{NoStops, Stop}
-use Rattle.roff_run.specs.declared.event.PageEvent.{PageEvent}
+use Rattle.roff_run.specs.PageEvents.{PageEvent}
 use Rattle.roff_run.specs.declared.event.PageEvent.TheVariants.{Text}
 use Rattle.roff_requests.specs.declared.events.RequestEvents.{RequestEvents}
 use Rattle.roff_requests.specs.declared.events.RequestEvents.TheVariants.{Nothing, One, Two}

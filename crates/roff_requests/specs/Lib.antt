@@ -1,3 +1,4 @@
+pub mod TitleText
 pub mod Events
 pub mod Request
 pub mod Environments

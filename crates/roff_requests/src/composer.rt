@@ -7,10 +7,12 @@ ghost use Rattle.roff_run.specs.Environments.{PageHistory};
 ghost use Rattle.roff_run.specs.Reading.Items.{PageInput};
 ghost use Rattle.roff_run.specs.Registers.{AllRegisters, is_page_odd};
 ghost use Rattle.roff_run.specs.Run.States.{known_at};
+ghost use Rattle.roff_run.specs.Starts.{first_page_numbered, pages_given, pages_listed};
 
 use crate::environments::Environments;
-use roff_num::Limits;
+use roff_num::{Limits, Num};
 use roff_pages::Pages;
+use roff_run::Start;
 use std::alloc::{AllocError, Global};
 
 /// The environments and the pages.
@@ -37,6 +39,39 @@ impl Composer {
             environments: Environments::new(alloc, limits)?,
             pages: Pages::new(alloc, limits)?,
         })
+    }
+
+    /// Gives the pages what a run is given of them: which of them are written, and the number of
+    /// the first.
+    pub fn give_pages(&mut self, start: &Start)
+        ensures { (l : LimitsOf) → StandFor l [] self.old
+            → StandFor l (pages_given start.now) self.new }
+    {
+        self.list_pages(start.pages.as_slice());
+        self.number_first(start.first_page);
+    }
+
+    /// These ranges of pages are among those that are written.
+    fn list_pages(&mut self, ranges: &[(Num, Num)])
+        ensures { (l : LimitsOf) (h : PageHistory) → StandFor l h self.old
+            → StandFor l (pages_listed ranges.now h) self.new }
+    {
+        let mut rest = ranges;
+        while let Some((range, others)) = rest.split_first() {
+            self.pages.list_pages(range.0, range.1);
+            rest = others;
+        }
+    }
+
+    /// The first page gets this number, if there is one.
+    fn number_first(&mut self, number: Option<Num>)
+        ensures { (l : LimitsOf) (h : PageHistory) → StandFor l h self.old
+            → StandFor l (first_page_numbered number h) self.new }
+    {
+        match number {
+            Some(number) => self.pages.set_next(number),
+            None => {}
+        }
     }
 
     /// Whether the page number is odd.

@@ -8,6 +8,7 @@ mod events;
 mod number;
 mod registers;
 mod requests;
+mod title_text;
 
 pub use composer::Composer;
 pub use environments::{Environment, Environments, Left};
@@ -16,3 +17,4 @@ pub use registers::{Facts, RunRegisters};
 pub use requests::{
     Changes, Effect, Given, RequestFacts, effect, name_given, register_named, tab_stops,
 };
+pub use title_text::TitleText;

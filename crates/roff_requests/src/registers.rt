@@ -1,5 +1,5 @@
 //! The number registers of a run: those that a document sets, the page number, and the read-only
-//! ones (manual, section 8).
+//! ones (manual, section 8). Beside them stands what else a run keeps.
 
 ghost use Rattle.std.specs.Prelude.{◌≡◌, [], ◌∷◌, Ok, IfOk, IfSome, if◌then◌else◌, false};
 ghost use Rattle.std.specs.Option.{option_to_list};
@@ -10,8 +10,10 @@ ghost use Rattle.roff_run.specs.Registers.{is_page, number_in_range};
 ghost use Rattle.roff_run.specs.declared.message.Message.TheVariants.{BadNumber};
 
 mod read_only;
+mod titles;
 
 use crate::composer::Composer;
+use crate::title_text::TitleText;
 use read_only::{is_read_only, query_of};
 use roff_num::{Direction, Format, Limit, Name, Num, NumText, ShortName, write_num};
 use roff_run::Message;
@@ -46,6 +48,8 @@ pub enum Change {
     },
     /// `em`: the macro that is read behind the input, if there is one.
     ReadLast(Option<ShortName>),
+    /// `pc`: the character that stands for the page number in titles, if one does.
+    CharacterIs(Option<u8>),
 }
 
 /// What the escape `\n` gives.
@@ -60,7 +64,8 @@ pub struct Interpolated {
 }
 
 /// The registers that can be set: those by name, and of the page number `%`, whose value is the
-/// pages', the increment and the format; and the macro that is read behind the input.
+/// pages', the increment and the format; the macro that is read behind the input; the character
+/// that stands for the page number in titles, the title that was read last, and one that is kept.
 ///
 /// All memory is reserved as they are made.
 #[derive(Drop)]
@@ -69,6 +74,11 @@ pub struct RunRegisters {
     page_increment: Num,
     page_format: Format,
     last_macro: Option<ShortName>,
+    page_character: Option<u8>,
+    title: TitleText,
+    kept_title: TitleText,
+    /// How many bytes a title may have.
+    line: usize,
 }
 
 impl Model for RunRegisters {
@@ -93,15 +103,19 @@ impl RunRegisters {
     ghost use Rattle.roff_run.specs.Registers.{Known};
     ghost use Rattle.roff_run.specs.Starts.{given_change};
 
-    /// No register is set; so many names may have one.
-    pub fn new(alloc: Global, cap: u32) -> Result<Self, AllocError>
-        ensures { IfOk result (λ r. r ≡ record { all = no_registers; cap = cap }) }
+    /// No register is set; so many names may have one, and a title so many bytes.
+    pub fn new(alloc: Global, cap: u32, line: u32) -> Result<Self, AllocError>
+        ensures { IfOk result (λ r. r ≡ record { all = no_registers; cap = cap; line = line }) }
     {
         Ok(RunRegisters {
             named: RegTable::new(alloc, cap)?,
             page_increment: Num(0),
             page_format: Format::Decimal(1),
             last_macro: None,
+            page_character: Some(b'%'),
+            title: TitleText::new(alloc, line)?,
+            kept_title: TitleText::new(alloc, line)?,
+            line: line as usize,
         })
     }
 
@@ -188,6 +202,10 @@ impl RunRegisters {
             Change::FormatAs { name, format } => self.set_format(name, *format),
             Change::ReadLast(name) => {
                 self.read_last(*name);
+                Ok(())
+            }
+            Change::CharacterIs(character) => {
+                self.set_page_character(*character);
                 Ok(())
             }
         }

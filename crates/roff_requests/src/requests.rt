@@ -15,6 +15,7 @@ mod spacing;
 mod springing;
 mod switching;
 mod tabs;
+mod titles;
 
 use Request::{LeftOut, WithoutEffect};
 pub(crate) use effects::Response;
@@ -69,16 +70,21 @@ fn does(request: Request, known: RequestFacts, given: Given<'_>) -> Response
         Request::InputTrap => springing::input_trap(given.first, given.second),
         Request::LineLength => lengths::line_length(known, given.first),
         Request::LineSpacing => spacing::line_spacing(known, given.first),
+        Request::TitleLength => lengths::title_length(known, given.first),
         Request::NoAdjust => Response::setting(Param::Adjusting(false)),
         Request::NoFill => Response::setting(Param::Filling(false)),
         Request::NumberRegister => numbering::set_register(known, given),
+        Request::PageCharacter => titles::page_character(given.first),
         Request::PageLength => paging::page_length(known, given.first),
+        Request::PageNumber => paging::page_number(known, given.first),
+        Request::PageOffset => paging::page_offset(known, given.first),
         Request::RemoveNames => Response::changing(Changes::RemoveNamesGiven),
         Request::Rename => naming::rename(given.first, given.second),
         Request::RemoveRegisters => Response::changing(Changes::RemoveGiven),
         Request::Space => spacing::space_down(known, given.first),
         Request::TabStops => Response::SetsStops,
         Request::TemporaryIndent => lengths::temporary_indent(known, given.first),
+        Request::Title => titles::place_title(),
         Request::TellMessage => Response::nothing(),
         WithoutEffect(_) => Response::nothing(),
         LeftOut(name) => Response::left_out(name),

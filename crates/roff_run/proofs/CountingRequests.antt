@@ -16,10 +16,10 @@ use Rattle.roff_run.specs.Registers.{Known, value_in_force}
 use Rattle.roff_run.specs.Requests.{Page, PageEvent, Response, Ignored, Obeyed, request_effect, row_of}
 use Rattle.roff_run.specs.Requests.Adjustment.{adjusting_in, centre, centring, mode_wanted}
 use Rattle.roff_run.specs.Requests.Effects.{behind_break, happens, meant_by, page_numbered}
-use Rattle.roff_run.specs.Requests.Lengths.{length_set, length_wanted, line_length, indent, setting_length, temporary_indent}
+use Rattle.roff_run.specs.Requests.Lengths.{length_set, length_wanted, line_length, indent, setting_length, temporary_indent, title_length}
 use Rattle.roff_run.specs.Requests.Naming.{rename}
 use Rattle.roff_run.specs.Requests.Numbering.{assign_format, format_as, if_named, increment_given, name_given, number, number_of_page, set_register, set_to}
-use Rattle.roff_run.specs.Requests.Paging.{lines_on_page, lines_set, page_length, page_of}
+use Rattle.roff_run.specs.Requests.Paging.{lines_on_page, lines_set, next_numbered, offset_to, page_asked, page_length, page_number, page_of}
 use Rattle.roff_run.specs.Requests.Spacing.{line_spacing, space_down, spaced, spacing}
 use Rattle.roff_run.specs.Requests.Springing.{input_trap, trap_set}
 use Rattle.roff_run.specs.Requests.Switching.{switch, switching_by, switching_to}
@@ -29,7 +29,7 @@ use Rattle.roff_run.specs.Springs.{CountsLast}
 use Rattle.roff_run.specs.declared.message.Message.TheVariants.{PageTooShort}
 use Rattle.roff_run.specs.declared.environment_number.EnvironmentNumber.{EnvironmentNumber}
 use Rattle.roff_run.specs.declared.request.Request.{Request}
-use Rattle.roff_run.specs.declared.request.Request.TheVariants.{Abort, Adjust, AppendMacro, AppendString, AssignFormat, Break as BreakRequest, Centre, DefineMacro, DefineString, Else, EndMacro, Environment, Exit, Fill, If, IfElse, Ignore, Indent, InputTrap, LineLength, LineSpacing, NoAdjust, NoFill, NumberRegister, PageLength, RemoveNames, RemoveRegisters, Rename, Space as SpaceDown, TabStops, TemporaryIndent, TellMessage, WithoutEffect, LeftOut}
+use Rattle.roff_run.specs.declared.request.Request.TheVariants.{Abort, Adjust, AppendMacro, AppendString, AssignFormat, Break as BreakRequest, Centre, DefineMacro, DefineString, Else, EndMacro, Environment, Exit, Fill, If, IfElse, Ignore, Indent, InputTrap, LineLength, LineSpacing, NoAdjust, NoFill, NumberRegister, PageLength, PageNumber, PageOffset, RemoveNames, RemoveRegisters, Rename, Space as SpaceDown, TabStops, TemporaryIndent, TellMessage, WithoutEffect, LeftOut, PageCharacter, Title as TitleRequest, TitleLength}
 
 -- what a request does
 abbrev counts_by : Response → Type 0
@@ -51,6 +51,10 @@ counts_by-line_length k as_given =
 
 counts_by-indent : (k : Known) (as_given : List (List ℕ)) → counts_by (indent k as_given)
 counts_by-indent k as_given = let s = k.settings in counts_by-length _ (length_wanted s.indent s.previous_indent as_given)
+
+counts_by-title_length : (k : Known) (as_given : List (List ℕ)) → counts_by (title_length k as_given)
+counts_by-title_length k as_given =
+    let s = k.settings in counts_by-length _ (length_wanted s.title_length s.previous_title_length as_given)
 
 counts_by-temporary_indent : (k : Known) (as_given : List (List ℕ)) → counts_by (temporary_indent k as_given)
 counts_by-temporary_indent k [] = tt
@@ -88,6 +92,19 @@ counts_by-page_of (Err fault) = tt
 counts_by-page_length : (k : Known) (as_given : List (List ℕ)) → counts_by (page_length k as_given)
 counts_by-page_length k [] = counts_by-lines_on_page 66
 counts_by-page_length k (text ∷ others) = counts_by-page_of (lines_set k text)
+
+-- nor the page offset, and the next page's number
+counts_by-offset_to : (columns : Result ℕ NumFault) → counts_by (offset_to columns)
+counts_by-offset_to (Ok columns) = tt
+counts_by-offset_to (Err fault) = tt
+
+counts_by-next_numbered : (number : Result ℤ NumFault) → counts_by (next_numbered number)
+counts_by-next_numbered (Ok number) = tt
+counts_by-next_numbered (Err fault) = tt
+
+counts_by-page_number : (k : Known) (as_given : List (List ℕ)) → counts_by (page_number k as_given)
+counts_by-page_number k [] = tt
+counts_by-page_number k (text ∷ others) = counts_by-next_numbered (page_asked k text)
 
 counts_by-spacing : (lines : Result ℤ NumFault) → counts_by (spacing lines)
 counts_by-spacing (Ok lines) = tt
@@ -185,16 +202,21 @@ counts_by-request k Indent as_given = counts_by-indent k as_given
 counts_by-request k InputTrap as_given = counts_by-input_trap as_given
 counts_by-request k LineLength as_given = counts_by-line_length k as_given
 counts_by-request k LineSpacing as_given = counts_by-line_spacing k as_given
+counts_by-request k TitleLength as_given = counts_by-title_length k as_given
 counts_by-request k NoAdjust as_given = tt
 counts_by-request k NoFill as_given = tt
 counts_by-request k NumberRegister as_given = counts_by-set_register k as_given
+counts_by-request k PageCharacter as_given = tt
 counts_by-request k PageLength as_given = counts_by-page_length k as_given
+counts_by-request k PageNumber as_given = counts_by-page_number k as_given
+counts_by-request k PageOffset as_given = counts_by-offset_to (length_wanted k.layout.offset k.layout.previous_offset as_given)
 counts_by-request k RemoveNames as_given = tt
 counts_by-request k Rename as_given = counts_by-rename as_given
 counts_by-request k RemoveRegisters as_given = tt
 counts_by-request k SpaceDown as_given = counts_by-space_down k as_given
 counts_by-request k TabStops as_given = counts_by-stops (stop_places (pos 0) (take most_stops as_given))
 counts_by-request k TemporaryIndent as_given = counts_by-temporary_indent k as_given
+counts_by-request k TitleRequest as_given = tt
 counts_by-request k TellMessage as_given = tt
 counts_by-request k (WithoutEffect name) as_given = tt
 counts_by-request k (LeftOut name) as_given = tt

@@ -27,7 +27,7 @@ use Rattle.roff_run.proofs.CountingRequests.{counts-numbered}
 use Rattle.roff_run.specs.Requests.{PageEvent, Text}
 use Rattle.roff_run.specs.Springs.{CountsLast}
 use Rattle.roff_run.specs.declared.line_state.LineState.{LineState}
-use Rattle.roff_run.specs.declared.line_state.LineState.TheVariants.{LineStart, Branch, Braced, Text as InText, Control, Name, Arguments as InArguments, Deciding, StringName, StringText, Skipping, Dropped, Telling, Told, Exiting, Calling, Defining}
+use Rattle.roff_run.specs.declared.line_state.LineState.TheVariants.{LineStart, Branch, Braced, Text as InText, Control, Name, Arguments as InArguments, Deciding, StringName, StringText, Skipping, Dropped, Telling, Told, Exiting, Calling, Defining, TitleFront, Title as InTitle}
 use Rattle.roff_run.specs.declared.line_state.TextLine.{TextLine}
 
 -- what is done with an item means events of which a text line counts as the last
@@ -142,6 +142,8 @@ Counts-first_taking k i Dropped b = Counts-line_begun k i b
 Counts-first_taking k i (Telling aborts is_front) b = Counts-line_begun k i b
 Counts-first_taking k i (Told aborts) b = Counts-line_begun k i b
 Counts-first_taking k i Exiting b = Counts-line_begun k i b
+Counts-first_taking k i TitleFront b = Counts-line_begun k i b
+Counts-first_taking k i (InTitle delimiter) b = Counts-line_begun k i b
 Counts-first_taking k i (Calling name) b = Counts-line_begun k i b
 Counts-first_taking k i (Defining name appends end matched) b = Counts-line_begun k i b
 
@@ -165,11 +167,13 @@ Counts-first_escape k i Dropped b = Counts-if (b == newline) _ _ tt (Counts-esca
 Counts-first_escape k i (Telling aborts is_front) b = Counts-if (b == newline) _ _ tt (Counts-escape_begun k i b)
 Counts-first_escape k i (Told aborts) b = Counts-if (b == newline) _ _ tt (Counts-escape_begun k i b)
 Counts-first_escape k i Exiting b = Counts-if (b == newline) _ _ tt (Counts-escape_begun k i b)
+Counts-first_escape k i TitleFront b = Counts-if (b == newline) _ _ tt (Counts-escape_begun k i b)
+Counts-first_escape k i (InTitle delimiter) b = Counts-if (b == newline) _ _ tt (Counts-escape_begun k i b)
 Counts-first_escape k i (Calling name) b = Counts-if (b == newline) _ _ tt (Counts-escape_begun k i b)
 Counts-first_escape k i (Defining name appends end matched) b = Counts-if (b == newline) _ _ tt (Counts-escape_begun k i b)
 
 -- what a name asks for
-Counts-asking : (k : Known) (i : PageInput) (reading : LineState) (purpose : NameUse) (name : Option (List ℕ)) → Counts (asking k i reading purpose name)
+pub Counts-asking : (k : Known) (i : PageInput) (reading : LineState) (purpose : NameUse) (name : Option (List ℕ)) → Counts (asking k i reading purpose name)
 Counts-asking k i reading purpose None = tt
 Counts-asking k i reading (Register step) (Some name) = counts-numbered (page_stepped step name k)
 Counts-asking k i reading OfText (Some name) = tt

@@ -3,6 +3,7 @@
 -- Each function f of reading has its lemma Counts-f here, with a line for each of its cases.
 use Rattle.std.proofs.Common.{ℕ, Bool, true, false, List, Option, Some, None}
 use Rattle.std.specs.Prelude.{◌||◌, ◌&&◌, nat_le, ◌==◌}
+use Rattle.roff_lines.specs.Words.{is_empty}
 use Rattle.roff_num.specs.declared.short_name.ShortName.{ShortName}
 use Rattle.roff_num.specs.ShortNames.{name_at, name_or_none}
 use Rattle.roff_source.specs.Bytes.{tab, newline, blank, backslash, is_dropped, quote}
@@ -16,7 +17,7 @@ use Rattle.roff_escape.specs.declared.open_escape.Surroundings.TheVariants.{Argu
 use Rattle.roff_ahead.specs.Input.{beginning_line, choosing}
 use Rattle.roff_ahead.specs.Input.Calls.{arguments_given, last_result, without_last}
 use Rattle.roff_run.specs.Definitions.{end_mark, front_of, line_from}
-use Rattle.roff_run.specs.Reading.{undropped_taking, taking, escape_ended}
+use Rattle.roff_run.specs.Reading.{undropped_taking, taking, escape_ended, title_read}
 use Rattle.roff_run.specs.Reading.Arguments.{arguments_ended, arguments_found, unit_found}
 use Rattle.roff_run.specs.Reading.Beginnings.{at_start}
 use Rattle.roff_run.specs.Reading.Branches.{branch_taking, condition_begun, condition_found, decided, is_so, reads_else, skipping_taking, with_result_if}
@@ -36,15 +37,16 @@ use Rattle.roff_run.specs.Springs.{CountsLast}
 use Rattle.roff_run.specs.declared.definition.DefinitionLine.{DefinitionLine}
 use Rattle.roff_run.specs.declared.definition.DefinitionLine.TheVariants.{MayBeLast, IsLast, IsText}
 use Rattle.roff_run.specs.declared.line_state.LineState.{LineState}
-use Rattle.roff_run.specs.declared.line_state.LineState.TheVariants.{LineStart, Branch, Braced, Text as InText, Control, Name, Arguments as InArguments, Deciding, StringName, StringText, Skipping, Dropped, Telling, Told, Exiting, Calling, Defining}
+use Rattle.roff_run.specs.declared.line_state.LineState.TheVariants.{LineStart, Branch, Braced, Text as InText, Control, Name, Arguments as InArguments, Deciding, StringName, StringText, Skipping, Dropped, Telling, Told, Exiting, Calling, Defining, TitleFront, Title as InTitle}
 use Rattle.roff_run.specs.declared.line_state.TextLine.{TextLine}
 use Rattle.roff_run.specs.declared.request.Called.{Called}
 use Rattle.roff_run.specs.declared.request.Called.TheVariants.{Request as ARequest, Body as ABody, Nothing as Unknown}
 use Rattle.roff_run.specs.declared.request.LineReading.{LineReading}
-use Rattle.roff_run.specs.declared.request.LineReading.TheVariants.{ByArguments, ByCondition, ByElse, ByLastLine, ByMessage, ByString, ByLines}
+use Rattle.roff_run.specs.declared.request.LineReading.TheVariants.{ByArguments, ByCondition, ByElse, ByLastLine, ByMessage, ByString, ByLines, ByTitle}
 use Rattle.roff_run.specs.declared.request.LinesFor.{LinesFor}
 use Rattle.roff_run.specs.declared.request.LinesFor.TheVariants.{Macro, Nobody}
 use Rattle.roff_run.specs.declared.request.Request.{Request}
+use Rattle.roff_run.proofs.CountingTitles.{Counts-behind_part, Counts-title_ended, Counts-title_found, Counts-title_front_found}
 use Rattle.roff_run.proofs.CountingText.{Counts, Counts-if, counts-line_end, Counts-text_found, Counts-beginning_found, Counts-no_unit_found}
 use Rattle.roff_run.proofs.CountingRequests.{counts-request_effect}
 
@@ -65,6 +67,7 @@ Counts-arguments_ended k i breaks request (ByCondition keeps) = counts-request_e
 Counts-arguments_ended k i breaks request ByElse = counts-request_effect k breaks request (arguments_given i)
 Counts-arguments_ended k i breaks request ByLastLine = counts-request_effect k breaks request (arguments_given i)
 Counts-arguments_ended k i breaks request (ByMessage aborts) = counts-request_effect k breaks request (arguments_given i)
+Counts-arguments_ended k i breaks request ByTitle = counts-request_effect k breaks request (arguments_given i)
 Counts-arguments_ended k i breaks request (ByString appends) = counts-request_effect k breaks request (arguments_given i)
 
 Counts-unit_found : (k : Known) (i : PageInput) (breaks : Bool) (request : Request) (unit : CopyUnit) → Counts (unit_found k i breaks request unit)
@@ -207,6 +210,8 @@ Counts-line_taking k i breaks request (ByMessage aborts) b =
     let read = byte_read AboveCopy i.escapes b in Counts-message_found k (record i { escapes = read.1 }) aborts true read.0
 Counts-line_taking k i breaks request (ByLines lines) b =
     let read = byte_read AboveArguments i.escapes b in Counts-arguments_found k (record i { escapes = read.1 }) breaks request read.0
+Counts-line_taking k i breaks request ByTitle b =
+    let read = byte_read AboveArguments i.escapes b in Counts-title_front_found k (record i { escapes = read.1 }) read.0
 Counts-line_taking k i breaks request ByElse b = Counts-branch_taking k (without_last i) (reads_else (last_result i)) b
 
 Counts-called_taking : (k : Known) (i : PageInput) (breaks : Bool) (called : Called) (b : ℕ) → Counts (called_taking k i breaks called b)
@@ -227,6 +232,7 @@ Counts-behind_name i breaks request ByLastLine = tt
 Counts-behind_name i breaks request (ByMessage aborts) = tt
 Counts-behind_name i breaks request (ByLines lines) = tt
 Counts-behind_name i breaks request ByElse = tt
+Counts-behind_name i breaks request ByTitle = tt
 
 Counts-behind_called : (i : PageInput) (breaks : Bool) (called : Called) → Counts (behind_called i breaks called)
 Counts-behind_called i breaks (ARequest request) = Counts-behind_name i breaks request (row_of request).line
@@ -277,12 +283,19 @@ Counts-found_in k i (Skipping opened closed behind) found = tt
 Counts-found_in k i Dropped found = tt
 Counts-found_in k i (Told aborts) found = tt
 Counts-found_in k i Exiting found = tt
+Counts-found_in k i TitleFront found = Counts-title_front_found k i found
+Counts-found_in k i (InTitle delimiter) found = Counts-title_found k i delimiter found
 
 -- a byte that isn't dropped
 Counts-read : (k : Known) (reading : LineState) (i : PageInput) (b : ℕ)
     → Counts (found_in k (record i { escapes = (byte_read (place_in k reading) i.escapes b).1 }) reading (byte_read (place_in k reading) i.escapes b).0)
 Counts-read k reading i b =
     let read = byte_read (place_in k reading) i.escapes b in Counts-found_in k (record i { escapes = read.1 }) reading read.0
+
+-- one of a title
+Counts-title_read : (k : Known) (i : PageInput) (delimiter b : ℕ) (ends : Bool) → Counts (title_read k i delimiter b ends)
+Counts-title_read k i delimiter b true = Counts-behind_part i delimiter k.registers.title.part
+Counts-title_read k i delimiter b false = Counts-read k (InTitle delimiter) i b
 
 Counts-undropped_taking : (k : Known) (reading : LineState) (i : PageInput) (b : ℕ) → Counts (undropped_taking k reading i b)
 Counts-undropped_taking k (Control breaks) i b = Counts-if (b == blank || b == tab) _ _ tt (Counts-if (ends_name b) _ _ tt tt)
@@ -293,6 +306,8 @@ Counts-undropped_taking k (Skipping opened closed behind) i b = Counts-skipping_
 Counts-undropped_taking k Dropped i b = tt
 Counts-undropped_taking k (Told aborts) i b = tt
 Counts-undropped_taking k Exiting i b = tt
+Counts-undropped_taking k TitleFront i b = Counts-read k TitleFront i b
+Counts-undropped_taking k (InTitle delimiter) i b = Counts-title_read k i delimiter b (is_empty i.escapes && b == delimiter)
 Counts-undropped_taking k LineStart i b = Counts-read k LineStart i b
 Counts-undropped_taking k Branch i b = Counts-read k Branch i b
 Counts-undropped_taking k Braced i b = Counts-read k Braced i b
@@ -332,6 +347,8 @@ CountsLast-end_taking k Dropped i = counts-interrupted_end k.interrupted
 CountsLast-end_taking k (Told aborts) i = counts-interrupted_end k.interrupted
 CountsLast-end_taking k Exiting i = counts-interrupted_end k.interrupted
 CountsLast-end_taking k (Defining name appends end matched) i = tt
+CountsLast-end_taking k TitleFront i = Counts-undropped_taking k TitleFront i newline
+CountsLast-end_taking k (InTitle delimiter) i = Counts-title_ended k i
 CountsLast-end_taking k Branch i = Counts-undropped_taking k Branch i newline
 CountsLast-end_taking k (InText line) i = Counts-undropped_taking k (InText line) i newline
 CountsLast-end_taking k (Name breaks first) i = Counts-undropped_taking k (Name breaks first) i newline

@@ -3,7 +3,7 @@ use Rattle.std.proofs.Common.{◌≡◌, ℕ, ◌+◌, ◌-◌, ◌≤◌, Bool,
 use Rattle.std.specs.Prelude.{drop, nat_le, nat_lt, sum_by, if◌then◌else◌}
 use Rattle.std.proofs.lemmas.Bool.{le-ltb, ltb-false}
 use Rattle.roff_num.specs.declared.limit.Limit.{Limit}
-use Rattle.roff_num.specs.declared.limit.Limit.TheVariants.{Stack, Depth, Conditions, Names, Store, Diversions}
+use Rattle.roff_num.specs.declared.limit.Limit.TheVariants.{Stack, Depth, Conditions, Line, Names, Store, Diversions}
 use Rattle.roff_num.specs.declared.limits.Limits.{Limits}
 use Rattle.roff_arguments.specs.Arguments.{held, settled, no_arguments}
 use Rattle.roff_escape.specs.OpenEscape.{texts_held}
@@ -23,6 +23,7 @@ use Rattle.roff_run.specs.Reading.Items.{PageInput}
 use Rattle.roff_run.specs.Reading.Units.{settling}
 use Rattle.roff_run.specs.Registers.{AllRegisters}
 use Rattle.roff_run.specs.Requests.{PageEvent}
+use Rattle.roff_run.specs.TitleTexts.{title_length}
 use Rattle.roff_run.specs.Run.Counts.{first_passed, counts_in}
 use Rattle.roff_run.specs.declared.line_state.LineState.{LineState}
 use Rattle.roff_run.specs.declared.line_state.LineState.TheVariants.{Arguments as InArguments, StringName, Calling}
@@ -212,16 +213,24 @@ IsWithin-allowed u within =
     (first_not Depth _ _ (le-ltb u.limits.depth (depth u.input) within.depth)
     (first_not Conditions None _ (le-ltb u.limits.conditions (result_count u.input) within.results) refl)))))
 
--- where the names are within their limit, the others decide
+-- the limits behind that on names
+abbrev pub behind_title : Limits → AllRegisters → PageInput → Option Limit
+behind_title l rs i = if nat_lt l.line (title_length rs.title) then Some Line else input_refusal l i
+
+-- where the names and the title that is read are within their limits, the others decide
 pub first_passed-few_names : (l : Limits) (rs : AllRegisters) (i : PageInput) → nat_lt l.names (length rs.named) ≡ false
-    → first_passed l (counts_in rs i) ≡ input_refusal l i
-first_passed-few_names l rs i few = ap (λ (c : Bool). if c then Some Names else input_refusal l i) few
+    → nat_lt l.line (title_length rs.title) ≡ false → first_passed l (counts_in rs i) ≡ input_refusal l i
+first_passed-few_names l rs i few short =
+    ap (λ (c : Bool). if c then Some Names else if nat_lt l.line (title_length rs.title) then Some Line else input_refusal l i) few
+    ∙ ap (λ (c : Bool). if c then Some Line else input_refusal l i) short
 
 pub first_passed-no_more : (l : Limits) (rs : AllRegisters) (now before : PageInput) → NoMore now before
     → first_passed l (counts_in rs before) ≡ None → first_passed l (counts_in rs now) ≡ None
 first_passed-no_more l rs now before less none =
-    let names = neither Names (input_refusal l before) (nat_lt l.names (length rs.named)) none in
-    first_not Names (input_refusal l now) _ names.0 (input_refusal-no_more l now before less names.1)
+    let names = neither Names (behind_title l rs before) (nat_lt l.names (length rs.named)) none in
+    let title = neither Line (input_refusal l before) (nat_lt l.line (title_length rs.title)) names.1 in
+    first_not Names (behind_title l rs now) _ names.0
+    (first_not Line (input_refusal l now) _ title.0 (input_refusal-no_more l now before less title.1))
 
 -- the limits behind that on the texts in the making, and behind that on names, and on the store
 abbrev behind_making : Limits → PageInput → Option Limit
@@ -247,15 +256,18 @@ pub first_passed-texts : (l : Limits) (rs : AllRegisters) (i there : PageInput) 
     → first_passed l (counts_in rs (record i { open_texts = texts })) ≡ None
 first_passed-texts l rs i there texts same few none none_there =
     let now : PageInput = record i { open_texts = texts } in
-    let names = neither Names (input_refusal l i) (nat_lt l.names (length rs.named)) none in
-    let names_there = neither Names (input_refusal l there) (nat_lt l.names (length rs.named)) none_there in
-    let store = neither Store (behind_store l i) (nat_lt l.store (stored i)) names.1 in
+    let names = neither Names (behind_title l rs i) (nat_lt l.names (length rs.named)) none in
+    let title = neither Line (input_refusal l i) (nat_lt l.line (title_length rs.title)) names.1 in
+    let names_there = neither Names (behind_title l rs there) (nat_lt l.names (length rs.named)) none_there in
+    let title_there = neither Line (input_refusal l there) (nat_lt l.line (title_length rs.title)) names_there.1 in
+    let store = neither Store (behind_store l i) (nat_lt l.store (stored i)) title.1 in
     let added = neither Names (behind_names l i) (nat_lt l.names (names_added i)) store.1 in
     let making = neither Diversions (behind_making l i) (nat_lt l.diversions (length i.open_texts - 1)) added.1 in
-    first_not Names (input_refusal l now) _ names.0
-    (first_not Store (behind_store l now) _ (not_above l.store (stored there) (stored now) few (stored_few l there names_there.1))
+    first_not Names (behind_title l rs now) _ names.0
+    (first_not Line (input_refusal l now) _ title.0
+    (first_not Store (behind_store l now) _ (not_above l.store (stored there) (stored now) few (stored_few l there title_there.1))
     (first_not Names (behind_names l now) _ added.0
-    (first_not Diversions (behind_making l now) _ (ap (λ (n : ℕ). nat_lt l.diversions (n - 1)) same ∙ making.0) making.1)))
+    (first_not Diversions (behind_making l now) _ (ap (λ (n : ℕ). nat_lt l.diversions (n - 1)) same ∙ making.0) making.1))))
 
 pub first_passed-taking : (l : Limits) (rs : AllRegisters) (a : Answer) (u : Unread PageEvent)
     → first_passed l (counts_in rs u.input) ≡ None → first_passed l (counts_in rs (taking a u).1.input) ≡ None

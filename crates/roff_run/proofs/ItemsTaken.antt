@@ -22,6 +22,7 @@ use Rattle.roff_run.specs.Reading.Ends.{due}
 use Rattle.roff_run.specs.Reading.Items.{PageInput, going_on}
 use Rattle.roff_run.specs.Registers.{AllRegisters}
 use Rattle.roff_run.specs.Requests.{PageEvent}
+use Rattle.roff_run.specs.TitleTexts.{title_length}
 use Rattle.roff_run.specs.Reading.Waiting.{waiting_in}
 use Rattle.roff_run.specs.Run.{State, made, byte_taken, escape_ends, awaited, awaited_of_source, answered, moved, in_front_taken, taking_ahead, taking_byte, taken_as, grown, unless_refused, stopped_by, read_waiting, item_read, step, source_answer}
 use Rattle.roff_run.specs.Run.Counts.{first_passed}
@@ -145,9 +146,10 @@ not-second true second neither = absurd (cc)
 not-second false true neither = absurd (cc)
 not-second false false neither = refl
 
--- what is within the limits on names, on the stack, on the depth and on conditions
+-- what is within the limits on names, on titles, on the stack, on the depth and on conditions
 pub record Fits (l : Limits) (registers : AllRegisters) (i : PageInput) : Type 0 where
   pub names : length registers.named ≤ l.names
+  pub title : title_length registers.title ≤ l.line
   pub stack : pushed i ≤ l.stack
   pub depth : depth i ≤ l.depth
   pub store : stored i ≤ l.store
@@ -159,13 +161,14 @@ pub record Fits (l : Limits) (registers : AllRegisters) (i : PageInput) : Type 0
 pub made-Fits : (l : Limits) (from done : State) → Fits l done.registers done.input → made l from done ≡ done
 made-Fits l from done fits =
     let names : nat_lt l.names (length done.registers.named) ≡ false = le-ltb _ _ fits.names in
+    let title : nat_lt l.line (title_length done.registers.title) ≡ false = le-ltb _ _ fits.title in
     let stack : nat_lt l.stack (pushed done.input) ≡ false = le-ltb _ _ fits.stack in
     let depth : nat_lt l.depth (depth done.input) ≡ false = le-ltb _ _ fits.depth in
     let conditions : nat_lt l.conditions (result_count done.input) ≡ false = le-ltb _ _ fits.conditions in
     let store : nat_lt l.store (stored done.input) ≡ false = le-ltb _ _ fits.store in
     let texts : nat_lt l.names (names_added done.input) ≡ false = le-ltb _ _ fits.texts in
     let making : nat_lt l.diversions (length done.input.open_texts - 1) ≡ false = le-ltb _ _ (omega (arith, fits.making)) in
-    let allowed : first_passed l (grown done) ≡ None = rw (names, stack, depth, store, texts, making, conditions) refl in
+    let allowed : first_passed l (grown done) ≡ None = rw (names, title, stack, depth, store, texts, making, conditions) refl in
     ap (λ (r : Option Limit). unless_refused l r from done) allowed
 
 -- this is read on, and nothing is meant
@@ -175,4 +178,4 @@ taken_as-going_on i reading s = ap (λ (m : List ℕ). record s { input = i; rea
 -- a state within the limits is within those that a step looks at
 pub Fits-IsWithin : (l : Limits) (s : State) → IsWithin l s → Fits l s.registers s.input
 Fits-IsWithin l s within =
-    record { names = within.names; stack = within.stack; depth = within.depth; store = within.store; texts = within.texts; making = within.making; conditions = within.conditions }
+    record { names = within.names; title = within.title; stack = within.stack; depth = within.depth; store = within.store; texts = within.texts; making = within.making; conditions = within.conditions }

@@ -2,7 +2,8 @@
 --
 -- Each function f of reading has its lemma Keeps-f here, with a line for each of its cases.
 use Rattle.std.proofs.Common.{◌≡◌, ℕ, ◌+◌, ◌*◌, ◌-◌, ◌≤◌, Bool, true, false, List, [], ◌∷◌, ◌++◌, Option, Some, None, refl, sym, subst, arith, pos}
-use Rattle.std.specs.Prelude.{◌||◌, ◌==◌}
+use Rattle.std.specs.Prelude.{◌&&◌, ◌||◌, ◌==◌}
+use Rattle.roff_lines.specs.Words.{is_empty}
 use Rattle.roff_source.specs.Bytes.{tab, newline, blank, is_dropped}
 use Rattle.roff_escape.specs.OpenEscapes.{byte_read, reading_ended}
 use Rattle.roff_ahead.specs.Input.{beginning_line, choosing}
@@ -19,10 +20,10 @@ use Rattle.roff_escape.specs.declared.open_escape.Found.TheVariants.{GoesOn, Uni
 use Rattle.roff_escape.specs.declared.open_escape.Surroundings.{Surroundings}
 use Rattle.roff_escape.specs.declared.open_escape.Surroundings.TheVariants.{Text as AboveText, Arguments as AboveArguments, Copy as AboveCopy}
 use Rattle.roff_run.specs.declared.line_state.LineState.{LineState}
-use Rattle.roff_run.specs.declared.line_state.LineState.TheVariants.{LineStart, Branch, Braced, Text as InText, Control, Name, Arguments as InArguments, Deciding, StringName, StringText, Skipping, Dropped, Telling, Told, Exiting, Calling, Defining}
+use Rattle.roff_run.specs.declared.line_state.LineState.TheVariants.{LineStart, Branch, Braced, Text as InText, Control, Name, Arguments as InArguments, Deciding, StringName, StringText, Skipping, Dropped, Telling, Told, Exiting, Calling, Defining, TitleFront, Title as InTitle}
 use Rattle.roff_num.specs.declared.short_name.ShortName.{ShortName}
 use Rattle.roff_run.specs.declared.request.LineReading.{LineReading}
-use Rattle.roff_run.specs.declared.request.LineReading.TheVariants.{ByArguments, ByCondition, ByElse, ByLastLine, ByMessage, ByString, ByLines}
+use Rattle.roff_run.specs.declared.request.LineReading.TheVariants.{ByArguments, ByCondition, ByElse, ByLastLine, ByMessage, ByString, ByLines, ByTitle}
 use Rattle.roff_run.specs.declared.request.Called.{Called}
 use Rattle.roff_run.specs.declared.request.Called.TheVariants.{Request as ARequest, Body as ABody, Nothing as Unknown}
 use Rattle.roff_run.specs.declared.definition.DefinitionLine.{DefinitionLine}
@@ -30,7 +31,7 @@ use Rattle.roff_run.specs.declared.definition.DefinitionLine.TheVariants.{MayBeL
 use Rattle.roff_run.specs.Definitions.{end_mark, ends_mark, front_of, line_from, matched_behind}
 use Rattle.roff_num.specs.ShortNames.{name_at, name_bytes}
 use Rattle.roff_run.specs.declared.request.Request.{Request}
-use Rattle.roff_run.specs.Reading.{undropped_taking, interrupted, taking, escape_ended}
+use Rattle.roff_run.specs.Reading.{undropped_taking, interrupted, taking, escape_ended, title_read}
 use Rattle.roff_run.specs.Reading.Arguments.{arguments_ended}
 use Rattle.roff_run.specs.Reading.Beginnings.{at_start}
 use Rattle.roff_run.specs.Reading.Branches.{branch_of, branch_taking, is_so, decided, with_result_if, condition_found, reads_else, condition_begun}
@@ -49,6 +50,7 @@ use Rattle.roff_run.specs.TurnsToCome.{begun, endings_of, turns_of, unended}
 use Rattle.roff_run.proofs.EscapeCounts.{Falls, Leaves, freed_endings, endings-byte_read, endings-reading_ended, some_ending}
 use Rattle.roff_run.proofs.MarkEnds.{ends-line_from, ends_mark-begins_nothing, ends_mark-chooses_nothing}
 use Rattle.roff_run.proofs.KeepingText.{Keeps, KeepsBy, free_ahead-called, Keeps-if, Stays, Keeps-stays, Stays-skipping_taking, Stays-dropped_taking, unnamed-branch_of, Keeps-with_escapes, Keeps-text_found, Keeps-beginning_found}
+use Rattle.roff_run.proofs.KeepingTitles.{Keeps-behind_part, Keeps-title_ended, Keeps-title_found, Keeps-title_front_found}
 use Rattle.roff_run.proofs.KeepingLines.{Alike-same, Keeps-alike, Keeps-no_more, Alike-string_entered, Alike-definition_grown, Alike-definition_dropped, Keeps-arguments_ended, Keeps-no_unit_found, Keeps-arguments_found, Keeps-string_line_ended, Keeps-string_name_found, Keeps-string_text_found, Keeps-message_found, Keeps-called, Keeps-call_found}
 
 -- the first byte of a branch
@@ -152,6 +154,8 @@ module _ (some most : ℕ) (k : Known) (i j : PageInput) (b : ℕ) (keeps : Keep
       Keeps-message_found most k i _ aborts true (byte_read AboveCopy j.escapes b).0 (Keeps-begins AboveCopy (Telling aborts true) (omega arith))
   Keeps-line_taking breaks request (ByLines lines) =
       Keeps-arguments_found most k i _ breaks request (byte_read AboveArguments j.escapes b).0 (Keeps-begins AboveArguments (InArguments breaks request) (omega arith))
+  Keeps-line_taking breaks request ByTitle =
+      Keeps-title_front_found most k i _ (byte_read AboveArguments j.escapes b).0 (Keeps-begins AboveArguments TitleFront (omega arith))
   Keeps-line_taking breaks request ByElse =
       Keeps-branch_taking (2 * endings_of j.escapes) most k i (without_last j) LineStart (reads_else (last_result j)) b
       (record { charge = keeps.charge; newlines = keeps.newlines; line = keeps.line; free = keeps.free; few = keeps.few; escapes = omega arith }) (omega (arith, few))
@@ -218,6 +222,7 @@ Keeps-behind_name i breaks first request (ByString appends) = record { charge = 
 Keeps-behind_name i breaks first request ByLastLine = record { charge = refl; newlines = refl; line = refl; free = refl; few = λ room within few. few; escapes = omega arith }
 Keeps-behind_name i breaks first request (ByMessage aborts) = record { charge = refl; newlines = refl; line = refl; free = refl; few = λ room within few. few; escapes = omega arith }
 Keeps-behind_name i breaks first request (ByLines lines) = record { charge = refl; newlines = refl; line = refl; free = refl; few = λ room within few. few; escapes = omega arith }
+Keeps-behind_name i breaks first request ByTitle = record { charge = refl; newlines = refl; line = refl; free = refl; few = λ room within few. few; escapes = omega arith }
 Keeps-behind_name i breaks first request ByElse =
     record { charge = refl; newlines = refl; line = refl; free = refl; few = λ room within few. few; escapes = omega (arith, unnamed-branch_of (reads_else (last_result i))) }
 
@@ -226,6 +231,13 @@ Keeps-behind_called : (i : PageInput) (breaks : Bool) (first : ℕ) (called : Ca
 Keeps-behind_called i breaks first (ARequest request) = Keeps-behind_name i breaks first request (row_of request).line
 Keeps-behind_called i breaks first (ABody name) = record { charge = refl; newlines = refl; line = refl; free = refl; few = λ room within few. few; escapes = omega arith }
 Keeps-behind_called i breaks first Unknown = record { charge = refl; newlines = refl; line = refl; free = refl; few = λ room within few. few; escapes = omega arith }
+
+-- a byte of a title, which is a delimiter or not
+Keeps-title_read : (k : Known) (i : PageInput) (delimiter b : ℕ) (ends : Bool) → TwoMore i (InTitle delimiter) (title_read k i delimiter b ends)
+Keeps-title_read k i delimiter b true =
+    Keeps-behind_part _ i i delimiter k.registers.title.part (KeepsTwoMore-same i (InTitle delimiter)) (omega arith)
+Keeps-title_read k i delimiter b false =
+    Keeps-title_found _ k i _ delimiter (byte_read (AboveText (pos 0)) i.escapes b).0 (Keeps-same_reading (AboveText (pos 0)) i (InTitle delimiter) b)
 
 -- a byte that isn't dropped
 Keeps-undropped_taking : (k : Known) (reading : LineState) (i : PageInput) (b : ℕ) → TwoMore i reading (undropped_taking k reading i b)
@@ -265,6 +277,9 @@ Keeps-undropped_taking k (Telling aborts is_front) i b =
     Keeps-message_found _ k i _ aborts is_front (byte_read AboveCopy i.escapes b).0 (Keeps-same_reading AboveCopy i (Telling aborts is_front) b)
 Keeps-undropped_taking k (Told aborts) i b = KeepsTwoMore-same i (Told aborts)
 Keeps-undropped_taking k Exiting i b = KeepsTwoMore-same i Exiting
+Keeps-undropped_taking k TitleFront i b =
+    Keeps-title_front_found _ k i _ (byte_read AboveArguments i.escapes b).0 (Keeps-same_reading AboveArguments i TitleFront b)
+Keeps-undropped_taking k (InTitle delimiter) i b = Keeps-title_read k i delimiter b (is_empty i.escapes && b == delimiter)
 
 -- what isn't a byte of the line
 pub Keeps-interrupted : (reading : LineState) (i : PageInput) → KeepsTwoMore i reading (interrupted reading i) reading
@@ -285,6 +300,8 @@ Keeps-interrupted Dropped i = KeepsTwoMore-same i Dropped
 Keeps-interrupted (Telling aborts is_front) i = KeepsTwoMore-same i (Telling aborts is_front)
 Keeps-interrupted (Told aborts) i = KeepsTwoMore-same i (Told aborts)
 Keeps-interrupted Exiting i = KeepsTwoMore-same i Exiting
+Keeps-interrupted TitleFront i = KeepsTwoMore-same i TitleFront
+Keeps-interrupted (InTitle delimiter) i = KeepsTwoMore-same i (InTitle delimiter)
 
 -- a byte
 pub Keeps-taking : (k : Known) (reading : LineState) (i : PageInput) (b : ℕ) → TwoMore i reading (taking k reading i b)
@@ -341,6 +358,10 @@ Keeps-escape_ended k (Telling aborts is_front) i first others is =
     Keeps-message_found _ k i _ aborts is_front (reading_ended AboveCopy i.escapes).0 (Keeps-ended AboveCopy i (Telling aborts is_front) first others is)
 Keeps-escape_ended k (Told aborts) i first others is = Keeps-ended (AboveText (pos 0)) i (Told aborts) first others is
 Keeps-escape_ended k Exiting i first others is = Keeps-ended (AboveText (pos 0)) i Exiting first others is
+Keeps-escape_ended k TitleFront i first others is =
+    Keeps-title_front_found _ k i _ (reading_ended AboveArguments i.escapes).0 (Keeps-ended AboveArguments i TitleFront first others is)
+Keeps-escape_ended k (InTitle delimiter) i first others is =
+    Keeps-title_found _ k i _ delimiter (reading_ended (AboveText (pos 0)) i.escapes).0 (Keeps-ended (AboveText (pos 0)) i (InTitle delimiter) first others is)
 
 -- a string's line that ends with the input where its name is read
 Keeps-last_string : (i : PageInput) (appends : Bool) (name : Option (Option ShortName))
@@ -364,6 +385,8 @@ Keeps-end_taking k (StringText name appends is_front) i =
     Keeps-alike _ i i (StringText name appends is_front) (string_entered name appends i) LineStart
     (KeepsTwoMore-same i (StringText name appends is_front)) (Alike-string_entered name appends i) refl
 Keeps-end_taking k (Calling name) i = Keeps-undropped_taking k (Calling name) i newline
+Keeps-end_taking k TitleFront i = Keeps-undropped_taking k TitleFront i newline
+Keeps-end_taking k (InTitle delimiter) i = Keeps-title_ended _ k i i (InTitle delimiter) (KeepsTwoMore-same i (InTitle delimiter))
 Keeps-end_taking k (Defining name appends end matched) i =
     Keeps-alike _ i i (Defining name appends end matched) (definition_dropped name i) LineStart (KeepsTwoMore-same i (Defining name appends end matched))
     (Alike-definition_dropped name i) refl
@@ -403,6 +426,7 @@ module _ (k : Known) (i : PageInput) (breaks : Bool) where
   Keeps-last_line request ByLastLine = Keeps-last_arguments request
   Keeps-last_line request (ByMessage aborts) = Keeps-plain i 3 (Told aborts) (omega arith)
   Keeps-last_line request (ByLines lines) = Keeps-last_arguments request
+  Keeps-last_line request ByTitle = Keeps-title_ended 3 k (plain i) (plain i) LineStart (Keeps-plain i 3 LineStart (omega arith))
   Keeps-last_line request ByElse =
       Keeps-branch_taking 0 3 k (plain i) (without_last (plain i)) LineStart (reads_else (last_result (plain i))) newline
       (record { charge = refl; newlines = refl; line = refl; free = refl; few = λ room within few. few; escapes = omega arith }) (omega arith)
@@ -432,6 +456,8 @@ unended-few Dropped = omega arith
 unended-few (Telling aborts is_front) = omega arith
 unended-few (Told aborts) = omega arith
 unended-few Exiting = omega arith
+unended-few TitleFront = omega arith
+unended-few (InTitle delimiter) = omega arith
 
 -- fewer turns are to come of what is half read and of what is read, by two
 abbrev pub FewerTurns : PageInput → LineState → Taking → Type 0
@@ -477,6 +503,8 @@ line_ended_plain k Dropped i = Within Dropped (omega arith)
 line_ended_plain k (Telling aborts is_front) i = within_fewer k (Telling aborts is_front) i 1 (Keeps-plain i 1 (Told aborts) (omega arith)) (omega arith)
 line_ended_plain k (Told aborts) i = Within (Told aborts) (omega arith)
 line_ended_plain k Exiting i = Within Exiting (omega arith)
+line_ended_plain k TitleFront i = Within TitleFront (omega arith)
+line_ended_plain k (InTitle delimiter) i = Within (InTitle delimiter) (omega arith)
 
 -- with nothing half read a line ends so with the input
 pub line_ended : (k : Known) (reading : LineState) (i : PageInput) → i.escapes ≡ [] → LineEnded k i reading

@@ -17,7 +17,7 @@ use Rattle.roff_run.specs.declared.line_state.LineState.{LineState}
 use Rattle.roff_run.specs.declared.line_state.LineState.TheVariants.{LineStart, Arguments as InArguments, StringName, StringText, Telling, Calling, Defining}
 use Rattle.roff_num.specs.declared.short_name.ShortName.{ShortName}
 use Rattle.roff_run.specs.declared.request.LineReading.{LineReading}
-use Rattle.roff_run.specs.declared.request.LineReading.TheVariants.{ByArguments, ByCondition, ByElse, ByLastLine, ByMessage, ByString, ByLines}
+use Rattle.roff_run.specs.declared.request.LineReading.TheVariants.{ByArguments, ByCondition, ByElse, ByLastLine, ByMessage, ByString, ByLines, ByTitle}
 use Rattle.roff_run.specs.declared.request.LinesFor.{LinesFor}
 use Rattle.roff_run.specs.declared.request.LinesFor.TheVariants.{Macro, Nobody}
 use Rattle.roff_num.specs.ShortNames.{name_at, name_bytes, name_or_none}
@@ -130,9 +130,10 @@ unnamed-reading_behind ByLastLine = refl
 unnamed-reading_behind (ByMessage aborts) = refl
 unnamed-reading_behind (ByString appends) = refl
 unnamed-reading_behind (ByLines lines) = refl
+unnamed-reading_behind ByTitle = refl
 
 -- the end of a request's line
-Keeps-ended_by : (most : ℕ) (i j : PageInput) (old : LineState) (request : Request) (effect : Effect) → Keeps most i j old → KeepsBy most i (ended_by j request effect)
+pub Keeps-ended_by : (most : ℕ) (i j : PageInput) (old : LineState) (request : Request) (effect : Effect) → Keeps most i j old → KeepsBy most i (ended_by j request effect)
 Keeps-ended_by most i j old request effect keeps =
     let released : PageInput = record j { arguments = no_arguments } in
     Keeps-alike most i j old (calling_all effect.calls released) (reading_behind (row_of request).line) keeps
@@ -177,6 +178,8 @@ Keeps-arguments_ended most k i j old breaks request ByLastLine keeps some =
 Keeps-arguments_ended most k i j old breaks request (ByMessage aborts) keeps some =
     Keeps-ended_by most i j old request (request_effect k breaks request (arguments_given j)) keeps
 Keeps-arguments_ended most k i j old breaks request (ByString appends) keeps some =
+    Keeps-ended_by most i j old request (request_effect k breaks request (arguments_given j)) keeps
+Keeps-arguments_ended most k i j old breaks request ByTitle keeps some =
     Keeps-ended_by most i j old request (request_effect k breaks request (arguments_given j)) keeps
 
 -- a unit of a line of arguments

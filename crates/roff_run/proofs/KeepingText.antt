@@ -26,7 +26,7 @@ use Rattle.roff_escape.specs.declared.open_escape.Found.{Found}
 use Rattle.roff_escape.specs.declared.open_escape.Found.TheVariants.{GoesOn, Unit as GivesUnit, Holds, Escape, Asks, Motion, Measures, Tells, Decides}
 use Rattle.roff_num.specs.declared.direction.Direction.{Direction}
 use Rattle.roff_run.specs.declared.line_state.LineState.{LineState}
-use Rattle.roff_run.specs.declared.line_state.LineState.TheVariants.{LineStart, Branch, Braced, Text as InText, Control, Name, Arguments as InArguments, Deciding, StringName, StringText, Skipping, Dropped, Telling, Told, Exiting, Calling, Defining}
+use Rattle.roff_run.specs.declared.line_state.LineState.TheVariants.{LineStart, Branch, Braced, Text as InText, Control, Name, Arguments as InArguments, Deciding, StringName, StringText, Skipping, Dropped, Telling, Told, Exiting, Calling, Defining, TitleFront, Title as InTitle}
 use Rattle.roff_run.specs.declared.line_state.TextLine.{TextLine}
 use Rattle.roff_run.specs.Reading.Beginnings.{line_begun, first_taking, first_escape, beginning_found, beginning_text, line_begun_as, escape_begun, first_name}
 use Rattle.roff_run.specs.Reading.Branches.{skipping_taking, branch_of}
@@ -76,7 +76,7 @@ Stays-going_on : (i : PageInput) (reading : LineState) → begun reading ≡ 0 �
 Stays-going_on i reading unnamed = record { input = refl; unnamed = unnamed }
 
 -- where no name is read, that begins none
-Keeps-unnamed : (most : ℕ) (i j : PageInput) (old reading : LineState) → Keeps most i j old → begun reading ≡ 0 → Keeps most i j reading
+pub Keeps-unnamed : (most : ℕ) (i j : PageInput) (old reading : LineState) → Keeps most i j old → begun reading ≡ 0 → Keeps most i j reading
 Keeps-unnamed most i j old reading keeps unnamed = record {
   charge = keeps.charge;
   newlines = keeps.newlines;
@@ -163,6 +163,8 @@ Stays-first_taking k i (Telling aborts is_front) b = Stays-line_begun k i b
 Stays-first_taking k i (Told aborts) b = Stays-line_begun k i b
 Stays-first_taking k i Exiting b = Stays-line_begun k i b
 Stays-first_taking k i (Calling name) b = Stays-line_begun k i b
+Stays-first_taking k i TitleFront b = Stays-line_begun k i b
+Stays-first_taking k i (InTitle delimiter) b = Stays-line_begun k i b
 Stays-first_taking k i (Defining name appends end matched) b = Stays-line_begun k i b
 
 -- an escape there
@@ -187,6 +189,8 @@ Stays-first_escape k i Dropped b = Stays-if i (b == newline) _ _ (record { input
 Stays-first_escape k i (Telling aborts is_front) b = Stays-if i (b == newline) _ _ (record { input = refl; unnamed = refl }) (Stays-escape_begun k i b)
 Stays-first_escape k i (Told aborts) b = Stays-if i (b == newline) _ _ (record { input = refl; unnamed = refl }) (Stays-escape_begun k i b)
 Stays-first_escape k i Exiting b = Stays-if i (b == newline) _ _ (record { input = refl; unnamed = refl }) (Stays-escape_begun k i b)
+Stays-first_escape k i TitleFront b = Stays-if i (b == newline) _ _ (record { input = refl; unnamed = refl }) (Stays-escape_begun k i b)
+Stays-first_escape k i (InTitle delimiter) b = Stays-if i (b == newline) _ _ (record { input = refl; unnamed = refl }) (Stays-escape_begun k i b)
 Stays-first_escape k i (Calling name) b = Stays-if i (b == newline) _ _ (record { input = refl; unnamed = refl }) (Stays-escape_begun k i b)
 Stays-first_escape k i (Defining name appends end matched) b = Stays-if i (b == newline) _ _ (record { input = refl; unnamed = refl }) (Stays-escape_begun k i b)
 

@@ -3,6 +3,7 @@ pub mod Readings
 pub mod MarkEnds
 pub mod KeepingText
 pub mod KeepingLines
+pub mod KeepingTitles
 pub mod Keeping
 pub mod NumberedRequests
 pub mod InputCounts
@@ -12,6 +13,7 @@ pub mod PutBack
 pub mod LinesLeft
 pub mod CountingText
 pub mod CountingRequests
+pub mod CountingTitles
 pub mod CountsLast
 pub mod InFront
 pub mod Printing
@@ -20,3 +22,4 @@ pub mod TextBytes
 pub mod PlainRuns
 pub mod ItemsTaken
 pub mod NameBytes
+pub mod GivenPages

@@ -5,10 +5,13 @@ use Rattle.std.specs.Prelude.{◌||◌, if◌then◌else◌}
 use Rattle.roff_lines.specs.Events.{is_interrupted}
 use Rattle.roff_lines.specs.declared.event.Event.{Event}
 use Rattle.roff_lines.specs.declared.event.Event.TheVariants.{Print, Tab, WordEnd, Gap, LineEnd, Count, Break, Interrupt as Interrupted, Resume, Set}
-use Rattle.roff_run.specs.Environments.{PageHistory, environments, interrupted_line, line_left, text_of}
+use Rattle.roff_run.specs.Environments.{environments, interrupted_line, line_left, text_of}
 use Rattle.roff_run.specs.Reading.Ends.{interrupted_end, is_left}
 use Rattle.roff_run.specs.Reading.TextLines.{blank_line, text_line_end}
-use Rattle.roff_run.specs.Requests.{PageEvent, Text, Page, Interrupt, Environment, Back, SetsTrap}
+use Rattle.roff_run.specs.PageEvents.{PageEvent, PageHistory, Title}
+use Rattle.roff_run.specs.Registers.{AllRegisters}
+use Rattle.roff_run.specs.Requests.{Text, Page, Interrupt, Environment, Back, SetsTrap}
+use Rattle.roff_run.specs.Titles.{told}
 use Rattle.roff_run.specs.TurnsToCome.{left_by, lines_left, most_left}
 use Rattle.roff_run.specs.declared.line_state.TextLine.{TextLine}
 use Rattle.roff_run.specs.declared.phase.Phase.{Phase}
@@ -36,6 +39,7 @@ left_by-few (Interrupt untold) lines few = omega arith
 left_by-few (Environment number) lines few = omega arith
 left_by-few Back lines few = omega arith
 left_by-few (SetsTrap trap) lines few = few
+left_by-few (Title which) lines few = few
 
 pub most_left-few : (es : List PageEvent) (lines : ℕ) → lines ≤ 1 → most_left es lines ≤ 1
 most_left-few [] lines few = few
@@ -62,6 +66,7 @@ left_by-fewer (Interrupt untold) few many fewer = omega arith
 left_by-fewer (Environment number) few many fewer = omega arith
 left_by-fewer Back few many fewer = omega arith
 left_by-fewer (SetsTrap trap) few many fewer = fewer
+left_by-fewer (Title which) few many fewer = fewer
 
 pub most_left-fewer : (es : List PageEvent) (few many : ℕ) → few ≤ many → most_left es few ≤ most_left es many
 most_left-fewer [] few many fewer = fewer
@@ -81,22 +86,23 @@ same_lines h e same = by_test (is_interrupted (e ∷ text_of h)) (is_interrupted
     by_test false before is = omega arith
 
 -- so many are left indeed
-pub lines_left-event : (e : PageEvent) (h : PageHistory) → lines_left (interrupted_line (e ∷ h)) ≤ left_by e (lines_left (interrupted_line h))
-lines_left-event (Text (Print glyph)) h = same_lines h (Print glyph) refl
-lines_left-event (Text Tab) h = same_lines h Tab refl
-lines_left-event (Text WordEnd) h = same_lines h WordEnd refl
-lines_left-event (Text (Gap columns)) h = same_lines h (Gap columns) refl
-lines_left-event (Text LineEnd) h = omega arith
-lines_left-event (Text Count) h = same_lines h Count refl
-lines_left-event (Text Break) h = same_lines h Break refl
-lines_left-event (Text Interrupted) h = lines_left-few (interrupted_line (Text Interrupted ∷ h))
-lines_left-event (Text Resume) h = omega arith
-lines_left-event (Text (Set param)) h = same_lines h (Set param) refl
-lines_left-event (Page e) h = omega arith
-lines_left-event (Interrupt untold) h = lines_left-few (interrupted_line (Interrupt untold ∷ h))
-lines_left-event (Environment number) h = lines_left-few (interrupted_line (Environment number ∷ h))
-lines_left-event Back h = lines_left-few (interrupted_line (Back ∷ h))
-lines_left-event (SetsTrap trap) h = omega arith
+pub lines_left-event : (rs : AllRegisters) (e : PageEvent) (h : PageHistory) → lines_left (interrupted_line (told rs e ∷ h)) ≤ left_by e (lines_left (interrupted_line h))
+lines_left-event rs (Text (Print glyph)) h = same_lines h (Print glyph) refl
+lines_left-event rs (Text Tab) h = same_lines h Tab refl
+lines_left-event rs (Text WordEnd) h = same_lines h WordEnd refl
+lines_left-event rs (Text (Gap columns)) h = same_lines h (Gap columns) refl
+lines_left-event rs (Text LineEnd) h = omega arith
+lines_left-event rs (Text Count) h = same_lines h Count refl
+lines_left-event rs (Text Break) h = same_lines h Break refl
+lines_left-event rs (Text Interrupted) h = lines_left-few (interrupted_line (Text Interrupted ∷ h))
+lines_left-event rs (Text Resume) h = omega arith
+lines_left-event rs (Text (Set param)) h = same_lines h (Set param) refl
+lines_left-event rs (Page e) h = omega arith
+lines_left-event rs (Interrupt untold) h = lines_left-few (interrupted_line (Interrupt untold ∷ h))
+lines_left-event rs (Environment number) h = lines_left-few (interrupted_line (Environment number ∷ h))
+lines_left-event rs Back h = lines_left-few (interrupted_line (Back ∷ h))
+lines_left-event rs (SetsTrap trap) h = omega arith
+lines_left-event rs (Title which) h = omega arith
 
 -- the end of an interrupted line leaves none
 none_left : (line : TextLine) (lines : ℕ) → most_left (Text Resume ∷ text_line_end line) lines ≡ 0

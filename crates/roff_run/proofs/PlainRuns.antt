@@ -20,6 +20,7 @@ use Rattle.roff_run.specs.Environments.{environments}
 use Rattle.roff_run.specs.Reading.Ends.{due}
 use Rattle.roff_run.specs.Reading.Items.{PageInput, Taking}
 use Rattle.roff_run.specs.Requests.{PageEvent}
+use Rattle.roff_run.specs.TitleTexts.{title_length}
 use Rattle.roff_run.specs.Run.{State, after, byte_taken, known, made, step, taken_as, output}
 use Rattle.roff_run.specs.Stages.{Stage, Turns, input_at}
 use Rattle.roff_run.specs.declared.line_state.LineState.{LineState}
@@ -118,6 +119,7 @@ pub record HasRoom (l : Limits) (s : State) (names : Named Entry) (from : Origin
   pub making : most.texts ≤ l.diversions + 1
   pub conditions : length i.results ≤ l.conditions
   pub registers : length s.registers.named ≤ l.names
+  pub title : title_length s.registers.title ≤ l.line
   pub environments : EnvironmentsWithin l (environments s.history)
   pub output : length (output s) ≤ l.output
 
@@ -142,6 +144,7 @@ HasRoom-behind l s names from most p q b bytes i grows room = record {
   making = room.making;
   conditions = room.conditions;
   registers = room.registers;
+  title = room.title;
   environments = room.environments;
   output = room.output;
 }
@@ -163,6 +166,7 @@ IsWithin-HasRoom l s names from most p bytes i small room = record {
   making = omega (arith, room.making, small.texts_few);
   conditions = room.conditions;
   names = room.registers;
+  title = room.title;
   environments = room.environments;
   output = room.output;
 }
@@ -276,6 +280,7 @@ HasRoom-start l s names from most p bytes i within charged held_few stored_few t
   making = texts_few;
   conditions = within.conditions;
   registers = within.names;
+  title = within.title;
   environments = within.environments;
   output = within.output;
 }

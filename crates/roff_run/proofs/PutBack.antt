@@ -4,8 +4,10 @@ use Rattle.std.specs.Prelude.{map}
 use Rattle.roff_ahead.specs.Input.{Ahead, DoAhead, bytes_ahead, ends_ahead}
 use Rattle.roff_lines.specs.declared.event.Event.TheVariants.{Print, Tab, WordEnd, Gap, LineEnd, Count, Break, Interrupt as Interrupted, Resume, Set}
 use Rattle.roff_num.specs.declared.short_name.ShortName.{ShortName}
-use Rattle.roff_run.specs.Environments.{PageHistory}
-use Rattle.roff_run.specs.Requests.{PageEvent, Text, Page, Interrupt, Environment, Back, SetsTrap}
+use Rattle.roff_run.specs.PageEvents.{PageEvent, PageHistory, Title}
+use Rattle.roff_run.specs.Registers.{AllRegisters}
+use Rattle.roff_run.specs.Requests.{Text, Page, Interrupt, Environment, Back, SetsTrap}
+use Rattle.roff_run.specs.Titles.{told}
 use Rattle.roff_run.specs.Springs.{AreFewBehind, may_spring, springs}
 use Rattle.roff_run.specs.TurnsToCome.{free_ahead}
 
@@ -27,19 +29,20 @@ few-short [] short = tt
 few-short (e ∷ es) short = (λ may. omega (arith, short), few-short es (omega (arith, short)))
 
 -- an event springs a macro only if it may
-pub may_spring-springs : (h : PageHistory) (e : PageEvent) (name : ShortName) → springs h e ≡ Some name → may_spring e ≡ true
-may_spring-springs h (Text Count) name sprung = refl
-may_spring-springs h (Text (Print glyph)) name sprung = absurd (cc)
-may_spring-springs h (Text Tab) name sprung = absurd (cc)
-may_spring-springs h (Text WordEnd) name sprung = absurd (cc)
-may_spring-springs h (Text (Gap columns)) name sprung = absurd (cc)
-may_spring-springs h (Text LineEnd) name sprung = absurd (cc)
-may_spring-springs h (Text Break) name sprung = absurd (cc)
-may_spring-springs h (Text Interrupted) name sprung = absurd (cc)
-may_spring-springs h (Text Resume) name sprung = absurd (cc)
-may_spring-springs h (Text (Set param)) name sprung = absurd (cc)
-may_spring-springs h (Page e) name sprung = absurd (cc)
-may_spring-springs h (Interrupt untold) name sprung = absurd (cc)
-may_spring-springs h (Environment number) name sprung = absurd (cc)
-may_spring-springs h Back name sprung = absurd (cc)
-may_spring-springs h (SetsTrap trap) name sprung = absurd (cc)
+pub may_spring-springs : (rs : AllRegisters) (h : PageHistory) (e : PageEvent) (name : ShortName) → springs h (told rs e) ≡ Some name → may_spring e ≡ true
+may_spring-springs rs h (Text Count) name sprung = refl
+may_spring-springs rs h (Text (Print glyph)) name sprung = absurd (cc)
+may_spring-springs rs h (Text Tab) name sprung = absurd (cc)
+may_spring-springs rs h (Text WordEnd) name sprung = absurd (cc)
+may_spring-springs rs h (Text (Gap columns)) name sprung = absurd (cc)
+may_spring-springs rs h (Text LineEnd) name sprung = absurd (cc)
+may_spring-springs rs h (Text Break) name sprung = absurd (cc)
+may_spring-springs rs h (Text Interrupted) name sprung = absurd (cc)
+may_spring-springs rs h (Text Resume) name sprung = absurd (cc)
+may_spring-springs rs h (Text (Set param)) name sprung = absurd (cc)
+may_spring-springs rs h (Page e) name sprung = absurd (cc)
+may_spring-springs rs h (Interrupt untold) name sprung = absurd (cc)
+may_spring-springs rs h (Environment number) name sprung = absurd (cc)
+may_spring-springs rs h Back name sprung = absurd (cc)
+may_spring-springs rs h (SetsTrap trap) name sprung = absurd (cc)
+may_spring-springs rs h (Title which) name sprung = absurd (cc)

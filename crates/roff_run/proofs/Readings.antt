@@ -27,7 +27,7 @@ use Rattle.roff_run.specs.Reading.Ends.{due, is_unfinished}
 use Rattle.roff_run.specs.declared.line_state.Due.{Due}
 use Rattle.roff_run.specs.declared.line_state.Due.TheVariants.{Leaves, Tells as TellsText}
 use Rattle.roff_run.specs.declared.line_state.LineState.{LineState}
-use Rattle.roff_run.specs.declared.line_state.LineState.TheVariants.{LineStart, Branch, Braced, Text as InText, Control, Name, Arguments as InArguments, Deciding, StringName, StringText, Skipping, Dropped, Telling, Told, Exiting, Calling, Defining}
+use Rattle.roff_run.specs.declared.line_state.LineState.TheVariants.{LineStart, Branch, Braced, Text as InText, Control, Name, Arguments as InArguments, Deciding, StringName, StringText, Skipping, Dropped, Telling, Told, Exiting, Calling, Defining, TitleFront, Title as InTitle}
 use Rattle.roff_run.specs.Reading.Waiting.{waiting_in}
 use Rattle.roff_run.specs.Run.{read_waiting, State, known, ending_as, ending_with, stopped_by, unless_refused, grown, made, moved, byte_taken, escape_ends, ahead_taken, taking_ahead, taking_byte, ending_input, answered, in_front_taken, front_seen, awaited_of_source, awaited, item_read, input_ended, message_told, aborted, input_left, reading_by, reading_on, phase_ended, sprung_read, with_sprung}
 use Rattle.roff_run.specs.Run.Counts.{passes_bytes, first_passed}
@@ -225,6 +225,8 @@ told_where_due (Skipping opened closed behind) aborts is = absurd (cc)
 told_where_due Dropped aborts is = absurd (cc)
 told_where_due (Telling other is_front) aborts is = absurd (cc)
 told_where_due Exiting aborts is = absurd (cc)
+told_where_due TitleFront aborts is = absurd (cc)
+told_where_due (InTitle delimiter) aborts is = absurd (cc)
 
 -- and the input is left behind the last line
 pub left_where_due : (reading : LineState) → due reading ≡ Some Leaves → reading ≡ Exiting
@@ -233,6 +235,8 @@ left_where_due LineStart is = absurd (cc)
 left_where_due Branch is = absurd (cc)
 left_where_due Braced is = absurd (cc)
 left_where_due (InText line) is = absurd (cc)
+left_where_due TitleFront is = absurd (cc)
+left_where_due (InTitle delimiter) is = absurd (cc)
 left_where_due (Control breaks) is = absurd (cc)
 left_where_due (Name breaks first) is = absurd (cc)
 left_where_due (InArguments breaks request) is = absurd (cc)
@@ -326,6 +330,8 @@ begun-behind_return back Dropped = refl
 begun-behind_return back (Telling aborts is_front) = refl
 begun-behind_return back (Told aborts) = refl
 begun-behind_return back Exiting = refl
+begun-behind_return back TitleFront = refl
+begun-behind_return back (InTitle delimiter) = refl
 
 -- a macro that sprang
 pub Behind-sprung_read : (called : Called) (s : State) → Behind (2 * endings_of s.input.escapes + begun s.reading) s (sprung_read called s)

@@ -12,7 +12,7 @@ use Rattle.roff_escape.specs.declared.open_escape.ConditionPart.TheVariants.{Cho
 use Rattle.roff_escape.specs.declared.open_escape.Waiting.TheVariants.{Takes, Decides, Waits}
 use Rattle.roff_run.specs.Reading.Waiting.{copies_in, line_waits, waiting_above}
 use Rattle.roff_run.specs.declared.line_state.LineState.{LineState}
-use Rattle.roff_run.specs.declared.line_state.LineState.TheVariants.{LineStart, Branch, Braced, Text as InText, Control, Name as InName, Arguments as InArguments, Deciding, StringName, StringText, Skipping, Dropped, Telling, Told, Exiting, Calling, Defining}
+use Rattle.roff_run.specs.declared.line_state.LineState.TheVariants.{LineStart, Branch, Braced, Text as InText, Control, Name as InName, Arguments as InArguments, Deciding, StringName, StringText, Skipping, Dropped, Telling, Told, Exiting, Calling, Defining, TitleFront, Title as InTitle}
 
 -- what takes or waits doesn't decide
 undecided-if : (c : Bool) → decides (if c then Takes else Waits) ≡ false
@@ -40,6 +40,8 @@ undecided-line Dropped place = refl
 undecided-line (Telling aborts is_front) place = refl
 undecided-line (Told aborts) place = refl
 undecided-line Exiting place = refl
+undecided-line TitleFront place = refl
+undecided-line (InTitle delimiter) place = refl
 undecided-line (Calling name) place = undecided-quote (is_behind_quote place)
 undecided-line (Defining name appends end matched) place = refl
 

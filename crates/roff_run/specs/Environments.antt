@@ -9,15 +9,11 @@ use Rattle.roff_lines.specs.declared.event.Event.{Event}
 use Rattle.roff_lines.specs.declared.event.Event.TheVariants.{Count, Interrupt as IsInterrupted}
 pub use Rattle.roff_run.specs.declared.environment_number.EnvironmentNumber.{EnvironmentNumber}
 pub use Rattle.roff_run.specs.declared.environment_number.EnvironmentNumber.TheVariants.{Zero, One, Two}
-use Rattle.roff_run.specs.declared.event.PageEvent.{PageEvent}
-use Rattle.roff_run.specs.declared.event.PageEvent.TheVariants.{Text, Interrupt, Environment, Back, InputTrap as SetsTrap, Page}
+pub use Rattle.roff_run.specs.PageEvents.{PageHistory}
+use Rattle.roff_run.specs.declared.event.PageEvent.TheVariants.{Text, Interrupt, Environment, Back, InputTrap as SetsTrap, Page, Title}
 pub use Rattle.roff_run.specs.declared.event.InputTrap.{InputTrap}
 use Rattle.roff_num.specs.declared.short_name.ShortName.{ShortName}
 use Rattle.roff_run.specs.declared.line_state.TextLine.{TextLine}
-
--- all that happened to the page, the newest first
-abbrev pub PageHistory : Type 0
-PageHistory = List PageEvent
 
 -- what happened in one environment, how many leading blanks of its interrupted line aren't told yet, and its input-line trap, if
 -- it has one
@@ -133,6 +129,7 @@ environments (Environment number ∷ h) = switched_to number (environments h)
 environments (Back ∷ h) = gone_back (environments h).left (environments h)
 environments (SetsTrap trap ∷ h) = with_input_trap trap (environments h)
 environments (Page e ∷ h) = environments h
+environments (Title t ∷ h) = environments h
 
 -- what happened in the environment in force
 abbrev pub text_of : PageHistory → History

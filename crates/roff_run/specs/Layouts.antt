@@ -1,17 +1,33 @@
--- The layout of pages behind a history (manual, sections 3 and 5.3).
+-- The layout of pages behind a history (manual, sections 3, 5.3 and 14).
 use Rattle.std.specs.Prelude.{[], ◌∷◌, Option, Some, None, option_map}
+use Rattle.roff_lines.specs.Events.{History, settings_after}
 use Rattle.roff_lines.specs.Lines.{finished}
+use Rattle.roff_num.specs.RegisterText.{register_text}
 use Rattle.roff_pages.specs.Layout.{Layout, first_layout}
-use Rattle.roff_pages.specs.Happenings.{Happening, Does, Places}
+use Rattle.roff_pages.specs.Happenings.{Happening, Does, Places, Titles}
 use Rattle.roff_pages.specs.Turning.{with_event as laid_behind}
-use Rattle.roff_run.specs.Environments.{PageHistory, text_of}
-use Rattle.roff_run.specs.Requests.{PageEvent, Text, Page}
+use Rattle.roff_run.specs.Environments.{text_of}
+use Rattle.roff_run.specs.PageEvents.{PageHistory, PastEvent, Text, Page, Title}
+use Rattle.roff_run.specs.TitleTexts.{TitleTold}
+use Rattle.roff_sinks.specs.Titles.{Title as PlacedTitle}
 
--- what happens to the layout with an event, if something does: the line is placed that the event finishes, or it is of pages
-abbrev pub happens : PageHistory → PageEvent → Option Happening
-happens h (Text e) = option_map Places (finished (text_of h) e)
-happens h (Page e) = Some (Does e)
-happens h (_) = None
+-- a title as it is placed: with the title length that is in force, and with this page's number
+abbrev pub placed : TitleTold → History → Layout → PlacedTitle
+placed t h L = record {
+  left = t.text.left;
+  centre = t.text.centre;
+  right = t.text.right;
+  length = (settings_after h).title_length;
+  number = register_text t.format L.number.0;
+}
+
+-- What happens to this layout with an event, if something does: the line is placed that the event finishes, or a title, or it is
+-- of pages.
+abbrev pub happens_on : Layout → PageHistory → PastEvent → Option Happening
+happens_on L h (Text e) = option_map Places (finished (text_of h) e)
+happens_on L h (Page e) = Some (Does e)
+happens_on L h (Title t) = Some (Titles (placed t (text_of h) L))
+happens_on L h (_) = None
 
 -- the layout behind what happens, if something does
 abbrev pub laid_out : Option Happening → Layout → Layout
@@ -21,4 +37,8 @@ laid_out (Some x) L = laid_behind x L
 -- the layout behind a history
 abbrev pub layout_of : PageHistory → Layout
 layout_of [] = first_layout
-layout_of (e ∷ h) = laid_out (happens h e) (layout_of h)
+layout_of (e ∷ h) = laid_out (happens_on (layout_of h) h e) (layout_of h)
+
+-- what happens to the layout behind a history with an event
+abbrev pub happens : PageHistory → PastEvent → Option Happening
+happens h e = happens_on (layout_of h) h e

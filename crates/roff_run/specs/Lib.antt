@@ -1,6 +1,8 @@
 pub use Rattle.roff_source.specs.Tape
 pub mod Messages
 pub mod Numbers
+pub mod TitleTexts
+pub mod PageEvents
 pub mod Registers
 pub mod Requests
 pub mod Environments
@@ -8,6 +10,7 @@ pub mod Definitions
 pub mod Reading
 pub mod Telling
 pub mod TextLine
+pub mod Titles
 pub mod Layouts
 pub mod Output
 pub mod Springs

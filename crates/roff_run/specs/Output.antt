@@ -3,8 +3,8 @@ use Rattle.std.specs.Prelude.{ℕ, List, [], ◌∷◌, ◌++◌, Option, Some, 
 use Rattle.roff_pages.specs.Happenings.{Happening}
 use Rattle.roff_pages.specs.DeviceText.{device_text}
 use Rattle.roff_pages.specs.Layout.{Layout}
-use Rattle.roff_run.specs.Requests.{PageEvent}
-pub use Rattle.roff_run.specs.Environments.{PageHistory, text_of}
+pub use Rattle.roff_run.specs.Environments.{text_of}
+pub use Rattle.roff_run.specs.PageEvents.{PageHistory, PastEvent}
 pub use Rattle.roff_run.specs.Layouts.{happens, layout_of}
 
 -- what is written of what happens to a layout, if something does
@@ -13,7 +13,7 @@ text_laid None L = []
 text_laid (Some x) L = device_text x L
 
 -- what an event writes behind a history
-abbrev pub written_by : PageHistory → PageEvent → List ℕ
+abbrev pub written_by : PageHistory → PastEvent → List ℕ
 written_by h e = text_laid (happens h e) (layout_of h)
 
 -- what a history has written, event by event

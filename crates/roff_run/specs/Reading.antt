@@ -1,4 +1,4 @@
--- What each byte does where something is being read (manual, sections 1.1, 4.1, 7, 8, 10.1 and 16).
+-- What each byte does where something is being read (manual, sections 1.1, 4.1, 7, 8, 10.1, 14 and 16).
 pub mod Items
 pub mod TextLines
 pub mod Beginnings
@@ -12,23 +12,31 @@ pub mod Branches
 pub mod Calls
 pub mod Returns
 pub mod Messages
+pub mod Titles
 pub mod ControlLines
 pub mod Found
 pub mod Ends
 pub mod Waiting
-use Rattle.std.specs.Prelude.{◌≡◌, ℕ, ◌||◌, Some, None, if◌then◌else◌, ◌==◌}
+use Rattle.std.specs.Prelude.{◌≡◌, ℕ, ◌&&◌, ◌||◌, Bool, true, false, Some, None, if◌then◌else◌, ◌==◌}
+use Rattle.roff_lines.specs.Words.{is_empty}
 use Rattle.roff_source.specs.Bytes.{tab, blank, is_dropped}
 use Rattle.roff_escape.specs.OpenEscapes.{byte_read, reading_ended}
 use Rattle.roff_run.specs.declared.line_state.LineState.{LineState}
-use Rattle.roff_run.specs.declared.line_state.LineState.TheVariants.{Control, Name, Arguments as InArguments, StringName, Skipping, Dropped, Told, Exiting, Calling}
+use Rattle.roff_run.specs.declared.line_state.LineState.TheVariants.{Control, Name, Arguments as InArguments, StringName, Skipping, Dropped, Told, Exiting, Calling, Title as InTitle}
 use Rattle.roff_run.specs.Reading.Branches.{skipping_taking}
 use Rattle.roff_run.specs.Reading.ControlLines.{dropped_taking, ends_name, name_ended_taking, name_whole_taking}
 use Rattle.roff_run.specs.Reading.Items.{PageInput, Taking, going_on}
 use Rattle.roff_run.specs.Reading.Found.{place_in, read_in}
+use Rattle.roff_run.specs.Reading.Titles.{behind_part}
 use Rattle.roff_run.specs.Reading.Units.{settling}
 use Rattle.roff_run.specs.Registers.{Known}
 
--- a byte that isn't dropped
+-- a byte of a title, which is a delimiter or not
+abbrev pub title_read : Known → PageInput → ℕ → ℕ → Bool → Taking
+title_read k i delimiter b true = behind_part i delimiter k.registers.title.part
+title_read k i delimiter b false = read_in k (InTitle delimiter) i (byte_read (place_in k (InTitle delimiter)) i.escapes b)
+
+-- a byte that isn't dropped: within a title the delimiter is looked for where nothing is half read
 abbrev pub undropped_taking : Known → LineState → PageInput → ℕ → Taking
 undropped_taking k (Control breaks) i b =
     if b == blank || b == tab then going_on i (Control breaks)
@@ -41,6 +49,7 @@ undropped_taking k (Skipping opened closed behind) i b = skipping_taking i opene
 undropped_taking k Dropped i b = dropped_taking i b
 undropped_taking k (Told aborts) i b = going_on i (Told aborts)
 undropped_taking k Exiting i b = going_on i Exiting
+undropped_taking k (InTitle delimiter) i b = title_read k i delimiter b (is_empty i.escapes && b == delimiter)
 undropped_taking k reading i b = read_in k reading i (byte_read (place_in k reading) i.escapes b)
 
 -- what isn't a byte of the line: no quote follows the quote before it

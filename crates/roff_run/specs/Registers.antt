@@ -1,5 +1,6 @@
 -- The number registers of a run: those that a document sets, the page number, and the read-only ones (manual,
--- section 8 and the lists of registers before section 1). Beside them stands what else a run keeps.
+-- section 8 and the lists of registers before section 1). Beside them stands what else a run keeps: the macro that is read last,
+-- and what belongs to titles (section 14).
 use Rattle.std.specs.Prelude.{ℕ, ◌*◌, ◌%◌, ◌==◌, unsigned_abs, Bool, ◌&&◌, not, List, [], ◌∷◌, ℤ, pos, negsuc, bytes_eq, codes, find, fold, min, is_some, option_map, Option, Some, None, if◌then◌else◌}
 use Rattle.roff_lines.specs.declared.settings.Settings.{Settings}
 use Rattle.roff_num.specs.Ranges.{is_in_range}
@@ -18,24 +19,32 @@ use Rattle.roff_run.specs.declared.message.Message.{Message}
 use Rattle.roff_run.specs.declared.line_state.TextLine.{TextLine}
 use Rattle.roff_run.specs.declared.message.Message.TheVariants.{BadNumber}
 use Rattle.roff_run.specs.declared.query.Query.{Query}
-use Rattle.roff_run.specs.declared.query.Query.TheVariants.{Newlines, Indent, LineLength, LastWidth, Filling, LineSpacing, ColumnWidth, Arguments, PagePlace, PageLength, WayToTrap, Later}
+use Rattle.roff_run.specs.declared.query.Query.TheVariants.{Newlines, Indent, LineLength, LastWidth, Filling, LineSpacing, ColumnWidth, Arguments, PagePlace, PageLength, PageOffset, WayToTrap, Later}
+use Rattle.roff_run.specs.TitleTexts.{TitleText, title_begun, part_ended, with_bytes}
 pub mod Capped
 
 -- the registers that can be set: those by name, and of the page number `%`, whose value is the layout's, the increment and the
--- format; and the macro that is read behind the input, if there is one
+-- format; the macro that is read behind the input, if there is one; the character that stands for the page number in titles, if
+-- one does; the title that was read last, and one that is kept
 pub record AllRegisters : Type 0 where
   pub named : Registers
   pub page_increment : Num
   pub page_format : Format
   pub last_macro : Option ShortName
+  pub page_character : Option ℕ
+  pub title : TitleText
+  pub kept_title : TitleText
 
--- at first none is set, and there is no such macro
+-- at first none is set, there is no such macro, and `%` stands for the page number
 abbrev pub no_registers : AllRegisters
 no_registers = record {
   named = [];
   page_increment = unset_register.increment;
   page_format = unset_register.format;
   last_macro = None;
+  page_character = Some 37;
+  title = title_begun [];
+  kept_title = title_begun [];
 }
 
 -- all that a request or an escape may ask of the run
@@ -62,8 +71,8 @@ abbrev pub read_only : List (List ℕ × Query)
 read_only =
     (codes ".c", Newlines) ∷ (codes ".i", Indent) ∷ (codes ".l", LineLength) ∷ (codes ".n", LastWidth)
     ∷ (codes ".u", Filling) ∷ (codes ".v", LineSpacing) ∷ (codes ".V", LineSpacing) ∷ (codes ".H", ColumnWidth)
-    ∷ (codes ".$", Arguments) ∷ (codes ".d", Later) ∷ (codes ".o", Later) ∷ (codes ".p", PageLength) ∷ (codes ".t", WayToTrap)
-    ∷ (codes ".z", Later) ∷ (codes "nl", PagePlace) ∷ (codes "dn", Later) ∷ (codes "dl", Later)
+    ∷ (codes ".$", Arguments) ∷ (codes ".d", Later) ∷ (codes ".o", PageOffset) ∷ (codes ".p", PageLength)
+    ∷ (codes ".t", WayToTrap) ∷ (codes ".z", Later) ∷ (codes "nl", PagePlace) ∷ (codes "dn", Later) ∷ (codes "dl", Later)
     ∷ []
 
 -- what a read-only register asks for, if a name is one's
@@ -111,6 +120,7 @@ answer k ColumnWidth = pos 24
 answer k Arguments = at_greatest k.arguments
 answer k PagePlace = place_told (nl k.layout)
 answer k PageLength = at_greatest (in_heights k.layout.length)
+answer k PageOffset = at_greatest (in_units k.layout.offset)
 answer k WayToTrap = way_told (way_to_trap k.layout)
 answer k Later = pos 0
 
@@ -172,6 +182,14 @@ pub data Change : Type 0 where
   StepBy : (name : List ℕ) (direction : Direction) → Change
   -- `em`: this macro is read behind the input
   ReadLast : (name : Option ShortName) → Change
+  -- `pc`: this character stands for the page number in titles
+  CharacterIs : (character : Option ℕ) → Change
+  -- a title begins: these bytes are read of its left part
+  TitleBegins : (bytes : List ℕ) → Change
+  -- bytes are read of the part that comes
+  TitleGets : (bytes : List ℕ) → Change
+  -- that part has ended
+  PartEnds : Change
 
 -- what is kept of the page number changed so, or the others
 abbrev pub changing_one : List ℕ → (AllRegisters → AllRegisters) → (Registers → Registers) → AllRegisters → AllRegisters
@@ -190,6 +208,10 @@ changed_by (Remove names) rs = record rs { named = fold (λ named name. without_
 changed_by (StepBy name direction) rs =
     changing_one name (λ r. r) (with_step direction name) rs
 changed_by (ReadLast name) rs = record rs { last_macro = name }
+changed_by (CharacterIs character) rs = record rs { page_character = character }
+changed_by (TitleBegins bytes) rs = record rs { title = title_begun bytes }
+changed_by (TitleGets bytes) rs = record rs { title = with_bytes bytes rs.title }
+changed_by PartEnds rs = record rs { title = part_ended rs.title }
 
 -- behind some changes, one after another
 abbrev pub changed_by_all : List Change → AllRegisters → AllRegisters

@@ -3,13 +3,13 @@ use Rattle.std.specs.Prelude.{ℕ, ◌+◌, Bool, true, false, List, [], ◌∷�
 use Rattle.roff_store.specs.Named.{Named, entry_of}
 use Rattle.roff_store.specs.Texts.{Entry, Body, Request as RequestEntry}
 use Rattle.roff_lines.specs.declared.settings.Param.TheVariants.{Filling, Adjusting}
-pub use Rattle.roff_run.specs.declared.event.PageEvent.{PageEvent}
+pub use Rattle.roff_run.specs.PageEvents.{PageEvent}
 pub use Rattle.roff_run.specs.declared.event.PageEvent.TheVariants.{Text, Interrupt, Environment, Back, InputTrap as SetsTrap, Page}
 pub use Rattle.roff_run.specs.Registers.{Known}
 use Rattle.roff_run.specs.declared.request.LineReading.{LineReading}
-use Rattle.roff_run.specs.declared.request.LineReading.TheVariants.{ByArguments, ByCondition, ByElse, ByLastLine, ByMessage, ByString, ByLines}
+use Rattle.roff_run.specs.declared.request.LineReading.TheVariants.{ByArguments, ByCondition, ByElse, ByLastLine, ByMessage, ByString, ByLines, ByTitle}
 use Rattle.roff_run.specs.declared.request.Request.{Request}
-use Rattle.roff_run.specs.declared.request.Request.TheVariants.{Abort, Adjust, AppendString, AssignFormat, Break, DefineString, Else, EndMacro, Exit, Fill, If, IfElse, Indent, InputTrap, LineLength, NoAdjust, NoFill, NumberRegister, PageLength, RemoveNames, RemoveRegisters, Rename, Space as SpaceDown, TellMessage, WithoutEffect, LeftOut, AppendMacro, DefineMacro, Ignore, Centre, Environment as SwitchEnvironment, LineSpacing, TabStops, TemporaryIndent}
+use Rattle.roff_run.specs.declared.request.Request.TheVariants.{Abort, Adjust, AppendString, AssignFormat, Break, DefineString, Else, EndMacro, Exit, Fill, If, IfElse, Indent, InputTrap, LineLength, NoAdjust, NoFill, NumberRegister, PageLength, PageNumber, PageOffset, RemoveNames, RemoveRegisters, Rename, Space as SpaceDown, TellMessage, WithoutEffect, LeftOut, AppendMacro, DefineMacro, Ignore, Centre, Environment as SwitchEnvironment, LineSpacing, TabStops, TemporaryIndent, PageCharacter, Title as TitleRequest, TitleLength}
 use Rattle.roff_run.specs.declared.request.Called.{Called}
 use Rattle.roff_run.specs.declared.request.Called.TheVariants.{Request as ARequest, Body as ABody, Nothing as Unknown}
 use Rattle.roff_run.specs.declared.request.LinesFor.TheVariants.{Macro, Nobody}
@@ -18,12 +18,13 @@ use Rattle.roff_num.specs.ShortNames.{name_bytes}
 pub use Rattle.roff_run.specs.Requests.Effects.{Effect, doing, saying, Response, Ignored, Obeyed, nothing, setting, left_out, meant_by}
 use Rattle.roff_run.specs.Requests.Adjustment.{adjust, centre}
 use Rattle.roff_run.specs.Requests.Spacing.{space_down, line_spacing}
-use Rattle.roff_run.specs.Requests.Lengths.{line_length, indent, temporary_indent}
-use Rattle.roff_run.specs.Requests.Paging.{page_length}
+use Rattle.roff_run.specs.Requests.Lengths.{line_length, indent, temporary_indent, title_length}
+use Rattle.roff_run.specs.Requests.Paging.{page_length, page_number, page_offset}
 use Rattle.roff_run.specs.Requests.Tabs.{tab_stops}
 use Rattle.roff_run.specs.Requests.Switching.{switch}
 use Rattle.roff_run.specs.Requests.Naming.{end_macro, remove_names, rename}
 use Rattle.roff_run.specs.Requests.Springing.{input_trap}
+use Rattle.roff_run.specs.Requests.Titles.{page_character, place_title}
 use Rattle.roff_run.specs.Requests.Numbering.{assign_format, set_register, remove_registers}
 pub mod Effects
 pub mod Adjustment
@@ -35,6 +36,7 @@ pub mod Switching
 pub mod Numbering
 pub mod Naming
 pub mod Springing
+pub mod Titles
 
 -- a request's name, how its line is read, whether it breaks, and what it does with its arguments
 pub record Row : Type 0 where
@@ -74,16 +76,21 @@ row_of Indent = row (codes "in") ByArguments true indent  -- section 6
 row_of InputTrap = row (codes "it") ByArguments false (λ known. input_trap)  -- section 7
 row_of LineLength = row (codes "ll") ByArguments false line_length  -- section 6
 row_of LineSpacing = row (codes "ls") ByArguments false line_spacing  -- section 5
+row_of TitleLength = row (codes "lt") ByArguments false title_length  -- section 14
 row_of NoAdjust = row (codes "na") ByArguments false (always (setting (Adjusting false)))  -- section 4
 row_of NoFill = row (codes "nf") ByArguments true (always (setting (Filling false)))  -- section 4
 row_of NumberRegister = row (codes "nr") ByArguments false set_register  -- section 8
+row_of PageCharacter = row (codes "pc") ByArguments false (λ known. page_character)  -- section 14
 row_of PageLength = row (codes "pl") ByArguments false page_length  -- section 3
+row_of PageNumber = row (codes "pn") ByArguments false page_number  -- section 3
+row_of PageOffset = row (codes "po") ByArguments false page_offset  -- section 3
 row_of RemoveNames = row (codes "rm") ByArguments false (λ known. remove_names)  -- section 7
 row_of Rename = row (codes "rn") ByArguments false (λ known. rename)  -- section 7
 row_of RemoveRegisters = row (codes "rr") ByArguments false (λ known. remove_registers)  -- section 8
 row_of SpaceDown = row (codes "sp") ByArguments true space_down  -- section 5
 row_of TabStops = row (codes "ta") ByArguments false (λ known. tab_stops)  -- section 9
 row_of TemporaryIndent = row (codes "ti") ByArguments true temporary_indent  -- section 6
+row_of TitleRequest = row (codes "tl") ByTitle false (always place_title)  -- section 14
 row_of TellMessage = row (codes "tm") (ByMessage false) false (always nothing)  -- section 20
 row_of (WithoutEffect name) = row name ByArguments false (always nothing)
 row_of (LeftOut name) = row name ByArguments false (always (left_out name))
@@ -113,8 +120,9 @@ names_left_out =
 abbrev pub built : List Request
 built =
     Abort ∷ Adjust ∷ AssignFormat ∷ AppendMacro ∷ AppendString ∷ Break ∷ Centre ∷ DefineMacro ∷ DefineString ∷ Else
-    ∷ EndMacro ∷ SwitchEnvironment ∷ Exit ∷ Fill ∷ IfElse ∷ If ∷ Ignore ∷ Indent ∷ InputTrap ∷ LineLength ∷ LineSpacing ∷ NoAdjust ∷ NoFill
-    ∷ NumberRegister ∷ PageLength ∷ RemoveNames ∷ Rename ∷ RemoveRegisters ∷ SpaceDown ∷ TabStops ∷ TemporaryIndent ∷ TellMessage ∷ []
+    ∷ EndMacro ∷ SwitchEnvironment ∷ Exit ∷ Fill ∷ IfElse ∷ If ∷ Ignore ∷ Indent ∷ InputTrap ∷ LineLength ∷ LineSpacing
+    ∷ TitleLength ∷ NoAdjust ∷ NoFill ∷ NumberRegister ∷ PageCharacter ∷ PageLength ∷ PageNumber ∷ PageOffset ∷ RemoveNames
+    ∷ Rename ∷ RemoveRegisters ∷ SpaceDown ∷ TabStops ∷ TemporaryIndent ∷ TitleRequest ∷ TellMessage ∷ []
 
 -- those that do nothing, or nothing but say that they are left out
 abbrev pub others : List Request

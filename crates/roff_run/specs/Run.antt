@@ -1,5 +1,5 @@
 -- The run: a machine of small steps over the source's tape.
-use Rattle.std.specs.Prelude.{◌≡◌, ℕ, zero, suc, ◌+◌, Bool, true, false, List, [], ◌∷◌, ◌++◌, nat_lt, Option, Some, None, if◌then◌else◌}
+use Rattle.std.specs.Prelude.{◌≡◌, ℕ, zero, suc, ◌+◌, Bool, true, false, List, [], ◌∷◌, ◌++◌, map, nat_lt, Option, Some, None, if◌then◌else◌}
 use Rattle.roff_num.specs.declared.limit.Limit.{Limit}
 use Rattle.roff_num.specs.declared.limit.Limit.TheVariants.{Bytes}
 use Rattle.roff_num.specs.declared.limits.Limits.{Limits}
@@ -27,8 +27,10 @@ use Rattle.roff_run.specs.Reading.Returns.{back_of, behind_return, in_sprung}
 use Rattle.roff_run.specs.Reading.Waiting.{waiting_in}
 use Rattle.roff_run.specs.Registers.{AllRegisters}
 use Rattle.roff_run.specs.Events.Lines.{closing_events}
-use Rattle.roff_run.specs.Requests.{PageEvent, called_by}
+use Rattle.roff_run.specs.PageEvents.{PageEvent, PastEvent}
+use Rattle.roff_run.specs.Requests.{called_by}
 use Rattle.roff_run.specs.Springs.{next, springs}
+use Rattle.roff_run.specs.Titles.{keeping, put_back, told}
 use Rattle.roff_run.specs.declared.request.Called.{Called}
 use Rattle.roff_run.specs.declared.request.Called.TheVariants.{Body as ABody}
 use Rattle.roff_run.specs.declared.message.Message.TheVariants.{ReadFailed}
@@ -39,7 +41,7 @@ use Rattle.roff_run.specs.declared.status.Status.TheVariants.{Aborted, Done, Dev
 use Rattle.roff_run.specs.declared.phase.Phase.{Phase}
 use Rattle.roff_run.specs.declared.phase.Phase.TheVariants.{Reading, LastMacro, Closing}
 use Rattle.roff_run.specs.declared.start.Start.{Start}
-use Rattle.roff_run.specs.Starts.{history_given, with_given}
+use Rattle.roff_run.specs.Starts.{history_given, pages_given, with_given}
 use Rattle.roff_run.specs.Run.Counts.{passes_bytes, first_passed, refusal, names_counted, counts_in}
 pub use Rattle.roff_run.specs.Run.States.{State, first_input, first_unread, blank_state, known_at, known, ending_as, ending_with, stopped_by, meaning, unless_refused}
 pub mod Counts
@@ -53,29 +55,41 @@ with_registers l (given ∷ others) s =
     unless_refused l (first_passed l (names_counted behind)) s
     (with_registers l others (record s { registers = behind; history = history_given given s.history }))
 
+-- what is given of the pages stands
+abbrev pub paged_state : Start → Tape → State
+paged_state start tape = record (blank_state tape) { history = pages_given start }
+
 -- before the first step: what is given to the run stands
 abbrev pub initial : Limits → Start → Tape → State
-initial l start tape = with_registers l start.registers.items (blank_state tape)
+initial l start tape = with_registers l start.registers.items (paged_state start tape)
 
--- these are left to do; where a macro was sprung they are put back, and stand behind it
+-- these are left to do; where a macro was sprung they are put back, and stand behind it: a title among them is kept
 abbrev pub sprung_at : Option ShortName → List PageEvent → State → State
 sprung_at None left s = record s { to_do = left }
-sprung_at (Some name) left s = record s { to_do = []; sprung = Some name; input = putting_all_back left s.input }
+sprung_at (Some name) left s = record s {
+  to_do = [];
+  sprung = Some name;
+  registers = keeping left s.registers;
+  input = putting_all_back (map put_back left) s.input;
+}
 
 -- where the last page has ended the run is done
 abbrev pub done_if : Bool → State → State → State
 done_if is_over behind goes_on = if is_over then ending_as Done behind else goes_on
 
 -- an event happened, and these are left
-abbrev pub performed : PageEvent → List PageEvent → State → State
+abbrev pub performed : PastEvent → List PageEvent → State → State
 performed e left s =
     let behind : State = record s { history = e ∷ s.history } in
     done_if (layout_of behind.history).is_over behind (sprung_at (springs s.history e) left behind)
 
 -- an event is performed, or refused by a limit; where something comes before it, that is, and the event is left
 abbrev pub performing : Limits → Option PageEvent → PageEvent → List PageEvent → State → State
-performing l None e rest s = unless_refused l (refusal l s.history e) s (performed e rest s)
-performing l (Some own) e rest s = unless_refused l (refusal l s.history own) s (performed own (e ∷ rest) s)
+performing l None e rest s =
+    let happens : PastEvent = told s.registers e in unless_refused l (refusal l s.history happens) s (performed happens rest s)
+performing l (Some own) e rest s =
+    let happens : PastEvent = told s.registers own in
+    unless_refused l (refusal l s.history happens) s (performed happens (e ∷ rest) s)
 
 -- the same of a state
 abbrev pub grown : State → List (Limit × ℕ)

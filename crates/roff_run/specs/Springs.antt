@@ -6,12 +6,12 @@ use Rattle.roff_lines.specs.Lines.{finished}
 use Rattle.roff_lines.specs.Words.{has_open_word}
 use Rattle.roff_lines.specs.declared.event.Event.TheVariants.{Break, Count, Gap, LineEnd, Print, Tab, WordEnd}
 use Rattle.roff_num.specs.declared.short_name.ShortName.{ShortName}
-use Rattle.roff_run.specs.Environments.{PageHistory, environments, text_of, trap_reached}
+use Rattle.roff_run.specs.Environments.{environments, text_of, trap_reached}
 use Rattle.roff_pages.specs.declared.layout_event.LayoutEvent.{LayoutEvent}
 use Rattle.roff_pages.specs.declared.layout_event.LayoutEvent.TheVariants.{Begin, Space, Need, Eject, EjectTo}
 use Rattle.roff_pages.specs.Queries.{takes_text}
 use Rattle.roff_run.specs.Layouts.{layout_of}
-use Rattle.roff_run.specs.Requests.{PageEvent, Text, Page}
+use Rattle.roff_run.specs.PageEvents.{PageEvent, PageHistory, PastEvent, Text, Page, Title}
 
 -- a word end, if a word is open
 abbrev pub own_word_end : Bool → Option PageEvent
@@ -34,14 +34,15 @@ is_paged (Eject asked) = true
 is_paged (EjectTo asked number) = true
 is_paged (_) = false
 
--- Whether an event needs a page: a glyph, or one of the pages; a break, which in the closing phase has to finish a line, as word
--- ends and line ends have to.
+-- Whether an event needs a page: a glyph, a title, or one of the pages; a break, which in the closing phase has to finish a line, as
+-- word ends and line ends have to.
 abbrev pub needs_page : PageHistory → PageEvent → Bool
 needs_page h (Text (Print g)) = true
 needs_page h (Text Tab) = true
 needs_page h (Text Break) = not (layout_of h).is_closing || is_some (finished (text_of h) Break)
 needs_page h (Text e) = is_some (finished (text_of h) e)
 needs_page h (Page e) = is_paged e
+needs_page h (Title which) = true
 needs_page h (_) = false
 
 -- whether the first page begins in front of an event: none was begun, no diversion is open, and it needs one
@@ -59,7 +60,7 @@ abbrev pub next : PageHistory → PageEvent → Option PageEvent
 next h e = elim (word_end_of h e) [ None ↦ page_begin_or (begins h e) None | Some own ↦ page_begin_or (begins h own) (Some own) ]
 
 -- the macro that an event springs, if it springs one: a text line that counts may be the last that the input-line trap waits for
-abbrev pub springs : PageHistory → PageEvent → Option ShortName
+abbrev pub springs : PageHistory → PastEvent → Option ShortName
 springs h (Text Count) = trap_reached (environments h).in_force.input_trap
 springs h (_) = None
 

@@ -1,15 +1,32 @@
--- What is given to a run at its start: registers, which are set before anything is read.
-use Rattle.std.specs.Prelude.{ℕ, [], ◌∷◌, ◌++◌, pos}
+-- What is given to a run at its start, and set before anything is read: the pages that are written, the number of the first one,
+-- and registers.
+use Rattle.std.specs.Prelude.{ℕ, List, [], ◌∷◌, ◌++◌, Option, Some, None, pos}
 use Rattle.roff_num.specs.declared.num.Num.{Num}
+use Rattle.roff_pages.specs.declared.layout_event.LayoutEvent.TheVariants.{ListPages, Next}
 use Rattle.roff_run.specs.Registers.{AllRegisters, Change, SetTo, changed_by}
-use Rattle.roff_run.specs.Environments.{PageHistory}
+use Rattle.roff_run.specs.PageEvents.{PageHistory}
 use Rattle.roff_run.specs.Requests.Effects.{page_numbered}
 use Rattle.roff_run.specs.Requests.Numbering.{number_of_page}
+use Rattle.roff_run.specs.declared.event.PageEvent.TheVariants.{Page}
 use Rattle.roff_run.specs.declared.start.Start.{Start}
 
 -- nothing is given
 abbrev pub nothing_given : Start
-nothing_given = record { registers = record { items = [] } }
+nothing_given = record { first_page = None; pages = record { items = [] }; registers = record { items = [] } }
+
+-- the history behind ranges of pages that are listed, one after another
+abbrev pub pages_listed : List (Num × Num) → PageHistory → PageHistory
+pages_listed [] h = h
+pages_listed (range ∷ others) h = pages_listed others (Page (ListPages range.0 range.1) ∷ h)
+
+-- the history behind the number that the first page gets, if one is given
+abbrev pub first_page_numbered : Option Num → PageHistory → PageHistory
+first_page_numbered None h = h
+first_page_numbered (Some n) h = Page (Next n) ∷ h
+
+-- what is given of the pages comes before all else
+abbrev pub pages_given : Start → PageHistory
+pages_given start = first_page_numbered start.first_page (pages_listed start.pages.items [])
 
 -- the change that sets a register of the start: its name is one byte, and it has no increment
 abbrev pub given_change : ℕ → Num → Change

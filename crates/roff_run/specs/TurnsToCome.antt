@@ -6,8 +6,10 @@ use Rattle.roff_scan.specs.Unread.{Unread}
 use Rattle.roff_escape.specs.declared.open_escape.ConditionPart.TheVariants.{Decided}
 use Rattle.roff_run.specs.Reading.Items.{PageInput}
 use Rattle.roff_lines.specs.declared.event.Event.TheVariants.{Interrupt as Interrupted, Resume}
-use Rattle.roff_run.specs.Requests.{PageEvent, Text, Page, SetsTrap}
-use Rattle.roff_run.specs.Environments.{PageHistory}
+use Rattle.roff_run.specs.PageEvents.{PageEvent, PageHistory, Title}
+use Rattle.roff_run.specs.Registers.{AllRegisters}
+use Rattle.roff_run.specs.Requests.{Text, Page, SetsTrap}
+use Rattle.roff_run.specs.Titles.{told}
 use Rattle.roff_run.specs.declared.line_state.TextLine.{TextLine}
 use Rattle.roff_run.specs.declared.phase.Phase.{Phase}
 use Rattle.roff_run.specs.declared.phase.Phase.TheVariants.{Reading, LastMacro, Closing}
@@ -62,10 +64,10 @@ turns_within bytes i = 5 * (bytes - i.charge) + 5 * free_ahead i.ahead + 2 * end
 abbrev pub turns_to_come : Unread PageEvent → ℕ
 turns_to_come u = turns_within u.limits.bytes u.input
 
--- the history behind some events
-abbrev pub behind_all : List PageEvent → PageHistory → PageHistory
-behind_all [] h = h
-behind_all (e ∷ es) h = behind_all es (e ∷ h)
+-- the history behind some events, as they happen with these registers
+abbrev pub behind_all : AllRegisters → List PageEvent → PageHistory → PageHistory
+behind_all rs [] h = h
+behind_all rs (e ∷ es) h = behind_all rs es (told rs e ∷ h)
 
 -- an interrupted line that is to end takes a turn
 abbrev pub lines_left : Option TextLine → ℕ
@@ -85,6 +87,7 @@ left_by (Text Interrupted) lines = 1
 left_by (Text e) lines = lines
 left_by (SetsTrap trap) lines = lines
 left_by (Page e) lines = lines
+left_by (Title which) lines = lines
 left_by (_) lines = 1
 
 -- and behind any of these, as the first few of them may be performed, and the others put back

@@ -4,6 +4,7 @@ use Rattle.roff_lines.specs.Lines.{pending_length}
 use Rattle.roff_num.specs.declared.limits.Limits.{Limits}
 use Rattle.roff_run.specs.Environments.{Environments, environments}
 use Rattle.roff_run.specs.Run.{State, output}
+use Rattle.roff_run.specs.TitleTexts.{title_length}
 use Rattle.roff_ahead.specs.Input.{pushed, depth, result_count}
 use Rattle.roff_ahead.specs.Input.Names.{names_added, stored}
 
@@ -24,5 +25,6 @@ pub record IsWithin (l : Limits) (s : State) : Type 0 where
   pub making : length s.input.open_texts ≤ l.diversions + 1
   pub conditions : result_count s.input ≤ l.conditions
   pub names : length s.registers.named ≤ l.names
+  pub title : title_length s.registers.title ≤ l.line
   pub environments : EnvironmentsWithin l (environments s.history)
   pub output : length (output s) ≤ l.output

@@ -5,6 +5,7 @@ ghost use Rattle.roff_run.specs.Events.Lines.{line_events, print_event};
 ghost use Rattle.roff_run.specs.Reading.TextLines.{leading_glyph};
 
 use crate::environment_number::EnvironmentNumber;
+use crate::title::WhichTitle;
 use roff_lines::{Event, Glyph};
 use roff_num::{Num, ShortName};
 use roff_pages::LayoutEvent;
@@ -18,9 +19,10 @@ pub struct InputTrap {
     pub name: ShortName,
 }
 
-/// What happens to the page.
+/// What happens to the page. A title that is to be placed is told by where its text is kept; in
+/// `specs/` one that was placed is told by its text.
 #[derive(Clone, Copy, Debug, PartialEq, Eq)]
-pub enum PageEvent {
+pub enum PageEvent<T = WhichTitle> {
     /// Something happens to the text.
     Text(Event),
     /// The line of the input is interrupted; so many leading blanks of it aren't told yet.
@@ -33,6 +35,8 @@ pub enum PageEvent {
     InputTrap(Option<InputTrap>),
     /// Something happens to the layout of pages.
     Page(LayoutEvent),
+    /// A title is placed.
+    Title(T),
 }
 
 impl Default for PageEvent {

@@ -13,6 +13,7 @@ mod request;
 mod start;
 mod status;
 mod step;
+mod title;
 
 pub use definition::{DefinitionLine, EndMark, matched_behind};
 pub use environment_number::EnvironmentNumber;
@@ -22,6 +23,7 @@ pub use message::{CharacterName, Message, MessageLine};
 pub use phase::Phase;
 pub use query::Query;
 pub use request::{Called, LineReading, LinesFor, Request};
-pub use start::{Start, TooManyRegisters};
+pub use start::{Start, TooManyRanges, TooManyRegisters};
 pub use status::Status;
 pub use step::Step;
+pub use title::{TitlePart, WhichTitle};

@@ -92,6 +92,12 @@ pub enum LineState {
     },
     /// The line behind which nothing is read has ended.
     Exiting,
+    /// In front of a title's parts, whose delimiter comes.
+    TitleFront,
+    /// A title, whose parts stand between these delimiters.
+    Title {
+        delimiter: u8,
+    },
 }
 
 /// What is due before anything more is taken.
@@ -142,7 +148,7 @@ impl LineState {
     }
 
     /// How the byte behind a backslash of this is read: as in text, whatever the place on the line,
-    /// or in copy mode.
+    /// and in titles, or in copy mode.
     #[inline(always)]
     pub fn copies_in(self) -> Surroundings
         ensures { result ≡ copies_in self }
@@ -152,6 +158,7 @@ impl LineState {
             LineState::Branch => Surroundings::Text(0),
             LineState::Braced => Surroundings::Text(0),
             LineState::Text(_) => Surroundings::Text(0),
+            LineState::Title { .. } => Surroundings::Text(0),
             _ => Surroundings::Copy,
         }
     }

@@ -23,6 +23,8 @@ pub enum Query {
     PagePlace,
     /// The page length.
     PageLength,
+    /// The page offset.
+    PageOffset,
     /// How far the next trap or the page's end is.
     WayToTrap,
     /// What nothing sets yet: 0.

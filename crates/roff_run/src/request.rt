@@ -4,7 +4,9 @@ ghost use Rattle.std.specs.Prelude.{◌≡◌, slice_get};
 ghost use Rattle.roff_run.specs.RequestRows.{coded_row};
 ghost use Rattle.roff_run.specs.Requests.{requests};
 
-use LineReading::{ByArguments, ByCondition, ByElse, ByLastLine, ByLines, ByMessage, ByString};
+use LineReading::{
+    ByArguments, ByCondition, ByElse, ByLastLine, ByLines, ByMessage, ByString, ByTitle,
+};
 use Request::{LeftOut, WithoutEffect};
 use roff_num::ShortName;
 
@@ -59,8 +61,14 @@ pub enum Request {
     NoFill,
     /// `nr`: a number register's value and increment.
     NumberRegister,
+    /// `pc`: the character that stands for the page number in titles.
+    PageCharacter,
     /// `pl`: the page length.
     PageLength,
+    /// `pn`: the number of the next page.
+    PageNumber,
+    /// `po`: the page offset.
+    PageOffset,
     /// `rm`: strings, macros and requests go.
     RemoveNames,
     /// `rr`: number registers go.
@@ -75,6 +83,10 @@ pub enum Request {
     TemporaryIndent,
     /// `tm`: a message.
     TellMessage,
+    /// `tl`: a title.
+    Title,
+    /// `lt`: the title length.
+    TitleLength,
     /// One of this name that is read without effect.
     WithoutEffect([u8; 2]),
     /// One of this name that is left out, and says so.
@@ -107,6 +119,8 @@ pub enum LineReading {
         /// Whether the text is put behind the string.
         appends: bool,
     },
+    /// As the three parts of a title, and then arguments.
+    ByTitle,
 }
 
 /// What gets the lines of a definition.
@@ -144,7 +158,7 @@ pub struct Row {
 }
 
 /// The requests that are built, in the order of their names.
-static BUILT: [Request; 32] = [
+static BUILT: [Request; 37] = [
     Request::Abort,
     Request::Adjust,
     Request::AssignFormat,
@@ -166,16 +180,21 @@ static BUILT: [Request; 32] = [
     Request::InputTrap,
     Request::LineLength,
     Request::LineSpacing,
+    Request::TitleLength,
     Request::NoAdjust,
     Request::NoFill,
     Request::NumberRegister,
+    Request::PageCharacter,
     Request::PageLength,
+    Request::PageNumber,
+    Request::PageOffset,
     Request::RemoveNames,
     Request::Rename,
     Request::RemoveRegisters,
     Request::Space,
     Request::TabStops,
     Request::TemporaryIndent,
+    Request::Title,
     Request::TellMessage,
 ];
 
@@ -204,7 +223,7 @@ static LEFT_OUT: [[u8; 2]; 24] = [
 
 impl Request {
     /// How many there are.
-    pub const COUNT: u16 = 71;
+    pub const COUNT: u16 = 76;
 
     /// The request of this place in the table, if there is one.
     pub fn numbered(number: usize) -> Option<Request>
@@ -247,16 +266,21 @@ impl Request {
             Request::InputTrap => Row { name: *b"it", line: ByArguments, breaks: false },
             Request::LineLength => Row { name: *b"ll", line: ByArguments, breaks: false },
             Request::LineSpacing => Row { name: *b"ls", line: ByArguments, breaks: false },
+            Request::TitleLength => Row { name: *b"lt", line: ByArguments, breaks: false },
             Request::NoAdjust => Row { name: *b"na", line: ByArguments, breaks: false },
             Request::NoFill => Row { name: *b"nf", line: ByArguments, breaks: true },
             Request::NumberRegister => Row { name: *b"nr", line: ByArguments, breaks: false },
+            Request::PageCharacter => Row { name: *b"pc", line: ByArguments, breaks: false },
             Request::PageLength => Row { name: *b"pl", line: ByArguments, breaks: false },
+            Request::PageNumber => Row { name: *b"pn", line: ByArguments, breaks: false },
+            Request::PageOffset => Row { name: *b"po", line: ByArguments, breaks: false },
             Request::RemoveNames => Row { name: *b"rm", line: ByArguments, breaks: false },
             Request::Rename => Row { name: *b"rn", line: ByArguments, breaks: false },
             Request::RemoveRegisters => Row { name: *b"rr", line: ByArguments, breaks: false },
             Request::Space => Row { name: *b"sp", line: ByArguments, breaks: true },
             Request::TabStops => Row { name: *b"ta", line: ByArguments, breaks: false },
             Request::TemporaryIndent => Row { name: *b"ti", line: ByArguments, breaks: true },
+            Request::Title => Row { name: *b"tl", line: ByTitle, breaks: false },
             Request::TellMessage => Row { name: *b"tm", line: ByMessage { aborts: false }, breaks: false },
             WithoutEffect(name) => Row { name, line: ByArguments, breaks: false },
             LeftOut(name) => Row { name, line: ByArguments, breaks: false },

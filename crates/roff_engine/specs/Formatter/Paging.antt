@@ -16,7 +16,7 @@ use Rattle.roff_engine.specs.declared.halt.Halt.{Halt}
 use Rattle.roff_engine.specs.declared.halt.Halt.TheVariants.{Limit as Limited, Over, Output}
 use Rattle.roff_run.specs.Output.{PageHistory}
 use Rattle.roff_run.specs.Springs.{begins, needs_page}
-use Rattle.roff_run.specs.declared.event.PageEvent.{PageEvent}
+use Rattle.roff_run.specs.PageEvents.{PageEvent}
 use Rattle.roff_sinks.specs.Sinks.{Sunk}
 use Rattle.roff_sinks.specs.declared.page_fault.PageFault.{PageFault}
 use Rattle.roff_sinks.specs.declared.page_fault.PageFault.TheVariants.{Output as PastOutput, Sink as SinkFails}

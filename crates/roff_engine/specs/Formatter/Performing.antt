@@ -11,7 +11,7 @@ use Rattle.roff_engine.specs.declared.halt.Halt.{Halt}
 use Rattle.roff_engine.specs.declared.halt.Halt.TheVariants.{Limit as Limited, Refused, Over, Output, Messages}
 use Rattle.roff_engine.specs.Engine.Outcome.{Beginning, Seen, AppendsBetween, OutputStops, Reaches, seen}
 use Rattle.roff_run.specs.Messages.{message_lines}
-use Rattle.roff_run.specs.Output.{PageHistory, text_of, written}
+use Rattle.roff_run.specs.Output.{text_of, written}
 use Rattle.roff_run.specs.Environments.{interrupted_line}
 use Rattle.roff_run.specs.Springs.{may_spring, next, own_word_end, springs, word_end_of}
 use Rattle.roff_lines.specs.Words.{has_open_word}
@@ -26,7 +26,8 @@ use Rattle.roff_run.specs.declared.event.PageEvent.TheVariants.{Text}
 use Rattle.roff_run.specs.TurnsToCome.{lines_left}
 use Rattle.roff_run.specs.Reading.Items.{PageInput, Taking}
 use Rattle.roff_run.specs.Registers.{AllRegisters, Known}
-use Rattle.roff_run.specs.declared.event.PageEvent.{PageEvent}
+use Rattle.roff_run.specs.PageEvents.{PageEvent, PageHistory}
+use Rattle.roff_run.specs.Titles.{told}
 use Rattle.roff_run.specs.declared.message.Message.{Message}
 use Rattle.roff_run.specs.declared.line_state.LineState.{LineState}
 use Rattle.roff_run.specs.declared.phase.Phase.{Phase}
@@ -39,29 +40,30 @@ use Rattle.roff_sinks.specs.Sinks.{CountsFault, Sunk}
 abbrev pub acting : State → List PageEvent → PageHistory → State
 acting s to_do history = record s { to_do = to_do; sprung = None; history = history; ended = None }
 
--- the history behind what comes before an event, as far as so many events do
-abbrev pub behind_next : ℕ → PageEvent → PageHistory → PageHistory
-behind_next zero e h = h
-behind_next (suc n) e h = elim (next h e) [ None ↦ h | Some first ↦ behind_next n e (first ∷ h) ]
+-- the history behind what comes before an event, as far as so many events do, as they happen with these registers
+abbrev pub behind_next : AllRegisters → ℕ → PageEvent → PageHistory → PageHistory
+behind_next rs zero e h = h
+behind_next rs (suc n) e h = elim (next h e) [ None ↦ h | Some first ↦ behind_next rs n e (told rs first ∷ h) ]
 
 -- and behind the event: the end of a word and the first page's beginning may come before it, and nothing else
-abbrev pub behind_event : PageEvent → PageHistory → PageHistory
-behind_event e h = e ∷ behind_next 2 e h
+abbrev pub behind_event : AllRegisters → PageEvent → PageHistory → PageHistory
+behind_event rs e h = told rs e ∷ behind_next rs 2 e h
 
 -- and behind some events, each with what comes before it
-abbrev pub behind_events : List PageEvent → PageHistory → PageHistory
-behind_events [] h = h
-behind_events (e ∷ events) h = behind_events events (behind_event e h)
+abbrev pub behind_events : AllRegisters → List PageEvent → PageHistory → PageHistory
+behind_events rs [] h = h
+behind_events rs (e ∷ events) h = behind_events rs events (behind_event rs e h)
 
 -- one behind another, before none of these events the end of a word comes, and none springs anything
-abbrev pub Flows : List PageEvent → PageHistory → Type 0
-Flows [] h = Unit {0}
-Flows (e ∷ events) h = (word_end_of h e ≡ None) × (springs (behind_next 2 e h) e ≡ None) × Flows events (behind_event e h)
+abbrev pub Flows : AllRegisters → List PageEvent → PageHistory → Type 0
+Flows rs [] h = Unit {0}
+Flows rs (e ∷ events) h =
+    (word_end_of h e ≡ None) × (springs (behind_next rs 2 e h) (told rs e) ≡ None) × Flows rs events (behind_event rs e h)
 
 -- and that behind the end of a word, if one was open, with what comes before it
-abbrev pub behind_word : Bool → PageHistory → PageHistory
-behind_word false h = h
-behind_word true h = behind_event (Text WordEnd) h
+abbrev pub behind_word : AllRegisters → Bool → PageHistory → PageHistory
+behind_word rs false h = h
+behind_word rs true h = behind_event rs (Text WordEnd) h
 
 -- the events were performed: the definition comes to the state behind them, of this history, for which the environment stands
 pub record AllPerformed (l : Limits) (t : Beginning) (before now : Seen) (s : State) (behind : PageHistory) (rest : List PageEvent) (es : ComposerOf) : Type 0 where
@@ -104,8 +106,8 @@ Performs l t before now s behind rest (Err (Refused limit)) es = ⊥
 -- of a run that has these events in front of others to do, of which none springs anything.
 pub record PerformsEvents (events : List PageEvent) (old new : ComposerOf) (out_old out_new : Sunk) (result : Result (Unit {0}) Halt) : Type 0 where
   pub performs : (l : Limits) (t : Beginning) (before : Seen) (failures : ℕ) (err : Sunk) (s : State) (h : PageHistory) (rest : List PageEvent)
-      → StandFor l h old → Flows events h → Reaches l t before (seen failures out_old err) (acting s (events ++ rest) h)
-      → Performs l t before (seen failures out_new err) s (behind_events events h) rest result new
+      → StandFor l h old → Flows s.registers events h → Reaches l t before (seen failures out_old err) (acting s (events ++ rest) h)
+      → Performs l t before (seen failures out_new err) s (behind_events s.registers events h) rest result new
 
 -- a formatter did that, and changed nothing else: what is read stays as it was
 pub record PerformsOnly (events : List PageEvent) (old new : Formatter) (out_old out_new : Sunk) (result : Result (Unit {0}) Halt) : Type 0 where
@@ -128,11 +130,12 @@ PerformedOne l t before now s e behind rest (Err Messages) es = ⊥
 PerformedOne l t before now s e behind rest (Err (Refused limit)) es = ⊥
 
 -- A formatter performed an event, with what comes before it, and answers what sprang: for each state of a run that has it in front
--- of others to do.
+-- of others to do, and has the formatter's registers, as they keep the texts of titles.
 pub record PerformsOne (e : PageEvent) (old new : Formatter) (out_old out_new : Sunk) (result : Result (Option ShortName) Halt) : Type 0 where
   pub one : (l : Limits) (t : Beginning) (before : Seen) (failures : ℕ) (err : Sunk) (s : State) (h : PageHistory) (rest : List PageEvent)
-      → StandFor l h old.composer → Reaches l t before (seen failures out_old err) (acting s (e ∷ rest) h)
-      → PerformedOne l t before (seen failures out_new err) s e (behind_event e h) rest result new.composer
+      → StandFor l h old.composer → s.registers ≡ old.reader.registers.all
+      → Reaches l t before (seen failures out_old err) (acting s (e ∷ rest) h)
+      → PerformedOne l t before (seen failures out_new err) s e (behind_event s.registers e h) rest result new.composer
   pub reader : new.reader ≡ old.reader
 
 -- The end of the open word, where it comes before an event, was performed, with what comes before it: for each state of a run that
@@ -141,7 +144,7 @@ pub record EndsWordFirst (old new : Formatter) (out_old out_new : Sunk) (result 
   pub first : (l : Limits) (t : Beginning) (before : Seen) (failures : ℕ) (err : Sunk) (s : State) (h : PageHistory) (e : PageEvent) (rest : List PageEvent)
       → StandFor l h old.composer → word_end_of h e ≡ Some (Text WordEnd)
       → Reaches l t before (seen failures out_old err) (acting s (e ∷ rest) h)
-      → Performs l t before (seen failures out_new err) s (behind_event (Text WordEnd) h) (e ∷ rest) result new.composer
+      → Performs l t before (seen failures out_new err) s (behind_event s.registers (Text WordEnd) h) (e ∷ rest) result new.composer
   pub reader : new.reader ≡ old.reader
 
 -- The open word, if there was one, has ended where it comes before an event: for each state of a run that has that in front of
@@ -150,7 +153,7 @@ pub record EndsOpenWord (old new : Formatter) (out_old out_new : Sunk) (result :
   pub ends : (l : Limits) (t : Beginning) (before : Seen) (failures : ℕ) (err : Sunk) (s : State) (h : PageHistory) (e : PageEvent) (rest : List PageEvent)
       → StandFor l h old.composer → word_end_of h e ≡ own_word_end (has_open_word (text_of h))
       → Reaches l t before (seen failures out_old err) (acting s (e ∷ rest) h)
-      → Performs l t before (seen failures out_new err) s (behind_word (has_open_word (text_of h)) h) (e ∷ rest) result new.composer
+      → Performs l t before (seen failures out_new err) s (behind_word s.registers (has_open_word (text_of h)) h) (e ∷ rest) result new.composer
   pub reader : new.reader ≡ old.reader
 
 -- The events in front were performed up to one that sprang this, or all of them; what is left of those that the reader keeps is put
@@ -176,7 +179,8 @@ ComesTo l t before now s events h kept rest (Err (Refused limit)) es = ⊥
 -- front of others to do.
 pub record PerformsAll (events : List PageEvent) (old new : Formatter) (out_old out_new : Sunk) (result : Result (Option Sprung) Halt) : Type 0 where
   pub all : (l : Limits) (t : Beginning) (before : Seen) (failures : ℕ) (err : Sunk) (s : State) (h : PageHistory) (rest : List PageEvent)
-      → StandFor l h old.composer → Reaches l t before (seen failures out_old err) (acting s (events ++ rest) h)
+      → StandFor l h old.composer → s.registers ≡ old.reader.registers.all
+      → Reaches l t before (seen failures out_old err) (acting s (events ++ rest) h)
       → ComesTo l t before (seen failures out_new err) s events h old.reader.meaning.events rest result new.composer
   pub reader : new.reader ≡ old.reader
 
@@ -211,11 +215,12 @@ pub record Sinks : Type 0 where
 abbrev pub sinks : Sunk → Sunk → Sinks
 sinks out err = record { out = out; err = err }
 
--- A formatter did what an item means, as far as it answers: for each state of a run whose next step means that.
+-- A formatter did what an item means, as far as it answers: for each state of a run whose next step means that, and leads to the
+-- formatter's registers.
 pub record DoesMeaning (line : ℕ) (messages : List Message) (events : List PageEvent) (old new : Formatter) (told_old told_new : Sinks) (result : Result (Option Sprung) Halt) : Type 0 where
   pub does : (l : Limits) (t : Beginning) (before : Seen) (failures : ℕ) (from s : State) (h : PageHistory) (rest : List PageEvent)
-      → StandFor l h old.composer → Reaches l t before (seen failures told_old.out told_old.err) from
-      → Means l from s h line messages events rest
+      → StandFor l h old.composer → s.registers ≡ old.reader.registers.all
+      → Reaches l t before (seen failures told_old.out told_old.err) from → Means l from s h line messages events rest
       → MeaningDone l t before (seen failures told_new.out told_new.err) from s events h old.reader.meaning.events rest result new.composer
   pub reader : new.reader ≡ old.reader
 

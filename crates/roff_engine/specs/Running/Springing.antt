@@ -1,11 +1,12 @@
 -- How far a run of the code has come where events were performed, of which one may have sprung a macro.
-use Rattle.std.specs.Prelude.{◌≡◌, ◌≤◌, ℕ, ◌+◌, List, [], length, Option, OnOk, Result}
+use Rattle.std.specs.Prelude.{◌≡◌, ◌≤◌, ℕ, ◌+◌, List, [], length, map, Option, OnOk, Result}
 use Rattle.roff_ahead.specs.Input.{events_ahead, most_events, putting_all_back}
 use Rattle.roff_run.specs.Reading.Items.{PageUnread}
 use Rattle.roff_requests.specs.Composer.Standing.{StandFor}
 use Rattle.roff_reader.specs.Reader.Taken.{IsReady}
 use Rattle.roff_run.specs.Environments.{PageHistory}
-use Rattle.roff_run.specs.declared.event.PageEvent.{PageEvent}
+use Rattle.roff_run.specs.PageEvents.{PageEvent}
+use Rattle.roff_run.specs.Titles.{keeping, put_back}
 use Rattle.roff_run.specs.declared.status.Status.{Status}
 use Rattle.roff_source.specs.Tape.{Tape}
 use Rattle.roff_engine.specs.Engine.Outcome.{Beginning, Seen, Reaches}
@@ -35,7 +36,13 @@ pub record GoesOn (sprung : Option Sprung) (old new : Coded) (now behind : Seen)
   pub goes : (t : Beginning) (tape : Tape) (start : Seen) → IsBehind t tape start now sprung old → Continues t tape start behind r new
   pub turns : (t : Beginning) (tape : Tape) (start : Seen) → IsBehind t tape start now sprung old → OnOk r (turns_of_run new ≤ turns_of_run old)
 
--- these events were put back, if there is room for them
+-- these events were put back, if there is room for them: a title among them is kept
 pub record PutsBack (events : List PageEvent) (old new : Coded) : Type 0 where
-  pub others : new ≡ record old { unread = new.unread }
-  pub puts : HasRoom events old.unread → new ≡ record old { unread = record old.unread { input = putting_all_back events old.unread.input } }
+  pub others : new ≡ record old { unread = new.unread; formatter = new.formatter }
+  pub keeps : new.formatter ≡ record old.formatter {
+    reader = record old.formatter.reader {
+      registers = record old.formatter.reader.registers { all = keeping events old.formatter.reader.registers.all };
+    };
+  }
+  pub puts : HasRoom events old.unread
+      → new.unread ≡ record old.unread { input = putting_all_back (map put_back events) old.unread.input }

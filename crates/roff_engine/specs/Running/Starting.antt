@@ -23,20 +23,20 @@ pub record SetsSome (old new : Coded) (history : PageHistory) : Type 0 where
   pub room : HasRoom old → HasRoom new
   pub quiet : written history ≡ []
 
--- those that are given were set, one after another: the run stands where they leave the definition's
-pub record Begins (old new : Coded) (given : List (ℕ × Num)) : Type 0 where
+-- those that are given were set, one after another, behind this history: the run stands where they leave the definition's
+pub record Begins (first : PageHistory) (old new : Coded) (given : List (ℕ × Num)) : Type 0 where
   pub history : PageHistory
   pub some : SetsSome old new history
-  pub goes_on : HasRoom old → (tape : Tape) → with_registers old.limits given (state_at tape old [] []) ≡ state_at tape new history []
-  pub stands : (l : Limits) → StandFor l [] old.formatter.composer → StandFor l history new.formatter.composer
+  pub goes_on : HasRoom old → (tape : Tape) → with_registers old.limits given (state_at tape old first []) ≡ state_at tape new history []
+  pub stands : (l : Limits) → StandFor l first old.formatter.composer → StandFor l history new.formatter.composer
 
 -- a limit refused one of them
-pub record IsRefused (old new : Coded) (given : List (ℕ × Num)) (limit : Limit) : Type 0 where
+pub record IsRefused (first : PageHistory) (old new : Coded) (given : List (ℕ × Num)) (limit : Limit) : Type 0 where
   pub history : PageHistory
   pub some : SetsSome old new history
-  pub stops : HasRoom old → (tape : Tape) → with_registers old.limits given (state_at tape old [] []) ≡ stopped_by old.limits limit (state_at tape new history [])
+  pub stops : HasRoom old → (tape : Tape) → with_registers old.limits given (state_at tape old first []) ≡ stopped_by old.limits limit (state_at tape new history [])
 
--- they were set, or one was refused
+-- they were set, or one was refused, behind any history of which nothing is written
 abbrev pub SetsGiven : Coded → Coded → List (ℕ × Num) → Result (Unit {0}) Limit → Type 0
-SetsGiven old new given (Ok done) = Begins old new given
-SetsGiven old new given (Err limit) = IsRefused old new given limit
+SetsGiven old new given (Ok done) = (first : PageHistory) → written first ≡ [] → Begins first old new given
+SetsGiven old new given (Err limit) = (first : PageHistory) → written first ≡ [] → IsRefused first old new given limit

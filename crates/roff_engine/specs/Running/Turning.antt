@@ -220,5 +220,5 @@ pub record HasCome (given : Start) (old new : Tape → Type 0) (start now : Seen
 
 -- before the first item: nothing is read, set or ahead, and the requests have their names
 pub record IsFresh (l : Limits) (f : Formatter) (u : PageUnread) : Type 0 where
-  pub reader : f.reader ≡ fresh_reader l.names
+  pub reader : f.reader ≡ fresh_reader l.names l.line
   pub unread : u ≡ first_unread l

@@ -5,7 +5,7 @@ ghost use Rattle.roff_num.specs.declared.limits.Limits.{Limits as LimitsOf};
 ghost use Rattle.roff_engine.specs.Clauses.{BeginsFor, BeginsPage, Page, ReadyFor, StandFor, Text};
 ghost use Rattle.roff_run.specs.Environments.{PageHistory};
 ghost use Rattle.roff_run.specs.Springs.{is_paged, needs_page};
-ghost use Rattle.roff_run.specs.declared.event.PageEvent.{PageEvent};
+ghost use Rattle.roff_run.specs.PageEvents.{PageEvent};
 
 use super::Formatter;
 use roff_lines::Event;

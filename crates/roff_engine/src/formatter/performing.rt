@@ -136,6 +136,7 @@ impl Formatter {
                 Ok(None)
             }
             PageEvent::Page(event) => none_named(self.perform_on_page(event, out)),
+            PageEvent::Title(which) => none_named(self.place_title(which, out)),
         }
     }
 

@@ -22,6 +22,16 @@ impl Running {
             .take_run(kind, &mut self.unread, source);
     }
 
+    /// Takes bytes of a title's part together that stand in front, where a title is read.
+    #[inline(always)]
+    pub(super) fn take_title_front<S: ByteSource>(&mut self, source: &mut S)
+        ensures { GoesPastOver S.ByteSource source.old source.new self.old self.new }
+    {
+        self.formatter
+            .reader
+            .take_title_front(&mut self.unread, source);
+    }
+
     /// Takes bytes of plain text together that stand in front, and tells them, and then reads the
     /// front of an escape behind them.
     #[inline(always)]

@@ -82,7 +82,10 @@ impl Running {
         ensures { GoesFurtherOver result S.ByteSource source.old source.new self.old self.new }
     {
         match self.formatter.reader.run_kind(&self.unread) {
-            None => self.pass_end(),
+            None => {
+                self.take_title_front(source);
+                self.pass_end()
+            }
             Some(kind) => self.pass_run(kind, source),
         }
     }

@@ -54,7 +54,8 @@ impl Running {
         }
     }
 
-    /// Puts the events back that the reader keeps, from an index on: the last one first.
+    /// Puts the events back that the reader keeps, from an index on: the last one first. A title among
+    /// them is kept.
     fn put_back(&mut self, first: usize)
         ensures { PutsBack (drop first self.old.formatter.reader.meaning.events) self.old self.new }
     {
@@ -62,6 +63,7 @@ impl Running {
         while index > first {
             index -= 1;
             if let Some(event) = self.formatter.reader.event(index) {
+                let event = self.formatter.reader.keep_title_of(event);
                 self.unread.put_back(event);
             }
         }

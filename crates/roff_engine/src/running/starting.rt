@@ -1,7 +1,7 @@
 //! What is given to a run, before anything is read.
 
 ghost use Rattle.std.specs.Prelude.{◌≡◌, ℕ, [], IfErr, OnOk};
-ghost use Rattle.roff_engine.specs.Clauses.{Outcome, Sunk, Tape, seen};
+ghost use Rattle.roff_engine.specs.Clauses.{Outcome, Sunk, Tape, pages_given, seen};
 ghost use Rattle.roff_run.specs.Output.{PageHistory, written};
 ghost use Rattle.roff_run.specs.Run.{initial, stopped_by, with_registers};
 ghost use Rattle.roff_run.specs.declared.start.Start.{Start as StartOf};
@@ -20,11 +20,13 @@ impl Running {
     /// Sets the registers that are given. An `Err` is the status of a run that ended: the limit on
     /// names refused one.
     pub(crate) fn begin<E: ByteSink>(&mut self, start: &Start, err: &mut E) -> Result<(), Status>
-        ensures begins { OnOk result (Begins self.old self.new start.now.registers.items) }
+        ensures begins { OnOk result
+            (Begins (pages_given start.now) self.old self.new start.now.registers.items) }
         ensures err { OnOk result (err.new ≡ err.old) }
         ensures ends { HasRoom self.old → self.old.unread.looked ≡ Nothing → (tape : Tape)
             → initial self.old.limits start.now tape
-            ≡ with_registers self.old.limits start.now.registers.items (state_at tape self.old [] [])
+            ≡ with_registers self.old.limits start.now.registers.items
+            (state_at tape self.old (pages_given start.now) [])
             → (failures : ℕ) (out : Sunk) → IfErr result (λ status.
             Outcome self.old.limits start.now tape tape status
             (seen failures out (E.sunk err.old)) (seen failures out (E.sunk err.new))) }

@@ -5,7 +5,7 @@ use Rattle.roff_run.specs.Registers.{no_registers}
 use Rattle.roff_run.specs.Registers.Capped.{Capped}
 use Rattle.roff_run.specs.Events.Lines.{line_events}
 use Rattle.roff_run.specs.declared.event.LineEvents.{LineEvents}
-use Rattle.roff_run.specs.declared.event.PageEvent.{PageEvent}
+use Rattle.roff_run.specs.PageEvents.{PageEvent}
 use Rattle.roff_run.specs.declared.event.PageEvent.TheVariants.{Text}
 use Rattle.roff_run.specs.declared.message.Message.{Message}
 use Rattle.roff_run.specs.declared.line_state.LineState.{LineState}
@@ -34,6 +34,10 @@ pub record ReaderState : Type 0 where
   pub registers : Capped
   pub meaning : MeaningKept
 
--- before the first line, with room for so many registers
-abbrev pub fresh_reader : ℕ → ReaderState
-fresh_reader cap = record { reading = LineStart; registers = record { all = no_registers; cap = cap }; meaning = nothing_kept }
+-- before the first line, with room for so many registers, and for titles of so many bytes
+abbrev pub fresh_reader : ℕ → ℕ → ReaderState
+fresh_reader cap line = record {
+  reading = LineStart;
+  registers = record { all = no_registers; cap = cap; line = line };
+  meaning = nothing_kept;
+}

@@ -67,6 +67,7 @@ pub record InputCameTo (i : PageInput) (before behind : PageUnread) (result : Re
 -- the registers have the limit of the unread input, and no count is above its limit
 pub record IsReady (r : Capped) (u : PageUnread) : Type 0 where
   pub cap : r.cap ≡ u.limits.names
+  pub line : r.line ≡ u.limits.line
   pub within : first_passed u.limits (counts_in r.all u.input) ≡ None
 
 -- The code took what the definition takes, by what is known of the run, wherever the environments and the pages stand for a history.

@@ -1,19 +1,15 @@
 //! A byte that was taken: what it means, and whether it means little.
 
-ghost use Rattle.std.specs.Prelude.{◌≡◌, ◌==◌, ℕ, [], ◌∷◌, None, Some, false, true, IfSome};
+ghost use Rattle.std.specs.Prelude.{◌≡◌, ◌==◌, [], ◌∷◌, false, true};
 ghost use Rattle.roff_source.specs.Bytes.{backslash};
 ghost use Rattle.roff_lines.specs.declared.event.Event.TheVariants.{Gap, Print, WordEnd};
 ghost use Rattle.roff_lines.specs.declared.glyph.Glyph.TheVariants.{Printed};
 ghost use Rattle.roff_run.specs.declared.event.PageEvent.TheVariants.{Text};
+ghost use Rattle.roff_run.specs.declared.line_state.LineState.TheVariants.{Title as InTitle};
 ghost use Rattle.roff_run.specs.Registers.{Known};
-ghost use Rattle.roff_reader.specs.Clauses.{Passes, TakesAs, meaning_events, is_passed, undropped_taking};
-ghost use Rattle.roff_reader.specs.Clauses.{taking, due};
-ghost use Rattle.roff_run.specs.Reading.Found.{has_place};
-ghost use Rattle.roff_run.specs.Telling.{Prints};
-ghost use Rattle.roff_run.specs.Stages.{Adds, EndsLine, Holds, HoldsIfFewer, Ignores, ReadsHalves};
-ghost use Rattle.roff_run.specs.Stages.{TakesHalf};
-ghost use Rattle.roff_source.specs.Bytes.{is_argument_byte};
-ghost use Rattle.roff_source.specs.Bytes.{is_text_byte};
+ghost use Rattle.roff_reader.specs.Clauses.{TakesAs, meaning_events, taking, undropped_taking};
+ghost use Rattle.roff_escape.specs.OpenEscapes.{byte_read};
+ghost use Rattle.roff_run.specs.Reading.Found.{place_in, read_in};
 
 use super::Reader;
 use super::calls::CALL_ARGUMENTS;
@@ -69,6 +65,12 @@ impl Reader {
                 self.read_unit(breaks, request, unit, composer, unread)
             }
             LineState::Calling { name } => self.read_unit_of_call(name, unit, unread),
+            LineState::Title { delimiter } => {
+                if byte == delimiter {
+                    return Ok(self.end_title_part(delimiter));
+                }
+                self.read_byte_of_title(delimiter, byte, composer, unread)
+            }
             _ => self.read_undropped(byte, composer, unread),
         }
     }
@@ -99,11 +101,35 @@ impl Reader {
             LineState::Dropped => Ok(self.read_on(LineState::behind_dropped(byte))),
             LineState::Told { aborts } => Ok(self.read_on(LineState::Told { aborts })),
             LineState::Exiting => Ok(self.read_on(LineState::Exiting)),
+            LineState::Title { delimiter } => {
+                self.read_between(delimiter, byte, composer, unread)
+            }
             _ => self.read_placed(byte, composer, unread),
         }
     }
 
-    /// The same where something may be half read.
+    /// The same in a title, between these delimiters: one is found where nothing is half read.
+    fn read_between(
+        &mut self,
+        delimiter: u8,
+        byte: u8,
+        composer: &Composer,
+        unread: &mut Unread<PageEvent>,
+    ) -> Result<Step, Limit>
+        requires { self.old.reading ≡ InTitle delimiter }
+        ensures { TakesAs (λ k. undropped_taking k (InTitle delimiter) unread.old.input byte)
+            composer.now self.old self.new unread.old unread.new result }
+    {
+        if unread.has_open_escape() {
+            return self.read_placed(byte, composer, unread);
+        }
+        if byte == delimiter {
+            return Ok(self.end_title_part(delimiter));
+        }
+        self.read_placed(byte, composer, unread)
+    }
+
+    /// The same by what is half read, if something is.
     #[inline(always)]
     fn read_placed(
         &mut self,
@@ -111,8 +137,8 @@ impl Reader {
         composer: &Composer,
         unread: &mut Unread<PageEvent>,
     ) -> Result<Step, Limit>
-        requires { has_place self.old.reading ≡ true }
-        ensures { TakesAs (λ k. undropped_taking k self.old.reading unread.old.input byte)
+        ensures { TakesAs (λ k. read_in k self.old.reading unread.old.input
+            (byte_read (place_in k self.old.reading) unread.old.input.escapes byte))
             composer.now self.old self.new unread.old unread.new result }
     {
         let place = self.place(composer);

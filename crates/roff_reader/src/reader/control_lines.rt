@@ -102,6 +102,10 @@ impl Reader {
                 let found = unread.read_byte(Surroundings::Arguments, byte);
                 self.read_arguments(breaks, request, found, composer, unread)
             }
+            LineReading::ByTitle => {
+                let found = unread.read_byte(Surroundings::Arguments, byte);
+                self.read_title_front(found, composer, unread)
+            }
             LineReading::ByElse => {
                 let so = unread.take_result() == Some(false);
                 self.begin_branch(so, Some(byte), composer, unread)
@@ -160,6 +164,7 @@ fn behind_request(breaks: bool, request: Request) -> Option<LineState>
             aborts,
             is_front: true,
         }),
+        LineReading::ByTitle => Some(LineState::TitleFront),
         LineReading::ByElse => None,
     }
 }

@@ -8,7 +8,7 @@ ghost use Rattle.roff_reader.specs.Clauses.{LineStart, meaning_events};
 use super::Reader;
 use roff_num::{Limit, ShortName};
 use roff_requests::Composer;
-use roff_run::{LineState, Message, PageEvent, Step, TextStep};
+use roff_run::{LineState, Message, PageEvent, Request, Step, TextStep};
 use roff_scan::{CopyUnit, Unread};
 
 impl Reader {
@@ -81,6 +81,7 @@ impl Reader {
             LineState::Told { .. } => Ok(self.end_interrupted(composer)),
             LineState::Exiting => Ok(self.end_interrupted(composer)),
             LineState::Defining { name, .. } => Ok(self.drop_definition(name, unread)),
+            LineState::Title { .. } => self.obey(false, Request::Title, composer, unread),
             _ => self.read_undropped(b'\n', composer, unread),
         }
     }

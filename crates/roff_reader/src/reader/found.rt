@@ -29,6 +29,7 @@ impl Reader {
             LineState::Deciding { .. } => Surroundings::Arguments,
             LineState::StringName { .. } => Surroundings::Arguments,
             LineState::Calling { .. } => Surroundings::Arguments,
+            LineState::TitleFront => Surroundings::Arguments,
             LineState::StringText { .. } => Surroundings::Copy,
             LineState::Telling { .. } => Surroundings::Copy,
             LineState::Defining { .. } => Surroundings::Copy,
@@ -38,6 +39,7 @@ impl Reader {
             LineState::Dropped => Surroundings::Text(0),
             LineState::Told { .. } => Surroundings::Text(0),
             LineState::Exiting => Surroundings::Text(0),
+            LineState::Title { .. } => Surroundings::Text(0),
         }
     }
 
@@ -84,6 +86,10 @@ impl Reader {
                 end,
                 matched,
             } => self.read_definition(name, appends, end, matched, found, composer, unread),
+            LineState::TitleFront => self.read_title_front(found, composer, unread),
+            LineState::Title { delimiter } => {
+                self.read_title(delimiter, found, composer, unread)
+            }
             _ => Ok(Step::Nothing),
         }
     }

@@ -105,6 +105,9 @@ impl Reader {
             has_left: composer.environments.has_left(),
             place: composer.pages.place_now(),
             page_length: composer.pages.length(),
+            page_offset: composer.pages.offset(),
+            previous_page_offset: composer.pages.previous_offset(),
+            page_number: composer.pages.number(),
         };
         effect(request, breaks, known, given)
     }

@@ -1,7 +1,7 @@
 -- What the code keeps of the events of a request.
 use Rattle.std.specs.Prelude.{List, if◌then◌else◌}
 use Rattle.roff_requests.specs.declared.events.RequestedEvents.TheInside.{Inside}
-use Rattle.roff_run.specs.declared.event.PageEvent.{PageEvent}
+use Rattle.roff_run.specs.PageEvents.{PageEvent}
 use Rattle.roff_requests.specs.Events.{request_events, stops_set}
 use Rattle.roff_run.specs.Requests.Effects.{behind_break}
 

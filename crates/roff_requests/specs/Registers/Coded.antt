@@ -1,12 +1,12 @@
 -- What the code of the registers is given, as the definition's.
 use Rattle.std.specs.Prelude.{◌≡◌, ℕ, List}
 use Rattle.roff_requests.specs.declared.registers.Change.{Change as CodedChange}
-use Rattle.roff_requests.specs.declared.registers.Change.TheVariants.{SetTo as CodedSetTo, FormatAs as CodedFormatAs, ReadLast as CodedReadLast}
+use Rattle.roff_requests.specs.declared.registers.Change.TheVariants.{SetTo as CodedSetTo, FormatAs as CodedFormatAs, ReadLast as CodedReadLast, CharacterIs as CodedCharacterIs}
 use Rattle.roff_requests.specs.declared.registers.Facts.{Facts}
 use Rattle.roff_run.specs.declared.query.Query.{Query}
 use Rattle.roff_requests.specs.declared.registers.read_only.ReadOnly.{ReadOnly}
 use Rattle.roff_pages.specs.Pages.Stands.{StandsAs}
-use Rattle.roff_run.specs.Registers.{Known, Change, SetTo, FormatAs, ReadLast}
+use Rattle.roff_run.specs.Registers.{Known, Change, SetTo, FormatAs, ReadLast, CharacterIs}
 
 -- a row that the code's table of read-only registers has
 abbrev pub coded_row : (List ℕ × Query) → ReadOnly
@@ -25,3 +25,4 @@ abbrev pub change_of : CodedChange → Change
 change_of (CodedSetTo name value increment) = SetTo name value increment
 change_of (CodedFormatAs name format) = FormatAs name format
 change_of (CodedReadLast name) = ReadLast name
+change_of (CodedCharacterIs character) = CharacterIs character

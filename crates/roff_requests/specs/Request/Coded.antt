@@ -23,7 +23,7 @@ use Rattle.roff_run.specs.Requests.Effects.{bad_number, behind_break, happens, m
 use Rattle.roff_run.specs.Requests.Naming.{removals}
 use Rattle.roff_run.specs.Requests.Numbering.{name_given, names_given}
 use Rattle.roff_run.specs.Requests.Tabs.{tab_stops}
-use Rattle.roff_run.specs.declared.event.PageEvent.{PageEvent}
+use Rattle.roff_run.specs.PageEvents.{PageEvent}
 use Rattle.roff_run.specs.declared.message.Message.{Message}
 
 -- the code was given the first of these arguments
@@ -42,13 +42,16 @@ abbrev pub name_in : Option (List ℕ) → Option (List ℕ)
 name_in None = None
 name_in (Some text) = name_of (name_given text)
 
--- The code knows what a request asks for: the settings, the place and the page length, and the value of the register that the
--- first argument names, which one request alone asks for.
+-- The code knows what a request asks for: the settings, the place, and the page's length, offset and number, and the value of the
+-- register that the first argument names, which one request alone asks for.
 pub record KnowsOf (k : Known) (request : Request) (as_given : List (List ℕ)) (known : RequestFacts) : Type 0 where
   pub settings : known.settings ≡ k.settings
   pub has_left : known.has_left ≡ k.has_left
   pub place : known.place ≡ counted (place_now k.layout)
   pub page_length : known.page_length ≡ k.layout.length
+  pub page_offset : known.page_offset ≡ k.layout.offset
+  pub previous_page_offset : known.previous_page_offset ≡ k.layout.previous_offset
+  pub page_number : known.page_number ≡ k.layout.number
   pub in_force : request ≡ NumberRegister → IfSome (register_named as_given) (λ name. known.in_force ≡ value_in_force k name)
 
 -- the changes of registers that a request makes, given these arguments

@@ -33,7 +33,7 @@ static READ_ONLY: [ReadOnly; 17] = [
     ReadOnly { name: *b".H", query: Query::ColumnWidth },
     ReadOnly { name: *b".$", query: Query::Arguments },
     ReadOnly { name: *b".d", query: Query::Later },
-    ReadOnly { name: *b".o", query: Query::Later },
+    ReadOnly { name: *b".o", query: Query::PageOffset },
     ReadOnly { name: *b".p", query: Query::PageLength },
     ReadOnly { name: *b".t", query: Query::WayToTrap },
     ReadOnly { name: *b".z", query: Query::Later },
@@ -106,6 +106,7 @@ impl Facts<'_> {
                 None => -1,
             },
             Query::PageLength => lines_told(u64::from(self.composer.pages.length())),
+            Query::PageOffset => columns_told(self.composer.pages.offset()),
             Query::WayToTrap => match self.composer.pages.way_to_trap() {
                 Some(way) => lines_told(way),
                 None => GREATEST_NUMBER as i32,

@@ -1,12 +1,13 @@
 //! What a request does, and what that means for the page.
 
-ghost use Rattle.std.specs.Prelude.{◌≡◌, ℕ, List, []};
+ghost use Rattle.std.specs.Prelude.{◌≡◌, ◌∷◌, ℕ, List, []};
 ghost use Rattle.std.specs.Option.{option_to_list};
 ghost use Rattle.roff_pages.specs.Pages.Counted.{counted};
 ghost use Rattle.roff_pages.specs.Queries.{place_now};
 ghost use Rattle.roff_run.specs.Registers.{Known, place_down};
 ghost use Rattle.roff_requests.specs.Events.{request_events};
 ghost use Rattle.roff_requests.specs.Request.Coded.{calls_of, changes_of, response_of, effect_of};
+ghost use Rattle.roff_run.specs.declared.event.PageEvent.TheVariants.{Page};
 ghost use Rattle.roff_run.specs.Requests.Effects.{Obeyed, Ignored, bad_format, bad_number, happens, left_out, meant_by, no_such_environment, nothing, setting};
 
 use crate::events::RequestEvents;
@@ -14,6 +15,7 @@ use crate::number::LINE;
 use crate::registers::Change;
 use roff_lines::{Event, Param, Settings};
 use roff_num::{Name, Num};
+use roff_pages::LayoutEvent;
 use roff_run::{Message, PageEvent};
 
 /// All that a request may ask of the run.
@@ -30,6 +32,12 @@ pub struct RequestFacts {
     pub place: u64,
     /// The page length, in lines.
     pub page_length: u32,
+    /// The page offset, in columns.
+    pub page_offset: u32,
+    /// The one before it.
+    pub previous_page_offset: u32,
+    /// The number of the page.
+    pub page_number: Num,
 }
 
 /// A place above this reads as this, in basic units.
@@ -102,6 +110,14 @@ impl Response {
         ensures { (as_given : List (List ℕ)) → response_of as_given result ≡ setting param }
     {
         Response::doing(None, RequestEvents::One(PageEvent::Text(Event::Set(param))))
+    }
+
+    /// Something happens to the pages.
+    pub(super) fn on_page(event: LayoutEvent) -> Response
+        ensures { (as_given : List (List ℕ))
+            → response_of as_given result ≡ happens [] (Page event ∷ []) }
+    {
+        Response::doing(None, RequestEvents::One(PageEvent::Page(event)))
     }
 
     /// Registers change, or what names stand for.

@@ -1,10 +1,10 @@
-//! The line length, the indent, and the indent of one line.
+//! The line length, the indent, the indent of one line, and the title length.
 
 ghost use Rattle.std.specs.Prelude.{◌≡◌, ℕ, List, slice_get};
 ghost use Rattle.std.specs.Option.{option_copied};
 ghost use Rattle.roff_run.specs.Registers.{Known};
 ghost use Rattle.roff_requests.specs.Request.Coded.{response_of};
-ghost use Rattle.roff_run.specs.Requests.Lengths.{indent, length_set, length_wanted, line_length, temporary_indent};
+ghost use Rattle.roff_run.specs.Requests.Lengths.{indent, length_set, length_wanted, line_length, temporary_indent, title_length};
 
 use crate::number::{rounded_to_columns, value_beside};
 use crate::requests::{RequestFacts, Response};
@@ -55,8 +55,25 @@ pub(super) fn temporary_indent(known: RequestFacts, argument: Option<&[u8]>) -> 
     }
 }
 
+/// `lt`: the title length.
+pub(super) fn title_length(known: RequestFacts, argument: Option<&[u8]>) -> Response
+    ensures { (k : Known) (as_given : List (List ℕ)) → known.settings ≡ k.settings
+        → option_copied argument.entry ≡ slice_get as_given 0
+        → response_of as_given result ≡ title_length k as_given }
+{
+    let s = known.settings;
+    match length_wanted(s.title_length, s.previous_title_length, argument) {
+        Ok(columns) => Response::setting(Param::TitleLength(columns)),
+        Err(_) => Response::bad_number(),
+    }
+}
+
 /// The length that is wanted, in columns: the previous one where none is given.
-fn length_wanted(in_force: u32, previous: u32, argument: Option<&[u8]>) -> Result<u32, NumFault>
+pub(super) fn length_wanted(
+    in_force: u32,
+    previous: u32,
+    argument: Option<&[u8]>,
+) -> Result<u32, NumFault>
     ensures { (as_given : List (List ℕ)) → option_copied argument.entry ≡ slice_get as_given 0
         → result ≡ length_wanted in_force previous as_given }
 {

@@ -1,4 +1,4 @@
-//! The page length.
+//! The page length, the page offset, and the number of the next page.
 
 ghost use Rattle.std.specs.Prelude.{◌≡◌, ◌/◌, ℕ, List, Ok, slice_get};
 ghost use Rattle.std.specs.Option.{option_copied};
@@ -8,13 +8,14 @@ ghost use Rattle.roff_run.specs.Registers.{Known};
 ghost use Rattle.roff_requests.specs.Request.Coded.{KnowsOf, response_of};
 ghost use Rattle.roff_run.specs.declared.request.Request.TheVariants.{PageLength};
 ghost use Rattle.roff_run.specs.Requests.Paging.{lines_on_page, lines_set, page_length};
+ghost use Rattle.roff_run.specs.Requests.Paging.{next_numbered, page_number, page_offset};
 
-use crate::events::RequestEvents;
-use crate::number::{LINE, height_beside, rounded_to_lines};
+use super::lengths::length_wanted;
+use crate::number::{LINE, height_beside, rounded_to_lines, value_beside};
 use crate::requests::{RequestFacts, Response};
-use roff_num::NumFault;
+use roff_num::{Num, NumFault, Scale};
 use roff_pages::LayoutEvent;
-use roff_run::{Message, PageEvent};
+use roff_run::Message;
 
 /// The page length where none is given, in lines: 11 inches.
 const USUAL_LENGTH: u32 = 66;
@@ -61,8 +62,45 @@ fn lines_on_page(lines: u32) -> Response
     if lines == 0 {
         return Response::Ignored(Some(Message::PageTooShort));
     }
-    Response::doing(
-        None,
-        RequestEvents::One(PageEvent::Page(LayoutEvent::Length(lines))),
-    )
+    Response::on_page(LayoutEvent::Length(lines))
+}
+
+/// `po`: the page offset, the previous one where none is given.
+pub(super) fn page_offset(known: RequestFacts, argument: Option<&[u8]>) -> Response
+    ensures { (k : Known) (as_given : List (List ℕ)) → known.page_offset ≡ k.layout.offset
+        → known.previous_page_offset ≡ k.layout.previous_offset
+        → option_copied argument.entry ≡ slice_get as_given 0
+        → response_of as_given result ≡ page_offset k as_given }
+{
+    match length_wanted(known.page_offset, known.previous_page_offset, argument) {
+        Ok(columns) => Response::on_page(LayoutEvent::Offset(columns)),
+        Err(_) => Response::bad_number(),
+    }
+}
+
+/// `pn`: the number of the next page. A sign in front adds to that of the page in force, or takes
+/// from it; without an argument it is ignored.
+pub(super) fn page_number(known: RequestFacts, argument: Option<&[u8]>) -> Response
+    ensures { (k : Known) (as_given : List (List ℕ)) → known.page_number ≡ k.layout.number
+        → option_copied argument.entry ≡ slice_get as_given 0
+        → response_of as_given result ≡ page_number k as_given }
+{
+    match argument {
+        None => Response::unsaid(),
+        Some(text) => next_numbered(value_beside(
+            i64::from(known.page_number.0),
+            Scale::Units,
+            text,
+        )),
+    }
+}
+
+/// The next page gets this number.
+fn next_numbered(number: Result<i32, NumFault>) -> Response
+    ensures { (as_given : List (List ℕ)) → response_of as_given result ≡ next_numbered number }
+{
+    match number {
+        Ok(number) => Response::on_page(LayoutEvent::Next(Num(number))),
+        Err(_) => Response::bad_number(),
+    }
 }

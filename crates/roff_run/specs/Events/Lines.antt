@@ -6,7 +6,7 @@ use Rattle.roff_pages.specs.declared.layout_event.LayoutEvent.TheVariants.{Close
 use Rattle.roff_run.specs.Reading.TextLines.{blank_line, leading_glyph}
 use Rattle.roff_run.specs.declared.event.LineEvents.{LineEvents}
 use Rattle.roff_run.specs.declared.event.LineEvents.TheVariants.{Nothing, LineEnd, Break, BlankLine, Closing, Number as GetsNumber, Gap, Interrupt, Tab, Leading, Printed as PrintedByte, Blanks as PrintedBlanks, Two, Three, Four}
-use Rattle.roff_run.specs.declared.event.PageEvent.{PageEvent}
+use Rattle.roff_run.specs.PageEvents.{PageEvent}
 use Rattle.roff_run.specs.declared.event.PageEvent.TheVariants.{Text, Interrupt as PageInterrupt, Page}
 
 -- the event of a byte that is printed

@@ -5,11 +5,11 @@ use Rattle.roff_escape.specs.OpenEscapes.{byte_read}
 use Rattle.roff_ahead.specs.Input.{choosing}
 use Rattle.roff_ahead.specs.Input.Calls.{last_result, without_last}
 use Rattle.roff_escape.specs.declared.open_escape.Surroundings.TheVariants.{Arguments as AboveArguments, Copy as AboveCopy}
-use Rattle.roff_run.specs.declared.line_state.LineState.TheVariants.{LineStart, Arguments as InArguments, Deciding, StringName, Dropped, Telling, Calling}
+use Rattle.roff_run.specs.declared.line_state.LineState.TheVariants.{LineStart, Arguments as InArguments, Deciding, StringName, Dropped, Telling, Calling, TitleFront}
 use Rattle.roff_num.specs.declared.short_name.ShortName.{ShortName}
 use Rattle.roff_run.specs.declared.request.Request.{Request}
 use Rattle.roff_run.specs.declared.request.LineReading.{LineReading}
-use Rattle.roff_run.specs.declared.request.LineReading.TheVariants.{ByArguments, ByCondition, ByElse, ByLastLine, ByMessage, ByString, ByLines}
+use Rattle.roff_run.specs.declared.request.LineReading.TheVariants.{ByArguments, ByCondition, ByElse, ByLastLine, ByMessage, ByString, ByLines, ByTitle}
 use Rattle.roff_run.specs.declared.request.Called.{Called}
 use Rattle.roff_run.specs.declared.request.Called.TheVariants.{Request as ARequest, Body as ABody, Nothing as Unknown}
 use Rattle.roff_run.specs.Reading.Arguments.{arguments_found}
@@ -18,6 +18,7 @@ use Rattle.roff_run.specs.Reading.Calls.{call_found}
 use Rattle.roff_run.specs.Reading.Items.{PageInput, Taking, going_on, read_by}
 use Rattle.roff_run.specs.Reading.Messages.{message_found}
 use Rattle.roff_run.specs.Reading.Strings.{string_name_found}
+use Rattle.roff_run.specs.Reading.Titles.{title_front_found}
 use Rattle.roff_run.specs.Registers.{Known}
 use Rattle.roff_run.specs.Requests.{called_by, row_of}
 
@@ -42,6 +43,7 @@ line_taking k i breaks request (ByMessage aborts) b =
     read_by (λ j. message_found k j aborts true) i (byte_read AboveCopy i.escapes b)
 line_taking k i breaks request (ByLines lines) b =
     read_by (λ j. arguments_found k j breaks request) i (byte_read AboveArguments i.escapes b)
+line_taking k i breaks request ByTitle b = read_by (λ j. title_front_found k j) i (byte_read AboveArguments i.escapes b)
 line_taking k i breaks request ByElse b = branch_taking k (without_last i) (reads_else (last_result i)) b
 
 -- a byte behind a name that stands for this: a request is read on, a body is called, and any other line is dropped
@@ -63,6 +65,7 @@ behind_name i breaks request (ByString appends) = going_on i (StringName appends
 behind_name i breaks request ByLastLine = going_on i (InArguments breaks request)
 behind_name i breaks request (ByMessage aborts) = going_on i (Telling aborts true)
 behind_name i breaks request (ByLines lines) = going_on i (InArguments breaks request)
+behind_name i breaks request ByTitle = going_on i TitleFront
 behind_name i breaks request ByElse = going_on (without_last i) (branch_of (reads_else (last_result i)))
 
 -- what is read behind a name that stands for this

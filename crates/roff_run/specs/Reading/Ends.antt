@@ -8,11 +8,12 @@ use Rattle.roff_run.specs.Reading.Definitions.{definition_cut}
 use Rattle.roff_run.specs.Reading.Items.{PageInput, Taking, meaning_events}
 use Rattle.roff_run.specs.Reading.Strings.{string_entered, string_line_ended}
 use Rattle.roff_run.specs.Reading.TextLines.{text_line_end}
+use Rattle.roff_run.specs.Reading.Titles.{title_ended}
 use Rattle.roff_num.specs.ShortNames.{name_at}
 use Rattle.roff_run.specs.declared.line_state.Due.{Due}
 use Rattle.roff_run.specs.declared.line_state.Due.TheVariants.{Leaves, Tells as TellsText}
 use Rattle.roff_run.specs.declared.line_state.LineState.{LineState}
-use Rattle.roff_run.specs.declared.line_state.LineState.TheVariants.{LineStart, Braced, Control, Deciding, StringName, StringText, Skipping, Dropped, Told, Exiting, Defining}
+use Rattle.roff_run.specs.declared.line_state.LineState.TheVariants.{LineStart, Braced, Control, Deciding, StringName, StringText, Skipping, Dropped, Told, Exiting, Defining, Title as InTitle}
 use Rattle.roff_run.specs.declared.line_state.TextLine.{TextLine}
 use Rattle.roff_run.specs.declared.phase.Phase.{Phase}
 use Rattle.roff_run.specs.declared.phase.Phase.TheVariants.{Reading, LastMacro, Closing}
@@ -49,7 +50,7 @@ abbrev pub last_line_ended : Known → PageInput → Taking
 last_line_ended k i = meaning_events i LineStart (interrupted_end k.interrupted)
 
 -- The end of the input: an unfinished line ends as by a newline, and so does an interrupted one that no text line went on with;
--- a definition is dropped.
+-- a title is placed, and a definition dropped.
 abbrev pub end_taking : Known → LineState → PageInput → Taking
 end_taking k LineStart i = last_line_ended k i
 end_taking k Braced i = last_line_ended k i
@@ -62,4 +63,5 @@ end_taking k Dropped i = last_line_ended k i
 end_taking k (Told aborts) i = last_line_ended k i
 end_taking k Exiting i = last_line_ended k i
 end_taking k (Defining name appends end matched) i = definition_cut i name
+end_taking k (InTitle delimiter) i = title_ended k i
 end_taking k reading i = undropped_taking k reading i newline

@@ -13,9 +13,10 @@ use Rattle.roff_run.specs.Reading.Items.{PageInput, Taking, going_on, read_by}
 use Rattle.roff_run.specs.Reading.Messages.{message_found}
 use Rattle.roff_run.specs.Reading.Strings.{string_name_found, string_text_found}
 use Rattle.roff_run.specs.Reading.TextLines.{on_line, text_found}
+use Rattle.roff_run.specs.Reading.Titles.{title_found, title_front_found}
 use Rattle.roff_run.specs.Registers.{Known}
 use Rattle.roff_run.specs.declared.line_state.LineState.{LineState}
-use Rattle.roff_run.specs.declared.line_state.LineState.TheVariants.{StringName, StringText, LineStart, Branch, Braced, Text as InText, Control, Name, Arguments as InArguments, Deciding, Skipping, Dropped, Telling, Told, Exiting, Calling, Defining}
+use Rattle.roff_run.specs.declared.line_state.LineState.TheVariants.{StringName, StringText, LineStart, Branch, Braced, Text as InText, Control, Name, Arguments as InArguments, Deciding, Skipping, Dropped, Telling, Told, Exiting, Calling, Defining, TitleFront, Title as InTitle}
 
 -- whether a byte may be read by what is half read
 abbrev pub has_place : LineState → Bool
@@ -37,6 +38,7 @@ place_in k (InArguments breaks request) = AboveArguments
 place_in k (Deciding keeps) = AboveArguments
 place_in k (StringName appends) = AboveArguments
 place_in k (Calling name) = AboveArguments
+place_in k TitleFront = AboveArguments
 place_in k (StringText name appends is_front) = AboveCopy
 place_in k (Telling aborts is_front) = AboveCopy
 place_in k (Defining name appends end matched) = AboveCopy
@@ -55,6 +57,8 @@ found_in k i (StringText name appends is_front) found = string_text_found k i na
 found_in k i (Telling aborts is_front) found = message_found k i aborts is_front found
 found_in k i (Calling name) found = call_found k i name found
 found_in k i (Defining name appends end matched) found = definition_found k i name appends end matched found
+found_in k i TitleFront found = title_front_found k i found
+found_in k i (InTitle delimiter) found = title_found k i delimiter found
 found_in k i reading found = going_on i reading
 
 -- what something reads there does, with what is half read then

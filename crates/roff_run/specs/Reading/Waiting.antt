@@ -10,14 +10,15 @@ use Rattle.roff_escape.specs.declared.open_escape.Waiting.{Waiting}
 use Rattle.roff_escape.specs.declared.open_escape.Waiting.TheVariants.{Takes, Waits}
 use Rattle.roff_run.specs.Reading.Items.{PageInput}
 use Rattle.roff_run.specs.declared.line_state.LineState.{LineState}
-use Rattle.roff_run.specs.declared.line_state.LineState.TheVariants.{LineStart, Branch, Braced, Text as InText, Control, Name, Arguments as InArguments, StringName, Calling}
+use Rattle.roff_run.specs.declared.line_state.LineState.TheVariants.{LineStart, Branch, Braced, Text as InText, Control, Name, Arguments as InArguments, StringName, Calling, Title as InTitle}
 
--- how a backslash is read of what is read: as in a text line, whatever the place on it, or in copy mode
+-- how a backslash is read of what is read: as in a text line, whatever the place on it, and in titles, or in copy mode
 abbrev pub copies_in : LineState → Surroundings
 copies_in LineStart = AboveText (pos 0)
 copies_in Branch = AboveText (pos 0)
 copies_in Braced = AboveText (pos 0)
 copies_in (InText line) = AboveText (pos 0)
+copies_in (InTitle delimiter) = AboveText (pos 0)
 copies_in (_) = AboveCopy
 
 -- what arguments do: behind a quote another one is waited for

@@ -4,7 +4,8 @@ use Rattle.roff_lines.specs.declared.event.Event.TheVariants.{WordEnd, Break, Se
 use Rattle.roff_lines.specs.declared.settings.Param.{Param}
 use Rattle.roff_num.specs.declared.num.Num.{Num}
 use Rattle.roff_pages.specs.declared.layout_event.LayoutEvent.TheVariants.{Number}
-use Rattle.roff_run.specs.declared.event.PageEvent.{PageEvent}
+use Rattle.roff_run.specs.PageEvents.{PageEvent}
+use Rattle.roff_run.specs.declared.event.PageEvent.{PageEvent as PageEventOf}
 use Rattle.roff_run.specs.declared.event.PageEvent.TheVariants.{Text, Page}
 use Rattle.roff_run.specs.declared.message.Message.{Message}
 use Rattle.roff_run.specs.declared.message.Message.TheVariants.{BadNumber, BadFormat, LeftOut, NoSuchEnvironment}
@@ -53,8 +54,8 @@ changing change = Obeyed [] (change ∷ []) [] []
 abbrev pub naming : List Call → Response
 naming calls = Obeyed [] [] calls []
 
--- the page gets this number, if there is one
-abbrev pub page_numbered : Option Num → List PageEvent
+-- the page gets this number, if there is one: that is to be done, or happened
+abbrev pub page_numbered : {T : Type 0} → Option Num → List (PageEventOf T)
 page_numbered None = []
 page_numbered (Some n) = Page (Number n) ∷ []
 

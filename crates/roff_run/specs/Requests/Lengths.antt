@@ -1,7 +1,7 @@
--- The line length, the indent, and the indent of one line (manual, section 6).
+-- The line length, the indent, the indent of one line (manual, section 6), and the title length (section 14).
 use Rattle.std.specs.Prelude.{ℕ, ◌/◌, pos, List, [], ◌∷◌, Result, Ok, Err}
 use Rattle.roff_lines.specs.declared.settings.Param.{Param}
-use Rattle.roff_lines.specs.declared.settings.Param.TheVariants.{LineLength, Indent, TemporaryIndent}
+use Rattle.roff_lines.specs.declared.settings.Param.TheVariants.{LineLength, Indent, TemporaryIndent, TitleLength}
 use Rattle.roff_num.specs.Steps.{followed}
 use Rattle.roff_num.specs.declared.num.NumFault.{NumFault}
 use Rattle.roff_num.specs.declared.num.Scale.TheVariants.{Columns}
@@ -39,3 +39,8 @@ indent known as_given =
 abbrev pub temporary_indent : Known → List (List ℕ) → Response
 temporary_indent known [] = Ignored []
 temporary_indent known (text ∷ others) = setting_length TemporaryIndent (length_set known.settings.indent text)
+
+-- `lt`: the title length
+abbrev pub title_length : Known → List (List ℕ) → Response
+title_length known as_given =
+    let s = known.settings in setting_length TitleLength (length_wanted s.title_length s.previous_title_length as_given)

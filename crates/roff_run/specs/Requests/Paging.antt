@@ -1,13 +1,16 @@
--- The page length (manual, section 3).
-use Rattle.std.specs.Prelude.{ℕ, ◌/◌, ◌==◌, pos, List, [], ◌∷◌, Result, Ok, Err, if◌then◌else◌}
+-- The page length, the page offset, and the number of the next page (manual, section 3).
+use Rattle.std.specs.Prelude.{ℕ, ℤ, ◌/◌, ◌==◌, pos, List, [], ◌∷◌, Result, Ok, Err, if◌then◌else◌}
 use Rattle.roff_num.specs.Steps.{followed}
 use Rattle.roff_num.specs.declared.num.NumFault.{NumFault}
-use Rattle.roff_pages.specs.declared.layout_event.LayoutEvent.TheVariants.{Length}
-use Rattle.roff_run.specs.Numbers.{at_least_zero, height_beside, rounded_in_range}
+use Rattle.roff_num.specs.declared.num.Scale.TheVariants.{Units}
+use Rattle.roff_pages.specs.declared.layout_event.LayoutEvent.TheVariants.{Length, Next, Offset}
+use Rattle.roff_run.specs.Numbers.{at_least_zero, height_beside, rounded_in_range, value_beside}
 use Rattle.roff_run.specs.Registers.{Known, in_heights, place_down}
 use Rattle.roff_run.specs.declared.event.PageEvent.TheVariants.{Page}
 use Rattle.roff_run.specs.declared.message.Message.TheVariants.{PageTooShort}
 use Rattle.roff_run.specs.Requests.Effects.{Response, Ignored, happens, bad_number}
+use Rattle.roff_run.specs.Requests.Lengths.{length_wanted}
+use Rattle.roff_run.specs.Requests.Numbering.{number}
 
 -- the page has so many lines from now on; one that would have none is refused
 abbrev pub lines_on_page : ℕ → Response
@@ -28,3 +31,26 @@ page_of (Err fault) = bad_number
 abbrev pub page_length : Known → List (List ℕ) → Response
 page_length known [] = lines_on_page 66
 page_length known (text ∷ others) = page_of (lines_set known text)
+
+-- lines stand so many columns further right from now on
+abbrev pub offset_to : Result ℕ NumFault → Response
+offset_to (Ok columns) = happens [] (Page (Offset columns) ∷ [])
+offset_to (Err fault) = bad_number
+
+-- `po`: the page offset: the previous one where none is given
+abbrev pub page_offset : Known → List (List ℕ) → Response
+page_offset known as_given = offset_to (length_wanted known.layout.offset known.layout.previous_offset as_given)
+
+-- the page number that a text asks for: a sign in front adds to that of the page in force, or takes from it
+abbrev pub page_asked : Known → List ℕ → Result ℤ NumFault
+page_asked known text = value_beside known.layout.number.0 Units text
+
+-- the next page gets it
+abbrev pub next_numbered : Result ℤ NumFault → Response
+next_numbered (Ok n) = happens [] (Page (Next (number n)) ∷ [])
+next_numbered (Err fault) = bad_number
+
+-- `pn`: the number of the next page; without an argument it is ignored
+abbrev pub page_number : Known → List (List ℕ) → Response
+page_number known [] = Ignored []
+page_number known (text ∷ others) = next_numbered (page_asked known text)

@@ -14,10 +14,12 @@ use Rattle.roff_pages.specs.Turning.{with_trap}
 use Rattle.roff_pages.specs.declared.layout_event.LayoutEvent.{LayoutEvent}
 use Rattle.roff_pages.specs.declared.layout_event.LayoutEvent.TheVariants.{Divert, Plant}
 use Rattle.roff_pages.specs.DeviceText.{device_text}
-use Rattle.roff_run.specs.Output.{PageHistory, happens, layout_of, text_of, written}
+use Rattle.roff_run.specs.Output.{happens, layout_of, text_of, written}
+use Rattle.roff_run.specs.PageEvents.{PageHistory, PastEvent, Title}
 use Rattle.roff_run.specs.Reading.Items.{PageInput}
 use Rattle.roff_run.specs.Registers.{AllRegisters}
-use Rattle.roff_run.specs.Requests.{PageEvent, Text, Page, Interrupt, Environment, Back, SetsTrap}
+use Rattle.roff_run.specs.Requests.{Text, Page, Interrupt, Environment, Back, SetsTrap}
+use Rattle.roff_run.specs.TitleTexts.{title_length}
 
 -- the limit on bytes stops one more
 abbrev pub passes_bytes : Limits → PageInput → Bool
@@ -35,13 +37,14 @@ placed_counted (Divert name appends) L = (Diversions, length L.diversions + 1) �
 placed_counted (_) L = []
 
 -- what an event makes grow, each count as it is behind the event, in the order in which they are looked at
-abbrev pub counts : PageHistory → PageEvent → List (Limit × ℕ)
+abbrev pub counts : PageHistory → PastEvent → List (Limit × ℕ)
 counts h (Text e) = (Line, pending_length (e ∷ text_of h)) ∷ written_counted h (happens h (Text e))
 counts h (Page e) = placed_counted e (layout_of h) ++ written_counted h (Some (Does e))
 counts h (Interrupt untold) = []
 counts h (Environment number) = (EnvironmentsLimit, length (environments h).left + 1) ∷ []
 counts h Back = []
 counts h (SetsTrap trap) = []
+counts h (Title t) = written_counted h (happens h (Title t))
 
 -- the first limit that a count is above
 abbrev pub first_passed : Limits → List (Limit × ℕ) → Option Limit
@@ -49,16 +52,17 @@ first_passed l [] = None
 first_passed l (c ∷ cs) = if nat_lt (value_of l c.0) c.1 then Some c.0 else first_passed l cs
 
 -- the limit that an event would pass behind a history, if it would pass one
-abbrev pub refusal : Limits → PageHistory → PageEvent → Option Limit
+abbrev pub refusal : Limits → PageHistory → PastEvent → Option Limit
 refusal l h e = first_passed l (counts h e)
 
 -- the names that registers have count, as they are behind a change
 abbrev pub names_counted : AllRegisters → List (Limit × ℕ)
 names_counted rs = (Names, length rs.named) ∷ []
 
--- What a step may make grow, as it is behind the step, in the order in which it is looked at: names, the store's bytes and the texts
--- in the making come before what stands in front. One text may be made beside the diversions: that of a string or a macro.
+-- What a step may make grow, as it is behind the step, in the order in which it is looked at: names, the bytes of a title, the
+-- store's bytes and the texts in the making come before what stands in front. No step makes more than one of the first two and of
+-- the others grow. One text may be made beside the diversions: that of a string or a macro.
 abbrev pub counts_in : AllRegisters → PageInput → List (Limit × ℕ)
 counts_in rs i =
-    (Names, length rs.named) ∷ (Store, stored i) ∷ (Names, names_added i) ∷ (Diversions, length i.open_texts - 1)
-    ∷ (Stack, pushed i) ∷ (Depth, depth i) ∷ (Conditions, result_count i) ∷ []
+    (Names, length rs.named) ∷ (Line, title_length rs.title) ∷ (Store, stored i) ∷ (Names, names_added i)
+    ∷ (Diversions, length i.open_texts - 1) ∷ (Stack, pushed i) ∷ (Depth, depth i) ∷ (Conditions, result_count i) ∷ []

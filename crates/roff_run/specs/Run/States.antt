@@ -15,10 +15,11 @@ use Rattle.roff_scan.specs.declared.looked.Looked.TheVariants.{Nothing as Nothin
 use Rattle.roff_scan.specs.Unread.{Unread}
 use Rattle.roff_run.specs.Messages.{message_line, message_lines}
 use Rattle.roff_run.specs.Environments.{environments, interrupted_line}
-use Rattle.roff_run.specs.Output.{PageHistory, layout_of, text_of}
+use Rattle.roff_run.specs.Output.{layout_of, text_of}
+use Rattle.roff_run.specs.PageEvents.{PageEvent, PageHistory}
 use Rattle.roff_run.specs.Reading.Items.{PageInput}
 use Rattle.roff_run.specs.Registers.{AllRegisters, Known, no_registers, changed_by_all}
-use Rattle.roff_run.specs.Requests.{PageEvent, Effect, first_entries, requests}
+use Rattle.roff_run.specs.Requests.{Effect, first_entries, requests}
 use Rattle.roff_run.specs.declared.message.Message.{Message}
 use Rattle.roff_run.specs.declared.message.Message.TheVariants.{LimitReached}
 use Rattle.roff_run.specs.declared.line_state.LineState.{LineState}

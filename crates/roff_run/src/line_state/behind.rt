@@ -44,6 +44,7 @@ impl LineState {
             LineReading::ByLines(_) => LineState::LineStart,
             LineReading::ByMessage { .. } => LineState::LineStart,
             LineReading::ByString { .. } => LineState::LineStart,
+            LineReading::ByTitle => LineState::LineStart,
         }
     }
 

@@ -14,7 +14,7 @@ ghost use Rattle.roff_run.specs.Messages.{remark_messages};
 ghost use Rattle.roff_run.specs.Events.Lines.{line_events, print_event};
 ghost use Rattle.roff_run.specs.Events.Steps.{events_of, messages_of};
 ghost use Rattle.roff_run.specs.declared.message.Message.{Message as MessageOf};
-ghost use Rattle.roff_run.specs.declared.event.PageEvent.{PageEvent};
+ghost use Rattle.roff_run.specs.PageEvents.{PageEvent};
 ghost use Rattle.roff_run.specs.TextLine.Stepping.{step_at};
 ghost use Rattle.roff_run.specs.declared.line_state.LineState.TheVariants.{Text as InText};
 

@@ -23,7 +23,7 @@ returns-in-Err-clause-runs g c =
     (seen failures out (g.E.ByteSink.sunk c.args.err.now)) (seen failures out (g.E.ByteSink.sunk c.begin.new.err)))
     c.self.view_is
     (ends_unread _ _ c.in-Err.status _ _ _ (g.met.S.ByteSource.some c.args.source.now)
-    (λ tape. c.in-Err.ensures.ends (HasRoom-fresh run fresh) unread tape (initial-fresh run _ refl fresh tape) failures out))
+    (λ tape. c.in-Err.ensures.ends (HasRoom-fresh run fresh) unread tape (initial-fresh run c.self.inside.start refl fresh tape) failures out))
 
 pub loop-running-init : goal.loop-running-init
 loop-running-init g c =

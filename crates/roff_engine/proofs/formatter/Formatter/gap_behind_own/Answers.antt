@@ -6,9 +6,9 @@ use Rattle.roff_engine.proofs.Springing.{own_halted, own_then}
 use Rattle.roff_engine.proofs.formatter.Formatter.gap_behind_own.Goals as goal
 
 pub returns-in-Ok : goal.returns-in-Ok
-returns-in-Ok g c = own_then (Text (Gap c.args.blanks)) (λ h. refl) (λ h. refl) _ c.end_open_word.new.self _ _ _ _ _ c.in-Ok.ensures
+returns-in-Ok g c = own_then (Text (Gap c.args.blanks)) (λ h. refl) (λ rs h. refl) _ c.end_open_word.new.self _ _ _ _ _ c.in-Ok.ensures
     (text_changes_only (Gap c.args.blanks) _ _ _ (λ h. refl) (λ h. refl)
     (lines_behind (Gap c.args.blanks) c.end_open_word.new.self.composer _ (λ trap. refl) c.gap.ensures) (search rules) (search rules))
 
 pub returns-in-Err : goal.returns-in-Err
-returns-in-Err g c = own_halted (Text (Gap c.args.blanks)) (λ h. refl) (λ h. refl) _ _ _ _ c.in-Err.halt c.in-Err.ensures
+returns-in-Err g c = own_halted (Text (Gap c.args.blanks)) (λ h. refl) (λ rs h. refl) _ _ _ _ c.in-Err.halt c.in-Err.ensures

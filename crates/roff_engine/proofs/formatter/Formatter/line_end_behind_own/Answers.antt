@@ -5,7 +5,7 @@ use Rattle.roff_engine.proofs.Springing.{own_halted, own_then}
 use Rattle.roff_engine.proofs.formatter.Formatter.line_end_behind_own.Goals as goal
 
 pub returns-in-Ok : goal.returns-in-Ok
-returns-in-Ok g c = own_then (Text LineEnd) (λ h. refl) (λ h. refl) _ c.end_open_word.new.self _ _ _ _ _ c.in-Ok.ensures c.end_line.ensures
+returns-in-Ok g c = own_then (Text LineEnd) (λ h. refl) (λ rs h. refl) _ c.end_open_word.new.self _ _ _ _ _ c.in-Ok.ensures c.end_line.ensures
 
 pub returns-in-Err : goal.returns-in-Err
-returns-in-Err g c = own_halted (Text LineEnd) (λ h. refl) (λ h. refl) _ _ _ _ c.in-Err.halt c.in-Err.ensures
+returns-in-Err g c = own_halted (Text LineEnd) (λ h. refl) (λ rs h. refl) _ _ _ _ c.in-Err.halt c.in-Err.ensures

@@ -9,7 +9,7 @@ use Rattle.roff_engine.proofs.formatter.Formatter.perform_each.Goals as goal
 
 pub loop-event-init : goal.loop-event-init
 loop-event-init g c = record {
-  performed = λ k t before failures err s h rest stood reached. record { history = h; reaches = reached; stands = stood; few = omega arith };
+  performed = λ k t before failures err s h rest stood same reached. record { history = h; reaches = reached; stands = stood; few = omega arith };
   reader = search rules;
 }
 
@@ -21,13 +21,14 @@ loop-event-preserved g c =
     let events = c.args.self.now.reader.meaning.events in
     let there = ap (λ (r : ReaderState). slice_get r.meaning.events n) (sym so_far.reader) in
     let opened : drop n events ≡ c.in-Some.event ∷ drop (n + 1) events = drop-at events n c.in-Some.event (there ∙ sym c.event.ensures.at ∙ c.in-Some.is) in record {
-      performed = λ k t before failures err s h rest stood reached.
-          let now = so_far.performed k t before failures err s h rest stood reached in
-          let did = rw c.in-None.is at c.in-Ok.ensures.one k t before failures err s now.history (drop (n + 1) events ++ rest) now.stands (rw opened at now.reaches) in record {
-            history = behind_event c.in-Some.event now.history;
+      performed = λ k t before failures err s h rest stood same reached.
+          let now = so_far.performed k t before failures err s h rest stood same reached in
+          let kept = same ∙ ap (λ (r : ReaderState). r.registers.all) (sym so_far.reader) in
+          let did = rw c.in-None.is at c.in-Ok.ensures.one k t before failures err s now.history (drop (n + 1) events ++ rest) now.stands kept (rw opened at now.reaches) in record {
+            history = behind_event s.registers c.in-Some.event now.history;
             reaches = did.reaches;
             stands = did.stands;
-            few = omega (arith, more_left c.in-Some.event (drop (n + 1) events) now.history, (rw opened at now.few));
+            few = omega (arith, more_left s.registers c.in-Some.event (drop (n + 1) events) now.history, (rw opened at now.few));
           };
       reader = c.perform_event.ensures.reader ∙ so_far.reader;
     }
@@ -39,13 +40,14 @@ returns-in-Some-sprung g c =
     let events = c.args.self.now.reader.meaning.events in
     let there = ap (λ (r : ReaderState). slice_get r.meaning.events n) (sym so_far.reader) in
     let opened : drop n events ≡ c.in-Some.event ∷ drop (n + 1) events = drop-at events n c.in-Some.event (there ∙ sym c.event.ensures.at ∙ c.in-Some.is) in record {
-      all = λ l t before failures err s h rest stood reached.
-          let now = so_far.performed l t before failures err s h rest stood reached in
-          let did = rw c.in-Some-sprung.is at c.in-Ok.ensures.one l t before failures err s now.history (drop (n + 1) events ++ rest) now.stands (rw opened at now.reaches) in record {
-            history = behind_event c.in-Some.event now.history;
+      all = λ l t before failures err s h rest stood same reached.
+          let now = so_far.performed l t before failures err s h rest stood same reached in
+          let kept = same ∙ ap (λ (r : ReaderState). r.registers.all) (sym so_far.reader) in
+          let did = rw c.in-Some-sprung.is at c.in-Ok.ensures.one l t before failures err s now.history (drop (n + 1) events ++ rest) now.stands kept (rw opened at now.reaches) in record {
+            history = behind_event s.registers c.in-Some.event now.history;
             reaches = rw c.behind.ensures did.reaches;
             stands = did.stands;
-            few = omega (arith, last_left c.in-Some.event (drop (n + 1) events) now.history, (rw opened at now.few));
+            few = omega (arith, last_left s.registers c.in-Some.event (drop (n + 1) events) now.history, (rw opened at now.few));
             last = λ counts. rw c.behind.ensures (left-counted events n c.in-Some.event counts opened did.springs);
           };
       reader = c.perform_event.ensures.reader ∙ so_far.reader;
@@ -58,10 +60,11 @@ returns-in-Err g c =
     let events = c.args.self.now.reader.meaning.events in
     let there = ap (λ (r : ReaderState). slice_get r.meaning.events n) (sym so_far.reader) in
     let opened : drop n events ≡ c.in-Some.event ∷ drop (n + 1) events = drop-at events n c.in-Some.event (there ∙ sym c.event.ensures.at ∙ c.in-Some.is) in record {
-      all = λ l t before failures err s h rest stood reached.
-          let now = so_far.performed l t before failures err s h rest stood reached in
-          comes_one_halted l t before _ s c.in-Some.event (behind_event c.in-Some.event now.history) (drop (n + 1) events ++ rest) events h events rest c.in-Err.halt _ _
-          (c.in-Err.ensures.one l t before failures err s now.history (drop (n + 1) events ++ rest) now.stands (rw opened at now.reaches));
+      all = λ l t before failures err s h rest stood same reached.
+          let now = so_far.performed l t before failures err s h rest stood same reached in
+          let kept = same ∙ ap (λ (r : ReaderState). r.registers.all) (sym so_far.reader) in
+          comes_one_halted l t before _ s c.in-Some.event (behind_event s.registers c.in-Some.event now.history) (drop (n + 1) events ++ rest) events h events rest c.in-Err.halt _ _
+          (c.in-Err.ensures.one l t before failures err s now.history (drop (n + 1) events ++ rest) now.stands kept (rw opened at now.reaches));
       reader = c.perform_event.ensures.reader ∙ so_far.reader;
     }
 
@@ -72,8 +75,8 @@ returns g c =
     let events = c.args.self.now.reader.meaning.events in
     let there = ap (λ (r : ReaderState). slice_get r.meaning.events n) (sym so_far.reader) in
     let closed : drop n events ≡ [] = drop-past events n (there ∙ sym c.event.ensures.at ∙ c.in_default.is) in record {
-      all = λ l t before failures err s h rest stood reached.
-          let now = so_far.performed l t before failures err s h rest stood reached in record {
+      all = λ l t before failures err s h rest stood same reached.
+          let now = so_far.performed l t before failures err s h rest stood same reached in record {
             history = now.history;
             reaches = rw closed at now.reaches;
             stands = now.stands;

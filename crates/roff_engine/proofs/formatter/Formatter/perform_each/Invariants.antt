@@ -6,7 +6,7 @@ use Rattle.roff_engine.specs.Formatter.Performing.{acting}
 use Rattle.roff_engine.proofs.LinesLeft.{CameSoFar}
 use Rattle.roff_requests.specs.Composer.Standing.{StandFor}
 use Rattle.roff_run.specs.Output.{PageHistory}
-use Rattle.roff_run.specs.declared.event.PageEvent.{PageEvent}
+use Rattle.roff_run.specs.PageEvents.{PageEvent}
 use Rattle.roff_run.specs.Run.{State}
 use Rattle.roff_sinks.specs.Sinks.{Sunk}
 use Rattle.roff_engine.proofs.formatter.Formatter.perform_each.Given as goal
@@ -14,7 +14,7 @@ use Rattle.roff_engine.proofs.formatter.Formatter.perform_each.Given as goal
 abbrev pub invariant-loop-event : goal.invariant-loop-event
 invariant-loop-event g l = record {
   performed : (k : Limits) (t : Beginning) (before : Seen) (failures : ℕ) (err : Sunk) (s : State) (h : PageHistory) (rest : List PageEvent)
-      → StandFor k h l.initial.self.composer
+      → StandFor k h l.initial.self.composer → s.registers ≡ l.initial.self.reader.registers.all
       → Reaches k t before (seen failures (g.O.ByteSink.sunk l.initial.out) err) (acting s (l.initial.self.reader.meaning.events ++ rest) h)
       → CameSoFar k t before (seen failures (g.O.ByteSink.sunk l.out) err) s l.initial.self.reader.meaning.events h (drop l.index l.initial.self.reader.meaning.events) rest l.self.composer;
   reader : l.self.reader ≡ l.initial.self.reader;

@@ -1,5 +1,5 @@
 use Rattle.std.proofs.Common.{subst, List}
-use Rattle.roff_run.specs.declared.event.PageEvent.{PageEvent}
+use Rattle.roff_run.specs.PageEvents.{PageEvent}
 use Rattle.roff_engine.specs.Formatter.Performing.{PerformsAll}
 use Rattle.roff_engine.specs.Formatter.Sprung.{none_sprung}
 use Rattle.roff_engine.proofs.NamedSteps.{quiet-events, quiet-flows}
@@ -15,4 +15,4 @@ returns-in_default g c =
     (subst (λ (events : List PageEvent). PerformsAll events c.args.self.now c.perform_quietly.new.self (g.O.ByteSink.sunk c.args.out.now)
     (g.O.ByteSink.sunk c.perform_quietly.new.out) (none_sprung c.perform_quietly.result))
     (quiet-events c.args.step c.in_default.not-LineEnd)
-    (all_quietly _ _ _ _ _ c.perform_quietly.result (quiet-flows c.args.step) c.perform_quietly.ensures))
+    (all_quietly _ _ _ _ _ c.perform_quietly.result (λ rs. quiet-flows rs c.args.step) c.perform_quietly.ensures))

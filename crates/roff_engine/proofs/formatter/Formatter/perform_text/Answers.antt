@@ -7,15 +7,15 @@ use Rattle.roff_engine.proofs.Springing.{one_counts, one_quietly}
 use Rattle.roff_engine.proofs.formatter.Formatter.perform_text.Goals as goal
 
 pub returns-in-Print : goal.returns-in-Print
-returns-in-Print g c = rw (c.in-Print.is, c.none_named.ensures) (one_quietly (Text (Print c.in-Print.glyph)) _ _ _ _ _ (λ h. refl) (λ h. refl)
+returns-in-Print g c = rw (c.in-Print.is, c.none_named.ensures) (one_quietly (Text (Print c.in-Print.glyph)) _ _ _ _ _ (λ h. refl) (λ rs h. refl)
     (c.glyph.ensures (g.O.ByteSink.sunk c.args.out.now)))
 
 pub returns-in-Tab : goal.returns-in-Tab
-returns-in-Tab g c = rw (c.in-Tab.is, c.none_named-in-Tab.ensures) (one_quietly (Text Tab) _ _ _ _ _ (λ h. refl) (λ h. refl)
+returns-in-Tab g c = rw (c.in-Tab.is, c.none_named-in-Tab.ensures) (one_quietly (Text Tab) _ _ _ _ _ (λ h. refl) (λ rs h. refl)
     (c.tab.ensures (g.O.ByteSink.sunk c.args.out.now)))
 
 pub returns-in-WordEnd : goal.returns-in-WordEnd
-returns-in-WordEnd g c = rw (c.in-WordEnd.is, c.none_named-in-WordEnd.ensures) (one_quietly (Text WordEnd) _ _ _ _ _ (λ h. refl) (λ h. refl) c.end_word.ensures.performs)
+returns-in-WordEnd g c = rw (c.in-WordEnd.is, c.none_named-in-WordEnd.ensures) (one_quietly (Text WordEnd) _ _ _ _ _ (λ h. refl) (λ rs h. refl) c.end_word.ensures.performs)
 
 pub returns-in-Gap : goal.returns-in-Gap
 returns-in-Gap g c = rw (c.in-Gap.is, c.none_named-in-Gap.ensures) c.gap_behind_own.ensures
@@ -31,13 +31,13 @@ pub returns-in-Break : goal.returns-in-Break
 returns-in-Break g c = rw (c.in-Break.is, c.none_named-in-Break.ensures) c.break_behind_own.ensures
 
 pub returns-in-Interrupt : goal.returns-in-Interrupt
-returns-in-Interrupt g c = rw c.in-Interrupt.is (one_quietly (Text Interrupt) _ _ _ _ _ (λ h. refl) (λ h. refl) (text_changes_only Interrupt _ _ _ (λ h. refl) (λ h. refl)
+returns-in-Interrupt g c = rw c.in-Interrupt.is (one_quietly (Text Interrupt) _ _ _ _ _ (λ h. refl) (λ rs h. refl) (text_changes_only Interrupt _ _ _ (λ h. refl) (λ h. refl)
     (lines_behind Interrupt c.args.self.now.composer _ (λ trap. refl) c.interrupt.ensures) (search rules) (search rules)))
 
 pub returns-in-Resume : goal.returns-in-Resume
-returns-in-Resume g c = rw c.in-Resume.is (one_quietly (Text Resume) _ _ _ _ _ (λ h. refl) (λ h. refl) (text_changes_only Resume _ _ _ (λ h. refl) (λ h. refl)
+returns-in-Resume g c = rw c.in-Resume.is (one_quietly (Text Resume) _ _ _ _ _ (λ h. refl) (λ rs h. refl) (text_changes_only Resume _ _ _ (λ h. refl) (λ h. refl)
     (lines_behind Resume c.args.self.now.composer _ (λ trap. refl) c.resume.ensures) (search rules) (search rules)))
 
 pub returns-in-Set : goal.returns-in-Set
-returns-in-Set g c = rw c.in-Set.is (one_quietly (Text (Set c.in-Set.param)) _ _ _ _ _ (λ h. refl) (λ h. refl) (text_changes_only (Set c.in-Set.param) _ _ _ (λ h. refl) (λ h. refl)
+returns-in-Set g c = rw c.in-Set.is (one_quietly (Text (Set c.in-Set.param)) _ _ _ _ _ (λ h. refl) (λ rs h. refl) (text_changes_only (Set c.in-Set.param) _ _ _ (λ h. refl) (λ h. refl)
     (lines_behind (Set c.in-Set.param) c.args.self.now.composer _ (λ trap. refl) c.set.ensures) (search rules) (search rules)))

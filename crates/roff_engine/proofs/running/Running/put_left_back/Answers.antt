@@ -1,4 +1,4 @@
-use Rattle.roff_engine.proofs.GoingOn.{puts_none}
+use Rattle.roff_engine.proofs.PuttingBack.{puts_none}
 use Rattle.roff_engine.proofs.running.Running.put_left_back.Goals as goal
 
 pub returns-in-None : goal.returns-in-None

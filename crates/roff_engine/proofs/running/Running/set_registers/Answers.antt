@@ -5,19 +5,22 @@ use Rattle.roff_engine.proofs.Starting.{Begins-all, SetSoFar, SetSoFar-none, ref
 use Rattle.roff_engine.proofs.running.Running.set_registers.Goals as goal
 
 pub loop-first-init : goal.loop-first-init
-loop-first-init c = SetSoFar-none c.args.self.now c.args.given.now
+loop-first-init c = λ first quiet. SetSoFar-none first c.args.self.now c.args.given.now quiet
 
 pub loop-first-preserved : goal.loop-first-preserved
-loop-first-preserved c =
+loop-first-preserved c = λ first quiet.
     let now = c.loop-first.self in
-    let far = subst (λ (rest : List (ℕ × Num)). SetSoFar c.args.self.now now c.args.given.now rest) c.in-Some.ensures.cases.0 c.loop-first.invariant in
-    set_next c.args.self.now now c.args.given.now c.in-Some.others.now c.in-Some.first.now far _ c.give.result c.give.ensures c.in-Ok.is
+    let far =
+    subst (λ (rest : List (ℕ × Num)). SetSoFar first c.args.self.now now c.args.given.now rest) c.in-Some.ensures.cases.0 (c.loop-first.invariant first quiet) in
+    set_next first c.args.self.now now c.args.given.now c.in-Some.others.now c.in-Some.first.now far _ c.give.result c.give.ensures c.in-Ok.is
 
 pub returns-in-Err : goal.returns-in-Err
-returns-in-Err c =
+returns-in-Err c = λ first quiet.
     let now = c.loop-first.self in
-    let far = subst (λ (rest : List (ℕ × Num)). SetSoFar c.args.self.now now c.args.given.now rest) c.in-Some.ensures.cases.0 c.loop-first.invariant in
-    refused_next c.args.self.now now c.args.given.now c.in-Some.others.now c.in-Some.first.now far _ c.give.result c.give.ensures c.in-Err.limit c.in-Err.is
+    let far =
+    subst (λ (rest : List (ℕ × Num)). SetSoFar first c.args.self.now now c.args.given.now rest) c.in-Some.ensures.cases.0 (c.loop-first.invariant first quiet) in
+    refused_next first c.args.self.now now c.args.given.now c.in-Some.others.now c.in-Some.first.now far _ c.give.result c.give.ensures c.in-Err.limit c.in-Err.is
 
 pub returns : goal.returns
-returns c = Begins-all c.args.self.now c.loop-first.self c.args.given.now c.loop-first.rest.now c.in_default.ensures.cases c.loop-first.invariant
+returns c = λ first quiet.
+    Begins-all first c.args.self.now c.loop-first.self c.args.given.now c.loop-first.rest.now c.in_default.ensures.cases (c.loop-first.invariant first quiet)

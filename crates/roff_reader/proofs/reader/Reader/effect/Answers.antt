@@ -19,6 +19,9 @@ returns c = λ l h stands.
       has_left = c.has_left.ensures l h stands.environments;
       place = c.place_now.ensures (layout_of h) stands.pages;
       page_length = c.length.ensures (layout_of h) stands.pages;
+      page_offset = c.offset.ensures (layout_of h) stands.pages;
+      previous_page_offset = c.previous_offset.ensures (layout_of h) stands.pages;
+      page_number = c.number.ensures (layout_of h) stands.pages;
       in_force = c.in_force_for.ensures l h as_given stands first;
     })
     (record { first = first; second = c.get-2.ensures ∙ argument 1; third = c.get-3.ensures ∙ argument 2 })

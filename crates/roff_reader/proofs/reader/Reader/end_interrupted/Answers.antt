@@ -5,7 +5,7 @@ use Rattle.roff_run.specs.Events.Steps.{messages_of}
 use Rattle.roff_reader.specs.Reader.State.{MeaningKept, ReaderState}
 use Rattle.roff_run.specs.Reading.Ends.{interrupted_end}
 use Rattle.roff_run.specs.Reading.Items.{going_on, meaning_events}
-use Rattle.roff_run.specs.declared.event.PageEvent.{PageEvent}
+use Rattle.roff_run.specs.PageEvents.{PageEvent}
 use Rattle.roff_run.specs.declared.event.PageEvent.TheVariants.{Text}
 use Rattle.roff_run.specs.declared.line_state.LineState.TheVariants.{LineStart}
 use Rattle.roff_run.specs.declared.line_state.TextLine.{TextLine}

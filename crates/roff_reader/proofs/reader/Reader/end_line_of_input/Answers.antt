@@ -7,7 +7,7 @@ use Rattle.roff_run.specs.Reading.Ends.{end_taking}
 use Rattle.roff_run.specs.Reading.Items.{going_on}
 use Rattle.roff_run.specs.Reading.Strings.{string_entered, string_line_ended}
 use Rattle.roff_num.specs.ShortNames.{name_at}
-use Rattle.roff_run.specs.declared.line_state.LineState.TheVariants.{Braced, Control, Deciding, Defining, Dropped, Exiting, LineStart, Skipping, StringName, StringText, Told}
+use Rattle.roff_run.specs.declared.line_state.LineState.TheVariants.{Braced, Control, Deciding, Defining, Dropped, Exiting, LineStart, Skipping, StringName, StringText, Told, Title as InTitle}
 use Rattle.roff_reader.proofs.TakesAs.{TakesAs-as, TakesAs-where}
 use Rattle.roff_reader.proofs.LinesTaken.{TakesAs-last_line, TakesAs-no_last_line, end_taking-newline, string_line_ended-going}
 use Rattle.roff_reader.proofs.reader.Reader.end_line_of_input.Goals as goal
@@ -58,6 +58,14 @@ returns-in-Defining c =
     let place = Defining c.in-Defining.name c.in-Defining.appends c.in-Defining.end c.in-Defining.matched in
     let is : old.reading ≡ place = search rules in
     TakesAs-where (λ k r. end_taking k r u.input) place es old done.new.self u done.new.unread (Ok done.result) is (done.ensures es)
+
+pub returns-in-Title : goal.returns-in-Title
+returns-in-Title c =
+    let u = c.args.unread.now in
+    let done = c.obey in
+    let place = InTitle c.in-Title.delimiter in
+    let is : c.args.self.now.reading ≡ place = search rules in
+    TakesAs-where (λ k r. end_taking k r u.input) place c.args.composer.now c.args.self.now done.new.self u done.new.unread done.result is done.ensures
 
 pub returns-in-Braced : goal.returns-in-Braced
 returns-in-Braced c =
@@ -158,4 +166,5 @@ returns-in_default c =
     (λ name appends is_front at. c.in_default.not-StringText name appends is_front (same ∙ at))
     (λ opened closed behind at. c.in_default.not-Skipping opened closed behind (same ∙ at))
     (λ name appends end matched at. c.in_default.not-Defining name appends end matched (same ∙ at))
-    (λ keeps at. c.in_default.not-Deciding keeps (same ∙ at)) (λ aborts at. c.in_default.not-Told aborts (same ∙ at))) c.read_undropped.ensures
+    (λ keeps at. c.in_default.not-Deciding keeps (same ∙ at)) (λ aborts at. c.in_default.not-Told aborts (same ∙ at))
+    (λ delimiter at. c.in_default.not-Title delimiter (same ∙ at))) c.read_undropped.ensures

@@ -5,7 +5,7 @@ use Rattle.roff_lines.specs.declared.event.Event.TheVariants.{Resume}
 use Rattle.roff_run.specs.Reading.Beginnings.{going_on_told}
 use Rattle.roff_run.specs.Reading.Items.{Taking, behind_events}
 use Rattle.roff_run.specs.Reading.TextLines.{text_taking}
-use Rattle.roff_run.specs.declared.event.PageEvent.{PageEvent}
+use Rattle.roff_run.specs.PageEvents.{PageEvent}
 use Rattle.roff_run.specs.declared.event.PageEvent.TheVariants.{Text}
 use Rattle.roff_reader.specs.Reader.State.{MeaningKept, ReaderState}
 use Rattle.roff_run.specs.declared.step.Step.TheVariants.{Meaning}

@@ -10,8 +10,9 @@ use Rattle.roff_run.specs.Reading.Branches.{branch_taking, reads_else}
 use Rattle.roff_run.specs.Reading.ControlLines.{line_taking}
 use Rattle.roff_run.specs.Reading.Messages.{message_found}
 use Rattle.roff_run.specs.Reading.Strings.{string_name_found}
+use Rattle.roff_run.specs.Reading.Titles.{title_front_found}
 use Rattle.roff_run.specs.Requests.{row_of}
-use Rattle.roff_run.specs.declared.request.LineReading.TheVariants.{ByArguments, ByCondition, ByElse, ByLastLine, ByLines, ByMessage, ByString}
+use Rattle.roff_run.specs.declared.request.LineReading.TheVariants.{ByArguments, ByCondition, ByElse, ByLastLine, ByLines, ByMessage, ByString, ByTitle}
 use Rattle.roff_reader.proofs.TakesAs.{NoMore-without_last, TakesAs-less, TakesAs-line, TakesAs-read}
 use Rattle.roff_reader.proofs.reader.Reader.read_first.Goals as goal
 
@@ -100,6 +101,19 @@ returns-in-ByCondition c =
     let line : (row_of c.args.request).line ≡ ByCondition keeps = search rules in
     TakesAs-line (ByCondition keeps) c.args.breaks c.args.request c.args.byte c.args.composer.now c.args.self.now done.new.self c.args.unread.now done.new.unread done.result line
     done.ensures
+
+pub returns-in-ByTitle : goal.returns-in-ByTitle
+returns-in-ByTitle c =
+    let es = c.args.composer.now in
+    let old = c.args.self.now in
+    let u = c.args.unread.now in
+    let b = c.args.byte in
+    let read = c.read_byte-found-in-ByTitle in
+    let done = c.read_title_front in
+    let line : (row_of c.args.request).line ≡ ByTitle = search rules in
+    TakesAs-line ByTitle c.args.breaks c.args.request b es old done.new.self u done.new.unread done.result line
+    (TakesAs-read (λ k i found. title_front_found k i found) (byte_read AboveArguments u.input.escapes b) es old done.new.self u read.new.self done.new.unread
+    read.result done.result read.ensures.reading (texts_held-byte_read AboveArguments b u.input.escapes) done.ensures)
 
 pub returns-in-ByElse : goal.returns-in-ByElse
 returns-in-ByElse c =

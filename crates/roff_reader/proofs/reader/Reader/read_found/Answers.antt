@@ -2,7 +2,7 @@ use Rattle.std.proofs.Common.{◌≡◌, ◌∙◌, ap, refl, rules}
 use Rattle.roff_run.specs.Reading.Found.{found_in}
 use Rattle.roff_reader.specs.Reader.State.{ReaderState}
 use Rattle.roff_run.specs.declared.line_state.LineState.{LineState}
-use Rattle.roff_run.specs.declared.line_state.LineState.TheVariants.{StringName, StringText, LineStart, Branch, Braced, Text as InText, Arguments as InArguments, Deciding, Telling, Calling, Defining}
+use Rattle.roff_run.specs.declared.line_state.LineState.TheVariants.{StringName, StringText, LineStart, Branch, Braced, Text as InText, Arguments as InArguments, Deciding, Telling, Calling, Defining, TitleFront, Title as InTitle}
 use Rattle.roff_reader.proofs.Placed.{found-elsewhere}
 use Rattle.roff_reader.proofs.TakesAs.{TakesAs-where}
 use Rattle.roff_reader.proofs.LinesTaken.{TakesAs-meant}
@@ -97,6 +97,22 @@ returns-in-Defining c =
     let is : c.args.self.now.reading ≡ place = search rules in
     TakesAs-where (λ k r. found_in k u.input r c.args.found) place c.args.composer.now c.args.self.now done.new.self u done.new.unread done.result is done.ensures
 
+pub returns-in-TitleFront : goal.returns-in-TitleFront
+returns-in-TitleFront c =
+    let u = c.args.unread.now in
+    let done = c.read_title_front in
+    let place : LineState = TitleFront in
+    let is : c.args.self.now.reading ≡ place = search rules in
+    TakesAs-where (λ k r. found_in k u.input r c.args.found) place c.args.composer.now c.args.self.now done.new.self u done.new.unread done.result is done.ensures
+
+pub returns-in-Title : goal.returns-in-Title
+returns-in-Title c =
+    let u = c.args.unread.now in
+    let done = c.read_title in
+    let place : LineState = InTitle c.in-Title.delimiter in
+    let is : c.args.self.now.reading ≡ place = search rules in
+    TakesAs-where (λ k r. found_in k u.input r c.args.found) place c.args.composer.now c.args.self.now done.new.self u done.new.unread done.result is done.ensures
+
 pub returns-in_default : goal.returns-in_default
 returns-in_default c =
     let old = c.args.self.now in
@@ -109,4 +125,5 @@ returns-in_default c =
     (λ keeps is. others.not-Deciding keeps (same ∙ is)) (λ appends is. others.not-StringName appends (same ∙ is))
     (λ name appends is_front is. others.not-StringText name appends is_front (same ∙ is)) (λ name is. others.not-Calling name (same ∙ is))
     (λ name appends end matched is. others.not-Defining name appends end matched (same ∙ is))
-    (λ aborts is_front is. others.not-Telling aborts is_front (same ∙ is))) refl refl
+    (λ aborts is_front is. others.not-Telling aborts is_front (same ∙ is)) (λ is. others.not-TitleFront (same ∙ is))
+    (λ delimiter is. others.not-Title delimiter (same ∙ is))) refl refl

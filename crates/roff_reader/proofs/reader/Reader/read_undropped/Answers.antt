@@ -1,18 +1,27 @@
 use Rattle.std.proofs.Common.{◌≡◌, ◌∙◌, Ok, ap, refl, rules}
+use Rattle.roff_escape.specs.OpenEscapes.{byte_read}
 use Rattle.roff_reader.specs.Reader.State.{ReaderState}
 use Rattle.roff_run.specs.Reading.{undropped_taking}
-use Rattle.roff_run.specs.declared.line_state.LineState.TheVariants.{Control, Dropped, Name, Skipping, Told, Exiting}
-use Rattle.roff_reader.proofs.Placed.{placed}
-use Rattle.roff_reader.proofs.TakesAs.{TakesAs-where}
+use Rattle.roff_run.specs.Reading.Found.{place_in, read_in}
+use Rattle.roff_run.specs.declared.line_state.LineState.TheVariants.{Control, Dropped, Name, Skipping, Told, Exiting, Title as InTitle}
+use Rattle.roff_reader.proofs.Placed.{kept-placed}
+use Rattle.roff_reader.proofs.TakesAs.{TakesAs-as, TakesAs-where}
 use Rattle.roff_reader.proofs.LinesTaken.{TakesAs-meant}
 use Rattle.roff_reader.proofs.reader.Reader.read_undropped.Goals as goal
 
-pub read_placed-requires : goal.read_placed-requires
-read_placed-requires c =
+pub returns-in_default : goal.returns-in_default
+returns-in_default c =
+    let u = c.args.unread.now in
+    let b = c.args.byte in
+    let r = c.args.self.now.reading in
     let same = ap (λ (s : ReaderState). s.reading) c.self.view_is in
-    placed c.args.self.now.reading (λ breaks is. c.in_default.not-Control breaks (same ∙ is)) (λ breaks first is. c.in_default.not-Name breaks first (same ∙ is))
+    let done = c.read_placed in
+    TakesAs-as (λ k. read_in k r u.input (byte_read (place_in k r) u.input.escapes b)) (λ k. undropped_taking k r u.input b) c.args.composer.now c.args.self.now
+    done.new.self u done.new.unread done.result
+    (λ k. kept-placed k u.input r b (λ breaks is. c.in_default.not-Control breaks (same ∙ is)) (λ breaks first is. c.in_default.not-Name breaks first (same ∙ is))
     (λ opened closed behind is. c.in_default.not-Skipping opened closed behind (same ∙ is)) (λ is. c.in_default.not-Dropped (same ∙ is))
     (λ aborts is. c.in_default.not-Told aborts (same ∙ is)) (λ is. c.in_default.not-Exiting (same ∙ is))
+    (λ delimiter is. c.in_default.not-Title delimiter (same ∙ is))) done.ensures
 
 pub returns-in-Control : goal.returns-in-Control
 returns-in-Control c =
@@ -67,6 +76,14 @@ returns-in-Told c =
     TakesAs-where (λ k r. undropped_taking k r u.input c.args.byte) place es old done.new.self u u (Ok done.result) is
     (TakesAs-meant (λ k. undropped_taking k place u.input c.args.byte) place es old done.new.self u done.result
     (λ k. refl) done.ensures.reading done.ensures.step)
+
+pub returns-in-Title : goal.returns-in-Title
+returns-in-Title c =
+    let u = c.args.unread.now in
+    let place = InTitle c.in-Title.delimiter in
+    let done = c.read_between in
+    let is : c.args.self.now.reading ≡ place = search rules in
+    TakesAs-where (λ k r. undropped_taking k r u.input c.args.byte) place c.args.composer.now c.args.self.now done.new.self u done.new.unread done.result is done.ensures
 
 pub returns-in-Exiting : goal.returns-in-Exiting
 returns-in-Exiting c =

@@ -4,7 +4,12 @@ use Rattle.roff_reader.specs.Reader.Taken.{TakesAs}
 use Rattle.roff_run.specs.Reading.Items.{PageUnread}
 use Rattle.roff_run.specs.Reading.Calls.{call_unit, holding_call}
 use Rattle.roff_run.specs.Reading.Items.{going_on}
-use Rattle.roff_run.specs.declared.line_state.LineState.TheVariants.{Calling}
+use Rattle.roff_run.specs.declared.line_state.LineState.TheVariants.{Calling, LineStart}
+use Rattle.roff_ahead.specs.Input.Calls.{calling_body}
+use Rattle.roff_ahead.specs.Input.Names.{body_named}
+use Rattle.roff_escape.specs.declared.open_escape.CopyUnit.TheVariants.{Byte}
+use Rattle.roff_num.specs.ShortNames.{name_bytes}
+use Rattle.roff_reader.proofs.LinesTaken.{TakesAs-changed, TakesAs-not_changed}
 use Rattle.roff_reader.proofs.CalledBodies.{TakesAs-call_full, TakesAs-call_held, TakesAs-call_not_held, TakesAs-call_other, TakesAs-call_quote}
 use Rattle.roff_reader.proofs.reader.Reader.read_unit_of_call.Goals.{in-Byte-eq34, in_default, then-len-lt-CALL_ARGUMENTS+in_ok-hold, else-len-lt-CALL_ARGUMENTS}
 use Rattle.roff_reader.proofs.reader.Reader.read_unit_of_call.Goals as goal
@@ -55,3 +60,22 @@ returns c = λ es.
           rw w.unread-is
           (behind_line mid (TakesAs-call_full unit name es old new mid read.result full read.ensures.reading read.ensures.step))
     ]
+
+pub returns-in-Byte-eq10 : goal.returns-in-Byte-eq10
+returns-in-Byte-eq10 c = λ es.
+    let u = c.args.unread.now in
+    let called = calling_body (body_named (name_bytes c.args.name) u.input) u.input in
+    let is : c.args.unit ≡ Byte 10 = search rules in
+    rw is
+    (TakesAs-changed called LineStart es c.args.self.now c.read_on.new.self u c.call.new.self c.read_on.result c.in_ok-call-in-Byte-eq10.field-0 (search rules)
+    c.read_on.ensures.reading c.read_on.ensures.step)
+
+pub returns-in_err-call-in-Byte-eq10 : goal.returns-in_err-call-in-Byte-eq10
+returns-in_err-call-in-Byte-eq10 c = λ es.
+    let old = c.args.self.now in
+    let u = c.args.unread.now in
+    let called = calling_body (body_named (name_bytes c.args.name) u.input) u.input in
+    let limit = c.in_err-call-in-Byte-eq10.field-0.0 in
+    let is : c.args.unit ≡ Byte 10 = search rules in
+    let refused : c.from_residual.result ≡ Err limit = search rules in
+    rw (is, refused) (TakesAs-not_changed called LineStart es old old u c.call.new.self limit (search rules))

@@ -1,7 +1,8 @@
 use Rattle.std.proofs.Common.{◌≡◌, Ok, Err, false, rules}
+use Rattle.roff_escape.specs.declared.open_escape.CopyUnit.TheVariants.{Byte}
 use Rattle.roff_run.specs.Reading.Items.{going_on}
-use Rattle.roff_run.specs.Reading.Strings.{string_grown, string_unit}
-use Rattle.roff_run.specs.declared.line_state.LineState.TheVariants.{StringText}
+use Rattle.roff_run.specs.Reading.Strings.{string_entered, string_grown, string_unit}
+use Rattle.roff_run.specs.declared.line_state.LineState.TheVariants.{LineStart, StringText}
 use Rattle.roff_reader.proofs.Strings.{TakesAs-became, TakesAs-not_became, string_unit-grown}
 use Rattle.roff_reader.proofs.TakesAs.{TakesAs-as}
 use Rattle.roff_reader.proofs.reader.Reader.read_unit_of_string.Goals.{in_default-via-in-Byte-eq32+else-is_front, in_default-via-in-Byte-eq34+else-is_front-2, in_default-via-in-Byte+in_default, in_default-via-in_default}
@@ -45,3 +46,22 @@ returns-in_err-grow_string-in_default c = λ es.
     (TakesAs-as (λ k. going_on (string_grown name unit u.input) (StringText name appends false)) (λ k. string_unit u.input name appends is_front unit) es c.args.self.now
     c.args.self.now u c.grow_string.new.unread (Err limit) (λ k. grown)
     (TakesAs-not_became (string_grown name unit u.input) (StringText name appends false) es c.args.self.now c.args.self.now u c.grow_string.new.unread limit (search rules)))
+
+pub returns-in_ok-enter_string-in-Byte-eq10 : goal.returns-in_ok-enter_string-in-Byte-eq10
+returns-in_ok-enter_string-in-Byte-eq10 c = λ es.
+    let u = c.args.unread.now in
+    let is : c.args.unit ≡ Byte 10 = search rules in
+    rw is
+    (TakesAs-became (string_entered c.args.name c.args.appends u.input) LineStart es c.args.self.now c.read_on.new.self u c.enter_string.new.unread c.read_on.result
+    c.in_ok-enter_string-in-Byte-eq10.field-0 c.in_ok-enter_string-in-Byte-eq10.ensures c.read_on.ensures.reading c.read_on.ensures.step)
+
+pub returns-in_err-enter_string-in-Byte-eq10 : goal.returns-in_err-enter_string-in-Byte-eq10
+returns-in_err-enter_string-in-Byte-eq10 c = λ es.
+    let old = c.args.self.now in
+    let u = c.args.unread.now in
+    let limit = c.in_err-enter_string-in-Byte-eq10.field-0.0 in
+    let is : c.args.unit ≡ Byte 10 = search rules in
+    let refused : c.from_residual.result ≡ Err limit = search rules in
+    rw (is, refused)
+    (TakesAs-not_became (string_entered c.args.name c.args.appends u.input) LineStart es old old u c.enter_string.new.unread limit
+    c.in_err-enter_string-in-Byte-eq10.ensures)

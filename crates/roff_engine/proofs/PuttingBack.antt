@@ -1,0 +1,124 @@
+-- Events that are put back: what was left of those that the reader keeps.
+use Rattle.std.proofs.Common.{◌∙◌, ◌≡◌, ◌≤◌, ◌<◌, ◌+◌, ℕ, List, [], ◌∷◌, ◌++◌, length, Some, None, ap, arith, refl, subst, sym}
+use Rattle.std.specs.Prelude.{drop, map, slice_get, ◌-◌}
+use Rattle.std.proofs.lemmas.List.{length-map}
+use Rattle.roff_ahead.specs.Input.{Ahead, DoAhead, events_ahead, most_events, putting_all_back, putting_back}
+use Rattle.roff_reader.specs.Reader.State.{ReaderState}
+use Rattle.roff_run.specs.PageEvents.{PageEvent}
+use Rattle.roff_run.specs.declared.event.PageEvent.TheVariants.{Text, Interrupt, Environment, Back, InputTrap, Page, Title}
+use Rattle.roff_run.specs.declared.title.WhichTitle.TheVariants.{Read, Kept}
+use Rattle.roff_run.specs.Reading.Items.{PageUnread}
+use Rattle.roff_run.specs.Registers.{AllRegisters}
+use Rattle.roff_run.specs.Titles.{keeping, put_back, with_title_kept}
+use Rattle.roff_engine.specs.declared.formatter.Formatter.{Formatter}
+use Rattle.roff_engine.specs.declared.running.Running.{Running as Coded}
+use Rattle.roff_engine.specs.Running.Springing.{HasRoom, PutsBack}
+use Rattle.roff_engine.proofs.EventsLeft.{drop-at, drop-past, drop-past-next}
+
+-- the reader where these events are put back: a title among them is kept
+abbrev pub reader_keeping : List PageEvent → ReaderState → ReaderState
+reader_keeping events r = record r { registers = record r.registers { all = keeping events r.registers.all } }
+
+-- the run with these events put back
+abbrev pub with_back : List PageEvent → Coded → Coded
+with_back events run = record run {
+  unread = record run.unread { input = putting_all_back (map put_back events) run.unread.input };
+  formatter = record run.formatter { reader = reader_keeping events run.formatter.reader };
+}
+
+-- it is that run, if there was room
+pub is-back : (events : List PageEvent) (old mid : Coded) → PutsBack events old mid → HasRoom events old.unread → mid ≡ with_back events old
+is-back events old mid puts room =
+    puts.others
+    ∙ ap (λ (u : PageUnread). record old { unread = u; formatter = mid.formatter }) (puts.puts room)
+    ∙ ap (λ (f : Formatter). record old { unread = record old.unread { input = putting_all_back (map put_back events) old.unread.input }; formatter = f }) puts.keeps
+
+-- none
+pub puts_none : (run : Coded) → PutsBack [] run run
+puts_none run = record { others = refl; keeps = refl; puts = λ room. refl }
+
+-- events that are put back are so many more
+events_ahead-back : (events : List PageEvent) (items : List (Ahead PageEvent)) → events_ahead (map DoAhead events ++ items) ≡ length events + events_ahead items
+events_ahead-back [] items = omega arith
+events_ahead-back (e ∷ events) items = omega (arith, events_ahead-back events items)
+
+-- a title that is kept before others are is kept behind them
+kept-keeping : (events : List PageEvent) (rs : AllRegisters) → with_title_kept (keeping events rs) ≡ keeping events (with_title_kept rs)
+kept-keeping [] rs = refl
+kept-keeping (Title Read ∷ events) rs = kept-keeping events (with_title_kept rs)
+kept-keeping (Title Kept ∷ events) rs = kept-keeping events rs
+kept-keeping (Text e ∷ events) rs = kept-keeping events rs
+kept-keeping (Interrupt untold ∷ events) rs = kept-keeping events rs
+kept-keeping (Environment number ∷ events) rs = kept-keeping events rs
+kept-keeping (Back ∷ events) rs = kept-keeping events rs
+kept-keeping (InputTrap trap ∷ events) rs = kept-keeping events rs
+kept-keeping (Page e ∷ events) rs = kept-keeping events rs
+
+-- so that an event is put back behind others does as where it comes first
+keeping-behind : (event : PageEvent) (others : List PageEvent) (rs : AllRegisters) → keeping (event ∷ []) (keeping others rs) ≡ keeping (event ∷ others) rs
+keeping-behind (Title Read) others rs = kept-keeping others rs
+keeping-behind (Title Kept) others rs = refl
+keeping-behind (Text e) others rs = refl
+keeping-behind (Interrupt untold) others rs = refl
+keeping-behind (Environment number) others rs = refl
+keeping-behind Back others rs = refl
+keeping-behind (InputTrap trap) others rs = refl
+keeping-behind (Page e) others rs = refl
+
+-- the run with this reader and unread input
+abbrev pub with_both : Coded → ReaderState → PageUnread → Coded
+with_both run reader unread = record run { unread = unread; formatter = record run.formatter { reader = reader } }
+
+-- one more in front of others
+pub puts_one : (event : PageEvent) (others : List PageEvent) (old mid : Coded) (reader : ReaderState) (left : PageUnread) → PutsBack others old mid
+    → reader ≡ reader_keeping (event ∷ []) mid.formatter.reader
+    → (events_ahead mid.unread.input.ahead < most_events mid.unread.limits.depth → left ≡ record mid.unread { input = putting_back (put_back event) mid.unread.input })
+    → PutsBack (event ∷ others) old (with_both mid reader left)
+puts_one event others old mid reader left puts kept put = record {
+  others = ap (λ (run : Coded). record run { unread = left; formatter = record mid.formatter { reader = reader } }) puts.others;
+  keeps = ap (λ (r : ReaderState). record mid.formatter { reader = r }) kept
+      ∙ ap (λ (f : Formatter). record f { reader = reader_keeping (event ∷ []) f.reader }) puts.keeps
+      ∙ ap (λ (rs : AllRegisters). record old.formatter { reader = record old.formatter.reader { registers = record old.formatter.reader.registers { all = rs } } })
+      (keeping-behind event others old.formatter.reader.registers.all);
+  puts = λ room.
+      let enough : events_ahead old.unread.input.ahead + length (event ∷ others) ≤ most_events old.unread.limits.depth = room (omega arith) in
+      let is : mid.unread ≡ record old.unread { input = putting_all_back (map put_back others) old.unread.input } = puts.puts (λ some. omega (arith, enough)) in
+      let many : length (map put_back others) ≡ length others = length-map others put_back in
+      let allowed : events_ahead mid.unread.input.ahead < most_events mid.unread.limits.depth =
+      rw is (omega (arith, enough, many, events_ahead-back (map put_back others) old.unread.input.ahead)) in
+      put allowed ∙ ap (λ (u : PageUnread). record u { input = putting_back (put_back event) u.input }) is;
+}
+
+-- the events that the reader keeps stay as others are put back
+kept_same : (events : List PageEvent) (old mid : Coded) → PutsBack events old mid
+    → mid.formatter.reader.meaning.events ≡ old.formatter.reader.meaning.events
+kept_same events old mid puts = ap (λ (f : Formatter). f.reader.meaning.events) puts.keeps
+
+-- one more of those that the reader keeps is put back, in front of those behind it
+pub puts_at : (old mid : Coded) (reader : ReaderState) (left : PageUnread) (index : ℕ) (event : PageEvent) → 1 ≤ index
+    → PutsBack (drop index old.formatter.reader.meaning.events) old mid
+    → slice_get mid.formatter.reader.meaning.events (index - 1) ≡ Some event
+    → reader ≡ reader_keeping (event ∷ []) mid.formatter.reader
+    → (events_ahead mid.unread.input.ahead < most_events mid.unread.limits.depth → left ≡ record mid.unread { input = putting_back (put_back event) mid.unread.input })
+    → PutsBack (drop (index - 1) old.formatter.reader.meaning.events) old (with_both mid reader left)
+puts_at old mid reader left index event some puts at kept put =
+    let events : List PageEvent = old.formatter.reader.meaning.events in
+    let next : index - 1 + 1 ≡ index = omega (arith, some) in
+    let stands : slice_get events (index - 1) ≡ Some event =
+    subst (λ (es : List PageEvent). slice_get es (index - 1) ≡ Some event) (kept_same (drop index events) old mid puts) at in
+    let opened : drop (index - 1) events ≡ event ∷ drop index events =
+    drop-at events (index - 1) event stands ∙ ap (λ (n : ℕ). event ∷ drop n events) next in
+    subst (λ (es : List PageEvent). PutsBack es old (with_both mid reader left)) (sym opened)
+    (puts_one event (drop index events) old mid reader left puts kept put)
+
+-- where there is none, none is there behind it either
+pub puts_past : (old mid : Coded) (index : ℕ) → 1 ≤ index → PutsBack (drop index old.formatter.reader.meaning.events) old mid
+    → slice_get mid.formatter.reader.meaning.events (index - 1) ≡ None → PutsBack (drop (index - 1) old.formatter.reader.meaning.events) old mid
+puts_past old mid index some puts at =
+    let events : List PageEvent = old.formatter.reader.meaning.events in
+    let next : index - 1 + 1 ≡ index = omega (arith, some) in
+    let stands : slice_get events (index - 1) ≡ None =
+    subst (λ (es : List PageEvent). slice_get es (index - 1) ≡ None) (kept_same (drop index events) old mid puts) at in
+    let none : drop (index - 1) events ≡ drop index events =
+    drop-past events (index - 1) stands ∙ sym (subst (λ (n : ℕ). drop n events ≡ []) next (drop-past-next events (index - 1) stands)) in
+    subst (λ (es : List PageEvent). PutsBack es old mid) (sym none) puts

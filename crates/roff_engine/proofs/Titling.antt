@@ -1,0 +1,82 @@
+-- Titles that are placed: they are the definition's, with the text, the title length and the number of then.
+use Rattle.std.proofs.Common.{◌≡◌, ◌∙◌, ℕ, ◌+◌, ◌*◌, ◌<◌, ◌≤◌, ◌^◌, List, length, Option, Some, Result, ap, arith, refl, subst, sym}
+use Rattle.std.proofs.lemmas.Nat.{mul-le}
+use Rattle.roff_num.specs.RegisterText.{register_text}
+use Rattle.roff_num.specs.declared.limits.Limits.{Limits}
+use Rattle.roff_lines.specs.Events.{settings_after}
+use Rattle.roff_lines.specs.Glyphs.{text_width}
+use Rattle.roff_lines.specs.declared.settings.Settings.{Settings}
+use Rattle.roff_pages.specs.Happenings.{Happening, Titles}
+use Rattle.roff_pages.specs.Layout.{Layout}
+use Rattle.roff_pages.specs.Pages.Stands.{StandsAs}
+use Rattle.roff_sinks.specs.Sinks.{Sunk}
+use Rattle.roff_sinks.specs.Titles.{part_text}
+use Rattle.roff_requests.specs.Composer.Standing.{StandFor}
+use Rattle.roff_requests.specs.Environments.Standing.{StandBy}
+use Rattle.roff_requests.specs.declared.environments.Environments.{Environments as EnvironmentsOf}
+use Rattle.roff_reader.specs.Reader.State.{ReaderState}
+use Rattle.roff_run.specs.Environments.{PageHistory, environments, text_of}
+use Rattle.roff_run.specs.Layouts.{happens, layout_of}
+use Rattle.roff_run.specs.PageEvents.{PastEvent}
+use Rattle.roff_run.specs.Registers.{AllRegisters}
+use Rattle.roff_run.specs.Run.Counts.{first_passed, refusal, written_counted}
+use Rattle.roff_run.specs.TitleTexts.{TitleText}
+use Rattle.roff_run.specs.Titles.{title_of, title_told}
+use Rattle.roff_run.specs.declared.event.PageEvent.TheVariants.{Title}
+use Rattle.roff_run.specs.declared.title.WhichTitle.{WhichTitle}
+use Rattle.roff_engine.specs.declared.formatter.Formatter.{Formatter}
+use Rattle.roff_engine.specs.declared.halt.Halt.{Halt}
+use Rattle.roff_engine.specs.Formatter.Paging.{PutsOnPage, ReadyFor}
+use Rattle.roff_engine.specs.Formatter.Performing.{PerformsOne}
+use Rattle.roff_engine.specs.Formatter.Sprung.{none_sprung}
+use Rattle.roff_engine.specs.Formatter.Titling.{title_at}
+use Rattle.roff_engine.proofs.DoneFirst.{PerformsHere, put_here, ready_then, title_first}
+use Rattle.roff_engine.proofs.TitleNumbers.{part-width}
+
+-- a part is so wide with a number of so many bytes
+part-within : (number part : List ℕ) → length number ≤ 48 → text_width (part_text number part) ≤ length part * 49
+part-within number part short = omega (arith, part-width number part, mul-le (length part) (1 + length number) (length part) 49 (omega arith) (omega (arith, short)))
+
+-- so a title of less than 2^32 bytes is within its columns
+pub width-within : (number left centre right : List ℕ) (columns : ℕ) → length number ≤ 48 → length left + length centre + length right < 2 ^ 32 → columns < 2 ^ 32
+    → text_width (part_text number left) + text_width (part_text number centre) + text_width (part_text number right) + columns < 2 ^ 64
+width-within number left centre right columns short few small =
+    omega (arith, few, small, part-within number left short, part-within number centre short, part-within number right short)
+
+-- what happens with a title, where its number is the page's
+title-happens : (f : Formatter) (which : WhichTitle) (number : List ℕ)
+    → ((L : Layout) → StandsAs L f.composer.pages → number ≡ register_text f.reader.registers.all.page_format L.number.0)
+    → (l : Limits) (h : PageHistory) → StandFor l h f.composer
+    → happens h (Title (title_told f.reader.registers.all which)) ≡ Some (Titles (title_at f which number))
+title-happens f which number is l h stood =
+    let rs : AllRegisters = f.reader.registers.all in
+    let text : TitleText = title_of rs which in
+    let made : ℕ → List ℕ → Option Happening = λ columns shown.
+    Some (Titles (record { left = text.left; centre = text.centre; right = text.right; length = columns; number = shown })) in
+    ap (λ (s : Settings). made s.title_length (register_text rs.page_format (layout_of h).number.0)) (sym stood.environments.in_force.lines.settings)
+    ∙ ap (made f.composer.environments.in_force.lines.settings.title_length) (sym (is (layout_of h) stood.pages))
+
+-- it is performed where it is done first
+title_here : (which : WhichTitle) (number : List ℕ) (old new : Formatter) (out out_new : Sunk) (r : Result (Unit {0}) Halt)
+    → ((L : Layout) → StandsAs L old.composer.pages → number ≡ register_text old.reader.registers.all.page_format L.number.0)
+    → PutsOnPage (Titles (title_at old which number)) old.composer.pages new.composer.pages out out_new r
+    → new ≡ record old { composer = record old.composer { pages = new.composer.pages } }
+    → PerformsHere (Title (title_told old.reader.registers.all which)) old new out out_new r
+title_here which number old new out out_new r is put others =
+    let x : PastEvent = Title (title_told old.reader.registers.all which) in
+    put_here x (Titles (title_at old which number)) old new out out_new r put (title-happens old which number is)
+    (λ l h stood. ap (λ (o : Option Happening). first_passed l (written_counted h o)) (title-happens old which number is l h stood))
+    (λ l h stood. subst (λ (es : EnvironmentsOf). StandBy l (environments h) es) (sym (ap (λ (f : Formatter). f.composer.environments) others)) stood.environments)
+    (ap (λ (f : Formatter). f.reader) others)
+
+-- so it is performed by a formatter that was ready for it
+pub title_placed : (which : WhichTitle) (number : List ℕ) (old mid new : Formatter) (out out_new : Sunk) (r : Result (Unit {0}) Halt) → ReadyFor (Title which) old mid
+    → ((L : Layout) → StandsAs L mid.composer.pages → number ≡ register_text mid.reader.registers.all.page_format L.number.0)
+    → PutsOnPage (Titles (title_at mid which number)) mid.composer.pages new.composer.pages out out_new r
+    → new ≡ record mid { composer = record mid.composer { pages = new.composer.pages } }
+    → PerformsOne (Title which) old new out out_new (none_sprung r)
+title_placed which number old mid new out out_new r ready is put others =
+    let here : PerformsHere (Title (title_told old.reader.registers.all which)) mid new out out_new r =
+    subst (λ (reader : ReaderState). PerformsHere (Title (title_told reader.registers.all which)) mid new out out_new r) ready.reader
+    (title_here which number mid new out out_new r is put others) in
+    title_first which old new out out_new r (ready_then (Title which) (Title (title_told old.reader.registers.all which)) old mid new out out_new r ready here)

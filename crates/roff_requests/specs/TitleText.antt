@@ -1,0 +1,3 @@
+-- A title's text in code.
+pub mod Kept
+pub mod Fronts
