@@ -15,8 +15,8 @@ use Rattle.roff_pages.specs.Turning.{in_innermost, page_begun, with_boxes}
 use Rattle.roff_run.specs.Environments.{PageHistory, text_of}
 use Rattle.roff_run.specs.Layouts.{laid_out, layout_of}
 use Rattle.roff_run.specs.Springs.{begins, needs_page, next, own_word_end, page_begin_or, word_end_of}
-use Rattle.roff_run.specs.declared.event.PageEvent.{PageEvent}
-use Rattle.roff_run.specs.declared.event.PageEvent.TheVariants.{Text, Page, Interrupt, Environment, Back, InputTrap as SetsTrap}
+use Rattle.roff_run.specs.PageEvents.{PageEvent}
+use Rattle.roff_run.specs.declared.event.PageEvent.TheVariants.{Text, Page, Interrupt, Environment, Back, InputTrap as SetsTrap, Title}
 
 -- an event that comes before takes a step
 abbrev pub own_steps : Option PageEvent → ℕ
@@ -111,6 +111,7 @@ has_word_end h (Interrupt untold) = NoWord
 has_word_end h (Environment number) = NoWord
 has_word_end h Back = NoWord
 has_word_end h (SetsTrap trap) = NoWord
+has_word_end h (Title which) = NoWord
 
 -- the first page's beginning leaves an event's word end
 word_end-begun : (h : PageHistory) (e : PageEvent) → word_end_of (Page Begin ∷ h) e ≡ word_end_of h e
@@ -129,6 +130,7 @@ word_end-begun h (Interrupt untold) = refl
 word_end-begun h (Environment number) = refl
 word_end-begun h Back = refl
 word_end-begun h (SetsTrap trap) = refl
+word_end-begun h (Title which) = refl
 
 -- where the first page begins none was begun
 none_begun : (takes needs : Bool) → (not takes && needs) ≡ true → takes ≡ false

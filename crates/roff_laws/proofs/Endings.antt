@@ -1,25 +1,26 @@
 -- Every run comes to an end, and to one alone.
 use Rattle.std.proofs.Common.{◌≡◌, ◌⊎◌, inl, inr, ◌≤◌, ◌+◌, ◌*◌, ℕ, zero, suc, List, [], ◌∷◌, ◌++◌, length, Option, Some, None, refl, sym, ◌∙◌, ap, subst, add_comm, arith}
-use Rattle.std.specs.Prelude.{IsSome}
+use Rattle.std.specs.Prelude.{IsSome, map}
 use Rattle.roff_num.specs.declared.limits.Limits.{Limits}
 use Rattle.roff_run.specs.declared.status.Status.{Status}
-use Rattle.roff_run.specs.declared.event.PageEvent.{PageEvent}
+use Rattle.roff_run.specs.PageEvents.{PageEvent}
 use Rattle.roff_run.specs.Results.{turn, turns, last_state}
 use Rattle.roff_laws.specs.ResultLaws.{EveryRunEnds, StepsLeadToTheLastState, NoOtherStateIsLast}
-use Rattle.roff_run.specs.Run.{State, Leads, blank_state, grown, initial, performing, sprung_read, unless_refused, with_registers, with_sprung, step_with, step, after}
+use Rattle.roff_run.specs.Run.{State, Leads, grown, initial, paged_state, performing, sprung_read, unless_refused, with_registers, with_sprung, step_with, step, after}
 use Rattle.roff_source.specs.Tape.{Tape}
 use Rattle.roff_run.specs.TurnsToCome.{left_by, lines_left, most_left, phases_left, unended}
 use Rattle.roff_lines.specs.declared.event.Event.TheVariants.{WordEnd}
 use Rattle.roff_pages.specs.declared.layout_event.LayoutEvent.TheVariants.{Begin}
 use Rattle.roff_num.specs.declared.limit.Limit.{Limit}
 use Rattle.roff_num.specs.declared.num.Num.{Num}
-use Rattle.roff_run.specs.Environments.{PageHistory, interrupted_line}
+use Rattle.roff_run.specs.Environments.{Environments, PageHistory, interrupted_line, line_to_go_on}
 use Rattle.roff_run.specs.declared.event.PageEvent.TheVariants.{Text, Page}
 use Rattle.roff_run.specs.Requests.Effects.{page_numbered}
 use Rattle.roff_run.specs.Requests.Numbering.{number_of_page}
 use Rattle.roff_run.specs.Reading.Returns.{back_of, in_sprung}
 use Rattle.roff_run.specs.Requests.{called_by}
 use Rattle.roff_run.specs.Springs.{next, springs}
+use Rattle.roff_run.specs.Titles.{put_back, told}
 use Rattle.roff_run.specs.declared.request.Called.{Called}
 use Rattle.roff_run.specs.declared.request.Called.TheVariants.{Request as ARequest, Body as ABody, Nothing as Unknown}
 use Rattle.roff_ahead.specs.Input.Calls.{called_text}
@@ -27,12 +28,13 @@ use Rattle.roff_ahead.specs.Input.Names.{body_named}
 use Rattle.roff_num.specs.ShortNames.{name_bytes}
 use Rattle.roff_num.specs.declared.short_name.ShortName.{ShortName}
 use Rattle.roff_run.specs.Run.Counts.{first_passed, names_counted}
-use Rattle.roff_run.specs.Starts.{history_given, with_given}
+use Rattle.roff_run.specs.Starts.{history_given, pages_given, with_given}
 use Rattle.roff_run.specs.declared.line_state.LineState.{LineState}
-use Rattle.roff_run.specs.declared.line_state.LineState.TheVariants.{LineStart, Branch, Braced, Text as InText, Control, Name, Arguments as InArguments, Deciding, StringName, StringText, Skipping, Dropped, Telling, Told, Exiting, Calling, Defining}
+use Rattle.roff_run.specs.declared.line_state.LineState.TheVariants.{LineStart, Branch, Braced, Text as InText, Control, Name, Arguments as InArguments, Deciding, StringName, StringText, Skipping, Dropped, Telling, Told, Exiting, Calling, Defining, TitleFront, Title as InTitle}
 use Rattle.roff_run.specs.declared.phase.Phase.{Phase}
 use Rattle.roff_run.specs.declared.phase.Phase.TheVariants.{Reading, LastMacro, Closing}
 use Rattle.roff_run.specs.declared.start.Start.{Start}
+use Rattle.roff_run.proofs.GivenPages.{environments-given_pages}
 use Rattle.roff_run.proofs.KeepingText.{free_ahead-called}
 use Rattle.roff_run.proofs.Leads.{Leads-refl, Leads-trans, Leads-step, after-add}
 use Rattle.roff_run.proofs.LinesLeft.{most_left-fewer, lines_left-event}
@@ -99,28 +101,32 @@ data Stepped (l : Limits) (n : ℕ) (s t : State) : Type 0 where
 -- an event is performed, and nothing comes before it
 event-nearer : (l : Limits) (n : ℕ) (e : PageEvent) (es : List PageEvent) (s t : State) → s.to_do ≡ e ∷ es → PerformedOrStopped l e es s t → Stepped l n s t
 event-nearer l n e es s t to_do (Performed allowed on none) =
-    let lines = lines_left-event e s.history in
-    let fewer = most_left-fewer es (lines_left (interrupted_line (e ∷ s.history))) (left_by e (lines_left (interrupted_line s.history))) lines in
+    let h : PageHistory = told s.registers e ∷ s.history in
+    let lines = lines_left-event s.registers e s.history in
+    let before : ℕ = lines_left (interrupted_line s.history) in
+    let fewer = most_left-fewer es (lines_left (interrupted_line h)) (left_by e before) lines in
     HasNeared (record {
-      steps = rw to_do (omega (arith, steps_before-few es s.sprung (e ∷ s.history)));
+      steps = rw to_do (omega (arith, steps_before-few es s.sprung h));
       turns = rw to_do (omega (arith, fewer));
     })
 event-nearer l n e es s t to_do (Sprang name allowed on some) =
-    let lines = lines_left-event e s.history in
+    let lines = lines_left-event s.registers e s.history in
     HasNeared (record {
       steps = rw to_do (omega arith);
-      turns = rw to_do (omega (arith, lines, free_ahead-back es s.input.ahead));
+      turns = rw to_do (omega (arith, lines, free_ahead-back (map put_back es) s.input.ahead));
     })
 event-nearer l n e es s t to_do (EndsOver allowed over) = HasEnded refl
 event-nearer l n e es s t to_do (StoppedAt limit) = HasEnded refl
 
 -- something is performed that comes before it
 own-nearer : (l : Limits) (n : ℕ) (own e : PageEvent) (es : List PageEvent) (s t : State) → s.to_do ≡ e ∷ es
-    → lines_left (interrupted_line (own ∷ s.history)) ≤ lines_left (interrupted_line s.history) → springs s.history own ≡ None
-    → steps_in_front (own ∷ s.history) e + 1 ≤ steps_in_front s.history e
+    → lines_left (interrupted_line (told s.registers own ∷ s.history)) ≤ lines_left (interrupted_line s.history)
+    → springs s.history (told s.registers own) ≡ None
+    → steps_in_front (told s.registers own ∷ s.history) e + 1 ≤ steps_in_front s.history e
     → PerformedOrStopped l own (e ∷ es) s t → Stepped l n s t
 own-nearer l n own e es s t to_do lines none near (Performed allowed on unsprung) =
-    let fewer = most_left-fewer (e ∷ es) (lines_left (interrupted_line (own ∷ s.history))) (lines_left (interrupted_line s.history)) lines in
+    let h : PageHistory = told s.registers own ∷ s.history in
+    let fewer = most_left-fewer (e ∷ es) (lines_left (interrupted_line h)) (lines_left (interrupted_line s.history)) lines in
     HasNeared (record {
       steps = rw to_do (omega (arith, near));
       turns = rw to_do (omega (arith, fewer));
@@ -134,9 +140,11 @@ performing-nearer : (l : Limits) (n : ℕ) (e : PageEvent) (es : List PageEvent)
     → ComesBefore s.history e own → Stepped l n s (performing l own e es s)
 performing-nearer l n e es s own to_do (NothingComes none_begins) = event-nearer l n e es s _ to_do (performed_or_stopped l None e es s)
 performing-nearer l n e es s own to_do (WordEndComes none_begins near) =
-    own-nearer l n (Text WordEnd) e es s _ to_do (lines_left-event (Text WordEnd) s.history) refl near (performed_or_stopped l (Some (Text WordEnd)) e es s)
+    own-nearer l n (Text WordEnd) e es s _ to_do (lines_left-event s.registers (Text WordEnd) s.history) refl near
+    (performed_or_stopped l (Some (Text WordEnd)) e es s)
 performing-nearer l n e es s own to_do (PageComes none_begun near) =
-    own-nearer l n (Page Begin) e es s _ to_do (lines_left-event (Page Begin) s.history) refl near (performed_or_stopped l (Some (Page Begin)) e es s)
+    own-nearer l n (Page Begin) e es s _ to_do (lines_left-event s.registers (Page Begin) s.history) refl near
+    (performed_or_stopped l (Some (Page Begin)) e es s)
 
 -- what is read of a macro is no line yet
 unended-in_sprung : (reading : LineState) → unended (in_sprung reading) ≤ unended reading
@@ -157,6 +165,8 @@ unended-in_sprung Dropped = omega arith
 unended-in_sprung (Telling aborts is_front) = omega arith
 unended-in_sprung (Told aborts) = omega arith
 unended-in_sprung Exiting = omega arith
+unended-in_sprung TitleFront = omega arith
+unended-in_sprung (InTitle delimiter) = omega arith
 
 -- a macro that sprang is put in front
 sprung-nearer : (l : Limits) (called : Called) (name : ShortName) (s : State) → s.to_do ≡ [] → s.sprung ≡ Some name → IsNearer l s (sprung_read called s)
@@ -299,8 +309,10 @@ EndsWithin-with_registers l (first ∷ others) n s enough =
 -- every run ends
 pub every_run_ends : EveryRunEnds
 every_run_ends l start tape =
+    let none : lines_left (interrupted_line (pages_given start)) ≡ 0 =
+    ap (λ (es : Environments). lines_left (line_to_go_on es.in_force)) (environments-given_pages start) in
     ended-turns l (4 * (5 * l.bytes + length tape.items) + 5) (initial l start tape)
-    (EndsWithin-with_registers l start.registers.items (4 * (5 * l.bytes + length tape.items) + 5) (blank_state tape) (omega arith))
+    (EndsWithin-with_registers l start.registers.items (4 * (5 * l.bytes + length tape.items) + 5) (paged_state start tape) (omega (arith, none)))
 
 -- turns are steps
 Leads-turns : (l : Limits) (n : ℕ) (s : State) → Leads l s (turns l n s)

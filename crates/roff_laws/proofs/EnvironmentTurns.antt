@@ -8,7 +8,7 @@ use Rattle.roff_run.specs.declared.environment_number.EnvironmentNumber.{Environ
 use Rattle.roff_run.specs.declared.event.InputTrap.{InputTrap}
 use Rattle.roff_run.specs.declared.environment_number.EnvironmentNumber.TheVariants.{Zero, One, Two}
 use Rattle.roff_laws.specs.EnvironmentLaws.{environment_of, text_in}
-use Rattle.roff_run.specs.declared.event.PageEvent.TheVariants.{Text, Page, Interrupt, Environment, Back, InputTrap as SetsTrap}
+use Rattle.roff_run.specs.declared.event.PageEvent.TheVariants.{Text, Page, Interrupt, Environment, Back, InputTrap as SetsTrap, Title}
 
 -- a ring of these
 abbrev ring : EnvironmentNumber → InEnvironment → InEnvironment → InEnvironment → List EnvironmentNumber → Environments
@@ -124,6 +124,7 @@ text-environment_of n (Environment number ∷ h) =
     ap (λ (e : InEnvironment). e.text) (environment_of-switched_to number n (environments h)) ∙ text-environment_of n h
 text-environment_of n (Back ∷ h) =
     ap (λ (e : InEnvironment). e.text) (environment_of-gone_back (environments h).left n (environments h)) ∙ text-environment_of n h
+text-environment_of n (Title t ∷ h) = text-environment_of n h
 text-environment_of n (SetsTrap trap ∷ h) =
     let es = environments h in
     trap-chosen (is_same es.number n) trap es.in_force (if is_same (number_behind es.number) n then es.next else es.last) ∙ text-environment_of n h

@@ -4,11 +4,13 @@ pub mod StepsAppend
 pub mod StepsOnlyCut
 pub mod RunsOnlyCut
 pub mod RunsStayWithin
+pub mod TitlesStayWithin
 pub mod TurnsNeeded
 pub mod ComesBefore
 pub mod MeantEvents
 pub mod RequestEvents
 pub mod TextEvents
+pub mod MeantTitles
 pub mod ReadEvents
 pub mod Stages
 pub mod Endings

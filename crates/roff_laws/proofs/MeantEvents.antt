@@ -17,17 +17,20 @@ use Rattle.roff_run.specs.Reading.Definitions.{definition_dropped, definition_gr
 use Rattle.roff_run.specs.Reading.Strings.{string_begun, string_emptied, string_entered, string_grown}
 use Rattle.roff_run.specs.Reading.Units.{holding}
 use Rattle.roff_run.specs.declared.line_state.LineState.{LineState}
-use Rattle.roff_run.specs.declared.line_state.LineState.TheVariants.{LineStart, Branch, Braced, Text as InText, Control, Name, Arguments as InArguments, Deciding, StringName, StringText, Skipping, Dropped, Telling, Told, Exiting, Calling, Defining}
+use Rattle.roff_run.specs.declared.line_state.LineState.TheVariants.{LineStart, Branch, Braced, Text as InText, Control, Name, Arguments as InArguments, Deciding, StringName, StringText, Skipping, Dropped, Telling, Told, Exiting, Calling, Defining, TitleFront, Title as InTitle}
 use Rattle.roff_pages.specs.declared.layout_event.LayoutEvent.{LayoutEvent}
-use Rattle.roff_pages.specs.declared.layout_event.LayoutEvent.TheVariants.{Space, Length, Number}
+use Rattle.roff_pages.specs.declared.layout_event.LayoutEvent.TheVariants.{Space, Length, Offset, Next, Number}
 use Rattle.roff_run.specs.Reading.Items.{PageInput, Taking}
-use Rattle.roff_run.specs.declared.event.PageEvent.{PageEvent}
-use Rattle.roff_run.specs.declared.event.PageEvent.TheVariants.{Text, Page, Interrupt, Environment, Back, InputTrap as SetsTrap}
+use Rattle.roff_run.specs.PageEvents.{PageEvent}
+use Rattle.roff_run.specs.Titles.{put_back}
+use Rattle.roff_run.specs.declared.event.PageEvent.TheVariants.{Text, Page, Interrupt, Environment, Back, InputTrap as SetsTrap, Title}
 
--- of the events of pages space that is asked for, a page length that isn't 0, and the page's number
+-- of the events of pages space that is asked for, a page length that isn't 0, the page offset, and the number of a page
 abbrev pub IsMeant : LayoutEvent → Type 0
 IsMeant (Space k) = Unit {0}
 IsMeant (Length k) = 0 < k
+IsMeant (Offset k) = Unit {0}
+IsMeant (Next n) = Unit {0}
 IsMeant (Number n) = Unit {0}
 IsMeant (_) = ⊥
 
@@ -45,6 +48,7 @@ meant-first (Interrupt untold) events meant = tt
 meant-first (Environment number) events meant = tt
 meant-first Back events meant = tt
 meant-first (SetsTrap trap) events meant = tt
+meant-first (Title which) events meant = tt
 
 pub meant-others : (e : PageEvent) (events : List PageEvent) → AreMeant (e ∷ events) → AreMeant events
 meant-others (Page e) events meant = meant.1
@@ -53,6 +57,7 @@ meant-others (Interrupt untold) events meant = meant
 meant-others (Environment number) events meant = meant
 meant-others Back events meant = meant
 meant-others (SetsTrap trap) events meant = meant
+meant-others (Title which) events meant = meant
 
 -- and more behind them
 pub meant-append : (first others : List PageEvent) → AreMeant first → AreMeant others → AreMeant (first ++ others)
@@ -63,6 +68,7 @@ meant-append (Interrupt untold ∷ first) others meant behind = meant-append fir
 meant-append (Environment number ∷ first) others meant behind = meant-append first others meant behind
 meant-append (Back ∷ first) others meant behind = meant-append first others meant behind
 meant-append (SetsTrap trap ∷ first) others meant behind = meant-append first others meant behind
+meant-append (Title which ∷ first) others meant behind = meant-append first others meant behind
 
 -- and so are those that were put back
 abbrev pub AreMeantAhead : List (Ahead PageEvent) → Type 0
@@ -83,6 +89,16 @@ Means-if ahead true t u first second = first
 Means-if ahead false t u first second = second
 
 -- events are put back
+pub meant-back : (events : List PageEvent) → AreMeant events → AreMeant (map put_back events)
+meant-back [] meant = tt
+meant-back (Page e ∷ events) meant = (meant.0, meant-back events meant.1)
+meant-back (Text e ∷ events) meant = meant-back events meant
+meant-back (Interrupt untold ∷ events) meant = meant-back events meant
+meant-back (Environment number ∷ events) meant = meant-back events meant
+meant-back (Back ∷ events) meant = meant-back events meant
+meant-back (SetsTrap trap ∷ events) meant = meant-back events meant
+meant-back (Title which ∷ events) meant = meant-back events meant
+
 pub ahead-back : (events : List PageEvent) (items : List (Ahead PageEvent)) → AreMeant events → AreMeantAhead items → AreMeantAhead (map DoAhead events ++ items)
 ahead-back [] items meant behind = behind
 ahead-back (e ∷ events) items meant behind = (meant-first e events meant, ahead-back events items (meant-others e events meant) behind)
@@ -172,3 +188,5 @@ ahead-interrupted Dropped i = refl
 ahead-interrupted (Telling aborts is_front) i = refl
 ahead-interrupted (Told aborts) i = refl
 ahead-interrupted Exiting i = refl
+ahead-interrupted TitleFront i = refl
+ahead-interrupted (InTitle delimiter) i = refl

@@ -22,55 +22,61 @@ use Rattle.roff_run.specs.Output.{written}
 use Rattle.roff_run.specs.Requests.{called_by}
 use Rattle.roff_run.specs.Requests.Effects.{page_numbered}
 use Rattle.roff_run.specs.Requests.Numbering.{number_of_page}
-use Rattle.roff_run.specs.Run.{State, after, blank_state, initial, phase_ended, step, step_with, unless_refused, with_registers}
+use Rattle.roff_run.specs.Run.{State, after, initial, paged_state, phase_ended, step, step_with, unless_refused, with_registers}
 use Rattle.roff_run.specs.Run.Counts.{first_passed, names_counted}
 use Rattle.roff_run.specs.Springs.{begins, next, springs}
-use Rattle.roff_run.specs.Starts.{history_given, with_given}
-use Rattle.roff_run.specs.declared.event.PageEvent.{PageEvent}
-use Rattle.roff_run.specs.declared.event.PageEvent.TheVariants.{Text, Page, Interrupt, Environment, Back, InputTrap as SetsTrap}
+use Rattle.roff_run.specs.Starts.{history_given, pages_given, with_given}
+use Rattle.roff_run.specs.PageEvents.{PageEvent}
+use Rattle.roff_run.specs.Registers.{AllRegisters}
+use Rattle.roff_run.specs.Titles.{title_told, told}
+use Rattle.roff_run.specs.declared.event.PageEvent.TheVariants.{Text, Page, Interrupt, Environment, Back, InputTrap as SetsTrap, Title}
 use Rattle.roff_run.specs.declared.phase.Phase.{Phase}
 use Rattle.roff_run.specs.declared.phase.Phase.TheVariants.{Reading, LastMacro, Closing}
 use Rattle.roff_run.specs.declared.status.Status.{Status}
 use Rattle.roff_run.specs.declared.status.Status.TheVariants.{Aborted, Done, Device, Limit as Limited}
+use Rattle.roff_run.specs.declared.start.Start.{Start}
+use Rattle.roff_run.proofs.GivenPages.{keeps-given}
 use Rattle.roff_run.proofs.Readings.{ReadsOn, LimitStops, AheadTaken, ByteTaken, NoteTaken, HalfEnds, InputLeft, LineEnds, PhaseEnds, MessageTold, RunAborts, SourceFails, SourceStops, SprungRead, ReadsOn-with_sprung, Behind-ahead_taken, Behind-sprung_read}
 use Rattle.roff_laws.specs.PageLaws.{WritesWholePages}
 use Rattle.roff_laws.proofs.ComesBefore.{ComesBefore, NothingComes, PageComes, WordEndComes, comes_before}
 use Rattle.roff_laws.proofs.Endings.{at_last_state, step-ended, step-going}
 use Rattle.roff_laws.proofs.MeantEvents.{AreMeant, meant-first}
 use Rattle.roff_laws.proofs.LastPage.{IsWhole, eject-over, is_whole, so_far-eject, traps-ejected, traps-turned}
-use Rattle.roff_laws.proofs.PagesSoFar.{IsSoFar, so_far-begin, so_far-close, so_far-length, so_far-nothing, so_far-number, so_far-space, so_far-text}
+use Rattle.roff_laws.proofs.PagesSoFar.{IsSoFar, so_far-begin, so_far-close, so_far-length, so_far-listed, so_far-next, so_far-nothing, so_far-number, so_far-offset, so_far-space, so_far-text, so_far-title}
 use Rattle.roff_laws.proofs.PerformedOrStopped.{PerformedOrStopped, Performed, Sprang, EndsOver, StoppedAt, first_of, left_of, performed_or_stopped}
-use Rattle.roff_laws.proofs.Stages.{Goes, IsOpen, Stage, Closes, Stage-blank, Stage-event, Stage-given, Stage-read, open-first}
+use Rattle.roff_laws.proofs.Stages.{Goes, IsOpen, Stage, Closes, Stage-event, Stage-given, Stage-paged, Stage-read, open-first}
 
 -- behind an event that reading means, with nothing before it
-so_far-event : (h : PageHistory) (e : PageEvent) → AreMeant (e ∷ []) → begins h e ≡ false → (layout_of h).is_over ≡ false → IsSoFar h → IsSoFar (e ∷ h)
-so_far-event h (Text e) meant none goes so_far = so_far-text h e none goes so_far
-so_far-event h (Interrupt untold) meant none goes so_far = λ keeps writes. so_far-nothing h (so_far keeps.1 writes.1)
-so_far-event h (Environment number) meant none goes so_far = λ keeps writes. so_far-nothing h (so_far keeps.1 writes.1)
-so_far-event h Back meant none goes so_far = λ keeps writes. so_far-nothing h (so_far keeps.1 writes.1)
-so_far-event h (SetsTrap trap) meant none goes so_far = λ keeps writes. so_far-nothing h (so_far keeps.1 writes.1)
-so_far-event h (Page (Space k)) meant none goes so_far = so_far-space h k none goes so_far
-so_far-event h (Page (Length k)) meant none goes so_far = so_far-length h k meant.0 goes so_far
-so_far-event h (Page (Number n)) meant none goes so_far = so_far-number h n so_far
-so_far-event h (Page (ListPages first last)) meant none goes so_far = absurd meant.0
-so_far-event h (Page Begin) meant none goes so_far = absurd meant.0
-so_far-event h (Page Close) meant none goes so_far = absurd meant.0
-so_far-event h (Page (Need k)) meant none goes so_far = absurd meant.0
-so_far-event h (Page (Eject asked)) meant none goes so_far = absurd meant.0
-so_far-event h (Page (EjectTo asked number)) meant none goes so_far = absurd meant.0
-so_far-event h (Page (EjectOn asked)) meant none goes so_far = absurd meant.0
-so_far-event h (Page EjectLast) meant none goes so_far = absurd meant.0
-so_far-event h (Page (Offset k)) meant none goes so_far = absurd meant.0
-so_far-event h (Page (Next n)) meant none goes so_far = absurd meant.0
-so_far-event h (Page (NoSpace on)) meant none goes so_far = absurd meant.0
-so_far-event h (Page (Plant trap)) meant none goes so_far = absurd meant.0
-so_far-event h (Page (Uproot place)) meant none goes so_far = absurd meant.0
-so_far-event h (Page (MoveTrap name place)) meant none goes so_far = absurd meant.0
-so_far-event h (Page (RemoveTrap name)) meant none goes so_far = absurd meant.0
-so_far-event h (Page (DiversionTrap trap)) meant none goes so_far = absurd meant.0
-so_far-event h (Page NoDiversionTrap) meant none goes so_far = absurd meant.0
-so_far-event h (Page (Divert name appends)) meant none goes so_far = absurd meant.0
-so_far-event h (Page EndDivert) meant none goes so_far = absurd meant.0
+so_far-event : (rs : AllRegisters) (h : PageHistory) (e : PageEvent) → AreMeant (e ∷ []) → begins h e ≡ false
+    → (layout_of h).is_over ≡ false → IsSoFar h → IsSoFar (told rs e ∷ h)
+so_far-event rs h (Text e) meant none goes so_far = so_far-text h e none goes so_far
+so_far-event rs h (Interrupt untold) meant none goes so_far = λ keeps writes. so_far-nothing h (so_far keeps.1 writes.1)
+so_far-event rs h (Environment number) meant none goes so_far = λ keeps writes. so_far-nothing h (so_far keeps.1 writes.1)
+so_far-event rs h Back meant none goes so_far = λ keeps writes. so_far-nothing h (so_far keeps.1 writes.1)
+so_far-event rs h (SetsTrap trap) meant none goes so_far = λ keeps writes. so_far-nothing h (so_far keeps.1 writes.1)
+so_far-event rs h (Title which) meant none goes so_far = so_far-title h (title_told rs which) none goes so_far
+so_far-event rs h (Page (Space k)) meant none goes so_far = so_far-space h k none goes so_far
+so_far-event rs h (Page (Length k)) meant none goes so_far = so_far-length h k meant.0 goes so_far
+so_far-event rs h (Page (Number n)) meant none goes so_far = so_far-number h n so_far
+so_far-event rs h (Page (ListPages first last)) meant none goes so_far = absurd meant.0
+so_far-event rs h (Page Begin) meant none goes so_far = absurd meant.0
+so_far-event rs h (Page Close) meant none goes so_far = absurd meant.0
+so_far-event rs h (Page (Need k)) meant none goes so_far = absurd meant.0
+so_far-event rs h (Page (Eject asked)) meant none goes so_far = absurd meant.0
+so_far-event rs h (Page (EjectTo asked number)) meant none goes so_far = absurd meant.0
+so_far-event rs h (Page (EjectOn asked)) meant none goes so_far = absurd meant.0
+so_far-event rs h (Page EjectLast) meant none goes so_far = absurd meant.0
+so_far-event rs h (Page (Offset k)) meant none goes so_far = so_far-offset h k so_far
+so_far-event rs h (Page (Next n)) meant none goes so_far = so_far-next h n so_far
+so_far-event rs h (Page (NoSpace on)) meant none goes so_far = absurd meant.0
+so_far-event rs h (Page (Plant trap)) meant none goes so_far = absurd meant.0
+so_far-event rs h (Page (Uproot place)) meant none goes so_far = absurd meant.0
+so_far-event rs h (Page (MoveTrap name place)) meant none goes so_far = absurd meant.0
+so_far-event rs h (Page (RemoveTrap name)) meant none goes so_far = absurd meant.0
+so_far-event rs h (Page (DiversionTrap trap)) meant none goes so_far = absurd meant.0
+so_far-event rs h (Page NoDiversionTrap) meant none goes so_far = absurd meant.0
+so_far-event rs h (Page (Divert name appends)) meant none goes so_far = absurd meant.0
+so_far-event rs h (Page EndDivert) meant none goes so_far = absurd meant.0
 
 -- where no text is taken no page was begun
 unbegun : (begun : ℕ) (diverting : Bool) → (not (begun == 0) || diverting) ≡ false → begun ≡ 0
@@ -81,11 +87,12 @@ unbegun begun diverting none = eqb-true begun 0 (by_test (begun == 0) none)
     by_test false none = absurd (cc)
 
 -- what comes before an event, or that one
-so_far-first : (h : PageHistory) (e : PageEvent) (own : Option PageEvent) → ComesBefore h e own → (begins h e ≡ false → IsSoFar (e ∷ h))
-    → (layout_of h).is_over ≡ false → IsSoFar h → IsSoFar (first_of own e ∷ h)
-so_far-first h e own (NothingComes none_begins) itself goes so_far = itself none_begins
-so_far-first h e own (WordEndComes none_begins fewer) itself goes so_far = so_far-text h WordEnd none_begins goes so_far
-so_far-first h e own (PageComes none_begun fewer) itself goes so_far = so_far-begin h (unbegun (layout_of h).begun _ none_begun) goes so_far
+so_far-first : (rs : AllRegisters) (h : PageHistory) (e : PageEvent) (own : Option PageEvent) → ComesBefore h e own
+    → (begins h e ≡ false → IsSoFar (told rs e ∷ h)) → (layout_of h).is_over ≡ false → IsSoFar h
+    → IsSoFar (told rs (first_of own e) ∷ h)
+so_far-first rs h e own (NothingComes none_begins) itself goes so_far = itself none_begins
+so_far-first rs h e own (WordEndComes none_begins fewer) itself goes so_far = so_far-text h WordEnd none_begins goes so_far
+so_far-first rs h e own (PageComes none_begun fewer) itself goes so_far = so_far-begin h (unbegun (layout_of h).begun _ none_begun) goes so_far
 
 -- the events that close a run, or the last of them: behind the first the layout is closing
 data Closing_events (L : Layout) : List PageEvent → Type 0 where
@@ -126,7 +133,8 @@ data Written (s : State) : Type 0 where
 
 -- an event is performed as a run reads
 reads-performed : (l : Limits) (e : PageEvent) (left : List PageEvent) (s t : State) → PerformedOrStopped l e left s t → s.ended ≡ None
-    → (s.phase ≡ Closing → ⊥) → Stage t → IsSoFar (e ∷ s.history) → ((layout_of (e ∷ s.history)).is_over ≡ true → ⊥) → Written t
+    → (s.phase ≡ Closing → ⊥) → Stage t → IsSoFar (told s.registers e ∷ s.history)
+    → ((layout_of (told s.registers e ∷ s.history)).is_over ≡ true → ⊥) → Written t
 reads-performed l e left s t (Performed allowed on none) going reads (Goes is) so_far goes = Reads going reads is so_far
 reads-performed l e left s t (Performed allowed on none) going reads (Closes phase ended) so_far goes = absurd (reads phase)
 reads-performed l e left s t (Sprang name allowed on some) going reads (Goes is) so_far goes = Reads going reads is so_far
@@ -136,28 +144,32 @@ reads-performed l e left s t (StoppedAt limit) going reads stage so_far goes = O
 
 -- what comes before one of those that close it
 own-closes : (l : Limits) (own e : PageEvent) (es : List PageEvent) (s t : State) → PerformedOrStopped l own (e ∷ es) s t → s.ended ≡ None
-    → Closing_events (layout_of (own ∷ s.history)) (e ∷ es) → (layout_of (own ∷ s.history)).traps ≡ [] → springs s.history own ≡ None
-    → IsSoFar (own ∷ s.history) → Written t
+    → let h : PageHistory = told s.registers own ∷ s.history in
+    Closing_events (layout_of h) (e ∷ es) → (layout_of h).traps ≡ [] → springs s.history (told s.registers own) ≡ None
+    → IsSoFar h → Written t
 own-closes l own e es s t (Performed allowed on none) going closing traps unsprung so_far = ClosesAt going closing on traps so_far
 own-closes l own e es s t (Sprang name allowed on some) going closing traps unsprung so_far = absurd (cc)
-own-closes l own e es s t (EndsOver allowed over) going closing traps unsprung so_far = Over Done refl (λ done. is_whole (own ∷ s.history) over so_far)
+own-closes l own e es s t (EndsOver allowed over) going closing traps unsprung so_far =
+    Over Done refl (λ done. is_whole (told s.registers own ∷ s.history) over so_far)
 own-closes l own e es s t (StoppedAt limit) going closing traps unsprung so_far = Over (Limited limit) refl (λ done. absurd (cc))
 
 -- one of them
 itself-closes : (l : Limits) (e : PageEvent) (es : List PageEvent) (s t : State) → PerformedOrStopped l e es s t → s.ended ≡ None
-    → ((layout_of (e ∷ s.history)).is_over ≡ false → Closing_events (layout_of (e ∷ s.history)) es) → (layout_of (e ∷ s.history)).traps ≡ []
-    → springs s.history e ≡ None → IsSoFar (e ∷ s.history) → Written t
+    → let h : PageHistory = told s.registers e ∷ s.history in
+    ((layout_of h).is_over ≡ false → Closing_events (layout_of h) es) → (layout_of h).traps ≡ []
+    → springs s.history (told s.registers e) ≡ None → IsSoFar h → Written t
 itself-closes l e es s t (Performed allowed on none) going closing traps unsprung so_far = ClosesAt going (closing on) on traps so_far
 itself-closes l e es s t (Sprang name allowed on some) going closing traps unsprung so_far = absurd (cc)
-itself-closes l e es s t (EndsOver allowed over) going closing traps unsprung so_far = Over Done refl (λ done. is_whole (e ∷ s.history) over so_far)
+itself-closes l e es s t (EndsOver allowed over) going closing traps unsprung so_far =
+    Over Done refl (λ done. is_whole (told s.registers e ∷ s.history) over so_far)
 itself-closes l e es s t (StoppedAt limit) going closing traps unsprung so_far = Over (Limited limit) refl (λ done. absurd (cc))
 
 -- no last page ends as a run reads
 no_end : (s : State) (e : PageEvent) (es : List PageEvent) → s.to_do ≡ e ∷ es → IsOpen s
-    → (layout_of (first_of (next s.history e) e ∷ s.history)).is_over ≡ true → ⊥
+    → (layout_of (told s.registers (first_of (next s.history e) e) ∷ s.history)).is_over ≡ true → ⊥
 no_end s e es to_do is over =
     let meant : AreMeant (e ∷ es) = subst AreMeant to_do is.to_do in
-    let laid = open-first s.history e (next s.history e) (comes_before s.history e) (meant-first e es meant) is.layout in
+    let laid = open-first s.registers s.history e (next s.history e) (comes_before s.history e) (meant-first e es meant) is.layout in
     let wrong : true ≡ false = sym over ∙ laid.over in absurd (cc)
 
 -- something is to do as it closes
@@ -246,8 +258,9 @@ Writes-reading l (e ∷ es) s to_do going reads is so_far =
     let h : PageHistory = s.history in
     let done = performed_or_stopped l own e es s in
     let meant : AreMeant (e ∷ es) = subst AreMeant to_do is.to_do in
-    let written_on : IsSoFar (first_of own e ∷ h) =
-    so_far-first h e own (comes_before h e) (λ none. so_far-event h e (meant-first e es meant) none is.layout.over so_far) is.layout.over so_far in
+    let written_on : IsSoFar (told s.registers (first_of own e) ∷ h) =
+    so_far-first s.registers h e own (comes_before h e)
+    (λ none. so_far-event s.registers h e (meant-first e es meant) none is.layout.over so_far) is.layout.over so_far in
     reads-performed l (first_of own e) (left_of own e es) s _ done going reads (Stage-event l e es s _ to_do done (Goes is)) written_on
     (λ over. no_end s e es to_do is over)
 Writes-reading l [] s to_do going reads is so_far =
@@ -308,6 +321,10 @@ so_far-blank keeps writes = record {
   diversions = refl;
 }
 
+-- nor is it of what is given of the pages
+so_far-paged : (start : Start) → IsSoFar (pages_given start)
+so_far-paged start = keeps-given IsSoFar so_far-listed (λ n h so_far. so_far-next h n so_far) start so_far-blank
+
 -- of one that is done the pages are whole
 done-whole : (s : State) → Written s → s.ended ≡ Some Done → IsWhole s.history
 done-whole s (Reads going reads is so_far) done = let wrong : None ≡ Some Done = sym going ∙ done in absurd (cc)
@@ -317,5 +334,6 @@ done-whole s (Over status ended whole) done = let same : Some status ≡ Some Do
 pub writes_whole_pages : WritesWholePages
 writes_whole_pages l start tape done =
     let each : (n : ℕ) → Written (after l n (initial l start tape)) =
-    λ n. Writes-after l n (initial l start tape) (Writes-with_registers l start.registers.items (blank_state tape) refl refl (Stage-blank tape) so_far-blank) in
+    λ n. Writes-after l n (initial l start tape)
+    (Writes-with_registers l start.registers.items (paged_state start tape) refl refl (Stage-paged start tape) (so_far-paged start)) in
     done-whole (last_state l start tape) (at_last_state Written l start tape each) done

@@ -9,20 +9,22 @@ use Rattle.roff_lines.specs.declared.event.Event.{Event}
 use Rattle.roff_lines.specs.declared.event.Event.TheVariants.{Print, Tab, WordEnd, Gap, LineEnd, Count, Break, Interrupt as Interrupted, Resume, Set}
 use Rattle.roff_num.specs.declared.num.Num.{Num}
 use Rattle.roff_pages.specs.DeviceText.{box_line, device_lines, device_text}
-use Rattle.roff_pages.specs.Happenings.{Happening, Does, Places}
+use Rattle.roff_pages.specs.Happenings.{Happening, Does, Places, Titles}
 use Rattle.roff_pages.specs.Layout.{Box, Diversion, Layout, page_place}
 use Rattle.roff_pages.specs.Puts.{Put, appended, boxes_put, puts}
 use Rattle.roff_pages.specs.Queries.{takes_text}
 use Rattle.roff_pages.specs.Stops.{is_diverted, target}
-use Rattle.roff_pages.specs.Turning.{behind_put, in_innermost, next_behind, page_begun, turned_if_full, with_boxes, with_event}
+use Rattle.roff_pages.specs.Turning.{behind_put, in_innermost, next_behind, page_begun, turned_if_full, with_boxes, with_event, with_range}
 use Rattle.roff_pages.specs.WholePages.{ends_page, keeps_length, page_boxes, sizes_behind}
-use Rattle.roff_pages.specs.declared.layout_event.LayoutEvent.TheVariants.{Begin, Close, Length, Number, Space}
+use Rattle.roff_pages.specs.declared.layout_event.LayoutEvent.TheVariants.{Begin, Close, Length, ListPages, Next, Number, Offset, Space}
 use Rattle.roff_pages.proofs.WholePages.{all_full}
 use Rattle.roff_run.specs.Environments.{PageHistory, text_of}
-use Rattle.roff_run.specs.Layouts.{laid_out, layout_of}
+use Rattle.roff_run.specs.Layouts.{laid_out, layout_of, placed}
+use Rattle.roff_run.specs.TitleTexts.{TitleTold}
 use Rattle.roff_run.specs.Output.{text_laid, written}
 use Rattle.roff_run.specs.Springs.{begins, needs_page}
-use Rattle.roff_run.specs.declared.event.PageEvent.TheVariants.{Page, Text}
+use Rattle.roff_run.specs.declared.event.PageEvent.TheVariants.{Page, Text, Title}
+use Rattle.roff_run.specs.declared.title.WhichTitle.TheVariants.{Read}
 use Rattle.roff_laws.specs.PageLaws.{KeepsLength, PageLine, WritesEachPage, lines_text, pages_text}
 use Rattle.roff_laws.proofs.RunsStayWithin.{nothing_by_test}
 
@@ -252,6 +254,14 @@ so_far-text h e none goes so_far keeps writes =
     so_far-line (finished (text_of h) e) h (so_far keeps.1 writes.1) writes.1 goes
     (λ some. finds_page (takes_text (layout_of h)) (needs_page h (Text e)) none (needs-finished h e some))
 
+-- a title that is placed
+pub so_far-title : (h : PageHistory) (t : TitleTold) → begins h (Title Read) ≡ false → (layout_of h).is_over ≡ false → IsSoFar h → IsSoFar (Title t ∷ h)
+so_far-title h t none goes so_far keeps writes =
+    let x : Happening = Titles (placed t (text_of h) (layout_of h)) in
+    let before : SoFar (layout_of h) (written h) = so_far keeps.1 writes.1 in
+    so_far-happening x (puts x (layout_of h)) (layout_of h) (written h) refl refl before
+    (on_page x h before writes.1 goes (finds_page (takes_text (layout_of h)) true none refl) (not_diverted false (layout_of h) before.diversions) refl)
+
 -- a layout that changed nothing of its page
 record IsAlike (L M : Layout) : Type 0 where
   boxes : M.boxes ≡ L.boxes
@@ -290,6 +300,30 @@ so_far-number h n so_far keeps writes =
     let L : Layout = layout_of h in
     let before : SoFar L (written h) = so_far keeps.1 writes.1 in
     so_far-alike L (record L { number = n }) (written h) _ (nothing_by_test (is_diverted (Does (Number n)) L || not L.is_listed) L.offset)
+    (record { boxes = refl; length = refl; over = refl; begun = refl; traps = refl; diversions = before.diversions }) before
+
+-- the next page's, the page offset, and the pages that are written
+pub so_far-next : (h : PageHistory) (n : Num) → IsSoFar h → IsSoFar (Page (Next n) ∷ h)
+so_far-next h n so_far keeps writes =
+    let L : Layout = layout_of h in
+    let before : SoFar L (written h) = so_far keeps.1 writes.1 in
+    so_far-alike L (record L { next = Some n }) (written h) _ (nothing_by_test (is_diverted (Does (Next n)) L || not L.is_listed) L.offset)
+    (record { boxes = refl; length = refl; over = refl; begun = refl; traps = refl; diversions = before.diversions }) before
+
+pub so_far-offset : (h : PageHistory) (columns : ℕ) → IsSoFar h → IsSoFar (Page (Offset columns) ∷ h)
+so_far-offset h columns so_far keeps writes =
+    let L : Layout = layout_of h in
+    let before : SoFar L (written h) = so_far keeps.1 writes.1 in
+    so_far-alike L (record L { offset = columns; previous_offset = L.offset }) (written h) _
+    (nothing_by_test (is_diverted (Does (Offset columns)) L || not L.is_listed) L.offset)
+    (record { boxes = refl; length = refl; over = refl; begun = refl; traps = refl; diversions = before.diversions }) before
+
+pub so_far-listed : (first last : Num) (h : PageHistory) → IsSoFar h → IsSoFar (Page (ListPages first last) ∷ h)
+so_far-listed first last h so_far keeps writes =
+    let L : Layout = layout_of h in
+    let before : SoFar L (written h) = so_far keeps.1 writes.1 in
+    so_far-alike L (record L { ranges = with_range (first, last) L.ranges }) (written h) _
+    (nothing_by_test (is_diverted (Does (ListPages first last)) L || not L.is_listed) L.offset)
     (record { boxes = refl; length = refl; over = refl; begun = refl; traps = refl; diversions = before.diversions }) before
 
 -- the beginning of the closing phase

@@ -1,14 +1,15 @@
 -- The step at an event has few outcomes. What is proved of each of them holds of it, however events are counted.
-use Rattle.std.proofs.Common.{◌≡◌, Bool, true, false, List, [], ◌∷◌, Option, Some, None, refl}
+use Rattle.std.proofs.Common.{◌≡◌, Bool, true, false, List, [], ◌∷◌, map, Option, Some, None, refl}
 use Rattle.roff_num.specs.declared.limit.Limit.{Limit}
 use Rattle.roff_num.specs.declared.limits.Limits.{Limits}
 use Rattle.roff_num.specs.declared.short_name.ShortName.{ShortName}
 use Rattle.roff_ahead.specs.Input.{putting_all_back}
-use Rattle.roff_run.specs.declared.event.PageEvent.{PageEvent}
+use Rattle.roff_run.specs.PageEvents.{PageEvent}
 use Rattle.roff_run.specs.Output.{layout_of}
 use Rattle.roff_run.specs.Run.{State, done_if, ending_as, stopped_by, unless_refused, performed, performing, sprung_at}
 use Rattle.roff_run.specs.Run.Counts.{refusal}
 use Rattle.roff_run.specs.Springs.{springs}
+use Rattle.roff_run.specs.Titles.{keeping, put_back, told}
 use Rattle.roff_run.specs.declared.status.Status.TheVariants.{Done}
 
 -- the event that is performed: what comes before one, or that one
@@ -24,36 +25,48 @@ left_of (Some own) e rest = e ∷ rest
 -- An event was performed, which no limit refuses, and these are left; or it sprang a macro, and they are put back; or the last page
 -- ended with it, and so did the run; or a limit stopped the run at it.
 pub data PerformedOrStopped (l : Limits) (e : PageEvent) (left : List PageEvent) (s : State) : State → Type 0 where
-  Performed : refusal l s.history e ≡ None → (layout_of (e ∷ s.history)).is_over ≡ false → springs s.history e ≡ None
-      → PerformedOrStopped l e left s (record s { to_do = left; history = e ∷ s.history })
-  Sprang : (name : ShortName) → refusal l s.history e ≡ None → (layout_of (e ∷ s.history)).is_over ≡ false → springs s.history e ≡ Some name
-      → PerformedOrStopped l e left s (record s { to_do = []; sprung = Some name; history = e ∷ s.history; input = putting_all_back left s.input })
-  EndsOver : refusal l s.history e ≡ None → (layout_of (e ∷ s.history)).is_over ≡ true
-      → PerformedOrStopped l e left s (ending_as Done (record s { history = e ∷ s.history }))
+  Performed : refusal l s.history (told s.registers e) ≡ None → (layout_of (told s.registers e ∷ s.history)).is_over ≡ false
+      → springs s.history (told s.registers e) ≡ None
+      → PerformedOrStopped l e left s (record s { to_do = left; history = told s.registers e ∷ s.history })
+  Sprang : (name : ShortName) → refusal l s.history (told s.registers e) ≡ None
+      → (layout_of (told s.registers e ∷ s.history)).is_over ≡ false
+      → springs s.history (told s.registers e) ≡ Some name
+      → PerformedOrStopped l e left s (record s {
+        to_do = [];
+        sprung = Some name;
+        registers = keeping left s.registers;
+        history = told s.registers e ∷ s.history;
+        input = putting_all_back (map put_back left) s.input;
+      })
+  EndsOver : refusal l s.history (told s.registers e) ≡ None → (layout_of (told s.registers e ∷ s.history)).is_over ≡ true
+      → PerformedOrStopped l e left s (ending_as Done (record s { history = told s.registers e ∷ s.history }))
   StoppedAt : (limit : Limit) → PerformedOrStopped l e left s (stopped_by l limit s)
 
 -- by what it springs
-by_spring : (l : Limits) (e : PageEvent) (left : List PageEvent) (s : State) (sprung : Option ShortName) → springs s.history e ≡ sprung
-    → refusal l s.history e ≡ None → (layout_of (e ∷ s.history)).is_over ≡ false → PerformedOrStopped l e left s (sprung_at sprung left (record s { history = e ∷ s.history }))
+by_spring : (l : Limits) (e : PageEvent) (left : List PageEvent) (s : State) (sprung : Option ShortName)
+    → springs s.history (told s.registers e) ≡ sprung → refusal l s.history (told s.registers e) ≡ None
+    → (layout_of (told s.registers e ∷ s.history)).is_over ≡ false
+    → PerformedOrStopped l e left s (sprung_at sprung left (record s { history = told s.registers e ∷ s.history }))
 by_spring l e left s None none allowed on = Performed allowed on none
 by_spring l e left s (Some name) some allowed on = Sprang name allowed on some
 
 -- by whether the last page ends with it
-by_end : (l : Limits) (e : PageEvent) (left : List PageEvent) (s : State) (over : Bool) → (layout_of (e ∷ s.history)).is_over ≡ over
-    → refusal l s.history e ≡ None
-    → let behind : State = record s { history = e ∷ s.history } in
-    PerformedOrStopped l e left s (done_if over behind (sprung_at (springs s.history e) left behind))
+by_end : (l : Limits) (e : PageEvent) (left : List PageEvent) (s : State) (over : Bool)
+    → (layout_of (told s.registers e ∷ s.history)).is_over ≡ over → refusal l s.history (told s.registers e) ≡ None
+    → let behind : State = record s { history = told s.registers e ∷ s.history } in
+    PerformedOrStopped l e left s (done_if over behind (sprung_at (springs s.history (told s.registers e)) left behind))
 by_end l e left s true over allowed = EndsOver allowed over
-by_end l e left s false on allowed = by_spring l e left s (springs s.history e) refl allowed on
+by_end l e left s false on allowed = by_spring l e left s (springs s.history (told s.registers e)) refl allowed on
 
 -- by whether a limit refuses it
-by_refusal : (l : Limits) (e : PageEvent) (left : List PageEvent) (s : State) (r : Option Limit) → refusal l s.history e ≡ r
-    → PerformedOrStopped l e left s (unless_refused l r s (performed e left s))
-by_refusal l e left s None allowed = by_end l e left s (layout_of (e ∷ s.history)).is_over refl allowed
+by_refusal : (l : Limits) (e : PageEvent) (left : List PageEvent) (s : State) (r : Option Limit)
+    → refusal l s.history (told s.registers e) ≡ r
+    → PerformedOrStopped l e left s (unless_refused l r s (performed (told s.registers e) left s))
+by_refusal l e left s None allowed = by_end l e left s (layout_of (told s.registers e ∷ s.history)).is_over refl allowed
 by_refusal l e left s (Some limit) refused = StoppedAt limit
 
 -- what comes before an event that is to be performed, or that one, is performed, or a limit stops the run
 pub performed_or_stopped : (l : Limits) (own : Option PageEvent) (e : PageEvent) (rest : List PageEvent) (s : State)
     → PerformedOrStopped l (first_of own e) (left_of own e rest) s (performing l own e rest s)
-performed_or_stopped l None e rest s = by_refusal l e rest s (refusal l s.history e) refl
-performed_or_stopped l (Some own) e rest s = by_refusal l own (e ∷ rest) s (refusal l s.history own) refl
+performed_or_stopped l None e rest s = by_refusal l e rest s (refusal l s.history (told s.registers e)) refl
+performed_or_stopped l (Some own) e rest s = by_refusal l own (e ∷ rest) s (refusal l s.history (told s.registers own)) refl

@@ -19,7 +19,7 @@ use Rattle.roff_ahead.specs.Input.Calls.{arguments_given, called_text, last_resu
 use Rattle.roff_ahead.specs.Input.Names.{body_named}
 use Rattle.roff_escape.specs.OpenEscape.{unit_bytes}
 use Rattle.roff_run.specs.Definitions.{end_mark, front_of, line_from}
-use Rattle.roff_run.specs.Reading.{undropped_taking, taking, escape_ended}
+use Rattle.roff_run.specs.Reading.{undropped_taking, taking, escape_ended, title_read}
 use Rattle.roff_run.specs.Reading.Arguments.{arguments_ended, arguments_found, line_ended, unit_found}
 use Rattle.roff_run.specs.Reading.Beginnings.{at_start}
 use Rattle.roff_run.specs.Reading.Branches.{branch_taking, condition_begun, condition_found, decided, is_so, reads_else, skipping_taking, with_result_if}
@@ -39,16 +39,18 @@ use Rattle.roff_run.specs.Requests.Effects.{Effect}
 use Rattle.roff_run.specs.declared.definition.DefinitionLine.{DefinitionLine}
 use Rattle.roff_run.specs.declared.definition.DefinitionLine.TheVariants.{MayBeLast, IsLast, IsText}
 use Rattle.roff_run.specs.declared.line_state.LineState.{LineState}
-use Rattle.roff_run.specs.declared.line_state.LineState.TheVariants.{LineStart, Branch, Braced, Text as InText, Control, Name, Arguments as InArguments, Deciding, StringName, StringText, Skipping, Dropped, Telling, Told, Exiting, Calling, Defining}
+use Rattle.roff_run.specs.declared.line_state.LineState.TheVariants.{LineStart, Branch, Braced, Text as InText, Control, Name, Arguments as InArguments, Deciding, StringName, StringText, Skipping, Dropped, Telling, Told, Exiting, Calling, Defining, TitleFront, Title as InTitle}
 use Rattle.roff_run.specs.declared.line_state.TextLine.{TextLine}
 use Rattle.roff_run.specs.declared.request.Called.{Called}
 use Rattle.roff_run.specs.declared.request.Called.TheVariants.{Request as ARequest, Body as ABody, Nothing as Unknown}
 use Rattle.roff_run.specs.declared.request.LineReading.{LineReading}
-use Rattle.roff_run.specs.declared.request.LineReading.TheVariants.{ByArguments, ByCondition, ByElse, ByLastLine, ByMessage, ByString, ByLines}
+use Rattle.roff_run.specs.declared.request.LineReading.TheVariants.{ByArguments, ByCondition, ByElse, ByLastLine, ByMessage, ByString, ByLines, ByTitle}
 use Rattle.roff_run.specs.declared.request.LinesFor.{LinesFor}
 use Rattle.roff_run.specs.declared.request.LinesFor.TheVariants.{Macro, Nobody}
 use Rattle.roff_run.specs.declared.request.Request.{Request}
 use Rattle.roff_laws.proofs.MeantEvents.{AreMeant, AreMeantAhead, Means, Means-if, Means-same, ahead-called, ahead-calling_all, ahead-definition_dropped, ahead-definition_grown, ahead-holding_call, ahead-interrupted, ahead-result, ahead-same, ahead-string_begun, ahead-string_emptied, ahead-string_entered, ahead-string_grown}
+use Rattle.roff_lines.specs.Words.{is_empty}
+use Rattle.roff_laws.proofs.MeantTitles.{Means-behind_part, Means-title_ended, Means-title_found, Means-title_front_found}
 use Rattle.roff_laws.proofs.TextEvents.{meant-line_end, Means-text_found, Means-beginning_found, Means-no_unit_found}
 use Rattle.roff_laws.proofs.RequestEvents.{meant-request_effect}
 
@@ -74,6 +76,7 @@ Means-arguments_ended k i breaks request (ByCondition keeps) = Means-line_ended 
 Means-arguments_ended k i breaks request ByElse = Means-line_ended k i breaks request
 Means-arguments_ended k i breaks request ByLastLine = Means-line_ended k i breaks request
 Means-arguments_ended k i breaks request (ByMessage aborts) = Means-line_ended k i breaks request
+Means-arguments_ended k i breaks request ByTitle = Means-line_ended k i breaks request
 Means-arguments_ended k i breaks request (ByString appends) = Means-line_ended k i breaks request
 
 Means-unit_found : (k : Known) (i : PageInput) (breaks : Bool) (request : Request) (unit : CopyUnit) → Means i.ahead (unit_found k i breaks request unit)
@@ -223,6 +226,8 @@ Means-line_taking k i breaks request (ByMessage aborts) b =
     let read = byte_read AboveCopy i.escapes b in Means-message_found k (record i { escapes = read.1 }) aborts true read.0
 Means-line_taking k i breaks request (ByLines lines) b =
     let read = byte_read AboveArguments i.escapes b in Means-arguments_found k (record i { escapes = read.1 }) breaks request read.0
+Means-line_taking k i breaks request ByTitle b =
+    let read = byte_read AboveArguments i.escapes b in Means-title_front_found k (record i { escapes = read.1 }) read.0
 Means-line_taking k i breaks request ByElse b = Means-branch_taking k (without_last i) (reads_else (last_result i)) b
 
 Means-called_taking : (k : Known) (i : PageInput) (breaks : Bool) (called : Called) (b : ℕ) → Means i.ahead (called_taking k i breaks called b)
@@ -243,6 +248,7 @@ Means-behind_name i breaks request ByLastLine = (tt, λ a. a)
 Means-behind_name i breaks request (ByMessage aborts) = (tt, λ a. a)
 Means-behind_name i breaks request (ByLines lines) = (tt, λ a. a)
 Means-behind_name i breaks request ByElse = (tt, λ a. a)
+Means-behind_name i breaks request ByTitle = (tt, λ a. a)
 
 Means-behind_called : (i : PageInput) (breaks : Bool) (called : Called) → Means i.ahead (behind_called i breaks called)
 Means-behind_called i breaks (ARequest request) = Means-behind_name i breaks request (row_of request).line
@@ -295,12 +301,19 @@ Means-found_in k i (Skipping opened closed behind) found = (tt, λ a. a)
 Means-found_in k i Dropped found = (tt, λ a. a)
 Means-found_in k i (Told aborts) found = (tt, λ a. a)
 Means-found_in k i Exiting found = (tt, λ a. a)
+Means-found_in k i TitleFront found = Means-title_front_found k i found
+Means-found_in k i (InTitle delimiter) found = Means-title_found k i delimiter found
 
 -- a byte that isn't dropped
 Means-read : (k : Known) (reading : LineState) (i : PageInput) (b : ℕ)
     → Means i.ahead (found_in k (record i { escapes = (byte_read (place_in k reading) i.escapes b).1 }) reading (byte_read (place_in k reading) i.escapes b).0)
 Means-read k reading i b =
     let read = byte_read (place_in k reading) i.escapes b in Means-found_in k (record i { escapes = read.1 }) reading read.0
+
+-- one of a title
+Means-title_read : (k : Known) (i : PageInput) (delimiter b : ℕ) (ends : Bool) → Means i.ahead (title_read k i delimiter b ends)
+Means-title_read k i delimiter b true = Means-behind_part i delimiter k.registers.title.part
+Means-title_read k i delimiter b false = Means-read k (InTitle delimiter) i b
 
 Means-undropped_taking : (k : Known) (reading : LineState) (i : PageInput) (b : ℕ) → Means i.ahead (undropped_taking k reading i b)
 Means-undropped_taking k (Control breaks) i b = Means-if i.ahead (b == blank || b == tab) _ _ (tt, λ a. a) (Means-if i.ahead (ends_name b) _ _ (tt, λ a. a) (tt, λ a. a))
@@ -311,6 +324,8 @@ Means-undropped_taking k (Skipping opened closed behind) i b = Means-skipping_ta
 Means-undropped_taking k Dropped i b = (tt, λ a. a)
 Means-undropped_taking k (Told aborts) i b = (tt, λ a. a)
 Means-undropped_taking k Exiting i b = (tt, λ a. a)
+Means-undropped_taking k TitleFront i b = Means-read k TitleFront i b
+Means-undropped_taking k (InTitle delimiter) i b = Means-title_read k i delimiter b (is_empty i.escapes && b == delimiter)
 Means-undropped_taking k LineStart i b = Means-read k LineStart i b
 Means-undropped_taking k Branch i b = Means-read k Branch i b
 Means-undropped_taking k Braced i b = Means-read k Braced i b
@@ -349,6 +364,8 @@ Means-end_taking k (StringText name appends is_front) i = (meant-interrupted_end
 Means-end_taking k (Skipping opened closed behind) i = (meant-interrupted_end k.interrupted, λ a. a)
 Means-end_taking k Dropped i = (meant-interrupted_end k.interrupted, λ a. a)
 Means-end_taking k (Told aborts) i = (meant-interrupted_end k.interrupted, λ a. a)
+Means-end_taking k TitleFront i = Means-undropped_taking k TitleFront i newline
+Means-end_taking k (InTitle delimiter) i = Means-title_ended k i
 Means-end_taking k Exiting i = (meant-interrupted_end k.interrupted, λ a. a)
 Means-end_taking k (Defining name appends end matched) i = (tt, ahead-same (ahead-definition_dropped name i))
 Means-end_taking k Branch i = Means-undropped_taking k Branch i newline

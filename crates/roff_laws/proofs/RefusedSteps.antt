@@ -8,7 +8,7 @@ use Rattle.roff_run.specs.Requests.{called_by}
 use Rattle.roff_run.specs.Springs.{next}
 use Rattle.roff_run.specs.declared.phase.Phase.{Phase}
 use Rattle.roff_run.specs.declared.phase.Phase.TheVariants.{Reading, LastMacro, Closing}
-use Rattle.roff_run.specs.declared.event.PageEvent.{PageEvent}
+use Rattle.roff_run.specs.PageEvents.{PageEvent}
 use Rattle.roff_run.specs.declared.status.Status.TheVariants.{Limit as Limited}
 use Rattle.roff_run.proofs.Readings.{ReadsOn, LimitStops, AheadTaken, ByteTaken, NoteTaken, HalfEnds, InputLeft, LineEnds, MessageTold, PhaseEnds, RunAborts, SourceFails, SourceStops, SprungRead, ReadsOn-with_sprung, Behind-ahead_taken, Behind-sprung_read}
 use Rattle.roff_laws.specs.Refusals.{DoesNothing, RefusedStepsDoNothing}

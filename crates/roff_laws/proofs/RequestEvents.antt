@@ -14,14 +14,14 @@ use Rattle.roff_num.specs.declared.short_name.ShortName.{ShortName}
 use Rattle.roff_run.specs.Environments.{environment_numbered}
 use Rattle.roff_run.specs.Registers.{Known, value_in_force}
 use Rattle.roff_run.specs.Requests.{request_effect, row_of}
-use Rattle.roff_run.specs.declared.event.PageEvent.{PageEvent}
+use Rattle.roff_run.specs.PageEvents.{PageEvent}
 use Rattle.roff_run.specs.declared.event.PageEvent.TheVariants.{Page}
 use Rattle.roff_run.specs.Requests.Adjustment.{adjusting_in, centre, centring, mode_wanted}
 use Rattle.roff_run.specs.Requests.Effects.{Response, Ignored, Obeyed, behind_break, happens, meant_by, page_numbered}
-use Rattle.roff_run.specs.Requests.Lengths.{length_set, length_wanted, line_length, indent, setting_length, temporary_indent}
+use Rattle.roff_run.specs.Requests.Lengths.{length_set, length_wanted, line_length, indent, setting_length, temporary_indent, title_length}
 use Rattle.roff_run.specs.Requests.Naming.{rename}
 use Rattle.roff_run.specs.Requests.Numbering.{assign_format, format_as, if_named, increment_given, name_given, number, number_of_page, set_register, set_to}
-use Rattle.roff_run.specs.Requests.Paging.{lines_on_page, lines_set, page_length, page_of}
+use Rattle.roff_run.specs.Requests.Paging.{lines_on_page, lines_set, next_numbered, offset_to, page_asked, page_length, page_number, page_of}
 use Rattle.roff_run.specs.Requests.Spacing.{line_spacing, space_down, spaced, spacing}
 use Rattle.roff_run.specs.Requests.Springing.{input_trap, trap_set}
 use Rattle.roff_run.specs.Requests.Switching.{switch, switching_by, switching_to}
@@ -31,7 +31,7 @@ use Rattle.roff_laws.proofs.MeantEvents.{AreMeant}
 use Rattle.roff_run.specs.declared.message.Message.TheVariants.{PageTooShort}
 use Rattle.roff_run.specs.declared.environment_number.EnvironmentNumber.{EnvironmentNumber}
 use Rattle.roff_run.specs.declared.request.Request.{Request}
-use Rattle.roff_run.specs.declared.request.Request.TheVariants.{Abort, Adjust, AppendMacro, AppendString, AssignFormat, Break as BreakRequest, Centre, DefineMacro, DefineString, Else, EndMacro, Environment, Exit, Fill, If, IfElse, Ignore, Indent, InputTrap, LineLength, LineSpacing, NoAdjust, NoFill, NumberRegister, PageLength, RemoveNames, RemoveRegisters, Rename, Space as SpaceDown, TabStops, TemporaryIndent, TellMessage, WithoutEffect, LeftOut}
+use Rattle.roff_run.specs.declared.request.Request.TheVariants.{Abort, Adjust, AppendMacro, AppendString, AssignFormat, Break as BreakRequest, Centre, DefineMacro, DefineString, Else, EndMacro, Environment, Exit, Fill, If, IfElse, Ignore, Indent, InputTrap, LineLength, LineSpacing, NoAdjust, NoFill, NumberRegister, PageLength, PageNumber, PageOffset, RemoveNames, RemoveRegisters, Rename, Space as SpaceDown, TabStops, TemporaryIndent, TellMessage, WithoutEffect, LeftOut, PageCharacter, Title as TitleRequest, TitleLength}
 
 -- what a request does
 abbrev meant_in : Response → Type 0
@@ -46,6 +46,10 @@ meant_in-if false r s first second = second
 meant_in-length : (parameter : ℕ → Param) (wanted : Result ℕ NumFault) → meant_in (setting_length parameter wanted)
 meant_in-length parameter (Ok columns) = tt
 meant_in-length parameter (Err fault) = tt
+
+meant_in-title_length : (k : Known) (as_given : List (List ℕ)) → meant_in (title_length k as_given)
+meant_in-title_length k as_given =
+    let s = k.settings in meant_in-length _ (length_wanted s.title_length s.previous_title_length as_given)
 
 meant_in-line_length : (k : Known) (as_given : List (List ℕ)) → meant_in (line_length k as_given)
 meant_in-line_length k as_given =
@@ -95,6 +99,19 @@ meant_in-page_of (Err fault) = tt
 meant_in-page_length : (k : Known) (as_given : List (List ℕ)) → meant_in (page_length k as_given)
 meant_in-page_length k [] = meant_in-lines_on_page 66
 meant_in-page_length k (text ∷ others) = meant_in-page_of (lines_set k text)
+
+-- the page offset, and the next page's number
+meant_in-offset_to : (columns : Result ℕ NumFault) → meant_in (offset_to columns)
+meant_in-offset_to (Ok columns) = (tt, tt)
+meant_in-offset_to (Err fault) = tt
+
+meant_in-next_numbered : (number : Result ℤ NumFault) → meant_in (next_numbered number)
+meant_in-next_numbered (Ok number) = (tt, tt)
+meant_in-next_numbered (Err fault) = tt
+
+meant_in-page_number : (k : Known) (as_given : List (List ℕ)) → meant_in (page_number k as_given)
+meant_in-page_number k [] = tt
+meant_in-page_number k (text ∷ others) = meant_in-next_numbered (page_asked k text)
 
 meant_in-spacing : (lines : Result ℤ NumFault) → meant_in (spacing lines)
 meant_in-spacing (Ok lines) = tt
@@ -192,16 +209,21 @@ meant_in-request k Indent as_given = meant_in-indent k as_given
 meant_in-request k InputTrap as_given = meant_in-input_trap as_given
 meant_in-request k LineLength as_given = meant_in-line_length k as_given
 meant_in-request k LineSpacing as_given = meant_in-line_spacing k as_given
+meant_in-request k TitleLength as_given = meant_in-title_length k as_given
 meant_in-request k NoAdjust as_given = tt
 meant_in-request k NoFill as_given = tt
 meant_in-request k NumberRegister as_given = meant_in-set_register k as_given
+meant_in-request k PageCharacter as_given = tt
 meant_in-request k PageLength as_given = meant_in-page_length k as_given
+meant_in-request k PageNumber as_given = meant_in-page_number k as_given
+meant_in-request k PageOffset as_given = meant_in-offset_to (length_wanted k.layout.offset k.layout.previous_offset as_given)
 meant_in-request k RemoveNames as_given = tt
 meant_in-request k Rename as_given = meant_in-rename as_given
 meant_in-request k RemoveRegisters as_given = tt
 meant_in-request k SpaceDown as_given = meant_in-space_down k as_given
 meant_in-request k TabStops as_given = meant_in-stops (stop_places (pos 0) (take most_stops as_given))
 meant_in-request k TemporaryIndent as_given = meant_in-temporary_indent k as_given
+meant_in-request k TitleRequest as_given = tt
 meant_in-request k TellMessage as_given = tt
 meant_in-request k (WithoutEffect name) as_given = tt
 meant_in-request k (LeftOut name) as_given = tt

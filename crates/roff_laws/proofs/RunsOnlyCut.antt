@@ -6,7 +6,7 @@ use Rattle.roff_run.specs.declared.status.Status.TheVariants.{Device, Limit as L
 use Rattle.roff_num.specs.declared.limits.Limits.{Limits}
 use Rattle.roff_laws.specs.Laws.{OnlyCuts, LimitsOnlyCut, SameUntilALimit, FailingOnlyCuts, SameUntilTheFault, over, failing_behind, going_on_behind}
 use Rattle.roff_laws.specs.Limits.{AreWithin}
-use Rattle.roff_run.specs.Run.{State, blank_state, initial, after}
+use Rattle.roff_run.specs.Run.{State, initial, paged_state, after}
 use Rattle.roff_run.specs.declared.start.Start.{Start}
 use Rattle.roff_source.specs.Tape.{Tape, Item, Ending, Ends, Failed, front, behind_front}
 use Rattle.roff_laws.proofs.StepsAppend.{OnlyCuts-same}
@@ -37,7 +37,7 @@ Cut-limits : (small large : Limits) → AreWithin small large → (start : Start
 Cut-limits small large within start tape n =
     let differ = Differ-limits small large within in
     Cut-after IsSame IsLimit small large differ n (initial small start tape) (initial large start tape)
-    (Cut-with_registers IsSame IsLimit small large differ start.registers.items (blank_state tape) tape refl)
+    (Cut-with_registers IsSame IsLimit small large differ start.registers.items (paged_state start tape) tape refl)
 
 -- limits only cut
 pub limits_only_cut : LimitsOnlyCut
@@ -71,7 +71,7 @@ Differ-sources l = record { limits = inl refl; tapes = fronts }
 Cut-sources : (l : Limits) (start : Start) (items more : List Item) (ending : Ending) (n : ℕ) → Cut GoesOn IsFault (after l n (initial l start (failing_behind items))) (after l n (initial l start (going_on_behind items more ending)))
 Cut-sources l start items more ending n =
     Cut-after GoesOn IsFault l l (Differ-sources l) n _ _
-    (Cut-with_registers GoesOn IsFault l l (Differ-sources l) start.registers.items (blank_state (failing_behind items)) (going_on_behind items more ending) (Behind items more ending))
+    (Cut-with_registers GoesOn IsFault l l (Differ-sources l) start.registers.items (paged_state start (failing_behind items)) (going_on_behind items more ending) (Behind items more ending))
 
 -- a failing source only cuts
 pub failing_only_cuts : FailingOnlyCuts

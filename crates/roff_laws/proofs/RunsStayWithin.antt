@@ -1,19 +1,23 @@
 -- No step passes a limit.
 --
 -- Each function f of the run has its lemma IsWithin-f here, with a line for each of its cases.
-use Rattle.std.proofs.Common.{◌≡◌, ◌≤◌, ◌+◌, ℕ, zero, suc, Bool, true, false, not, ◌||◌, List, [], ◌∷◌, ◌++◌, Option, Some, None, inl, inr, refl, ap, ◌∙◌, arith, append-nil, length-append}
+use Rattle.std.proofs.Common.{◌≡◌, ◌≤◌, ◌+◌, ℕ, zero, suc, Bool, true, false, not, ◌||◌, List, [], ◌∷◌, ◌++◌, Option, Some, None, inl, inr, refl, sym, ap, subst, ◌∙◌, arith, append-nil, length-append, map}
 use Rattle.std.specs.Prelude.{length, nat_lt, if◌then◌else◌}
 use Rattle.std.proofs.lemmas.Bool.{cases_Bool}
 use Rattle.roff_num.specs.declared.limit.Limit.{Limit}
 use Rattle.roff_num.specs.LimitValues.{value_of}
 use Rattle.roff_num.specs.declared.limits.Limits.{Limits}
-use Rattle.roff_run.specs.Environments.{PageHistory, Environments, environments, gone_back, is_same, turned, turned_to, turned_unless}
+use Rattle.roff_run.specs.Environments.{PageHistory, Environments, environments, first_environments, gone_back, is_same, turned, turned_to, turned_unless}
 use Rattle.roff_run.specs.declared.environment_number.EnvironmentNumber.{EnvironmentNumber}
 use Rattle.roff_laws.specs.Laws.{NoLimitIsPassed}
 use Rattle.roff_run.specs.Within.{EnvironmentsWithin, IsWithin}
-use Rattle.roff_run.specs.declared.event.PageEvent.{PageEvent}
-use Rattle.roff_run.specs.declared.event.PageEvent.TheVariants.{Text, Page, Interrupt, Environment, Back, InputTrap as SetsTrap}
-use Rattle.roff_run.specs.Run.{State, blank_state, initial, grown, moved, stopped_by, unless_refused, with_registers, step_with, step, after}
+use Rattle.roff_run.specs.PageEvents.{PageEvent, PastEvent}
+use Rattle.roff_run.specs.Registers.{AllRegisters, is_page, is_read_only}
+use Rattle.roff_run.specs.TitleTexts.{TitleText, title_length}
+use Rattle.roff_run.specs.Titles.{keeping, put_back, told, with_title_kept}
+use Rattle.roff_run.specs.declared.event.PageEvent.TheVariants.{Text, Page, Interrupt, Environment, Back, InputTrap as SetsTrap, Title}
+use Rattle.roff_run.specs.declared.title.WhichTitle.TheVariants.{Read, Kept}
+use Rattle.roff_run.specs.Run.{State, initial, paged_state, grown, moved, stopped_by, unless_refused, with_registers, step_with, step, after}
 use Rattle.roff_run.specs.Output.{happens, layout_of, text_laid, written}
 use Rattle.roff_run.specs.Run.Counts.{counts, first_passed, names_counted, placed_counted, refusal, written_counted}
 use Rattle.roff_laws.proofs.PerformedOrStopped.{PerformedOrStopped, Performed, Sprang, EndsOver, StoppedAt, first_of, left_of, performed_or_stopped}
@@ -29,7 +33,9 @@ use Rattle.roff_run.specs.Requests.{called_by}
 use Rattle.roff_run.specs.Springs.{next}
 use Rattle.roff_run.specs.Requests.Effects.{page_numbered}
 use Rattle.roff_run.specs.Requests.Numbering.{number_of_page}
-use Rattle.roff_run.specs.Starts.{history_given, with_given}
+use Rattle.roff_run.specs.Starts.{history_given, pages_given, with_given}
+use Rattle.roff_run.specs.declared.start.Start.{Start}
+use Rattle.roff_run.proofs.GivenPages.{environments-given_pages, written-given_pages}
 use Rattle.roff_run.proofs.PutBack.{bytes_ahead-back, ends_ahead-back}
 use Rattle.roff_source.specs.Tape.{Tape}
 
@@ -44,6 +50,7 @@ IsWithin-same l s t input registers history is = record {
   making = rw input is.making;
   conditions = rw input is.conditions;
   names = rw registers is.names;
+  title = rw registers is.title;
   environments = rw history is.environments;
   output = rw history is.output;
 }
@@ -91,11 +98,12 @@ within-gone_back l [] es is few = is
 within-gone_back l (number ∷ left) es is few = within-turned_to l number _ (within-left l left es is (omega (arith, few)))
 
 -- the environments behind an event that no limit refuses
-environments_within : (l : Limits) (h : PageHistory) (e : PageEvent) → EnvironmentsWithin l (environments h) → refusal l h e ≡ None
+environments_within : (l : Limits) (h : PageHistory) (e : PastEvent) → EnvironmentsWithin l (environments h) → refusal l h e ≡ None
     → EnvironmentsWithin l (environments (e ∷ h))
 environments_within l h (Text e) is allowed =
     record { in_force = (counts_within l (counts h (Text e)) allowed).0; next = is.next; last = is.last; left = is.left }
 environments_within l h (Page e) is allowed = is
+environments_within l h (Title t) is allowed = is
 environments_within l h (Interrupt untold) is allowed = record { in_force = is.in_force; next = is.next; last = is.last; left = is.left }
 environments_within l h (Environment number) is allowed =
     let es : Environments = environments h in
@@ -111,7 +119,7 @@ laid_within l h None is all = rw append-nil is
 laid_within l h (Some x) is all = rw length-append all.0
 
 -- what is written behind an event that no limit refuses
-written_within : (l : Limits) (h : PageHistory) (e : PageEvent) → length (written h) ≤ l.output → refusal l h e ≡ None
+written_within : (l : Limits) (h : PageHistory) (e : PastEvent) → length (written h) ≤ l.output → refusal l h e ≡ None
     → length (written (e ∷ h)) ≤ l.output
 written_within l h (Text e) is allowed = laid_within l h (happens h (Text e)) is (counts_within l (counts h (Text e)) allowed).1
 written_within l h (Page e) is allowed =
@@ -121,9 +129,10 @@ written_within l h (Interrupt untold) is allowed = laid_within l h None is tt
 written_within l h (Environment number) is allowed = laid_within l h None is tt
 written_within l h Back is allowed = laid_within l h None is tt
 written_within l h (SetsTrap trap) is allowed = laid_within l h None is tt
+written_within l h (Title t) is allowed = laid_within l h (happens h (Title t)) is (counts_within l (counts h (Title t)) allowed)
 
 -- an event happened
-IsWithin-happened : (l : Limits) (e : PageEvent) (s : State) → refusal l s.history e ≡ None → IsWithin l s → IsWithin l (record s { history = e ∷ s.history })
+IsWithin-happened : (l : Limits) (e : PastEvent) (s : State) → refusal l s.history e ≡ None → IsWithin l s → IsWithin l (record s { history = e ∷ s.history })
 IsWithin-happened l e s allowed is = record {
   bytes = is.bytes;
   stack = is.stack;
@@ -133,27 +142,52 @@ IsWithin-happened l e s allowed is = record {
   making = is.making;
   conditions = is.conditions;
   names = is.names;
+  title = is.title;
   environments = environments_within l s.history e is.environments allowed;
   output = written_within l s.history e is.output allowed;
 }
 
+-- events that are put back leave the names of registers, and a title within its limit
+pub named-keeping : (events : List PageEvent) (rs : AllRegisters) → (keeping events rs).named ≡ rs.named
+named-keeping [] rs = refl
+named-keeping (Title Read ∷ events) rs = named-keeping events (with_title_kept rs)
+named-keeping (Title Kept ∷ events) rs = named-keeping events rs
+named-keeping (Text e ∷ events) rs = named-keeping events rs
+named-keeping (Page e ∷ events) rs = named-keeping events rs
+named-keeping (Interrupt untold ∷ events) rs = named-keeping events rs
+named-keeping (Environment number ∷ events) rs = named-keeping events rs
+named-keeping (Back ∷ events) rs = named-keeping events rs
+named-keeping (SetsTrap trap ∷ events) rs = named-keeping events rs
+
+pub title-keeping : (l : Limits) (events : List PageEvent) (rs : AllRegisters) → title_length rs.title ≤ l.line → title_length (keeping events rs).title ≤ l.line
+title-keeping l [] rs within = within
+title-keeping l (Title Read ∷ events) rs within = title-keeping l events (with_title_kept rs) (omega arith)
+title-keeping l (Title Kept ∷ events) rs within = title-keeping l events rs within
+title-keeping l (Text e ∷ events) rs within = title-keeping l events rs within
+title-keeping l (Page e ∷ events) rs within = title-keeping l events rs within
+title-keeping l (Interrupt untold ∷ events) rs within = title-keeping l events rs within
+title-keeping l (Environment number ∷ events) rs within = title-keeping l events rs within
+title-keeping l (Back ∷ events) rs within = title-keeping l events rs within
+title-keeping l (SetsTrap trap ∷ events) rs within = title-keeping l events rs within
+
 -- an event is performed, or the run ends at it
 IsWithin-event : (l : Limits) (e : PageEvent) (left : List PageEvent) (s t : State) → PerformedOrStopped l e left s t → IsWithin l s → IsWithin l t
 IsWithin-event l e left s t (Performed allowed on none) is =
-    IsWithin-same l (record s { history = e ∷ s.history }) t refl refl refl (IsWithin-happened l e s allowed is)
+    IsWithin-same l (record s { history = told s.registers e ∷ s.history }) t refl refl refl (IsWithin-happened l (told s.registers e) s allowed is)
 IsWithin-event l e left s t (EndsOver allowed over) is =
-    IsWithin-same l (record s { history = e ∷ s.history }) t refl refl refl (IsWithin-happened l e s allowed is)
+    IsWithin-same l (record s { history = told s.registers e ∷ s.history }) t refl refl refl (IsWithin-happened l (told s.registers e) s allowed is)
 IsWithin-event l e left s t (Sprang name allowed on some) is = record {
   bytes = is.bytes;
-  stack = omega (arith, is.stack, bytes_ahead-back left s.input.ahead);
-  depth = omega (arith, is.depth, ends_ahead-back left s.input.ahead);
+  stack = omega (arith, is.stack, bytes_ahead-back (map put_back left) s.input.ahead);
+  depth = omega (arith, is.depth, ends_ahead-back (map put_back left) s.input.ahead);
   store = is.store;
   texts = is.texts;
   making = is.making;
   conditions = is.conditions;
-  names = is.names;
-  environments = environments_within l s.history e is.environments allowed;
-  output = written_within l s.history e is.output allowed;
+  names = rw (named-keeping left s.registers) is.names;
+  title = title-keeping l left s.registers is.title;
+  environments = environments_within l s.history (told s.registers e) is.environments allowed;
+  output = written_within l s.history (told s.registers e) is.output allowed;
 }
 IsWithin-event l e left s t (StoppedAt limit) is = IsWithin-same l s t refl refl refl is
 
@@ -161,16 +195,18 @@ IsWithin-event l e left s t (StoppedAt limit) is = IsWithin-same l s t refl refl
 IsWithin-made : (l : Limits) (s t : State) → t.input.charge ≤ l.bytes → t.history ≡ s.history → IsMade l t → IsWithin l s → IsWithin l t
 IsWithin-made l s t charge history is_made is =
     let others : AllWithin l (grown t) = counts_within l (grown t) is_made in
-    let ahead = others.1.1.1.1 in
+    let input = others.1.1 in
+    let ahead = input.1.1.1 in
     record {
       bytes = charge;
       stack = ahead.0;
       depth = ahead.1.0;
-      store = others.1.0;
-      texts = others.1.1.0;
-      making = omega (arith, others.1.1.1.0);
+      store = input.0;
+      texts = input.1.0;
+      making = omega (arith, input.1.1.0);
       conditions = ahead.1.1.0;
       names = others.0;
+      title = others.1.0;
       environments = rw history is.environments;
       output = rw history is.output;
     }
@@ -210,7 +246,7 @@ IsWithin-step_with l (e ∷ rest) s is =
 IsWithin-step_with l [] s is = IsWithin-read l s _ (ReadsOn-with_sprung l s.sprung s refl) is
 
 -- a step
-IsWithin-step : (l : Limits) (s : State) → IsWithin l s → IsWithin l (step l s)
+pub IsWithin-step : (l : Limits) (s : State) → IsWithin l s → IsWithin l (step l s)
 IsWithin-step l s is =
     elim s.ended as (λ o. IsWithin l (elim o [ None ↦ step_with l s.to_do s | Some status ↦ s ])) [
       | None ↦ IsWithin-step_with l s.to_do s is
@@ -222,9 +258,23 @@ IsWithin-after : (l : Limits) (n : ℕ) (s : State) → IsWithin l s → IsWithi
 IsWithin-after l zero s is = is
 IsWithin-after l (suc n) s is = IsWithin-after l n (step l s) (IsWithin-step l s is)
 
--- before anything is given no count is above its limit
-IsWithin-blank : (l : Limits) (tape : Tape) → IsWithin l (blank_state tape)
-IsWithin-blank l tape = record { bytes = omega arith; stack = omega arith; depth = omega arith; store = omega arith; texts = omega arith; making = omega arith; conditions = omega arith; names = omega arith; environments = record { in_force = omega arith; next = omega arith; last = omega arith; left = omega arith }; output = omega arith }
+-- behind what is given of the pages no count is above its limit
+IsWithin-paged : (l : Limits) (start : Start) (tape : Tape) → IsWithin l (paged_state start tape)
+IsWithin-paged l start tape =
+    let first : EnvironmentsWithin l first_environments = record { in_force = omega arith; next = omega arith; last = omega arith; left = omega arith } in
+    let none : length (written (pages_given start)) ≡ 0 = ap (λ (text : List ℕ). length text) (written-given_pages start) in record {
+      bytes = omega arith;
+      stack = omega arith;
+      depth = omega arith;
+      store = omega arith;
+      texts = omega arith;
+      making = omega arith;
+      conditions = omega arith;
+      names = omega arith;
+      title = omega arith;
+      environments = subst (λ (es : Environments). EnvironmentsWithin l es) (sym (environments-given_pages start)) first;
+      output = omega (arith, none);
+    }
 
 -- the page's number changes no environment, and nothing is written of it
 within_numbered : (l : Limits) (n : Option Num) (h : PageHistory) → EnvironmentsWithin l (environments h) → EnvironmentsWithin l (environments (page_numbered n ++ h))
@@ -243,6 +293,18 @@ written-numbered (Some n) h =
     ap (λ (text : List ℕ). written h ++ text) (nothing_by_test (is_diverted (Does (Number n)) L || not L.is_listed) L.offset)
     ∙ append-nil (written h)
 
+-- a register that is set changes no title
+pub title-chosen : (title : AllRegisters → TitleText) (read_only of_page : Bool) (paged others rs : AllRegisters)
+    → title paged ≡ title rs → title others ≡ title rs
+    → title (if read_only then rs else if of_page then paged else others) ≡ title rs
+title-chosen title true of_page paged others rs first second = refl
+title-chosen title false true paged others rs first second = first
+title-chosen title false false paged others rs first second = second
+
+pub title-given : (given : ℕ × Num) (rs : AllRegisters) → (with_given given rs).title ≡ rs.title
+title-given given rs =
+    let name : List ℕ = given.0 ∷ [] in title-chosen (λ r. r.title) (is_read_only name) (is_page name) _ _ rs refl refl
+
 -- a register that is given is set, or the limit on names refuses it
 IsWithin-given : (l : Limits) (given : ℕ × Num) (s done : State) (r : Option Limit)
     → let behind : State = record s { registers = with_given given s.registers; history = history_given given s.history } in
@@ -258,6 +320,7 @@ IsWithin-given l given s done None none is others =
       making = is.making;
       conditions = is.conditions;
       names = (counts_within l (names_counted (with_given given s.registers)) none).0;
+      title = rw (title-given given s.registers) is.title;
       environments = within_numbered l n s.history is.environments;
       output = rw (written-numbered n s.history) is.output;
     })
@@ -271,6 +334,9 @@ IsWithin-with_registers l (first ∷ others) s is =
     IsWithin-given l first s (with_registers l others behind) (first_passed l (names_counted behind.registers)) refl is (IsWithin-with_registers l others behind)
 
 -- no run passes a limit
+pub IsWithin-initial : (l : Limits) (start : Start) (tape : Tape) → IsWithin l (initial l start tape)
+IsWithin-initial l start tape =
+    IsWithin-with_registers l start.registers.items (paged_state start tape) (IsWithin-paged l start tape)
+
 pub no_limit_is_passed : NoLimitIsPassed
-no_limit_is_passed l start tape n =
-    IsWithin-after l n (initial l start tape) (IsWithin-with_registers l start.registers.items (blank_state tape) (IsWithin-blank l tape))
+no_limit_is_passed l start tape n = IsWithin-after l n (initial l start tape) (IsWithin-initial l start tape)

@@ -15,12 +15,13 @@ use Rattle.roff_run.specs.Reading.Returns.{back_of, behind_return, gone_back_to}
 use Rattle.roff_run.specs.Reading.Waiting.{waiting_above}
 use Rattle.roff_run.specs.Requests.{called_by}
 use Rattle.roff_run.specs.Springs.{springs}
+use Rattle.roff_run.specs.Titles.{told}
 use Rattle.roff_run.specs.Run.{State, after, ahead_taken, done_if, in_front_taken, made, performed, performing, read_waiting, sprung_at, sprung_read, step, step_with, stopped_by, unless_refused}
 use Rattle.roff_run.specs.declared.environment_number.EnvironmentNumber.{EnvironmentNumber}
 use Rattle.roff_run.specs.declared.environment_number.EnvironmentNumber.TheVariants.{Zero, One, Two}
-use Rattle.roff_run.specs.declared.event.PageEvent.{PageEvent}
+use Rattle.roff_run.specs.PageEvents.{PageEvent, PastEvent}
 use Rattle.roff_run.specs.declared.line_state.LineState.{LineState}
-use Rattle.roff_run.specs.declared.line_state.LineState.TheVariants.{LineStart, Branch, Braced, Text as InText, Control, Name, Arguments as InArguments, Deciding, StringName, StringText, Skipping, Dropped, Telling, Told, Exiting, Calling, Defining}
+use Rattle.roff_run.specs.declared.line_state.LineState.TheVariants.{LineStart, Branch, Braced, Text as InText, Control, Name, Arguments as InArguments, Deciding, StringName, StringText, Skipping, Dropped, Telling, Told, Exiting, Calling, Defining, TitleFront, Title as InTitle}
 use Rattle.roff_run.specs.declared.line_state.TextLine.{TextLine}
 use Rattle.roff_run.specs.declared.request.Called.{Called}
 use Rattle.roff_run.specs.declared.request.Called.TheVariants.{Body as ABody, Nothing as Unknown}
@@ -32,12 +33,13 @@ use Rattle.roff_laws.specs.SpringLaws.{EachLineCounts, LinesGoOnAsTheyWere, Macr
 springing-step : (l : Limits) (s : State) (e : PageEvent) (rest : List PageEvent) (name : ShortName) → Springs l s e rest name
     → step l s ≡ record (with_rest_back e rest s) { sprung = Some name }
 springing-step l s e rest name does =
-    let happened : State = record s { history = e ∷ s.history } in
+    let happens : PastEvent = told s.registers e in
+    let happened : State = record s { history = happens ∷ s.history } in
     step-going l s does.going
     ∙ ap (λ (es : List PageEvent). step_with l es s) does.first
     ∙ ap (λ (own : Option PageEvent). performing l own e rest s) does.none_before
-    ∙ ap (λ (r : Option Limit). unless_refused l r s (performed e rest s)) does.allowed
-    ∙ ap (λ (over : Bool). done_if over happened (sprung_at (springs s.history e) rest happened)) does.goes_on
+    ∙ ap (λ (r : Option Limit). unless_refused l r s (performed happens rest s)) does.allowed
+    ∙ ap (λ (over : Bool). done_if over happened (sprung_at (springs s.history happens) rest happened)) does.goes_on
     ∙ ap (λ (sprung : Option ShortName). sprung_at sprung rest happened) does.sprung
 
 -- and the one behind it, by what the name stands for
@@ -91,6 +93,8 @@ gone_back Dropped may = absurd may
 gone_back (Telling aborts is_front) may = absurd may
 gone_back (Told aborts) may = absurd may
 gone_back Exiting may = absurd may
+gone_back TitleFront may = absurd may
+gone_back (InTitle delimiter) may = absurd may
 gone_back (Calling name) may = absurd may
 gone_back (Defining name appends end matched) may = absurd may
 

@@ -1,7 +1,7 @@
 -- Nothing closes a run before its input has ended: until then no event ends the last page.
 --
 -- Each function f of the run has its lemma Stage-f here, with a line for each of its cases.
-use Rattle.std.proofs.Common.{◌≡◌, ℕ, Bool, true, false, List, [], ◌∷◌, ◌++◌, Option, Some, None, inl, inr, refl, sym, ◌∙◌, ap, subst}
+use Rattle.std.proofs.Common.{◌≡◌, ℕ, Bool, true, false, List, [], ◌∷◌, ◌++◌, map, Option, Some, None, inl, inr, refl, sym, ◌∙◌, ap, subst}
 use Rattle.std.specs.Prelude.{nat_le, option_map, if◌then◌else◌}
 use Rattle.roff_lines.specs.Lines.{Finished, finished}
 use Rattle.roff_lines.specs.declared.event.Event.TheVariants.{WordEnd}
@@ -12,13 +12,15 @@ use Rattle.roff_source.specs.Tape.{Tape, Item, Ended, Ends, Gives, front}
 use Rattle.roff_ahead.specs.Input.{Ahead, ByteAhead, FreeAhead, EndAhead, ReturnAhead, DoAhead, counting, item_taken}
 use Rattle.roff_ahead.specs.Input.Calls.{called_text}
 use Rattle.roff_ahead.specs.Input.Names.{body_named}
-use Rattle.roff_pages.specs.Happenings.{Happening, Does, Places}
+use Rattle.roff_pages.specs.Happenings.{Happening, Does, Places, Titles}
 use Rattle.roff_pages.specs.declared.layout_event.LayoutEvent.TheVariants.{ListPages, Begin, Close, Space, Need, Eject, EjectTo, EjectOn, EjectLast, Length, Offset, Next, Number, NoSpace, Plant, Uproot, MoveTrap, RemoveTrap, DiversionTrap, NoDiversionTrap, Divert, EndDivert}
 use Rattle.roff_pages.specs.Layout.{Box, Layout, page_place}
 use Rattle.roff_pages.specs.Puts.{Put, appended, puts}
 use Rattle.roff_pages.specs.Turning.{behind_put, next_behind, page_begun, unput, with_boxes}
 use Rattle.roff_run.specs.Environments.{PageHistory, text_of}
-use Rattle.roff_run.specs.Layouts.{laid_out, layout_of}
+use Rattle.roff_run.specs.Layouts.{laid_out, layout_of, placed}
+use Rattle.roff_run.specs.Registers.{AllRegisters}
+use Rattle.roff_run.specs.Titles.{put_back, title_told, told}
 use Rattle.roff_run.specs.Reading.{escape_ended, taking}
 use Rattle.roff_run.specs.Reading.Ends.{end_taking}
 use Rattle.roff_run.specs.Reading.Items.{Taking}
@@ -26,18 +28,20 @@ use Rattle.roff_run.specs.Reading.Returns.{back_of}
 use Rattle.roff_run.specs.Requests.{called_by}
 use Rattle.roff_run.specs.Requests.Effects.{page_numbered}
 use Rattle.roff_run.specs.Requests.Numbering.{number_of_page}
-use Rattle.roff_run.specs.Run.{State, ahead_taken, blank_state, known, moved, phase_ended, sprung_read, taken_as}
+use Rattle.roff_run.specs.Run.{State, ahead_taken, known, moved, paged_state, phase_ended, sprung_read, taken_as}
 use Rattle.roff_run.specs.Springs.{next}
 use Rattle.roff_run.specs.Starts.{history_given, with_given}
-use Rattle.roff_run.specs.declared.event.PageEvent.{PageEvent}
-use Rattle.roff_run.specs.declared.event.PageEvent.TheVariants.{Text, Page, Interrupt, Environment, Back, InputTrap as SetsTrap}
+use Rattle.roff_run.specs.PageEvents.{PageEvent}
+use Rattle.roff_run.specs.declared.event.PageEvent.TheVariants.{Text, Page, Interrupt, Environment, Back, InputTrap as SetsTrap, Title}
 use Rattle.roff_run.specs.declared.phase.Phase.{Phase}
 use Rattle.roff_run.specs.declared.phase.Phase.TheVariants.{Reading, LastMacro, Closing}
 use Rattle.roff_run.specs.declared.request.Called.{Called}
+use Rattle.roff_run.specs.declared.start.Start.{Start}
+use Rattle.roff_run.proofs.GivenPages.{keeps-given}
 use Rattle.roff_run.specs.declared.request.Called.TheVariants.{Request as ARequest, Body as ABody, Nothing as Unknown}
 use Rattle.roff_run.proofs.Readings.{ReadsOn, LimitStops, AheadTaken, ByteTaken, HasEnded, NoteTaken, HalfEnds, InputLeft, LineEnds, PhaseEnds, MessageTold, RunAborts, SourceFails, SourceStops, SprungRead, Behind-ahead_taken, Behind-sprung_read}
 use Rattle.roff_laws.proofs.ComesBefore.{ComesBefore, NothingComes, PageComes, WordEndComes, comes_before}
-use Rattle.roff_laws.proofs.MeantEvents.{AreMeant, AreMeantAhead, Means, ahead-back, ahead-called, ahead-interrupted, ahead-same, meant-append, meant-first, meant-others}
+use Rattle.roff_laws.proofs.MeantEvents.{AreMeant, AreMeantAhead, Means, ahead-back, ahead-called, ahead-interrupted, ahead-same, meant-append, meant-back, meant-first, meant-others}
 use Rattle.roff_laws.proofs.PerformedOrStopped.{PerformedOrStopped, Performed, Sprang, EndsOver, StoppedAt, first_of, left_of}
 use Rattle.roff_laws.proofs.ReadEvents.{Means-end_taking, Means-escape_ended, Means-taking, ahead-last_called}
 
@@ -67,42 +71,45 @@ open-laid None L is = is
 open-laid (Some line) L is = open-put (Places line) (puts (Places line) L) (appended (Places line) L) L is is
 
 -- behind an event that reading means
-open-event : (h : PageHistory) (e : PageEvent) → AreMeant (e ∷ []) → LaidOpen (layout_of h) → LaidOpen (layout_of (e ∷ h))
-open-event h (Text e) meant is = open-laid (finished (text_of h) e) (layout_of h) is
-open-event h (Interrupt untold) meant is = is
-open-event h (Environment number) meant is = is
-open-event h Back meant is = is
-open-event h (SetsTrap trap) meant is = is
-open-event h (Page (Space k)) meant is =
+open-event : (rs : AllRegisters) (h : PageHistory) (e : PageEvent) → AreMeant (e ∷ []) → LaidOpen (layout_of h) → LaidOpen (layout_of (told rs e ∷ h))
+open-event rs h (Text e) meant is = open-laid (finished (text_of h) e) (layout_of h) is
+open-event rs h (Interrupt untold) meant is = is
+open-event rs h (Environment number) meant is = is
+open-event rs h Back meant is = is
+open-event rs h (SetsTrap trap) meant is = is
+open-event rs h (Title which) meant is =
+    let x : Happening = Titles (placed (title_told rs which) (text_of h) (layout_of h)) in
+    open-put x (puts x (layout_of h)) (appended x (layout_of h)) (layout_of h) is is
+open-event rs h (Page (Space k)) meant is =
     let x : Happening = Does (Space k) in open-put x (puts x (layout_of h)) (appended x (layout_of h)) (layout_of h) is is
-open-event h (Page (Length k)) meant is = record { closing = is.closing; over = is.over; traps = is.traps }
-open-event h (Page (Number n)) meant is = record { closing = is.closing; over = is.over; traps = is.traps }
-open-event h (Page (ListPages first last)) meant is = absurd meant.0
-open-event h (Page Begin) meant is = absurd meant.0
-open-event h (Page Close) meant is = absurd meant.0
-open-event h (Page (Need k)) meant is = absurd meant.0
-open-event h (Page (Eject asked)) meant is = absurd meant.0
-open-event h (Page (EjectTo asked number)) meant is = absurd meant.0
-open-event h (Page (EjectOn asked)) meant is = absurd meant.0
-open-event h (Page EjectLast) meant is = absurd meant.0
-open-event h (Page (Offset k)) meant is = absurd meant.0
-open-event h (Page (Next n)) meant is = absurd meant.0
-open-event h (Page (NoSpace on)) meant is = absurd meant.0
-open-event h (Page (Plant trap)) meant is = absurd meant.0
-open-event h (Page (Uproot place)) meant is = absurd meant.0
-open-event h (Page (MoveTrap name place)) meant is = absurd meant.0
-open-event h (Page (RemoveTrap name)) meant is = absurd meant.0
-open-event h (Page (DiversionTrap trap)) meant is = absurd meant.0
-open-event h (Page NoDiversionTrap) meant is = absurd meant.0
-open-event h (Page (Divert name appends)) meant is = absurd meant.0
-open-event h (Page EndDivert) meant is = absurd meant.0
+open-event rs h (Page (Length k)) meant is = record { closing = is.closing; over = is.over; traps = is.traps }
+open-event rs h (Page (Number n)) meant is = record { closing = is.closing; over = is.over; traps = is.traps }
+open-event rs h (Page (ListPages first last)) meant is = absurd meant.0
+open-event rs h (Page Begin) meant is = absurd meant.0
+open-event rs h (Page Close) meant is = absurd meant.0
+open-event rs h (Page (Need k)) meant is = absurd meant.0
+open-event rs h (Page (Eject asked)) meant is = absurd meant.0
+open-event rs h (Page (EjectTo asked number)) meant is = absurd meant.0
+open-event rs h (Page (EjectOn asked)) meant is = absurd meant.0
+open-event rs h (Page EjectLast) meant is = absurd meant.0
+open-event rs h (Page (Offset k)) meant is = record { closing = is.closing; over = is.over; traps = is.traps }
+open-event rs h (Page (Next n)) meant is = record { closing = is.closing; over = is.over; traps = is.traps }
+open-event rs h (Page (NoSpace on)) meant is = absurd meant.0
+open-event rs h (Page (Plant trap)) meant is = absurd meant.0
+open-event rs h (Page (Uproot place)) meant is = absurd meant.0
+open-event rs h (Page (MoveTrap name place)) meant is = absurd meant.0
+open-event rs h (Page (RemoveTrap name)) meant is = absurd meant.0
+open-event rs h (Page (DiversionTrap trap)) meant is = absurd meant.0
+open-event rs h (Page NoDiversionTrap) meant is = absurd meant.0
+open-event rs h (Page (Divert name appends)) meant is = absurd meant.0
+open-event rs h (Page EndDivert) meant is = absurd meant.0
 
 -- behind what comes before one
-pub open-first : (h : PageHistory) (e : PageEvent) (own : Option PageEvent) → ComesBefore h e own → AreMeant (e ∷ []) → LaidOpen (layout_of h)
-    → LaidOpen (layout_of (first_of own e ∷ h))
-open-first h e own (NothingComes none_begins) meant is = open-event h e meant is
-open-first h e own (WordEndComes none_begins fewer) meant is = open-event h (Text WordEnd) tt is
-open-first h e own (PageComes none_begun fewer) meant is = record { closing = is.closing; over = is.over; traps = is.traps }
+pub open-first : (rs : AllRegisters) (h : PageHistory) (e : PageEvent) (own : Option PageEvent) → ComesBefore h e own
+    → AreMeant (e ∷ []) → LaidOpen (layout_of h) → LaidOpen (layout_of (told rs (first_of own e) ∷ h))
+open-first rs h e own (NothingComes none_begins) meant is = open-event rs h e meant is
+open-first rs h e own (WordEndComes none_begins fewer) meant is = open-event rs h (Text WordEnd) tt is
+open-first rs h e own (PageComes none_begun fewer) meant is = record { closing = is.closing; over = is.over; traps = is.traps }
 
 -- a run that goes on: all events that are to do, or were put back, are among those that reading means
 pub record IsOpen (s : State) : Type 0 where
@@ -127,10 +134,10 @@ nothing_given s item (inr ends) is_open gives = let wrong : Gives item ≡ Ends 
 
 -- where the last page has ended so has the input
 pub ended-over : (s : State) (e : PageEvent) (es : List PageEvent) → s.to_do ≡ e ∷ es → Stage s
-    → (layout_of (first_of (next s.history e) e ∷ s.history)).is_over ≡ true → HasEnded s
+    → (layout_of (told s.registers (first_of (next s.history e) e) ∷ s.history)).is_over ≡ true → HasEnded s
 ended-over s e es to_do (Goes is) over =
     let meant : AreMeant (e ∷ es) = subst AreMeant to_do is.to_do in
-    let laid = open-first s.history e (next s.history e) (comes_before s.history e) (meant-first e es meant) is.layout in
+    let laid = open-first s.registers s.history e (next s.history e) (comes_before s.history e) (meant-first e es meant) is.layout in
     let wrong : true ≡ false = sym over ∙ laid.over in absurd (cc)
 ended-over s e es to_do (Closes phase ended) over = ended
 
@@ -140,11 +147,12 @@ meant-left None e es meant = meant-others e es meant
 meant-left (Some own) e es meant = meant
 
 -- an event was performed, or the run ended
-open-performed : (l : Limits) (e : PageEvent) (left : List PageEvent) (s t : State) → PerformedOrStopped l e left s t → LaidOpen (layout_of (e ∷ s.history))
-    → AreMeant left → IsOpen s → Stage t
+open-performed : (l : Limits) (e : PageEvent) (left : List PageEvent) (s t : State) → PerformedOrStopped l e left s t
+    → LaidOpen (layout_of (told s.registers e ∷ s.history)) → AreMeant left → IsOpen s → Stage t
 open-performed l e left s t (Performed allowed on none) laid meant is = Goes (record { to_do = meant; ahead = is.ahead; layout = laid })
 open-performed l e left s t (Sprang name allowed on some) laid meant is =
-    Goes (record { to_do = tt; ahead = ahead-back left s.input.ahead meant is.ahead; layout = laid })
+    let ahead = ahead-back (map put_back left) s.input.ahead (meant-back left meant) is.ahead in
+    Goes (record { to_do = tt; ahead = ahead; layout = laid })
 open-performed l e left s t (EndsOver allowed over) laid meant is = Goes (record { to_do = is.to_do; ahead = is.ahead; layout = laid })
 open-performed l e left s t (StoppedAt limit) laid meant is = Goes (record { to_do = is.to_do; ahead = is.ahead; layout = is.layout })
 
@@ -158,7 +166,8 @@ pub Stage-event : (l : Limits) (e : PageEvent) (es : List PageEvent) (s t : Stat
     → PerformedOrStopped l (first_of (next s.history e) e) (left_of (next s.history e) e es) s t → Stage s → Stage t
 Stage-event l e es s t to_do done (Goes is) =
     let meant : AreMeant (e ∷ es) = subst AreMeant to_do is.to_do in
-    open-performed l _ _ s t done (open-first s.history e (next s.history e) (comes_before s.history e) (meant-first e es meant) is.layout)
+    open-performed l _ _ s t done
+    (open-first s.registers s.history e (next s.history e) (comes_before s.history e) (meant-first e es meant) is.layout)
     (meant-left (next s.history e) e es meant) is
 Stage-event l e es s t to_do done (Closes phase ended) = closes-performed l _ _ s t done phase ended
 
@@ -259,6 +268,12 @@ Stage-given given s (Goes is) =
     Goes (record { to_do = is.to_do; ahead = is.ahead; layout = open-numbered (number_of_page (given.0 ∷ []) given.1) s.history is.layout })
 Stage-given given s (Closes phase ended) = Closes phase ended
 
--- before anything is given a run goes on
-pub Stage-blank : (tape : Tape) → Stage (blank_state tape)
-Stage-blank tape = Goes (record { to_do = tt; ahead = tt; layout = record { closing = refl; over = refl; traps = refl } })
+-- behind what is given of the pages a run goes on
+pub Stage-paged : (start : Start) (tape : Tape) → Stage (paged_state start tape)
+Stage-paged start tape = Goes (record {
+  to_do = tt;
+  ahead = tt;
+  layout =
+      keeps-given (λ h. LaidOpen (layout_of h)) (λ first last h is. record { closing = is.closing; over = is.over; traps = is.traps })
+      (λ n h is. record { closing = is.closing; over = is.over; traps = is.traps }) start (record { closing = refl; over = refl; traps = refl });
+})

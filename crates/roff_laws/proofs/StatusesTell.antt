@@ -3,12 +3,13 @@
 -- Each function f of the run has its lemma IsTold-f here, with a line for each of its cases.
 use Rattle.std.proofs.Common.{◌≡◌, ◌⊎◌, inl, inr, ℕ, zero, suc, true, List, [], ◌∷◌, Option, Some, None, refl, sym, ◌∙◌, subst}
 use Rattle.roff_num.specs.declared.limits.Limits.{Limits}
-use Rattle.roff_run.specs.declared.event.PageEvent.{PageEvent}
+use Rattle.roff_run.specs.PageEvents.{PageEvent}
 use Rattle.roff_run.specs.Output.{layout_of}
-use Rattle.roff_run.specs.Run.{State, blank_state, initial, phase_ended, unless_refused, with_registers, step_with, step, after}
+use Rattle.roff_run.specs.Run.{State, initial, paged_state, phase_ended, unless_refused, with_registers, step_with, step, after}
 use Rattle.roff_run.specs.Run.Counts.{first_passed, names_counted}
 use Rattle.roff_run.specs.Requests.{called_by}
 use Rattle.roff_run.specs.Springs.{next}
+use Rattle.roff_run.specs.Titles.{told}
 use Rattle.roff_run.specs.Starts.{history_given, with_given}
 use Rattle.roff_run.specs.declared.phase.Phase.{Phase}
 use Rattle.roff_run.specs.declared.phase.Phase.TheVariants.{Reading, LastMacro, Closing}
@@ -20,7 +21,7 @@ use Rattle.roff_laws.specs.Statuses.{HasMet, Tells, EachStatusTells}
 use Rattle.roff_run.specs.declared.status.Status.{Status}
 use Rattle.roff_ahead.specs.Input.{item_taken}
 use Rattle.roff_source.specs.Tape.{Tape, Item, Ending, Ends, Ended, Failed, Stopped, front}
-use Rattle.roff_laws.proofs.Stages.{Stage, Stage-blank, Stage-event, Stage-given, Stage-read, ended-over}
+use Rattle.roff_laws.proofs.Stages.{Stage, Stage-event, Stage-given, Stage-paged, Stage-read, ended-over}
 use Rattle.roff_laws.proofs.Endings.{at_last_state, ended_or_not, step-ended, step-going}
 use Rattle.roff_laws.proofs.PerformedOrStopped.{PerformedOrStopped, Performed, Sprang, EndsOver, StoppedAt, first_of, left_of, performed_or_stopped}
 use Rattle.roff_run.proofs.Readings.{ReadsOn, LimitStops, AheadTaken, ByteTaken, HasEnded, NoteTaken, HalfEnds, InputLeft, LineEnds, PhaseEnds, MessageTold, RunAborts, SourceFails, SourceStops, SprungRead, ReadsOn-with_sprung, Behind, Behind-ahead_taken, Behind-sprung_read}
@@ -64,7 +65,8 @@ HasMet-HasEnded s (inr ends) = inl (HasMet-front s.tape.items s.tape.ending Ende
 
 -- an event is performed, or the run ends at it
 IsTold-event : (l : Limits) (e : PageEvent) (es : List PageEvent) (s t : State) → s.ended ≡ None → s.last_message ≡ []
-    → ((layout_of (e ∷ s.history)).is_over ≡ true → HasEnded s) → Stage t → PerformedOrStopped l e es s t → IsTold l t
+    → ((layout_of (told s.registers e ∷ s.history)).is_over ≡ true → HasEnded s) → Stage t
+    → PerformedOrStopped l e es s t → IsTold l t
 IsTold-event l e es s t going quiet ends stage (Performed allowed on none) = IsTold-going l t going (record { quiet = quiet; stage = stage })
 IsTold-event l e es s t going quiet ends stage (Sprang name allowed on some) = IsTold-going l t going (record { quiet = quiet; stage = stage })
 IsTold-event l e es s t going quiet ends stage (EndsOver allowed over) = (HasMet-HasEnded s (ends over), quiet)
@@ -132,7 +134,7 @@ IsTold-with_registers l (first ∷ others) s going goes =
 
 -- of each run
 pub IsTold-run : (l : Limits) (start : Start) (tape : Tape) (n : ℕ) → IsTold l (after l n (initial l start tape))
-IsTold-run l start tape n = IsTold-after l n (initial l start tape) (IsTold-with_registers l start.registers.items (blank_state tape) refl (record { quiet = refl; stage = Stage-blank tape }))
+IsTold-run l start tape n = IsTold-after l n (initial l start tape) (IsTold-with_registers l start.registers.items (paged_state start tape) refl (record { quiet = refl; stage = Stage-paged start tape }))
 
 -- each status tells how the run ended
 pub each_status_tells : EachStatusTells

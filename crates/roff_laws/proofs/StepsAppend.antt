@@ -20,13 +20,14 @@ use Rattle.roff_num.specs.Lists.{IsBeginning}
 use Rattle.roff_run.specs.Reading.Ends.{due, is_unfinished}
 use Rattle.roff_run.specs.declared.line_state.Due.{Due}
 use Rattle.roff_run.specs.declared.line_state.Due.TheVariants.{Leaves, Tells as TellsText}
-use Rattle.roff_run.specs.declared.event.PageEvent.{PageEvent}
+use Rattle.roff_run.specs.PageEvents.{PageEvent, PastEvent}
 use Rattle.roff_run.specs.Output.{PageHistory, layout_of, written}
 use Rattle.roff_run.specs.Run.{read_waiting, State, done_if, performing, unless_refused, grown, made, moved, byte_taken, escape_ends, ahead_taken, taking_ahead, taking_byte, ending_input, answered, in_front_taken, front_seen, awaited_of_source, awaited, item_read, input_ended, message_told, input_left, reading_by, step_with, step, known, performed, phase_ended, source_answer, sprung_at, sprung_read, with_registers, with_sprung}
 use Rattle.roff_run.specs.Run.Counts.{passes_bytes, refusal, first_passed, names_counted}
 use Rattle.roff_num.specs.declared.num.Num.{Num}
 use Rattle.roff_run.specs.Requests.{called_by}
 use Rattle.roff_run.specs.Springs.{next, springs}
+use Rattle.roff_run.specs.Titles.{told}
 use Rattle.roff_run.specs.Requests.Effects.{page_numbered}
 use Rattle.roff_run.specs.Requests.Numbering.{number_of_page}
 use Rattle.roff_run.specs.Starts.{history_given, with_given}
@@ -48,7 +49,7 @@ OnlyCuts-message s t message history messages =
     record { text = rw history (IsBeginning-same _); messages = rw messages (IsBeginning-append _ _) }
 
 -- a state behind one more event
-pub OnlyCuts-event : (s t : State) (e : PageEvent) → t.history ≡ e ∷ s.history → t.messages ≡ s.messages → OnlyCuts s t
+pub OnlyCuts-event : (s t : State) (e : PastEvent) → t.history ≡ e ∷ s.history → t.messages ≡ s.messages → OnlyCuts s t
 OnlyCuts-event s t e history messages =
     record { text = rw history (IsBeginning-append _ _); messages = rw messages (IsBeginning-same _) }
 
@@ -100,7 +101,7 @@ OnlyCuts-done_if true s behind goes_on cuts others = record { text = cuts.text; 
 OnlyCuts-done_if false s behind goes_on cuts others = others
 
 -- an event happened
-pub OnlyCuts-performed : (e : PageEvent) (left : List PageEvent) (s : State) → OnlyCuts s (performed e left s)
+pub OnlyCuts-performed : (e : PastEvent) (left : List PageEvent) (s : State) → OnlyCuts s (performed e left s)
 OnlyCuts-performed e left s =
     let behind : State = record s { history = e ∷ s.history } in
     let cuts : OnlyCuts s behind = OnlyCuts-event s behind e refl refl in
@@ -108,8 +109,12 @@ OnlyCuts-performed e left s =
 
 -- an event is performed, or what comes before it
 pub OnlyCuts-performing : (l : Limits) (own : Option PageEvent) (e : PageEvent) (rest : List PageEvent) (s : State) → OnlyCuts s (performing l own e rest s)
-OnlyCuts-performing l None e rest s = OnlyCuts-unless_refused l (refusal l s.history e) s (OnlyCuts-performed e rest s)
-OnlyCuts-performing l (Some own) e rest s = OnlyCuts-unless_refused l (refusal l s.history own) s (OnlyCuts-performed own (e ∷ rest) s)
+OnlyCuts-performing l None e rest s =
+    let happens : PastEvent = told s.registers e in
+    OnlyCuts-unless_refused l (refusal l s.history happens) s (OnlyCuts-performed happens rest s)
+OnlyCuts-performing l (Some own) e rest s =
+    let happens : PastEvent = told s.registers own in
+    OnlyCuts-unless_refused l (refusal l s.history happens) s (OnlyCuts-performed happens (e ∷ rest) s)
 
 -- a step that leads to this state
 pub OnlyCuts-made : (l : Limits) (s done : State) → OnlyCuts s done → OnlyCuts s (made l s done)

@@ -25,12 +25,13 @@ use Rattle.roff_laws.specs.Limits.{AreWithin}
 use Rattle.roff_run.specs.Reading.Ends.{due, is_unfinished}
 use Rattle.roff_run.specs.declared.line_state.Due.{Due}
 use Rattle.roff_run.specs.declared.line_state.Due.TheVariants.{Leaves, Tells as TellsText}
-use Rattle.roff_run.specs.declared.event.PageEvent.{PageEvent}
+use Rattle.roff_run.specs.PageEvents.{PageEvent, PastEvent}
 use Rattle.roff_run.specs.Output.{layout_of}
 use Rattle.roff_run.specs.Run.{read_waiting, State, done_if, ending_with, unless_refused, stopped_by, performing, grown, made, escape_ends, taking_ahead, taking_byte, ending_input, answered, in_front_taken, front_seen, awaited_of_source, awaited, item_read, input_ended, performed, reading_by, sprung_at, sprung_read, step_with, step, after, known, phase_ended, with_registers, with_sprung}
 use Rattle.roff_run.specs.Run.Counts.{counts, first_passed, passes_bytes, names_counted, refusal}
 use Rattle.roff_run.specs.Requests.{called_by}
 use Rattle.roff_run.specs.Springs.{next, springs}
+use Rattle.roff_run.specs.Titles.{told}
 use Rattle.roff_run.specs.declared.request.Called.{Called}
 use Rattle.roff_run.specs.declared.request.Called.TheVariants.{Request as ARequest, Body as ABody, Nothing as Unknown}
 use Rattle.roff_num.specs.declared.short_name.ShortName.{ShortName}
@@ -169,7 +170,7 @@ module _ (Beside : Tape → Tape → Type 0) (IsCause : Status → Type 0) where
         (Cut-with_registers others behind tape beside)
 
     -- an event happens in both, if no limit refuses it
-    Cut-performed : (e : PageEvent) (left : List PageEvent) (s : State) (tape : Tape) → Beside s.tape tape
+    Cut-performed : (e : PastEvent) (left : List PageEvent) (s : State) (tape : Tape) → Beside s.tape tape
         → Cut (unless_refused small (refusal small s.history e) s (performed e left s)) (unless_refused large (refusal large s.history e) (over tape s) (performed e left (over tape s)))
     Cut-performed e left s tape beside =
         let behind : State = record s { history = e ∷ s.history } in
@@ -180,8 +181,8 @@ module _ (Beside : Tape → Tape → Type 0) (IsCause : Status → Type 0) where
     -- both perform an event, or what comes before it
     pub Cut-performing : (own : Option PageEvent) (e : PageEvent) (rest : List PageEvent) (s : State) (tape : Tape) → Beside s.tape tape
         → Cut (performing small own e rest s) (performing large own e rest (over tape s))
-    Cut-performing None e rest s tape beside = Cut-performed e rest s tape beside
-    Cut-performing (Some own) e rest s tape beside = Cut-performed own (e ∷ rest) s tape beside
+    Cut-performing None e rest s tape beside = Cut-performed (told s.registers e) rest s tape beside
+    Cut-performing (Some own) e rest s tape beside = Cut-performed (told s.registers own) (e ∷ rest) s tape beside
 
     -- both make a step that leads to this state over two tapes
     pub Cut-made : (s done whole : State) (tape left : Tape) → Beside s.tape tape → Beside done.tape left → whole ≡ over left done → OnlyCuts (over tape s) whole → Cut (made small s done) (made large (over tape s) whole)

@@ -15,9 +15,9 @@ use Rattle.roff_run.specs.Springs.{next}
 use Rattle.roff_run.specs.Starts.{history_given, with_given}
 use Rattle.roff_run.specs.Within.{IsWithin}
 use Rattle.roff_run.specs.Reading.Items.{PageInput}
-use Rattle.roff_run.specs.declared.event.PageEvent.{PageEvent}
+use Rattle.roff_run.specs.PageEvents.{PageEvent}
 use Rattle.roff_run.specs.Results.{last_state}
-use Rattle.roff_run.specs.Run.{State, blank_state, initial, moved, stopped_by, unless_refused, with_registers, step_with, step, after}
+use Rattle.roff_run.specs.Run.{State, initial, moved, paged_state, stopped_by, unless_refused, with_registers, step_with, step, after}
 use Rattle.roff_laws.specs.Taken.{bytes_of, newlines_in, line_of_last, Takes, EachItemIsTakenOnce, EachRunLeavesItsRest}
 use Rattle.roff_source.specs.Bytes.{newline}
 use Rattle.roff_ahead.specs.Input.{Ahead, counting, item_taken}
@@ -183,7 +183,7 @@ Takes-with_registers tape l (first ∷ others) s takes =
 pub each_item_is_taken_once : EachItemIsTakenOnce
 each_item_is_taken_once l start tape n =
     Takes-after tape l n (initial l start tape)
-    (Takes-with_registers tape l start.registers.items (blank_state tape) (record { taken = []; items = refl; ending = refl; charge = omega arith; newlines = refl; line = refl }))
+    (Takes-with_registers tape l start.registers.items (paged_state start tape) (record { taken = []; items = refl; ending = refl; charge = omega arith; newlines = refl; line = refl }))
 
 -- what a whole run takes, and its rest
 pub each_run_leaves_its_rest : EachRunLeavesItsRest

@@ -28,10 +28,10 @@ use Rattle.roff_run.specs.Reading.Units.{no_unit_found}
 use Rattle.roff_run.specs.Registers.{Known, known_stepped, page_stepped, text_of_register}
 use Rattle.roff_laws.proofs.MeantEvents.{AreMeant, Means, Means-if, ahead-text}
 use Rattle.roff_laws.proofs.RequestEvents.{meant-numbered}
-use Rattle.roff_run.specs.declared.event.PageEvent.{PageEvent}
+use Rattle.roff_run.specs.PageEvents.{PageEvent}
 use Rattle.roff_run.specs.declared.event.PageEvent.TheVariants.{Text}
 use Rattle.roff_run.specs.declared.line_state.LineState.{LineState}
-use Rattle.roff_run.specs.declared.line_state.LineState.TheVariants.{LineStart, Branch, Braced, Text as InText, Control, Name, Arguments as InArguments, Deciding, StringName, StringText, Skipping, Dropped, Telling, Told, Exiting, Calling, Defining}
+use Rattle.roff_run.specs.declared.line_state.LineState.TheVariants.{LineStart, Branch, Braced, Text as InText, Control, Name, Arguments as InArguments, Deciding, StringName, StringText, Skipping, Dropped, Telling, Told, Exiting, Calling, Defining, TitleFront, Title as InTitle}
 use Rattle.roff_run.specs.declared.line_state.TextLine.{TextLine}
 
 -- glyphs, and leading blanks
@@ -139,6 +139,8 @@ Means-first_taking k i Dropped b = Means-line_begun k i b
 Means-first_taking k i (Telling aborts is_front) b = Means-line_begun k i b
 Means-first_taking k i (Told aborts) b = Means-line_begun k i b
 Means-first_taking k i Exiting b = Means-line_begun k i b
+Means-first_taking k i TitleFront b = Means-line_begun k i b
+Means-first_taking k i (InTitle delimiter) b = Means-line_begun k i b
 Means-first_taking k i (Calling name) b = Means-line_begun k i b
 Means-first_taking k i (Defining name appends end matched) b = Means-line_begun k i b
 
@@ -162,11 +164,13 @@ Means-first_escape k i Dropped b = Means-if i.ahead (b == newline) _ _ (tt, λ a
 Means-first_escape k i (Telling aborts is_front) b = Means-if i.ahead (b == newline) _ _ (tt, λ a. a) (Means-escape_begun k i b)
 Means-first_escape k i (Told aborts) b = Means-if i.ahead (b == newline) _ _ (tt, λ a. a) (Means-escape_begun k i b)
 Means-first_escape k i Exiting b = Means-if i.ahead (b == newline) _ _ (tt, λ a. a) (Means-escape_begun k i b)
+Means-first_escape k i TitleFront b = Means-if i.ahead (b == newline) _ _ (tt, λ a. a) (Means-escape_begun k i b)
+Means-first_escape k i (InTitle delimiter) b = Means-if i.ahead (b == newline) _ _ (tt, λ a. a) (Means-escape_begun k i b)
 Means-first_escape k i (Calling name) b = Means-if i.ahead (b == newline) _ _ (tt, λ a. a) (Means-escape_begun k i b)
 Means-first_escape k i (Defining name appends end matched) b = Means-if i.ahead (b == newline) _ _ (tt, λ a. a) (Means-escape_begun k i b)
 
 -- what a name asks for
-Means-asking : (k : Known) (i : PageInput) (reading : LineState) (purpose : NameUse) (name : Option (List ℕ)) → Means i.ahead (asking k i reading purpose name)
+pub Means-asking : (k : Known) (i : PageInput) (reading : LineState) (purpose : NameUse) (name : Option (List ℕ)) → Means i.ahead (asking k i reading purpose name)
 Means-asking k i reading purpose None = (tt, λ a. a)
 Means-asking k i reading (Register step) (Some name) =
     (meant-numbered (page_stepped step name k), ahead-text (text_of_register (known_stepped step name k) name) i.ahead)

@@ -4,7 +4,7 @@ use Rattle.roff_lines.specs.Events.{History}
 use Rattle.roff_lines.specs.declared.event.Event.TheVariants.{Interrupt as IsInterrupted}
 use Rattle.roff_run.specs.Environments.{PageHistory, InEnvironment, Environments, environments, is_same, number_behind}
 use Rattle.roff_run.specs.declared.environment_number.EnvironmentNumber.{EnvironmentNumber}
-use Rattle.roff_run.specs.declared.event.PageEvent.TheVariants.{Text, Interrupt, Environment, Back, InputTrap as SetsTrap, Page}
+use Rattle.roff_run.specs.declared.event.PageEvent.TheVariants.{Text, Interrupt, Environment, Back, InputTrap as SetsTrap, Page, Title}
 
 -- what happened in the environment of a number
 abbrev pub environment_of : EnvironmentNumber → Environments → InEnvironment
@@ -23,3 +23,4 @@ text_in number (Environment other ∷ h) = text_in number h
 text_in number (Back ∷ h) = text_in number h
 text_in number (SetsTrap trap ∷ h) = text_in number h
 text_in number (Page e ∷ h) = text_in number h
+text_in number (Title t ∷ h) = text_in number h

@@ -1,11 +1,14 @@
 -- Laws over whole runs: what limits and failing sources leave as it is.
-use Rattle.std.specs.Prelude.{◌≡◌, ◌≢◌, ℕ, ◌+◌, List, ◌++◌, Some}
+use Rattle.std.specs.Prelude.{◌≡◌, ◌≢◌, ℕ, ◌+◌, ◌≤◌, List, [], ◌∷◌, ◌++◌, Some}
 use Rattle.roff_num.specs.Lists.{IsBeginning}
 use Rattle.roff_num.specs.declared.limit.Limit.{Limit}
 use Rattle.roff_run.specs.declared.status.Status.TheVariants.{Device, Limit as Limited}
 use Rattle.roff_num.specs.declared.limits.Limits.{Limits}
 use Rattle.roff_laws.specs.Limits.{AreWithin}
+use Rattle.roff_run.specs.PageEvents.{PageHistory}
 use Rattle.roff_run.specs.Run.{State, initial, after, output, reported}
+use Rattle.roff_run.specs.TitleTexts.{title_length}
+use Rattle.roff_run.specs.declared.event.PageEvent.TheVariants.{Title}
 use Rattle.roff_run.specs.declared.start.Start.{Start}
 use Rattle.roff_source.specs.Tape.{Tape, Item, Ending, Failed}
 use Rattle.roff_run.specs.Within.{IsWithin}
@@ -58,6 +61,22 @@ SameUntilTheFault =
 -- no run passes a limit
 abbrev pub NoLimitIsPassed : Type 0
 NoLimitIsPassed = (l : Limits) (start : Start) (tape : Tape) (n : ℕ) → IsWithin l (after l n (initial l start tape))
+
+-- each title that was placed has so many bytes at the most, all its parts together
+abbrev pub TitlesAreWithin : ℕ → PageHistory → Type 0
+TitlesAreWithin most [] = Unit {0}
+TitlesAreWithin most (Title t ∷ h) = (title_length t.text ≤ most) × TitlesAreWithin most h
+TitlesAreWithin most (e ∷ h) = TitlesAreWithin most h
+
+-- and so have the one that is read and the one that is kept
+pub record HasTitlesWithin (most : ℕ) (s : State) : Type 0 where
+  pub read : title_length s.registers.title ≤ most
+  pub kept : title_length s.registers.kept_title ≤ most
+  pub placed : TitlesAreWithin most s.history
+
+-- no title of a run has more bytes than the limit on a line says
+abbrev pub NoTitleIsLonger : Type 0
+NoTitleIsLonger = (l : Limits) (start : Start) (tape : Tape) (n : ℕ) → HasTitlesWithin l.line (after l n (initial l start tape))
 
 -- a run has gone on from one state to another: nothing that it wrote or reported was taken back
 pub record GoesOnTo (s t : State) : Type 0 where

@@ -9,7 +9,7 @@ use Rattle.roff_source.specs.Tape.{Tape}
 use Rattle.roff_run.specs.Environments.{PageHistory}
 use Rattle.roff_run.specs.Layouts.{layout_of}
 use Rattle.roff_run.specs.Results.{last_state, output_of, status_of}
-use Rattle.roff_run.specs.declared.event.PageEvent.{PageEvent}
+use Rattle.roff_run.specs.PageEvents.{PastEvent}
 use Rattle.roff_run.specs.declared.event.PageEvent.TheVariants.{Page}
 use Rattle.roff_run.specs.declared.start.Start.{Start}
 use Rattle.roff_run.specs.declared.status.Status.TheVariants.{Done}
@@ -36,7 +36,7 @@ pub record IsWholePages (size : ℕ) (text : List ℕ) : Type 0 where
   pub written : text ≡ pages_text pages
 
 -- whether an event sets the page length
-abbrev pub sets_length : PageEvent → Bool
+abbrev pub sets_length : PastEvent → Bool
 sets_length (Page (Length k)) = true
 sets_length (_) = false
 

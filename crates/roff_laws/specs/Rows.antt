@@ -33,7 +33,12 @@ result_of l text ending = result_from nothing_given l text ending
 -- with these registers, and this limit on them
 abbrev pub formatted_from : List (ℕ × Num) → ℕ → List ℕ → Result
 formatted_from registers names text =
-    result_from (record { registers = record { items = registers } }) (record default_limits { names = names }) text Ended
+    result_from (record nothing_given { registers = record { items = registers } }) (record default_limits { names = names }) text Ended
+
+-- with this number of the first page, and these pages written
+abbrev pub formatted_paged : Option Num → List (Num × Num) → List ℕ → Result
+formatted_paged first pages text =
+    result_from (record nothing_given { first_page = first; pages = record { items = pages } }) default_limits text Ended
 
 -- with the limits as they are without an option
 abbrev pub formatted : List ℕ → Result

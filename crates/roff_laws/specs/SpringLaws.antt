@@ -17,7 +17,8 @@ use Rattle.roff_run.specs.Run.Counts.{refusal}
 use Rattle.roff_run.specs.Springs.{next, springs}
 use Rattle.roff_run.specs.declared.environment_number.EnvironmentNumber.{EnvironmentNumber}
 use Rattle.roff_run.specs.declared.event.InputTrap.{InputTrap}
-use Rattle.roff_run.specs.declared.event.PageEvent.{PageEvent}
+use Rattle.roff_run.specs.PageEvents.{PageEvent}
+use Rattle.roff_run.specs.Titles.{keeping, put_back, told}
 use Rattle.roff_run.specs.declared.event.PageEvent.TheVariants.{Text, InputTrap as SetsTrap}
 use Rattle.roff_run.specs.declared.line_state.LineState.{LineState}
 use Rattle.roff_run.specs.declared.line_state.LineState.TheVariants.{LineStart, Branch, Braced, Text as InText}
@@ -30,16 +31,17 @@ pub record Springs (l : Limits) (s : State) (e : PageEvent) (rest : List PageEve
   pub going : s.ended ≡ None
   pub first : s.to_do ≡ e ∷ rest
   pub none_before : next s.history e ≡ None
-  pub allowed : refusal l s.history e ≡ None
-  pub goes_on : (layout_of (e ∷ s.history)).is_over ≡ false
-  pub sprung : springs s.history e ≡ Some name
+  pub allowed : refusal l s.history (told s.registers e) ≡ None
+  pub goes_on : (layout_of (told s.registers e ∷ s.history)).is_over ≡ false
+  pub sprung : springs s.history (told s.registers e) ≡ Some name
 
--- the state behind the event, with the rest put back
+-- the state behind the event, with the rest put back: a title among it is kept
 abbrev pub with_rest_back : PageEvent → List PageEvent → State → State
 with_rest_back e rest s = record s {
   to_do = [];
-  history = e ∷ s.history;
-  input = record s.input { ahead = map DoAhead rest ++ s.input.ahead };
+  history = told s.registers e ∷ s.history;
+  registers = keeping rest s.registers;
+  input = record s.input { ahead = map DoAhead (map put_back rest) ++ s.input.ahead };
 }
 
 -- Its body comes to stand in front, an end behind it that leads back to what was read, and behind that the rest of the events.

@@ -9,7 +9,7 @@ use Rattle.roff_source.specs.Tape.{OneByte, Ended}
 use Rattle.roff_run.specs.Environments.{PageHistory}
 use Rattle.roff_run.specs.Results.{turns}
 use Rattle.roff_run.specs.Run.{State, blank_state, first_input, output, reported}
-use Rattle.roff_run.specs.declared.event.PageEvent.{PageEvent}
+use Rattle.roff_run.specs.PageEvents.{PageEvent, PastEvent}
 use Rattle.roff_run.specs.declared.event.PageEvent.TheVariants.{InputTrap as SetsTrap, Page}
 use Rattle.roff_run.specs.declared.line_state.LineState.{LineState}
 use Rattle.roff_run.specs.declared.line_state.LineState.TheVariants.{Text as InText}
@@ -20,7 +20,7 @@ abbrev pub named : ℕ → ShortName
 named first = record { first = first; second = None }
 
 -- the next text line that counts springs the macro of this name
-abbrev pub next_line_springs : ℕ → PageEvent
+abbrev pub next_line_springs : ℕ → PastEvent
 next_line_springs first = SetsTrap (Some (record { lines = 1; name = named first }))
 
 -- a text line with a glyph on it, and one with so many leading blanks alone

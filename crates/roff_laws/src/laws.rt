@@ -14,7 +14,8 @@ ghost use Rattle.roff_num.specs.declared.limit.Limit.TheVariants.{Bytes, Depth, 
 ghost use Rattle.roff_run.specs.declared.status.Status.TheVariants.{Aborted, Done, Device};
 ghost use Rattle.roff_run.specs.declared.status.Status.TheVariants.{Limit as Limited};
 ghost use Rattle.roff_laws.specs.Laws.{LimitsOnlyCut, SameUntilALimit, FailingOnlyCuts};
-ghost use Rattle.roff_laws.specs.Laws.{SameUntilTheFault, NoLimitIsPassed, StepsOnlyAppend};
+ghost use Rattle.roff_laws.specs.Laws.{SameUntilTheFault, NoLimitIsPassed, NoTitleIsLonger};
+ghost use Rattle.roff_laws.specs.Laws.{StepsOnlyAppend};
 ghost use Rattle.roff_laws.specs.ResultLaws.{EveryRunEnds, StepsLeadToTheLastState};
 ghost use Rattle.roff_laws.specs.ResultLaws.{NoOtherStateIsLast, LimitsCutResults};
 ghost use Rattle.roff_laws.specs.ResultLaws.{SameResultWithoutALimit, FailingCutsResults};
@@ -176,10 +177,11 @@ pub fn cut()
     ensures same_result { SameResultBeforeTheFault }
 {}
 
-/// No run takes or writes more bytes, has a longer pending line, more inserted bytes or texts, or
-/// more registers than its limits say.
+/// No run takes or writes more bytes, has a longer pending line or title, more inserted bytes or
+/// texts, or more registers than its limits say.
 pub fn bounds()
-    ensures { NoLimitIsPassed }
+    ensures counts { NoLimitIsPassed }
+    ensures titles { NoTitleIsLonger }
 {}
 
 /// A run takes the items of its source in order, each once, charges each byte and knows its line;

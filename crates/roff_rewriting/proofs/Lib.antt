@@ -1,3 +1,4 @@
+pub mod MessageLines
 pub mod ReadTexts
 pub mod PartRuns
 pub mod TextsInCalls
@@ -5,3 +6,8 @@ pub mod CopiedParts
 pub mod TextsInDefinitions
 pub mod TextsInMessages
 pub mod TextsInStrings
+pub mod TitleColumns
+pub mod PrintedNumbers
+pub mod TitleReading
+pub mod TitleRuns
+pub mod TitleLaws

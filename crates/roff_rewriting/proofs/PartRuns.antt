@@ -13,9 +13,9 @@ use Rattle.roff_ahead.specs.Input.{Ahead, ByteAhead, EndAhead, bytes_ahead, ends
 use Rattle.roff_rewriting.proofs.ReadTexts.{IsMore, IsOfOneLine, charged, escape-of_line, in_front, more-behind, reads-end, reads-text, standing}
 use Rattle.roff_rewriting.specs.Parts.{Escape, Part, Written, bytes_of, cost_of_texts, rewritten}
 use Rattle.roff_rules.proofs.Interpolation.{ReadsEscapes-reads_escapes, held-settled_for, settled_for}
-use Rattle.roff_rules.proofs.MessageLines.{same-text}
+use Rattle.roff_rewriting.proofs.MessageLines.{same-text}
 use Rattle.roff_rules.specs.InterpolationLaws.{IsEscapeOf, reads_escapes, text_named}
-use Rattle.roff_rules.specs.MessageLines.{steps}
+use Rattle.roff_rewriting.specs.MessageLines.{steps}
 use Rattle.roff_run.proofs.ItemsTaken.{FromAhead, FromSource, Origin, ahead_at}
 use Rattle.roff_run.proofs.Leads.{after-add}
 use Rattle.roff_run.proofs.NameBytes.{stage}
@@ -27,7 +27,7 @@ use Rattle.roff_run.specs.Registers.{Known}
 use Rattle.roff_run.specs.Run.{State, after, known, known_at}
 use Rattle.roff_run.specs.Stages.{Stage}
 use Rattle.roff_run.specs.Within.{IsWithin}
-use Rattle.roff_run.specs.declared.event.PageEvent.{PageEvent}
+use Rattle.roff_run.specs.PageEvents.{PageEvent}
 use Rattle.roff_run.specs.declared.line_state.LineState.{LineState}
 
 -- parts of a line lead from stage to stage: their bytes, and the texts of their escapes
@@ -131,6 +131,7 @@ room-again l s names (FromAhead rest) most p q bytes more i j room charged_few s
   making = room.making;
   conditions = results_few;
   registers = room.registers;
+  title = room.title;
   environments = room.environments;
   output = room.output;
 }
@@ -143,6 +144,7 @@ room-again l s names (FromSource tape) most p q bytes more i j room charged_few 
   making = room.making;
   conditions = results_few;
   registers = room.registers;
+  title = room.title;
   environments = room.environments;
   output = room.output;
 }
@@ -225,6 +227,7 @@ module _ (l : Limits) (s : State) (names : Named Entry) (from : Origin) (most : 
           making = room.room.making;
           conditions = omega (arith, room.room.conditions, ap (λ (m : PageInput). length m.results) (behind_bytes-counts from bytes i));
           registers = room.room.registers;
+          title = room.room.title;
           environments = room.room.environments;
           output = room.room.output;
         }

@@ -22,9 +22,9 @@ use Rattle.roff_ahead.specs.Input.{Ahead, ByteAhead, EndAhead, item_taken, pushi
 use Rattle.roff_ahead.specs.Shown.{seen_ahead}
 use Rattle.roff_rules.proofs.InterpolatedNames.{escapes_of_the_source_read_as_texts, escapes_read_as_texts, with_text_ahead-arguments}
 use Rattle.roff_rules.proofs.Interpolation.{ReadsEscapes, is_no_newline, none_due-reads, settled_for}
-use Rattle.roff_rules.proofs.MessageLines.{same-text, split-ahead, stepped-none}
+use Rattle.roff_rewriting.proofs.MessageLines.{same-text, split-ahead, stepped-none}
 use Rattle.roff_rules.specs.InterpolationLaws.{IsEscapeOf, Long, LongString, OfArgument, Short, ShortString, reads_escapes, text_named, with_source_behind, with_text_ahead}
-use Rattle.roff_rules.specs.MessageLines.{steps}
+use Rattle.roff_rewriting.specs.MessageLines.{steps}
 use Rattle.roff_run.proofs.ItemsTaken.{Fits-IsWithin, FromAhead, FromSource, Origin, ahead_at, made-Fits, step-reads, tape_at}
 use Rattle.roff_run.proofs.NameBytes.{stage}
 use Rattle.roff_run.proofs.PlainRuns.{behind_bytes, behind_bytes-ahead, run_at}
@@ -36,7 +36,7 @@ use Rattle.roff_run.specs.Reading.Waiting.{waiting_in}
 use Rattle.roff_run.specs.Run.{State, after, ahead_taken, awaited, awaited_of_source, escape_ends, in_front_taken, known, made, read_waiting, step, stopped_by, taking_ahead}
 use Rattle.roff_run.specs.Stages.{Stage}
 use Rattle.roff_run.specs.Within.{IsWithin}
-use Rattle.roff_run.specs.declared.event.PageEvent.{PageEvent}
+use Rattle.roff_run.specs.PageEvents.{PageEvent}
 use Rattle.roff_run.specs.declared.line_state.LineState.{LineState}
 
 -- so much more was taken

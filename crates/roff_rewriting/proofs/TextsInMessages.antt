@@ -22,11 +22,11 @@ use Rattle.roff_rewriting.specs.TextsInMessages.{MessagesOfTheSourceTellTheTexts
 use Rattle.roff_rules.proofs.CalledArguments.{most_of}
 use Rattle.roff_rules.proofs.Interpolation.{is_no_newline}
 use Rattle.roff_rules.proofs.MessageLaws.{held-fold, path-front, path-tell, tell, telling, told-front}
-use Rattle.roff_rules.proofs.MessageLines.{step-told}
+use Rattle.roff_rewriting.proofs.MessageLines.{step-told}
 use Rattle.roff_rules.specs.CallLaws.{BeginsLine}
 use Rattle.roff_rules.specs.InterpolationLaws.{StandsForItself, text_named}
 use Rattle.roff_rules.specs.MessageLaws.{without_front}
-use Rattle.roff_rules.specs.MessageLines.{HasMessage}
+use Rattle.roff_rules.specs.MessageLaws.{HasMessage}
 use Rattle.roff_rules.specs.WordCalls.{call_with}
 use Rattle.roff_run.proofs.ItemsTaken.{Fits-IsWithin, FromAhead, FromSource, Origin, ahead_at, made-Fits, tape_at, taken_as-going_on}
 use Rattle.roff_run.proofs.Leads.{after-add}

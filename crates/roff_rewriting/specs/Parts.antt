@@ -3,7 +3,7 @@ use Rattle.std.specs.Prelude.{◌≡◌, ℕ, ◌+◌, false, List, [], ◌∷�
 use Rattle.std.specs.List.{flat_map}
 use Rattle.roff_escape.specs.declared.escapes.NameUse.{NameUse}
 use Rattle.roff_rules.specs.InterpolationLaws.{IsEscapeOf, text_named}
-use Rattle.roff_rules.specs.MessageLines.{steps}
+use Rattle.roff_rewriting.specs.MessageLines.{steps}
 use Rattle.roff_run.specs.Reading.Items.{PageInput}
 use Rattle.roff_run.specs.Registers.{Known}
 

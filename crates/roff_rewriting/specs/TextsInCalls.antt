@@ -13,7 +13,7 @@ use Rattle.roff_run.specs.Reading.Items.{PageInput}
 use Rattle.roff_run.specs.Registers.{Known}
 use Rattle.roff_run.specs.Run.{State, after, known}
 use Rattle.roff_run.specs.Within.{IsWithin}
-use Rattle.roff_run.specs.declared.event.PageEvent.{PageEvent}
+use Rattle.roff_run.specs.PageEvents.{PageEvent}
 
 -- the arguments behind a part of a line: those behind its bytes, or behind the bytes of a text, whose first one isn't the second
 -- quote of two

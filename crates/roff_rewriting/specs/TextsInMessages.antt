@@ -7,14 +7,13 @@ use Rattle.roff_ahead.specs.Input.{Ahead, ByteAhead, lines_taken}
 use Rattle.roff_rewriting.specs.Parts.{AreParts, Part, bytes_of, cost_of_texts, rewritten}
 use Rattle.roff_rewriting.specs.TextsInCalls.{AreThemselves, HasRoomForTexts}
 use Rattle.roff_rules.specs.CallLaws.{BeginsLine}
-use Rattle.roff_rules.specs.MessageLaws.{without_front}
-use Rattle.roff_rules.specs.MessageLines.{HasMessage}
+use Rattle.roff_rules.specs.MessageLaws.{HasMessage, without_front}
 use Rattle.roff_rules.specs.WordCalls.{call_with}
 use Rattle.roff_run.specs.Messages.{told_line}
 use Rattle.roff_run.specs.Reading.Items.{PageInput}
 use Rattle.roff_run.specs.Run.{State, after, known}
 use Rattle.roff_run.specs.Within.{IsWithin}
-use Rattle.roff_run.specs.declared.event.PageEvent.{PageEvent}
+use Rattle.roff_run.specs.PageEvents.{PageEvent}
 
 -- A message tells what is read, each escape as its text. Each byte of the line and of those texts is a step, and costs one; so
 -- does each text's end, and telling is a step of its own.

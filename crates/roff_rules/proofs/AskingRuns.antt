@@ -28,7 +28,7 @@ use Rattle.roff_run.specs.Reading.{undropped_taking}
 use Rattle.roff_run.specs.Reading.ControlLines.{BelongsToName, behind_called, behind_name, called_taking, ends_name, line_taking, name_ended_taking, name_whole_taking}
 use Rattle.roff_run.specs.Reading.Found.{read_in}
 use Rattle.roff_run.specs.Reading.Items.{PageInput, Taking, going_on}
-use Rattle.roff_run.specs.declared.event.PageEvent.{PageEvent}
+use Rattle.roff_run.specs.PageEvents.{PageEvent}
 use Rattle.roff_run.specs.Run.{State, after, byte_taken, known, taken_as}
 use Rattle.roff_run.specs.Stages.{Stage, TakesHalf, Turns, input_at}
 use Rattle.roff_run.specs.Within.{IsWithin}
@@ -99,6 +99,7 @@ within-asks l s keeps from half bytes i room =
       making = within.making;
       conditions = within.conditions;
       names = within.names;
+      title = within.title;
       environments = within.environments;
       output = within.output;
     }

@@ -20,7 +20,7 @@ use Rattle.roff_run.specs.Reading.Returns.{behind_return}
 use Rattle.roff_run.specs.Reading.Items.{PageInput, Taking, going_on}
 use Rattle.roff_run.specs.Reading.Waiting.{waiting_above}
 use Rattle.roff_run.specs.Run.{State, ahead_taken, in_front_taken, made, read_waiting, step, stopped_by, after, byte_taken, known, taken_as}
-use Rattle.roff_run.specs.declared.event.PageEvent.{PageEvent}
+use Rattle.roff_run.specs.PageEvents.{PageEvent}
 use Rattle.roff_run.specs.declared.line_state.LineState.{LineState}
 use Rattle.roff_run.specs.declared.line_state.LineState.TheVariants.{LineStart, Control, Name}
 use Rattle.roff_num.specs.declared.short_name.ShortName.{ShortName}
@@ -76,6 +76,7 @@ within-without l s from reading bytes i room =
       making = within.making;
       conditions = fewer (length i.results) (length (drop 1 i.results)) l.conditions (length-drop 1 i.results) within.conditions;
       names = within.names;
+      title = within.title;
       environments = within.environments;
       output = within.output;
     }
@@ -300,6 +301,7 @@ results_end_with_their_body l s inside outside rest begins ahead results are_wit
     ap of (ap (results_below (length s.input.calls)) results ∙ below-inside (length s.input.calls) inside outside are_within are_outside) in
     let fits : Fits l s.registers (of outside).input = record {
       names = within.names;
+      title = within.title;
       stack = omega (arith, within.stack, ap bytes_ahead ahead, live-drop s.input.calls);
       depth = omega (arith, within.depth, ap ends_ahead ahead);
       store = within.store;

@@ -33,7 +33,7 @@ use Rattle.roff_run.specs.Reading.Items.{PageInput, Taking, going_on}
 use Rattle.roff_run.specs.Registers.{Known}
 use Rattle.roff_run.specs.Run.{State, after, answered, awaited_of_source, escape_ends, known, made, step, taken_as}
 use Rattle.roff_run.specs.Within.{IsWithin}
-use Rattle.roff_run.specs.declared.event.PageEvent.{PageEvent}
+use Rattle.roff_run.specs.PageEvents.{PageEvent}
 use Rattle.roff_run.specs.declared.line_state.LineState.{LineState}
 use Rattle.roff_run.specs.declared.line_state.LineState.TheVariants.{Text as InText}
 use Rattle.roff_run.specs.declared.line_state.TextLine.{TextLine}
@@ -91,6 +91,7 @@ fits-half : (l : Limits) (s : State) (reading : LineState) (from : Origin) (byte
     → Fits l s.registers (input_of s from [] (settled_for reading a) (Name asks part ∷ names) total next)
 fits-half l s reading from bytes a asks part names charge total line next on fits = record {
   names = fits.names;
+  title = fits.title;
   stack = omega (arith, fits.stack, bytes_ahead-behind from bytes, held-settled_for reading a on);
   depth = omega (arith, fits.depth, ends_ahead-behind_all from bytes);
   store = fits.store;

@@ -22,7 +22,7 @@ use Rattle.roff_run.specs.Run.Counts.{first_passed, names_counted}
 use Rattle.roff_run.specs.Starts.{history_given, with_given}
 use Rattle.roff_store.specs.declared.register.Register.{Register}
 use Rattle.roff_laws.proofs.RegisterLaws.{number_by, settable-other, settable-set, settable_by}
-use Rattle.roff_run.specs.declared.event.PageEvent.{PageEvent}
+use Rattle.roff_run.specs.PageEvents.{PageEvent}
 use Rattle.roff_run.specs.Events.Lines.{closing_events}
 use Rattle.roff_run.specs.Run.{State, answered, ending_input, input_ended, known, made, phase_ended, source_answer, step, unless_refused, with_registers}
 use Rattle.roff_run.proofs.ItemsTaken.{step-reads}

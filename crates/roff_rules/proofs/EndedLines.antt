@@ -44,9 +44,10 @@ use Rattle.roff_run.specs.Reading.TextLines.{fresh_line, text_line_end}
 use Rattle.roff_run.specs.Reading.Waiting.{line_waits, waiting_above}
 use Rattle.roff_run.specs.Run.{State, after, answered, ending_input, in_front_taken, input_ended, known, known_at, made, read_waiting, source_answer, step, taken_as}
 use Rattle.roff_run.specs.Stages.{Stage}
+use Rattle.roff_run.specs.Registers.{AllRegisters}
 use Rattle.roff_run.specs.TurnsToCome.{behind_all}
 use Rattle.roff_run.specs.Within.{IsWithin}
-use Rattle.roff_run.specs.declared.event.PageEvent.{PageEvent}
+use Rattle.roff_run.specs.PageEvents.{PageEvent}
 use Rattle.roff_run.specs.declared.event.PageEvent.TheVariants.{Text}
 use Rattle.roff_run.specs.declared.line_state.LineState.{LineState}
 use Rattle.roff_run.specs.declared.line_state.LineState.TheVariants.{LineStart, Text as InText}
@@ -71,17 +72,19 @@ step-at_end l u on none_half none_ahead ends waits unfinished =
 -- a run behind a text line that the input ended
 abbrev ended_from : State → Tape → List ℕ → List PageEvent → State
 ended_from s tape line events =
-    record s { tape = tape_at (FromSource tape) [] s.tape; input = counted (FromSource tape) line s.input; history = behind_all events s.history }
+    let h : PageHistory = behind_all s.registers events s.history in
+    record s { tape = tape_at (FromSource tape) [] s.tape; input = counted (FromSource tape) line s.input; history = h }
 
 is-ended : (s : State) (tape : Tape) (line : List ℕ) (events : List PageEvent) → BeginsLine s
-    → text_at s LineStart (FromSource tape) [] (behind_bytes (FromSource tape) line s.input) (behind_all events s.history) ≡ ended_from s tape line events
+    → let from : Origin = FromSource tape in
+    text_at s LineStart from [] (behind_bytes from line s.input) (behind_all s.registers events s.history) ≡ ended_from s tape line events
 is-ended s tape line events begins =
     let from : Origin = FromSource tape in
     let of : PageInput → Arguments → List OpenEscape → LineState → State = λ j a h r. record s {
       tape = tape_at from [] s.tape;
       input = record j { arguments = a; escapes = h; names = s.input.names; open_texts = s.input.open_texts };
       reading = r;
-      history = behind_all events s.history;
+      history = behind_all s.registers events s.history;
     } in
     let j : PageInput = counted from line s.input in
     ap (λ (i : PageInput). of (record i { ahead = ahead_at from [] }) no_arguments [] LineStart) (behind_bytes-counts from line s.input)
@@ -91,9 +94,9 @@ is-ended s tape line events begins =
 
 -- the end of the input does what the newline of the line does
 after-end : (l : Limits) (s : State) (tape : Tape) (line : TextLine) (i : PageInput) (h : PageHistory) → TakesItems s → front tape ≡ Ends Ended
-    → Room l s (FromSource tape) [] i → AreQuiet l h (text_line_end line)
-    → after l (suc (steps_of (text_line_end line) h)) (text_at s (InText line) (FromSource tape) [] i h)
-    ≡ text_at s LineStart (FromSource tape) [] i (behind_performed (text_line_end line) h)
+    → Room l s (FromSource tape) [] i → AreQuiet l s.registers h (text_line_end line)
+    → after l (suc (steps_of s.registers (text_line_end line) h)) (text_at s (InText line) (FromSource tape) [] i h)
+    ≡ text_at s LineStart (FromSource tape) [] i (behind_performed s.registers (text_line_end line) h)
 after-end l s tape line i h on ends room quiet =
     let from : Origin = FromSource tape in
     let events : List PageEvent = text_line_end line in
@@ -104,29 +107,32 @@ after-end l s tape line i h on ends room quiet =
     ∙ ap (λ (t : Taking). made l u (taken_as t u)) (means-newline line (known u) u.input tt refl)
     ∙ ap (made l u) (taken_as-meaning u.input LineStart events u on.idle)
     ∙ made-Fits l u (record there { to_do = events }) (fits-room l s LineStart from [] i h room) in
-    ap (after l (steps_of events h)) one
+    ap (after l (steps_of s.registers events h)) one
     ∙ perform-all l there events on.going quiet
-    ∙ idle-state s LineStart from [] i (behind_performed events h) on.idle
+    ∙ idle-state s LineStart from [] i (behind_performed s.registers events h) on.idle
 
-steps-ended : (bytes : List ℕ) (events more last : List PageEvent) (h : PageHistory)
-    → let g : PageHistory = behind_performed events h in
-    length (0 ∷ bytes) + steps_of ((events ++ more) ++ last) h + 1
-    ≡ suc (steps_of events h) + ((length bytes + steps_of more g) + suc (steps_of last (behind_performed more g)))
-steps-ended bytes events more last h =
-    let same = ap (λ (g : PageHistory). steps_of last g) (behind-append events more h) in
-    omega (arith, steps-append (events ++ more) last h, steps-append events more h, same)
+steps-ended : (rs : AllRegisters) (bytes : List ℕ) (events more last : List PageEvent) (h : PageHistory)
+    → let g : PageHistory = behind_performed rs events h in
+    length (0 ∷ bytes) + steps_of rs ((events ++ more) ++ last) h + 1
+    ≡ suc (steps_of rs events h) + ((length bytes + steps_of rs more g) + suc (steps_of rs last (behind_performed rs more g)))
+steps-ended rs bytes events more last h =
+    let same = ap (λ (g : PageHistory). steps_of rs last g) (behind-append rs events more h) in
+    omega (arith, steps-append rs (events ++ more) last h, steps-append rs events more h, same)
 
 -- a whole line: its first byte, others, and the end
 unfinished-from : (l : Limits) (s : State) (tape : Tape) (b : ℕ) (bytes : List ℕ) (p : LineState) (line : TextLine) (events more : List PageEvent)
     → BeginsLine s → interrupted_line s.history ≡ None → front tape ≡ Ends Ended → Means NoneGoesOn LineStart b events p → Tells p bytes more (InText line)
     → let from : Origin = FromSource tape in
     let all : List PageEvent = (events ++ more) ++ text_line_end line in
-    s.input.ahead ≡ [] → s.tape ≡ tape_at from (b ∷ bytes) s.tape → IsWithin l s → s.input.charge + length (b ∷ bytes) ≤ l.bytes → AreQuiet l s.history all
-    → after l (length (b ∷ bytes) + steps_of all s.history + 1) s ≡ ended_from s tape (b ∷ bytes) (all_performed all s.history)
+    s.input.ahead ≡ [] → s.tape ≡ tape_at from (b ∷ bytes) s.tape → IsWithin l s → s.input.charge + length (b ∷ bytes) ≤ l.bytes
+    → AreQuiet l s.registers s.history all
+    → after l (length (b ∷ bytes) + steps_of s.registers all s.history + 1) s
+    ≡ ended_from s tape (b ∷ bytes) (all_performed s.registers all s.history)
 unfinished-from l s tape b bytes p line events more begins none_goes ends first path ahead stands within charged quiet =
     let from : Origin = FromSource tape in
     let last : List PageEvent = text_line_end line in
     let all : List PageEvent = (events ++ more) ++ last in
+    let rs : AllRegisters = s.registers in
     let h : PageHistory = s.history in
     let i : PageInput = s.input in
     let j : PageInput = behind_byte from b i in
@@ -134,36 +140,39 @@ unfinished-from l s tape b bytes p line events more begins none_goes ends first 
     let start : State = text_at s LineStart from (b ∷ bytes) i h in
     let is : start ≡ s = is-run_at s from (b ∷ bytes) (reads_at LineStart s) begins.reading begins.escapes begins.arguments refl ahead stands in
     let room : Room l s from (b ∷ bytes) i = room-start l s from (b ∷ bytes) begins ahead stands within charged in
-    let outer = quiet-front l h (events ++ more) last quiet in
-    let inner = quiet-front l h events more outer.0 in
+    let outer = quiet-front l rs h (events ++ more) last quiet in
+    let inner = quiet-front l rs h events more outer.0 in
     let at : State = text_at s LineStart from bytes j h in
-    let h1 : PageHistory = behind_performed events h in
-    let h2 : PageHistory = behind_performed more h1 in
-    let one : after l (suc (steps_of events h)) start ≡ text_at s p from bytes j h1 =
+    let h1 : PageHistory = behind_performed rs events h in
+    let h2 : PageHistory = behind_performed rs more h1 in
+    let one : after l (suc (steps_of rs events h)) start ≡ text_at s p from bytes j h1 =
     after-meant l s from LineStart p b bytes events i h begins.takes refl room inner.0 (first (known at) at.input none_goes refl) in
     let two = after-Tells l s from p (InText line) bytes [] more j h1 begins.takes path
     (subst (λ (behind : List ℕ). Room l s from behind j) (sym (append-nil bytes)) (room-behind l s from b bytes i room)) inner.1 in
-    let three : after l (suc (steps_of last h2)) (text_at s (InText line) from [] m h2) ≡ text_at s LineStart from [] m (behind_performed last h2) =
-    after-end l s tape line m h2 begins.takes ends two.1 (subst (λ (g : PageHistory). AreQuiet l g last) (behind-append events more h) outer.1) in
-    ap (after l (length (b ∷ bytes) + steps_of all h + 1)) (sym is)
-    ∙ ap (λ (n : ℕ). after l n start) (steps-ended bytes events more last h)
-    ∙ after-add l (suc (steps_of events h)) ((length bytes + steps_of more h1) + suc (steps_of last h2)) start
-    ∙ ap (after l ((length bytes + steps_of more h1) + suc (steps_of last h2))) one
-    ∙ after-add l (length bytes + steps_of more h1) (suc (steps_of last h2)) (text_at s p from bytes j h1)
-    ∙ ap (λ (behind : List ℕ). after l (suc (steps_of last h2)) (after l (length bytes + steps_of more h1) (text_at s p from behind j h1))) (sym (append-nil bytes))
-    ∙ ap (after l (suc (steps_of last h2))) two.0
+    let steps1 : ℕ = length bytes + steps_of rs more h1 in
+    let steps2 : ℕ = suc (steps_of rs last h2) in
+    let quiet2 : AreQuiet l rs h2 last = subst (λ (g : PageHistory). AreQuiet l rs g last) (behind-append rs events more h) outer.1 in
+    let three : after l steps2 (text_at s (InText line) from [] m h2)
+    ≡ text_at s LineStart from [] m (behind_performed rs last h2) = after-end l s tape line m h2 begins.takes ends two.1 quiet2 in
+    ap (after l (length (b ∷ bytes) + steps_of rs all h + 1)) (sym is)
+    ∙ ap (λ (n : ℕ). after l n start) (steps-ended rs bytes events more last h)
+    ∙ after-add l (suc (steps_of rs events h)) (steps1 + steps2) start
+    ∙ ap (after l (steps1 + steps2)) one
+    ∙ after-add l steps1 steps2 (text_at s p from bytes j h1)
+    ∙ ap (λ (behind : List ℕ). after l steps2 (after l steps1 (text_at s p from behind j h1))) (sym (append-nil bytes))
+    ∙ ap (after l steps2) two.0
     ∙ three
     ∙ ap (λ (g : PageHistory). text_at s LineStart from [] m g)
-    (sym (behind-append (events ++ more) last h ∙ ap (behind_performed last) (behind-append events more h)))
-    ∙ is-ended s tape (b ∷ bytes) (all_performed all h) begins
+    (sym (behind-append rs (events ++ more) last h ∙ ap (behind_performed rs last) (behind-append rs events more h)))
+    ∙ is-ended s tape (b ∷ bytes) (all_performed rs all h) begins
 
 unfinished-text : (l : Limits) (s : State) (tape : Tape) (leading first : ℕ) (word : List ℕ) (others : List (ℕ × List ℕ)) (trailing : ℕ)
     → let t : TextOnLine = record { leading = leading; first = first; word = word; others = others; trailing = trailing } in
     BeginsLine s → interrupted_line s.history ≡ None → IsTextOnLine t → front tape ≡ Ends Ended
     → s.input.ahead ≡ [] → s.tape ≡ tape_at (FromSource tape) (unfinished_bytes t) s.tape → IsWithin l s → s.input.charge + length (unfinished_bytes t) ≤ l.bytes
-    → AreQuiet l s.history (text_events t)
-    → after l (length (unfinished_bytes t) + steps_of (text_events t) s.history + 1) s
-    ≡ ended_from s tape (unfinished_bytes t) (all_performed (text_events t) s.history)
+    → AreQuiet l s.registers s.history (text_events t)
+    → after l (length (unfinished_bytes t) + steps_of s.registers (text_events t) s.history + 1) s
+    ≡ ended_from s tape (unfinished_bytes t) (all_performed s.registers (text_events t) s.history)
 unfinished-text l s tape zero first word others trailing begins none_goes is ends ahead stands within charged allowed =
     let here : LineState = InText glyph_line in
     let both = neither (first == dot) (first == apostrophe) is.begins in
@@ -179,8 +188,11 @@ unfinished-text l s tape (suc n) first word others trailing begins none_goes is 
 
 pub unfinished_text_lines_tell_their_words : UnfinishedTextLinesTellTheirWords
 unfinished_text_lines_tell_their_words l s t tape begins none_goes none_springs is none stands ends within charged allowed =
-    unfinished-text l s tape t.leading t.first t.word t.others t.trailing begins none_goes is ends none stands within charged (quiet-text t l s.history none_springs allowed)
-    ∙ ap (λ (i : PageInput). record s { tape = tape; input = i; history = behind_all (all_performed (text_events t) s.history) s.history }) (counted-source tape (unfinished_bytes t) s.input none)
+    let h : PageHistory = behind_performed s.registers (text_events t) s.history in
+    unfinished-text l s tape t.leading t.first t.word t.others t.trailing begins none_goes is ends none stands within charged
+    (quiet-text t l s.registers s.history none_springs allowed)
+    ∙ ap (λ (i : PageInput). record s { tape = tape; input = i; history = h })
+    (counted-source tape (unfinished_bytes t) s.input none)
 
 -- a text in the making is dropped
 drops-last : (before : List (List ℕ)) (text : List ℕ) (i : PageInput) → dropping (record i { open_texts = before ++ text ∷ [] }) ≡ record i { open_texts = before }
@@ -230,6 +242,7 @@ unended_definitions_enter_nothing l s name appends end before lines tape begins 
     let size : List ℕ → ℕ = length in
     let fits : Fits l s.registers done.input = record {
       names = inside.names;
+      title = inside.title;
       stack = inside.stack;
       depth = inside.depth;
       store = omega (arith, inside.store, sum_by-append size before (text ∷ []));

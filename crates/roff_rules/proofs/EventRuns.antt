@@ -13,8 +13,9 @@ use Rattle.roff_run.specs.ItemsTaken.{TakesItems}
 use Rattle.roff_run.specs.Reading.{taking}
 use Rattle.roff_run.specs.Reading.Ends.{due}
 use Rattle.roff_run.specs.Reading.Items.{PageInput, Taking, meaning_events}
-use Rattle.roff_run.specs.Registers.{Known}
-use Rattle.roff_run.specs.declared.event.PageEvent.{PageEvent}
+use Rattle.roff_run.specs.Registers.{AllRegisters, Known}
+use Rattle.roff_run.specs.PageEvents.{PageEvent, PastEvent}
+use Rattle.roff_run.specs.Titles.{told}
 use Rattle.roff_lines.specs.declared.event.Event.TheVariants.{WordEnd}
 use Rattle.roff_pages.specs.declared.layout_event.LayoutEvent.TheVariants.{Begin}
 use Rattle.roff_run.specs.declared.event.PageEvent.TheVariants.{Page, Text}
@@ -33,29 +34,29 @@ use Rattle.roff_run.specs.Run.Counts.{refusal}
 use Rattle.roff_num.specs.declared.short_name.ShortName.{ShortName}
 
 -- an event is quiet: no limit refuses it, the last page doesn't end with it, and it springs no macro
-pub record IsQuiet (l : Limits) (h : PageHistory) (e : PageEvent) : Type 0 where
+pub record IsQuiet (l : Limits) (h : PageHistory) (e : PastEvent) : Type 0 where
   pub allowed : refusal l h e ≡ None
   pub goes_on : (layout_of (e ∷ h)).is_over ≡ false
   pub none_sprung : springs h e ≡ None
 
 -- so it is of each of these, one behind another
-abbrev pub AllQuiet : Limits → PageHistory → List PageEvent → Type 0
-AllQuiet l h [] = ⊤
-AllQuiet l h (e ∷ es) = IsQuiet l h e × AllQuiet l (e ∷ h) es
+abbrev pub AllQuiet : Limits → AllRegisters → PageHistory → List PageEvent → Type 0
+AllQuiet l rs h [] = ⊤
+AllQuiet l rs h (e ∷ es) = IsQuiet l h (told rs e) × AllQuiet l rs (told rs e ∷ h) es
 
 -- events are quiet as they are performed, each with what comes before it
-abbrev pub AreQuiet : Limits → PageHistory → List PageEvent → Type 0
-AreQuiet l h events = AllQuiet l h (all_performed events h)
+abbrev pub AreQuiet : Limits → AllRegisters → PageHistory → List PageEvent → Type 0
+AreQuiet l rs h events = AllQuiet l rs h (all_performed rs events h)
 
 -- how many steps they take, and the history behind them
-abbrev pub steps_of : List PageEvent → PageHistory → ℕ
-steps_of events h = length (all_performed events h)
+abbrev pub steps_of : AllRegisters → List PageEvent → PageHistory → ℕ
+steps_of rs events h = length (all_performed rs events h)
 
-abbrev pub behind_performed : List PageEvent → PageHistory → PageHistory
-behind_performed events h = behind_all (all_performed events h) h
+abbrev pub behind_performed : AllRegisters → List PageEvent → PageHistory → PageHistory
+behind_performed rs events h = behind_all rs (all_performed rs events h) h
 
 -- a step at one that is quiet
-quiet-step : (l : Limits) (s : State) (e : PageEvent) (left : List PageEvent) → IsQuiet l s.history e
+quiet-step : (l : Limits) (s : State) (e : PastEvent) (left : List PageEvent) → IsQuiet l s.history e
     → unless_refused l (refusal l s.history e) s (performed e left s) ≡ record s { to_do = left; history = e ∷ s.history }
 quiet-step l s e left quiet =
     let happened : State = record s { history = e ∷ s.history } in
@@ -65,45 +66,56 @@ quiet-step l s e left quiet =
 
 -- one that is to do, or what comes before it
 own-step : (l : Limits) (s : State) (own : Option PageEvent) (e : PageEvent) (es : List PageEvent) → s.ended ≡ None → next s.history e ≡ own
-    → IsQuiet l s.history (first_of own e)
-    → step l (record s { to_do = e ∷ es }) ≡ record s { to_do = left_of own e es; history = first_of own e ∷ s.history }
+    → let happens : PastEvent = told s.registers (first_of own e) in
+    IsQuiet l s.history happens
+    → step l (record s { to_do = e ∷ es }) ≡ record s { to_do = left_of own e es; history = happens ∷ s.history }
 own-step l s None e es going is quiet =
     let before : State = record s { to_do = e ∷ es } in
     ap (λ (ended : Option Status). elim ended [ None ↦ step_with l before.to_do before | Some status ↦ before ]) going
     ∙ ap (λ (own : Option PageEvent). performing l own e es before) is
-    ∙ quiet-step l before e es quiet
+    ∙ quiet-step l before (told s.registers e) es quiet
 own-step l s (Some own) e es going is quiet =
     let before : State = record s { to_do = e ∷ es } in
     ap (λ (ended : Option Status). elim ended [ None ↦ step_with l before.to_do before | Some status ↦ before ]) going
     ∙ ap (λ (own : Option PageEvent). performing l own e es before) is
-    ∙ quiet-step l before own (e ∷ es) quiet
+    ∙ quiet-step l before (told s.registers own) (e ∷ es) quiet
 
 -- where no more events come before one than so many, those are performed, and it is
 abbrev PerformsOthers : Limits → List PageEvent → Type 0
 PerformsOthers l es =
-    (u : State) → u.ended ≡ None → AreQuiet l u.history es
-    → after l (steps_of es u.history) (record u { to_do = es }) ≡ record u { to_do = []; history = behind_performed es u.history }
+    (u : State) → u.ended ≡ None → AreQuiet l u.registers u.history es →
+    after l (steps_of u.registers es u.history) (record u { to_do = es })
+    ≡ record u { to_do = []; history = behind_performed u.registers es u.history }
 
 abbrev PerformsFirst : Limits → State → PageEvent → List PageEvent → List PageEvent → Type 0
 PerformsFirst l s e es performed =
-    AllQuiet l s.history performed → after l (length performed) (record s { to_do = e ∷ es }) ≡ record s { to_do = []; history = behind_all performed s.history }
+    AllQuiet l s.registers s.history performed →
+    after l (length performed) (record s { to_do = e ∷ es })
+    ≡ record s { to_do = []; history = behind_all s.registers performed s.history }
 
 perform-alone : (l : Limits) (s : State) (e : PageEvent) (es : List PageEvent) → s.ended ≡ None → next s.history e ≡ None → PerformsOthers l es
-    → PerformsFirst l s e es (e ∷ all_performed es (e ∷ s.history))
+    → PerformsFirst l s e es (e ∷ all_performed s.registers es (told s.registers e ∷ s.history))
 perform-alone l s e es going none others quiet =
-    ap (after l (steps_of es (e ∷ s.history))) (own-step l s None e es going none quiet.0) ∙ others (record s { history = e ∷ s.history }) going quiet.1
+    let h : PageHistory = told s.registers e ∷ s.history in
+    ap (after l (steps_of s.registers es h)) (own-step l s None e es going none quiet.0)
+    ∙ others (record s { history = h }) going quiet.1
 
 perform-own : (l : Limits) (s : State) (own e : PageEvent) (es performed : List PageEvent) → s.ended ≡ None → next s.history e ≡ Some own
-    → PerformsFirst l (record s { history = own ∷ s.history }) e es performed → PerformsFirst l s e es (own ∷ performed)
+    → PerformsFirst l (record s { history = told s.registers own ∷ s.history }) e es performed
+    → PerformsFirst l s e es (own ∷ performed)
 perform-own l s own e es performed going is others quiet =
     ap (after l (length performed)) (own-step l s (Some own) e es going is quiet.0) ∙ others quiet.1
 
 -- by what comes before it
 perform-by : (l : Limits) (n : ℕ) (s : State) (e : PageEvent) (es : List PageEvent) (own : Option PageEvent) → s.ended ≡ None → next s.history e ≡ own
     → ComesBefore s.history e own → steps_in_front s.history e ≤ suc n → PerformsOthers l es
-    → ((g : PageHistory) → steps_in_front g e ≤ n → PerformsFirst l (record s { history = g }) e es (performed_with n g e (all_performed es)))
-    → PerformsFirst l s e es
-    (elim own [ None ↦ e ∷ all_performed es (e ∷ s.history) | Some first ↦ first ∷ performed_with n (first ∷ s.history) e (all_performed es) ])
+    → let rs : AllRegisters = s.registers in
+    ((g : PageHistory) → steps_in_front g e ≤ n
+    → PerformsFirst l (record s { history = g }) e es (performed_with rs n g e (all_performed rs es)))
+    → PerformsFirst l s e es (elim own [
+      | None ↦ e ∷ all_performed rs es (told rs e ∷ s.history)
+      | Some first ↦ first ∷ performed_with rs n (told rs first ∷ s.history) e (all_performed rs es)
+    ])
 perform-by l n s e es own going is (NothingComes none_begins) few others first = perform-alone l s e es going is others
 perform-by l n s e es own going is (WordEndComes none_begins fewer) few others first =
     perform-own l s (Text WordEnd) e es _ going is (first (Text WordEnd ∷ s.history) (omega (arith, fewer, few)))
@@ -117,7 +129,7 @@ none_in_front h e own (WordEndComes none_begins fewer) none = absurd (omega (ari
 none_in_front h e own (PageComes none_begun fewer) none = absurd (omega (arith, fewer, none))
 
 perform-first : (l : Limits) (n : ℕ) (s : State) (e : PageEvent) (es : List PageEvent) → s.ended ≡ None → steps_in_front s.history e ≤ n → PerformsOthers l es
-    → PerformsFirst l s e es (performed_with n s.history e (all_performed es))
+    → PerformsFirst l s e es (performed_with s.registers n s.history e (all_performed s.registers es))
 perform-first l zero s e es going few others =
     perform-alone l s e es going (none_in_front s.history e (next s.history e) (comes_before s.history e) few) others
 perform-first l (suc n) s e es going few others =
@@ -125,58 +137,67 @@ perform-first l (suc n) s e es going few others =
     (λ g few. perform-first l n (record s { history = g }) e es going few others)
 
 -- they are performed in a step each
-pub perform-all : (l : Limits) (s : State) (events : List PageEvent) → s.ended ≡ None → AreQuiet l s.history events
-    → after l (steps_of events s.history) (record s { to_do = events }) ≡ record s { to_do = []; history = behind_performed events s.history }
+pub perform-all : (l : Limits) (s : State) (events : List PageEvent) → s.ended ≡ None → AreQuiet l s.registers s.history events
+    → after l (steps_of s.registers events s.history) (record s { to_do = events })
+    ≡ record s { to_do = []; history = behind_performed s.registers events s.history }
 perform-all l s [] going quiet = refl
 perform-all l s (e ∷ es) going quiet =
     perform-first l 2 s e es going (steps_in_front-few s.history e) (λ u going quiet. perform-all l u es going quiet) quiet
 
 -- events one behind another, by what comes before the first
-append-by : (n : ℕ) (h : PageHistory) (e : PageEvent) (first both more : PageHistory → List PageEvent) (own : Option PageEvent)
-    → ((g : PageHistory) → both g ≡ first g ++ more (behind_all (first g) g))
-    → ((g : PageHistory) → performed_with n g e both ≡ performed_with n g e first ++ more (behind_all (performed_with n g e first) g))
+append-by : (rs : AllRegisters) (n : ℕ) (h : PageHistory) (e : PageEvent) (first both more : PageHistory → List PageEvent)
+    (own : Option PageEvent) → ((g : PageHistory) → both g ≡ first g ++ more (behind_all rs (first g) g))
+    → let front : PageHistory → List PageEvent = λ g. performed_with rs n g e first in
+    ((g : PageHistory) → performed_with rs n g e both ≡ front g ++ more (behind_all rs (front g) g))
     → let all : (PageHistory → List PageEvent) → List PageEvent = λ behind.
-    elim own [ None ↦ e ∷ behind (e ∷ h) | Some own ↦ own ∷ performed_with n (own ∷ h) e behind ] in
-    all both ≡ all first ++ more (behind_all (all first) h)
-append-by n h e first both more None same others = ap (λ (es : List PageEvent). e ∷ es) (same (e ∷ h))
-append-by n h e first both more (Some own) same others = ap (λ (es : List PageEvent). own ∷ es) (others (own ∷ h))
+    elim own [ None ↦ e ∷ behind (told rs e ∷ h) | Some own ↦ own ∷ performed_with rs n (told rs own ∷ h) e behind ] in
+    all both ≡ all first ++ more (behind_all rs (all first) h)
+append-by rs n h e first both more None same others = ap (λ (es : List PageEvent). e ∷ es) (same (told rs e ∷ h))
+append-by rs n h e first both more (Some own) same others = ap (λ (es : List PageEvent). own ∷ es) (others (told rs own ∷ h))
 
-with-append : (n : ℕ) (h : PageHistory) (e : PageEvent) (first both more : PageHistory → List PageEvent)
-    → ((g : PageHistory) → both g ≡ first g ++ more (behind_all (first g) g))
-    → performed_with n h e both ≡ performed_with n h e first ++ more (behind_all (performed_with n h e first) h)
-with-append zero h e first both more same = ap (λ (es : List PageEvent). e ∷ es) (same (e ∷ h))
-with-append (suc n) h e first both more same = append-by n h e first both more (next h e) same (λ g. with-append n g e first both more same)
+with-append : (rs : AllRegisters) (n : ℕ) (h : PageHistory) (e : PageEvent) (first both more : PageHistory → List PageEvent)
+    → ((g : PageHistory) → both g ≡ first g ++ more (behind_all rs (first g) g))
+    → performed_with rs n h e both ≡ performed_with rs n h e first ++ more (behind_all rs (performed_with rs n h e first) h)
+with-append rs zero h e first both more same = ap (λ (es : List PageEvent). e ∷ es) (same (told rs e ∷ h))
+with-append rs (suc n) h e first both more same =
+    append-by rs n h e first both more (next h e) same (λ g. with-append rs n g e first both more same)
 
-pub performed-append : (events more : List PageEvent) (h : PageHistory)
-    → all_performed (events ++ more) h ≡ all_performed events h ++ all_performed more (behind_performed events h)
-performed-append [] more h = refl
-performed-append (e ∷ events) more h =
-    with-append 2 h e (all_performed events) (all_performed (events ++ more)) (all_performed more) (λ g. performed-append events more g)
+pub performed-append : (rs : AllRegisters) (events more : List PageEvent) (h : PageHistory)
+    → all_performed rs (events ++ more) h ≡ all_performed rs events h ++ all_performed rs more (behind_performed rs events h)
+performed-append rs [] more h = refl
+performed-append rs (e ∷ events) more h =
+    with-append rs 2 h e (all_performed rs events) (all_performed rs (events ++ more)) (all_performed rs more)
+    (λ g. performed-append rs events more g)
 
-behind_all-append : (events more : List PageEvent) (h : PageHistory) → behind_all (events ++ more) h ≡ behind_all more (behind_all events h)
-behind_all-append [] more h = refl
-behind_all-append (e ∷ events) more h = behind_all-append events more (e ∷ h)
+behind_all-append : (rs : AllRegisters) (events more : List PageEvent) (h : PageHistory)
+    → behind_all rs (events ++ more) h ≡ behind_all rs more (behind_all rs events h)
+behind_all-append rs [] more h = refl
+behind_all-append rs (e ∷ events) more h = behind_all-append rs events more (told rs e ∷ h)
 
-pub behind-append : (events more : List PageEvent) (h : PageHistory) → behind_performed (events ++ more) h ≡ behind_performed more (behind_performed events h)
-behind-append events more h =
-    ap (λ (all : List PageEvent). behind_all all h) (performed-append events more h)
-    ∙ behind_all-append (all_performed events h) (all_performed more (behind_performed events h)) h
+pub behind-append : (rs : AllRegisters) (events more : List PageEvent) (h : PageHistory)
+    → behind_performed rs (events ++ more) h ≡ behind_performed rs more (behind_performed rs events h)
+behind-append rs events more h =
+    ap (λ (all : List PageEvent). behind_all rs all h) (performed-append rs events more h)
+    ∙ behind_all-append rs (all_performed rs events h) (all_performed rs more (behind_performed rs events h)) h
 
-pub steps-append : (events more : List PageEvent) (h : PageHistory) → steps_of (events ++ more) h ≡ steps_of events h + steps_of more (behind_performed events h)
-steps-append events more h =
-    ap (λ (all : List PageEvent). length all) (performed-append events more h)
-    ∙ length-append (all_performed events h) (all_performed more (behind_performed events h))
+pub steps-append : (rs : AllRegisters) (events more : List PageEvent) (h : PageHistory)
+    → steps_of rs (events ++ more) h ≡ steps_of rs events h + steps_of rs more (behind_performed rs events h)
+steps-append rs events more h =
+    ap (λ (all : List PageEvent). length all) (performed-append rs events more h)
+    ∙ length-append (all_performed rs events h) (all_performed rs more (behind_performed rs events h))
 
 -- the first of them are quiet, and the others
-quiet-parts : (l : Limits) (h : PageHistory) (events more : List PageEvent) → AllQuiet l h (events ++ more) → AllQuiet l h events × AllQuiet l (behind_all events h) more
-quiet-parts l h [] more quiet = (tt, quiet)
-quiet-parts l h (e ∷ events) more quiet =
-    let others = quiet-parts l (e ∷ h) events more quiet.1 in ((quiet.0, others.0), others.1)
+quiet-parts : (l : Limits) (rs : AllRegisters) (h : PageHistory) (events more : List PageEvent) → AllQuiet l rs h (events ++ more)
+    → AllQuiet l rs h events × AllQuiet l rs (behind_all rs events h) more
+quiet-parts l rs h [] more quiet = (tt, quiet)
+quiet-parts l rs h (e ∷ events) more quiet =
+    let others = quiet-parts l rs (told rs e ∷ h) events more quiet.1 in ((quiet.0, others.0), others.1)
 
-pub quiet-front : (l : Limits) (h : PageHistory) (events more : List PageEvent) → AreQuiet l h (events ++ more)
-    → AreQuiet l h events × AreQuiet l (behind_performed events h) more
-quiet-front l h events more quiet =
-    quiet-parts l h (all_performed events h) (all_performed more (behind_performed events h)) (subst (AllQuiet l h) (performed-append events more h) quiet)
+pub quiet-front : (l : Limits) (rs : AllRegisters) (h : PageHistory) (events more : List PageEvent)
+    → AreQuiet l rs h (events ++ more) → AreQuiet l rs h events × AreQuiet l rs (behind_performed rs events h) more
+quiet-front l rs h events more quiet =
+    quiet-parts l rs h (all_performed rs events h) (all_performed rs more (behind_performed rs events h))
+    (subst (AllQuiet l rs h) (performed-append rs events more h) quiet)
 
 -- what is meant of an item, where nothing is to do
 pub taken_as-meaning : (i : PageInput) (reading : LineState) (events : List PageEvent) (s : State) → s.to_do ≡ []
@@ -247,39 +268,44 @@ fits-room l s q from bytes i h room = Fits-IsWithin l (run_at s s.input.names (r
 
 -- a byte and its events
 pub after-meant : (l : Limits) (s : State) (from : Origin) (p q : LineState) (b : ℕ) (bytes : List ℕ) (events : List PageEvent) (i : PageInput) (h : PageHistory)
-    → TakesItems s → due p ≡ None → Room l s from (b ∷ bytes) i → AreQuiet l h events
+    → TakesItems s → due p ≡ None → Room l s from (b ∷ bytes) i → AreQuiet l s.registers h events
     → taking (known (text_at s p from bytes (behind_byte from b i) h)) p (text_at s p from bytes (behind_byte from b i) h).input b
     ≡ meaning_events (text_at s p from bytes (behind_byte from b i) h).input q events
-    → after l (suc (steps_of events h)) (text_at s p from (b ∷ bytes) i h) ≡ text_at s q from bytes (behind_byte from b i) (behind_performed events h)
+    → after l (suc (steps_of s.registers events h)) (text_at s p from (b ∷ bytes) i h)
+    ≡ text_at s q from bytes (behind_byte from b i) (behind_performed s.registers events h)
 after-meant l s from p q b bytes events i h on none_due room quiet means =
     let there : State = text_at s q from bytes (behind_byte from b i) h in
     let fits : Fits l s.registers there.input = fits-room l s q from bytes (behind_byte from b i) h (room-behind l s from b bytes i room) in
-    ap (after l (steps_of events h)) (step-meant l s from p q b bytes events i h on none_due (omega (arith, room.charged)) fits means)
+    ap (after l (steps_of s.registers events h))
+    (step-meant l s from p q b bytes events i h on none_due (omega (arith, room.charged)) fits means)
     ∙ perform-all l there events on.going quiet
-    ∙ idle-state s q from bytes (behind_byte from b i) (behind_performed events h) on.idle
+    ∙ idle-state s q from bytes (behind_byte from b i) (behind_performed s.registers events h) on.idle
 
 -- how many steps they are
-steps-onward : (events more : List PageEvent) (bytes : List ℕ) (h : PageHistory)
-    → length (0 ∷ bytes) + steps_of (events ++ more) h ≡ suc (steps_of events h) + (length bytes + steps_of more (behind_performed events h))
-steps-onward events more bytes h = omega (arith, steps-append events more h)
+steps-onward : (rs : AllRegisters) (events more : List PageEvent) (bytes : List ℕ) (h : PageHistory)
+    → length (0 ∷ bytes) + steps_of rs (events ++ more) h
+    ≡ suc (steps_of rs events h) + (length bytes + steps_of rs more (behind_performed rs events h))
+steps-onward rs events more bytes h = omega (arith, steps-append rs events more h)
 
 pub after-Tells : (l : Limits) (s : State) (from : Origin) (p q : LineState) (bytes more : List ℕ) (events : List PageEvent) (i : PageInput) (h : PageHistory)
-    → TakesItems s → Tells p bytes events q → Room l s from (bytes ++ more) i → AreQuiet l h events
-    → (after l (length bytes + steps_of events h) (text_at s p from (bytes ++ more) i h) ≡ text_at s q from more (behind_bytes from bytes i) (behind_performed events h))
+    → TakesItems s → Tells p bytes events q → Room l s from (bytes ++ more) i → AreQuiet l s.registers h events
+    → (after l (length bytes + steps_of s.registers events h) (text_at s p from (bytes ++ more) i h)
+    ≡ text_at s q from more (behind_bytes from bytes i) (behind_performed s.registers events h))
     × Room l s from more (behind_bytes from bytes i)
 after-Tells l s from _ q _ more _ i h on (Here p) room quiet = (refl, room)
 after-Tells l s from p q _ more _ i h on (Onward _ next _ b bytes events rest none_due means path) room quiet =
-    let both = quiet-front l h events rest quiet in
+    let rs : AllRegisters = s.registers in
+    let both = quiet-front l rs h events rest quiet in
     let start : State = text_at s p from (b ∷ bytes ++ more) i h in
-    let g : PageHistory = behind_performed events h in
-    let first : after l (suc (steps_of events h)) start ≡ text_at s next from (bytes ++ more) (behind_byte from b i) g =
+    let g : PageHistory = behind_performed rs events h in
+    let first : after l (suc (steps_of rs events h)) start ≡ text_at s next from (bytes ++ more) (behind_byte from b i) g =
     after-meant l s from p next b (bytes ++ more) events i h on none_due room both.0
     (means (known (text_at s p from (bytes ++ more) (behind_byte from b i) h)) (text_at s p from (bytes ++ more) (behind_byte from b i) h).input tt refl) in
     let others = after-Tells l s from next q bytes more rest (behind_byte from b i) g on path (room-behind l s from b (bytes ++ more) i room) both.1 in (
-      ap (λ (n : ℕ). after l n start) (steps-onward events rest bytes h)
-          ∙ after-add l (suc (steps_of events h)) (length bytes + steps_of rest g) start
-          ∙ ap (after l (length bytes + steps_of rest g)) first
+      ap (λ (n : ℕ). after l n start) (steps-onward rs events rest bytes h)
+          ∙ after-add l (suc (steps_of rs events h)) (length bytes + steps_of rs rest g) start
+          ∙ ap (after l (length bytes + steps_of rs rest g)) first
           ∙ others.0
-          ∙ ap (λ (all : PageHistory). text_at s q from more (behind_bytes from (b ∷ bytes) i) all) (sym (behind-append events rest h)),
+          ∙ ap (text_at s q from more (behind_bytes from (b ∷ bytes) i)) (sym (behind-append rs events rest h)),
       others.1,
     )

@@ -16,7 +16,7 @@ use Rattle.roff_escape.specs.declared.open_escape.Found.TheVariants.{Asks}
 use Rattle.roff_escape.specs.declared.open_escape.Surroundings.{Surroundings}
 use Rattle.roff_num.specs.declared.direction.Direction.{Direction}
 use Rattle.roff_run.specs.declared.line_state.LineState.{LineState}
-use Rattle.roff_run.specs.declared.line_state.LineState.TheVariants.{LineStart, Branch, Braced, Text as InText, Control, Name as NameOf, Arguments as InArguments, Deciding, StringName, StringText, Skipping, Dropped, Telling, Told, Exiting, Calling, Defining}
+use Rattle.roff_run.specs.declared.line_state.LineState.TheVariants.{LineStart, Branch, Braced, Text as InText, Control, Name as NameOf, Arguments as InArguments, Deciding, StringName, StringText, Skipping, Dropped, Telling, Told, Exiting, Calling, Defining, TitleFront, Title as InTitle}
 use Rattle.roff_run.specs.declared.line_state.TextLine.{TextLine}
 use Rattle.roff_rules.proofs.Interpolation.{AtLast, Behind, IsRead, IsRead-itself, Means, ReadsEscapes, AtBeginning, AtBranch, AtBraced, OnText, OnArguments, OnCondition, OnStringName, OnCall, OnStringText, OnDefinition, OnMessage, ReadsEscapes-reads_escapes, after-escape, interrupted-arguments, is-going, is_no_newline, line_behind, settled_for, settled_for-settled_for, settled_input, source_behind, taking-reads}
 use Rattle.roff_run.proofs.ItemsTaken.{Fits-IsWithin, FromAhead, FromSource, Origin, ahead_at, going, input_of, not-first, tape_at}
@@ -30,7 +30,7 @@ use Rattle.roff_run.specs.Reading.Found.{place_in, read_in}
 use Rattle.roff_run.specs.Reading.Items.{PageInput, Taking}
 use Rattle.roff_run.specs.Reading.TextLines.{name_taking}
 use Rattle.roff_run.specs.Registers.{Known, text_of_register}
-use Rattle.roff_run.specs.declared.event.PageEvent.{PageEvent}
+use Rattle.roff_run.specs.PageEvents.{PageEvent}
 use Rattle.roff_run.specs.Run.{State, known, taken_as, step, after}
 use Rattle.roff_rules.proofs.NamesAsked.{AsksAtLast, asks-argument, asks-opened, byte_read-argument, byte_read-backslash, byte_read-opening, byte_read-short, byte_read-string, finds-signed, finds-string, goes_on-names}
 
@@ -244,6 +244,8 @@ reads-text Dropped i is = absurd (cc)
 reads-text (Telling aborts is_front) i is = absurd (cc)
 reads-text (Told aborts) i is = absurd (cc)
 reads-text Exiting i is = absurd (cc)
+reads-text TitleFront i is = absurd (cc)
+reads-text (InTitle delimiter) i is = absurd (cc)
 
 pub escapes_of_text_read_as_texts : EscapesOfTextReadAsTexts
 escapes_of_text_read_as_texts l s name escape rest is_escape takes reads half ahead within within_read =

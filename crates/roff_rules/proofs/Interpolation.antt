@@ -15,7 +15,7 @@ use Rattle.roff_escape.specs.declared.open_escape.Found.{Found}
 use Rattle.roff_escape.specs.declared.open_escape.Found.TheVariants.{GoesOn}
 use Rattle.roff_escape.specs.declared.open_escape.Surroundings.{Surroundings}
 use Rattle.roff_run.specs.declared.line_state.LineState.{LineState}
-use Rattle.roff_run.specs.declared.line_state.LineState.TheVariants.{LineStart, Branch, Braced, Text as InText, Control, Name as NameOf, Arguments as InArguments, Deciding, StringName, StringText, Skipping, Dropped, Telling, Told, Exiting, Calling, Defining}
+use Rattle.roff_run.specs.declared.line_state.LineState.TheVariants.{LineStart, Branch, Braced, Text as InText, Control, Name as NameOf, Arguments as InArguments, Deciding, StringName, StringText, Skipping, Dropped, Telling, Told, Exiting, Calling, Defining, TitleFront, Title as InTitle}
 use Rattle.roff_num.specs.declared.short_name.ShortName.{ShortName}
 use Rattle.roff_run.specs.declared.line_state.TextLine.{TextLine}
 use Rattle.roff_run.specs.declared.request.Request.{Request}
@@ -27,7 +27,7 @@ use Rattle.roff_run.specs.Reading.Ends.{due}
 use Rattle.roff_run.specs.Reading.Items.{PageInput, Taking, going_on}
 use Rattle.roff_run.specs.Reading.Found.{place_in, read_in}
 use Rattle.roff_run.specs.Registers.{AllRegisters, Known}
-use Rattle.roff_run.specs.declared.event.PageEvent.{PageEvent}
+use Rattle.roff_run.specs.PageEvents.{PageEvent}
 use Rattle.roff_run.specs.Run.{State, known, made, byte_taken, taken_as, step, after, answered, awaited, awaited_of_source, escape_ends, front_seen, in_front_taken, read_waiting, source_answer}
 use Rattle.roff_run.proofs.ItemsTaken.{Origin, ahead_at, tape_at, input_of, going, bytes_ahead_are_taken, bytes_of_the_source_are_taken, not-first, not-second, Fits, made-Fits, taken_as-going_on, FromAhead, FromSource, step-TakesItems}
 use Rattle.roff_ahead.specs.Shown.{seen_ahead}
@@ -216,10 +216,26 @@ Means s reading from a charge line found behind t =
 -- behind a byte
 Fits-behind : (l : Limits) (registers : AllRegisters) (s : State) (from : Origin) (b : ℕ) (bytes : List ℕ) (a there : Arguments) (half other : List OpenEscape) (charge more line next : ℕ)
     → held there ≡ held a → texts_held other ≡ texts_held half → Fits l registers (input_of s from (b ∷ bytes) a half charge line) → Fits l registers (input_of s from bytes there other more next)
-Fits-behind l registers s (FromAhead rest) b bytes a there half other charge more line next same held_same fits =
-    record { names = fits.names; stack = omega (arith, fits.stack); depth = fits.depth; store = fits.store; texts = fits.texts; making = fits.making; conditions = fits.conditions }
-Fits-behind l registers s (FromSource tape) b bytes a there half other charge more line next same held_same fits =
-    record { names = fits.names; stack = omega (arith, fits.stack); depth = fits.depth; store = fits.store; texts = fits.texts; making = fits.making; conditions = fits.conditions }
+Fits-behind l registers s (FromAhead rest) b bytes a there half other charge more line next same held_same fits = record {
+  names = fits.names;
+  title = fits.title;
+  stack = omega (arith, fits.stack);
+  depth = fits.depth;
+  store = fits.store;
+  texts = fits.texts;
+  making = fits.making;
+  conditions = fits.conditions;
+}
+Fits-behind l registers s (FromSource tape) b bytes a there half other charge more line next same held_same fits = record {
+  names = fits.names;
+  title = fits.title;
+  stack = omega (arith, fits.stack);
+  depth = fits.depth;
+  store = fits.store;
+  texts = fits.texts;
+  making = fits.making;
+  conditions = fits.conditions;
+}
 
 -- the steps at them
 after-finds : (l : Limits) (s : State) (reading : LineState) (from : Origin) (a : Arguments) (line : ℕ)
@@ -342,6 +358,8 @@ ReadsEscapes-reads_escapes (Defining name appends end matched) is = OnDefinition
 ReadsEscapes-reads_escapes (Telling aborts is_front) is = OnMessage aborts is_front
 ReadsEscapes-reads_escapes (Told aborts) is = absurd (cc)
 ReadsEscapes-reads_escapes Exiting is = absurd (cc)
+ReadsEscapes-reads_escapes TitleFront is = absurd (cc)
+ReadsEscapes-reads_escapes (InTitle delimiter) is = absurd (cc)
 ReadsEscapes-reads_escapes (Control breaks) is = absurd (cc)
 ReadsEscapes-reads_escapes (NameOf breaks first) is = absurd (cc)
 ReadsEscapes-reads_escapes (Skipping opened closed behind) is = absurd (cc)

@@ -29,4 +29,3 @@ pub mod WordCalls
 pub mod MixedArguments
 pub mod EndLaws
 pub mod EndedLines
-pub mod MessageLines

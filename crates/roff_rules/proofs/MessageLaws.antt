@@ -12,8 +12,7 @@ use Rattle.roff_store.specs.Named.{Named}
 use Rattle.roff_store.specs.Texts.{Entry}
 use Rattle.roff_rules.proofs.LineNames.{Allows, ReadsAs, ReadsName, onward, reads-name}
 use Rattle.roff_rules.specs.InterpolationLaws.{StandsForItself}
-use Rattle.roff_rules.specs.MessageLaws.{without_front, MessagesAreTheirTexts, TellsText}
-use Rattle.roff_rules.specs.MessageLines.{HasMessage}
+use Rattle.roff_rules.specs.MessageLaws.{HasMessage, MessagesAreTheirTexts, TellsText, without_front}
 use Rattle.roff_run.proofs.NameBytes.{stage}
 use Rattle.roff_run.proofs.PlainRuns.{Here, Onward, Path, Path-append}
 use Rattle.roff_run.specs.Reading.ControlLines.{behind_name, line_taking}

@@ -31,7 +31,7 @@ use Rattle.roff_run.specs.Registers.{Known}
 use Rattle.roff_run.specs.Requests.{row_of}
 use Rattle.roff_num.specs.declared.short_name.ShortName.{ShortName}
 use Rattle.roff_run.specs.declared.request.LineReading.{LineReading}
-use Rattle.roff_run.specs.declared.request.LineReading.TheVariants.{ByArguments, ByCondition, ByElse, ByLastLine, ByLines, ByMessage, ByString}
+use Rattle.roff_run.specs.declared.request.LineReading.TheVariants.{ByArguments, ByCondition, ByElse, ByLastLine, ByLines, ByMessage, ByString, ByTitle}
 use Rattle.roff_run.specs.declared.request.LinesFor.{LinesFor}
 use Rattle.roff_run.specs.declared.request.LinesFor.TheVariants.{Macro, Nobody}
 use Rattle.roff_run.specs.declared.line_state.LineState.TheVariants.{Arguments as InArguments}
@@ -90,6 +90,7 @@ arguments_ended-given k breaks request i a (ByString appends) = refl
 arguments_ended-given k breaks request i a ByLastLine = refl
 arguments_ended-given k breaks request i a (ByMessage aborts) = refl
 arguments_ended-given k breaks request i a ByElse = refl
+arguments_ended-given k breaks request i a ByTitle = refl
 arguments_ended-given k breaks request i a (ByLines lines) =
     lines_begun-arguments (record i { escapes = [] }) (only_kept a) lines (arguments_given (with_kept i a))
 

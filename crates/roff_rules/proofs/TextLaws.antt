@@ -27,8 +27,8 @@ use Rattle.roff_run.specs.Reading.Ends.{due}
 use Rattle.roff_run.specs.Reading.Found.{read_in}
 use Rattle.roff_run.specs.Reading.Items.{PageInput, Taking, behind_events, going_on, meaning_events}
 use Rattle.roff_run.specs.Reading.TextLines.{blank_line, blank_taking, fresh_line, glyph_taking, leading_glyph, most_leading, on_line, other_taking, tab_taking, text_line_end, text_taking}
-use Rattle.roff_run.specs.Registers.{Known}
-use Rattle.roff_run.specs.declared.event.PageEvent.{PageEvent}
+use Rattle.roff_run.specs.Registers.{AllRegisters, Known}
+use Rattle.roff_run.specs.PageEvents.{PageEvent}
 use Rattle.roff_run.specs.declared.event.PageEvent.TheVariants.{Text}
 use Rattle.roff_run.specs.Run.{State, after, known}
 use Rattle.roff_run.specs.Telling.{byte_events}
@@ -149,18 +149,20 @@ tells-others (part ∷ others) glyphs =
 -- a run behind a line of text
 abbrev told_from : State → Origin → List ℕ → List PageEvent → State
 told_from s from line events =
-    record s { tape = tape_at from [] s.tape; input = counted from line s.input; history = behind_all events s.history }
+    let h : PageHistory = behind_all s.registers events s.history in
+    record s { tape = tape_at from [] s.tape; input = counted from line s.input; history = h }
 
 -- so it stands behind the newline of the line
 is-told : (s : State) (from : Origin) (front : List ℕ) (events : List PageEvent) → BeginsLine s
-    → text_at s LineStart from [] (behind_byte from newline (behind_bytes from front s.input)) (behind_all events s.history) ≡ told_from s from (front ++ newline ∷ []) events
+    → let h : PageHistory = behind_all s.registers events s.history in
+    text_at s LineStart from [] (behind_byte from newline (behind_bytes from front s.input)) h ≡ told_from s from (front ++ newline ∷ []) events
 is-told s from front events begins =
     let i : PageInput = behind_byte from newline (behind_bytes from front s.input) in
     let of : PageInput → Arguments → List OpenEscape → LineState → State = λ j a h r. record s {
       tape = tape_at from [] s.tape;
       input = record j { arguments = a; escapes = h; names = s.input.names; open_texts = s.input.open_texts };
       reading = r;
-      history = behind_all events s.history;
+      history = behind_all s.registers events s.history;
     } in
     let here : PageInput = record i { ahead = ahead_at from [] } in
     let j : PageInput = counted from (front ++ newline ∷ []) s.input in
@@ -170,24 +172,28 @@ is-told s from front events begins =
     ∙ ap (λ (r : LineState). of j s.input.arguments s.input.escapes r) (sym begins.reading)
 
 -- how many steps a line takes
-steps-line : (bytes : List ℕ) (events more last : List PageEvent) (h : PageHistory)
-    → let g : PageHistory = behind_performed events h in
-    length (0 ∷ bytes ++ newline ∷ []) + steps_of ((events ++ more) ++ last) h
-    ≡ suc (steps_of events h) + ((length bytes + steps_of more g) + suc (steps_of last (behind_performed more g)))
-steps-line bytes events more last h =
-    let same = ap (λ (g : PageHistory). steps_of last g) (behind-append events more h) in
-    omega (arith, length-append bytes (newline ∷ []), steps-append (events ++ more) last h, steps-append events more h, same)
+steps-line : (rs : AllRegisters) (bytes : List ℕ) (events more last : List PageEvent) (h : PageHistory)
+    → let g : PageHistory = behind_performed rs events h in
+    length (0 ∷ bytes ++ newline ∷ []) + steps_of rs ((events ++ more) ++ last) h
+    ≡ suc (steps_of rs events h) + ((length bytes + steps_of rs more g) + suc (steps_of rs last (behind_performed rs more g)))
+steps-line rs bytes events more last h =
+    let same = ap (λ (g : PageHistory). steps_of rs last g) (behind-append rs events more h) in
+    let all = steps-append rs (events ++ more) last h in
+    omega (arith, length-append bytes (newline ∷ []), all, steps-append rs events more h, same)
 
 -- a whole line: its first byte, others, and its newline
 told-from : (l : Limits) (s : State) (from : Origin) (b : ℕ) (bytes : List ℕ) (p q : LineState) (events more last : List PageEvent)
     → BeginsLine s → interrupted_line s.history ≡ None → Means NoneGoesOn LineStart b events p → Tells p bytes more q → due q ≡ None → Means Always q newline last LineStart
     → let line : List ℕ = b ∷ bytes ++ newline ∷ [] in
     let all : List PageEvent = (events ++ more) ++ last in
-    s.input.ahead ≡ ahead_at from line → s.tape ≡ tape_at from line s.tape → IsWithin l s → s.input.charge + length line ≤ l.bytes → AreQuiet l s.history all
-    → after l (length line + steps_of all s.history) s ≡ told_from s from line (all_performed all s.history)
+    s.input.ahead ≡ ahead_at from line → s.tape ≡ tape_at from line s.tape → IsWithin l s → s.input.charge + length line ≤ l.bytes
+    → AreQuiet l s.registers s.history all
+    → after l (length line + steps_of s.registers all s.history) s
+    ≡ told_from s from line (all_performed s.registers all s.history)
 told-from l s from b bytes p q events more last begins none_goes first path none_due ends ahead tape within charged quiet =
     let line : List ℕ = b ∷ bytes ++ newline ∷ [] in
     let all : List PageEvent = (events ++ more) ++ last in
+    let rs : AllRegisters = s.registers in
     let h : PageHistory = s.history in
     let i : PageInput = s.input in
     let j : PageInput = behind_byte from b i in
@@ -195,28 +201,30 @@ told-from l s from b bytes p q events more last begins none_goes first path none
     let start : State = text_at s LineStart from line i h in
     let is : start ≡ s = is-run_at s from line (reads_at LineStart s) begins.reading begins.escapes begins.arguments refl ahead tape in
     let room : Room l s from line i = room-start l s from line begins ahead tape within charged in
-    let outer = quiet-front l h (events ++ more) last quiet in
-    let inner = quiet-front l h events more outer.0 in
+    let outer = quiet-front l rs h (events ++ more) last quiet in
+    let inner = quiet-front l rs h events more outer.0 in
     let at : State = text_at s LineStart from (bytes ++ newline ∷ []) j h in
-    let h1 : PageHistory = behind_performed events h in
-    let one : after l (suc (steps_of events h)) start ≡ text_at s p from (bytes ++ newline ∷ []) j h1 =
+    let h1 : PageHistory = behind_performed rs events h in
+    let one : after l (suc (steps_of rs events h)) start ≡ text_at s p from (bytes ++ newline ∷ []) j h1 =
     after-meant l s from LineStart p b (bytes ++ newline ∷ []) events i h begins.takes refl room inner.0 (first (known at) at.input none_goes refl) in
     let two = after-Tells l s from p q bytes (newline ∷ []) more j h1 begins.takes path (room-behind l s from b (bytes ++ newline ∷ []) i room) inner.1 in
-    let h2 : PageHistory = behind_performed more h1 in
+    let h2 : PageHistory = behind_performed rs more h1 in
     let last_at : State = text_at s q from [] (behind_byte from newline m) h2 in
-    let three : after l (suc (steps_of last h2)) (text_at s q from (newline ∷ []) m h2) ≡ text_at s LineStart from [] (behind_byte from newline m) (behind_performed last h2) =
+    let three : after l (suc (steps_of rs last h2)) (text_at s q from (newline ∷ []) m h2)
+    ≡ text_at s LineStart from [] (behind_byte from newline m) (behind_performed rs last h2) =
     after-meant l s from q LineStart newline [] last m h2 begins.takes none_due two.1
-    (subst (λ (g : PageHistory). AreQuiet l g last) (behind-append events more h) outer.1) (ends (known last_at) last_at.input tt refl) in
-    ap (after l (length line + steps_of all h)) (sym is)
-    ∙ ap (λ (n : ℕ). after l n start) (steps-line bytes events more last h)
-    ∙ after-add l (suc (steps_of events h)) ((length bytes + steps_of more h1) + suc (steps_of last h2)) start
-    ∙ ap (after l ((length bytes + steps_of more h1) + suc (steps_of last h2))) one
-    ∙ after-add l (length bytes + steps_of more h1) (suc (steps_of last h2)) (text_at s p from (bytes ++ newline ∷ []) j h1)
-    ∙ ap (after l (suc (steps_of last h2))) two.0
+    (subst (λ (g : PageHistory). AreQuiet l rs g last) (behind-append rs events more h) outer.1)
+    (ends (known last_at) last_at.input tt refl) in
+    ap (after l (length line + steps_of rs all h)) (sym is)
+    ∙ ap (λ (n : ℕ). after l n start) (steps-line rs bytes events more last h)
+    ∙ after-add l (suc (steps_of rs events h)) ((length bytes + steps_of rs more h1) + suc (steps_of rs last h2)) start
+    ∙ ap (after l ((length bytes + steps_of rs more h1) + suc (steps_of rs last h2))) one
+    ∙ after-add l (length bytes + steps_of rs more h1) (suc (steps_of rs last h2)) (text_at s p from (bytes ++ newline ∷ []) j h1)
+    ∙ ap (after l (suc (steps_of rs last h2))) two.0
     ∙ three
     ∙ ap (λ (g : PageHistory). text_at s LineStart from [] (behind_byte from newline m) g)
-    (sym (behind-append (events ++ more) last h ∙ ap (behind_performed last) (behind-append events more h)))
-    ∙ is-told s from (b ∷ bytes) (all_performed all h) begins
+    (sym (behind-append rs (events ++ more) last h ∙ ap (behind_performed rs last) (behind-append rs events more h)))
+    ∙ is-told s from (b ∷ bytes) (all_performed rs all h) begins
 
 -- a line of text
 pub neither : (a b : Bool) → not (a || b) ≡ true → (a ≡ false) × (b ≡ false)
@@ -270,8 +278,9 @@ text-from : (l : Limits) (s : State) (from : Origin) (leading first : ℕ) (word
     → let t : TextOnLine = record { leading = leading; first = first; word = word; others = others; trailing = trailing } in
     BeginsLine s → interrupted_line s.history ≡ None → IsTextOnLine t
     → s.input.ahead ≡ ahead_at from (text_bytes t) → s.tape ≡ tape_at from (text_bytes t) s.tape → IsWithin l s → s.input.charge + length (text_bytes t) ≤ l.bytes
-    → AreQuiet l s.history (text_events t)
-    → after l (length (text_bytes t) + steps_of (text_events t) s.history) s ≡ told_from s from (text_bytes t) (all_performed (text_events t) s.history)
+    → AreQuiet l s.registers s.history (text_events t)
+    → after l (length (text_bytes t) + steps_of s.registers (text_events t) s.history) s
+    ≡ told_from s from (text_bytes t) (all_performed s.registers (text_events t) s.history)
 text-from l s from zero first word others trailing begins none_goes is ahead tape within charged allowed =
     let here : LineState = InText glyph_line in
     let both = neither (first == dot) (first == apostrophe) is.begins in
@@ -287,33 +296,42 @@ text-from l s from (suc n) first word others trailing begins none_goes is ahead 
 
 pub text_lines_tell_their_words : TextLinesTellTheirWords
 text_lines_tell_their_words l s t rest begins none_goes none_springs is ahead within charged allowed =
-    text-from l s (FromAhead rest) t.leading t.first t.word t.others t.trailing begins none_goes is ahead refl within charged (quiet-text t l s.history none_springs allowed)
-    ∙ ap (λ (i : PageInput). record s { input = i; history = behind_all (all_performed (text_events t) s.history) s.history }) (counted-ahead rest (text_bytes t) s.input)
+    let h : PageHistory = behind_performed s.registers (text_events t) s.history in
+    text-from l s (FromAhead rest) t.leading t.first t.word t.others t.trailing begins none_goes is ahead refl within charged
+    (quiet-text t l s.registers s.history none_springs allowed)
+    ∙ ap (λ (i : PageInput). record s { input = i; history = h }) (counted-ahead rest (text_bytes t) s.input)
 
 pub text_lines_of_the_source_tell_their_words : TextLinesOfTheSourceTellTheirWords
 text_lines_of_the_source_tell_their_words l s t tape begins none_goes none_springs is none stands within charged allowed =
-    text-from l s (FromSource tape) t.leading t.first t.word t.others t.trailing begins none_goes is none stands within charged (quiet-text t l s.history none_springs allowed)
-    ∙ ap (λ (i : PageInput). record s { tape = tape; input = i; history = behind_all (all_performed (text_events t) s.history) s.history }) (counted-source tape (text_bytes t) s.input none)
+    let h : PageHistory = behind_performed s.registers (text_events t) s.history in
+    text-from l s (FromSource tape) t.leading t.first t.word t.others t.trailing begins none_goes is none stands within charged
+    (quiet-text t l s.registers s.history none_springs allowed)
+    ∙ ap (λ (i : PageInput). record s { tape = tape; input = i; history = h }) (counted-source tape (text_bytes t) s.input none)
 
 -- a line of blanks alone
 empty-from : (l : Limits) (s : State) (from : Origin) → BeginsLine s → interrupted_line s.history ≡ None → s.input.ahead ≡ ahead_at from (newline ∷ [])
-    → s.tape ≡ tape_at from (newline ∷ []) s.tape → IsWithin l s → s.input.charge + 1 ≤ l.bytes → AreQuiet l s.history blank_line
-    → after l (suc (steps_of blank_line s.history)) s ≡ told_from s from (newline ∷ []) (all_performed blank_line s.history)
+    → s.tape ≡ tape_at from (newline ∷ []) s.tape → IsWithin l s → s.input.charge + 1 ≤ l.bytes
+    → AreQuiet l s.registers s.history blank_line
+    → after l (suc (steps_of s.registers blank_line s.history)) s
+    ≡ told_from s from (newline ∷ []) (all_performed s.registers blank_line s.history)
 empty-from l s from begins none_goes ahead tape within charged allowed =
     let line : List ℕ = newline ∷ [] in
     let start : State = text_at s LineStart from line s.input s.history in
     let at : State = text_at s LineStart from [] (behind_byte from newline s.input) s.history in
-    ap (after l (suc (steps_of blank_line s.history))) (sym (is-run_at s from line (reads_at LineStart s) begins.reading begins.escapes begins.arguments refl ahead tape))
+    ap (after l (suc (steps_of s.registers blank_line s.history)))
+    (sym (is-run_at s from line (reads_at LineStart s) begins.reading begins.escapes begins.arguments refl ahead tape))
     ∙ after-meant l s from LineStart LineStart newline [] blank_line s.input s.history begins.takes refl (room-start l s from line begins ahead tape within charged) allowed
     (means-empty (known at) at.input none_goes refl)
-    ∙ is-told s from [] (all_performed blank_line s.history) begins
+    ∙ is-told s from [] (all_performed s.registers blank_line s.history) begins
 
 blanks-from : (l : Limits) (s : State) (from : Origin) (n : ℕ) → BeginsLine s → interrupted_line s.history ≡ None → n ≤ most_leading
     → s.input.ahead ≡ ahead_at from (blank_bytes n) → s.tape ≡ tape_at from (blank_bytes n) s.tape → IsWithin l s → s.input.charge + length (blank_bytes n) ≤ l.bytes
-    → AreQuiet l s.history (blank_events n)
-    → after l (length (blank_bytes n) + steps_of (blank_events n) s.history) s ≡ told_from s from (blank_bytes n) (all_performed (blank_events n) s.history)
+    → AreQuiet l s.registers s.history (blank_events n)
+    → after l (length (blank_bytes n) + steps_of s.registers (blank_events n) s.history) s
+    ≡ told_from s from (blank_bytes n) (all_performed s.registers (blank_events n) s.history)
 blanks-from l s from zero begins none_goes few ahead tape within charged allowed =
-    let steps : length (blank_bytes zero) + steps_of blank_line s.history ≡ suc (steps_of blank_line s.history) = omega arith in
+    let count : ℕ = steps_of s.registers blank_line s.history in
+    let steps : length (blank_bytes zero) + count ≡ suc count = omega arith in
     ap (λ (n : ℕ). after l n s) steps ∙ empty-from l s from begins none_goes ahead tape within charged allowed
 blanks-from l s from (suc n) begins none_goes few ahead tape within charged allowed =
     let start : LineState = InText (leading_line 1) in
@@ -325,10 +343,14 @@ blanks-from l s from (suc n) begins none_goes few ahead tape within charged allo
 
 pub blank_lines_space : BlankLinesSpace
 blank_lines_space l s n rest begins none_goes few ahead within charged allowed =
-    blanks-from l s (FromAhead rest) n begins none_goes few ahead refl within charged (quiet-blanks n l s.history allowed)
-    ∙ ap (λ (i : PageInput). record s { input = i; history = behind_all (all_performed (blank_events n) s.history) s.history }) (counted-ahead rest (blank_bytes n) s.input)
+    let h : PageHistory = behind_performed s.registers (blank_events n) s.history in
+    blanks-from l s (FromAhead rest) n begins none_goes few ahead refl within charged
+    (quiet-blanks n l s.registers s.history allowed)
+    ∙ ap (λ (i : PageInput). record s { input = i; history = h }) (counted-ahead rest (blank_bytes n) s.input)
 
 pub blank_lines_of_the_source_space : BlankLinesOfTheSourceSpace
 blank_lines_of_the_source_space l s n tape begins none_goes few none stands within charged allowed =
-    blanks-from l s (FromSource tape) n begins none_goes few none stands within charged (quiet-blanks n l s.history allowed)
-    ∙ ap (λ (i : PageInput). record s { tape = tape; input = i; history = behind_all (all_performed (blank_events n) s.history) s.history }) (counted-source tape (blank_bytes n) s.input none)
+    let h : PageHistory = behind_performed s.registers (blank_events n) s.history in
+    blanks-from l s (FromSource tape) n begins none_goes few none stands within charged
+    (quiet-blanks n l s.registers s.history allowed)
+    ∙ ap (λ (i : PageInput). record s { tape = tape; input = i; history = h }) (counted-source tape (blank_bytes n) s.input none)

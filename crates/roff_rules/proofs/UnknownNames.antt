@@ -114,6 +114,7 @@ within-passed l s from line ahead within charged = record {
   making = within.making;
   conditions = within.conditions;
   names = within.names;
+  title = within.title;
   environments = within.environments;
   output = within.output;
 }

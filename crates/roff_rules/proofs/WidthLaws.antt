@@ -37,13 +37,13 @@ use Rattle.roff_run.specs.Reading.Escapes.{measuring}
 use Rattle.roff_run.specs.Reading.Found.{place_in, read_in}
 use Rattle.roff_run.specs.Reading.Items.{PageInput, Taking}
 use Rattle.roff_run.specs.Registers.{Known}
-use Rattle.roff_run.specs.declared.event.PageEvent.{PageEvent}
+use Rattle.roff_run.specs.PageEvents.{PageEvent}
 use Rattle.roff_run.specs.Run.{State, after, known, step, taken_as, answered, awaited, awaited_of_source, ending_input, escape_ends, in_front_taken, made, read_waiting, item_read}
 use Rattle.roff_run.specs.Reading.Waiting.{waiting_above}
 use Rattle.roff_run.specs.Run.Counts.{first_passed}
 use Rattle.roff_rules.specs.WidthLaws.{MayDelimit, IsPlain, text_units, width_escape, measures_texts, with_width_ahead, WidthsReadAsDigits, WidthsOfTheSourceReadAsDigits, MeasuredTextsReadAsDigits, MeasuredTextsOfTheSourceReadAsDigits, MotionsAreAsLongAsTheirColumns, MotionsCountInTheLine, TabsAreAsLongAsTheirColumns, TabsCountInTheLine, EndsText, NewlineAhead, NewlineOfTheSource, EndOfTheSource, WidthsEndWithTheirLine}
 use Rattle.roff_run.specs.declared.line_state.LineState.{LineState}
-use Rattle.roff_run.specs.declared.line_state.LineState.TheVariants.{LineStart, Branch, Braced, Text as InText, Control, Name as NameOf, Arguments as InArguments, Deciding, StringName, StringText, Skipping, Dropped, Telling, Told, Exiting, Calling, Defining}
+use Rattle.roff_run.specs.declared.line_state.LineState.TheVariants.{LineStart, Branch, Braced, Text as InText, Control, Name as NameOf, Arguments as InArguments, Deciding, StringName, StringText, Skipping, Dropped, Telling, Told, Exiting, Calling, Defining, TitleFront, Title as InTitle}
 
 -- a width was measured where escapes are read
 read_in-measures : (k : Known) (reading : LineState) (i : PageInput) (half : List OpenEscape) (width : ℕ) → ReadsEscapes reading
@@ -250,6 +250,8 @@ reads_escapes-measures_texts Dropped is = absurd (cc)
 reads_escapes-measures_texts (Telling aborts is_front) is = absurd (cc)
 reads_escapes-measures_texts (Told aborts) is = absurd (cc)
 reads_escapes-measures_texts Exiting is = absurd (cc)
+reads_escapes-measures_texts TitleFront is = absurd (cc)
+reads_escapes-measures_texts (InTitle delimiter) is = absurd (cc)
 
 -- above a text line and above arguments widths are read, but not where a string's text is copied
 reads_widths-above : (k : Known) (reading : LineState) → ReadsEscapes reading → measures_texts reading ≡ true → reads_widths (place_in k reading) ≡ true

@@ -24,7 +24,7 @@ use Rattle.roff_run.specs.Registers.{Known, is_page_odd}
 use Rattle.roff_run.specs.Requests.{called_by, row_of}
 use Rattle.roff_run.specs.Run.{State, after, known}
 use Rattle.roff_run.specs.Within.{IsWithin}
-use Rattle.roff_run.specs.declared.event.PageEvent.{PageEvent}
+use Rattle.roff_run.specs.PageEvents.{PageEvent}
 use Rattle.roff_run.specs.declared.request.Called.TheVariants.{Request as ARequest}
 use Rattle.roff_run.specs.declared.request.LineReading.TheVariants.{ByCondition}
 use Rattle.roff_run.specs.declared.request.Request.{Request}

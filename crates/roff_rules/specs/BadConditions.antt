@@ -15,7 +15,7 @@ use Rattle.roff_run.specs.Messages.{message_lines}
 use Rattle.roff_run.specs.Reading.Items.{PageInput}
 use Rattle.roff_run.specs.Run.{State, after}
 use Rattle.roff_run.specs.Within.{IsWithin}
-use Rattle.roff_run.specs.declared.event.PageEvent.{PageEvent}
+use Rattle.roff_run.specs.PageEvents.{PageEvent}
 use Rattle.roff_run.specs.declared.message.Message.TheVariants.{BadNumber}
 
 -- a bad number was told, on this line of the input

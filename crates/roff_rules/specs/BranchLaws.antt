@@ -13,7 +13,7 @@ use Rattle.roff_run.specs.Reading.Branches.{branch_of}
 use Rattle.roff_run.specs.Reading.Items.{PageInput}
 use Rattle.roff_run.specs.Run.{State, after, known}
 use Rattle.roff_run.specs.Within.{IsWithin}
-use Rattle.roff_run.specs.declared.event.PageEvent.{PageEvent}
+use Rattle.roff_run.specs.PageEvents.{PageEvent}
 
 -- One of two branches is read, and the other is skipped: the first where this is so, in so many steps from where its line begins,
 -- and the other where it isn't, in so many from where that one does. Behind both no result is kept of them.

@@ -13,7 +13,7 @@ use Rattle.roff_rules.specs.InterpolationLaws.{StandsForItself}
 use Rattle.roff_run.specs.ItemsTaken.{TakesItems}
 use Rattle.roff_run.specs.Within.{IsWithin}
 use Rattle.roff_run.specs.Reading.Items.{PageInput}
-use Rattle.roff_run.specs.declared.event.PageEvent.{PageEvent}
+use Rattle.roff_run.specs.PageEvents.{PageEvent}
 use Rattle.roff_run.specs.Run.{State, after}
 use Rattle.roff_num.specs.ShortNames.{name_bytes}
 use Rattle.roff_run.specs.declared.line_state.LineState.TheVariants.{LineStart}

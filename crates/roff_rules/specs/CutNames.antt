@@ -16,7 +16,7 @@ use Rattle.roff_run.specs.Messages.{message_lines}
 use Rattle.roff_run.specs.Reading.{interrupted}
 use Rattle.roff_run.specs.Run.{State, after}
 use Rattle.roff_run.specs.Within.{IsWithin}
-use Rattle.roff_run.specs.declared.event.PageEvent.{PageEvent}
+use Rattle.roff_run.specs.PageEvents.{PageEvent}
 use Rattle.roff_run.specs.declared.line_state.LineState.TheVariants.{Text as InText}
 use Rattle.roff_run.specs.declared.line_state.TextLine.{TextLine}
 use Rattle.roff_run.specs.declared.message.CharacterName.TheVariants.{Nothing}

@@ -17,7 +17,7 @@ use Rattle.roff_run.specs.Within.{IsWithin}
 use Rattle.roff_run.specs.Reading.DefinedLines.{behind_definition}
 use Rattle.roff_run.specs.Reading.Items.{PageInput, going_on}
 use Rattle.roff_run.specs.Registers.{Known}
-use Rattle.roff_run.specs.declared.event.PageEvent.{PageEvent}
+use Rattle.roff_run.specs.PageEvents.{PageEvent}
 use Rattle.roff_run.specs.Run.{State, known, taken_as, after}
 use Rattle.roff_num.specs.ShortNames.{name_bytes}
 use Rattle.roff_run.specs.declared.line_state.LineState.TheVariants.{LineStart, Defining}

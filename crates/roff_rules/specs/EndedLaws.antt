@@ -18,7 +18,7 @@ use Rattle.roff_run.specs.Reading.Branches.{branch_of, most_braces}
 use Rattle.roff_run.specs.Reading.Items.{PageInput}
 use Rattle.roff_run.specs.Springs.{springs}
 use Rattle.roff_lines.specs.declared.event.Event.TheVariants.{Count}
-use Rattle.roff_run.specs.declared.event.PageEvent.{PageEvent}
+use Rattle.roff_run.specs.PageEvents.{PageEvent}
 use Rattle.roff_run.specs.declared.event.PageEvent.TheVariants.{Text}
 use Rattle.roff_run.specs.Run.{State, after}
 use Rattle.roff_run.specs.TurnsToCome.{behind_all}
@@ -38,10 +38,10 @@ UnfinishedTextLinesTellTheirWords =
     (l : Limits) (s : State) (t : TextOnLine) (tape : Tape) →
     BeginsLine s → interrupted_line s.history ≡ None → springs s.history (Text Count) ≡ None → IsTextOnLine t → s.input.ahead ≡ [] →
     s.tape ≡ items_then (map OneByte (unfinished_bytes t)) tape → front tape ≡ Ends Ended →
-    let events : List PageEvent = all_performed (text_events t) s.history in
-    IsWithin l s → s.input.charge + length (unfinished_bytes t) ≤ l.bytes → AreAllowed l s.history events →
+    let events : List PageEvent = all_performed s.registers (text_events t) s.history in
+    IsWithin l s → s.input.charge + length (unfinished_bytes t) ≤ l.bytes → AreAllowed l s.registers s.history events →
     after l (length (unfinished_bytes t) + length events + 1) s
-    ≡ record s { tape = tape; input = lines_taken (unfinished_bytes t) s.input; history = behind_all events s.history }
+    ≡ record s { tape = tape; input = lines_taken (unfinished_bytes t) s.input; history = behind_all s.registers events s.history }
 
 -- A definition whose lines come to the end of all input is told not to be ended, and enters nothing: its text is dropped.
 abbrev pub UnendedDefinitionsEnterNothing : Type 0

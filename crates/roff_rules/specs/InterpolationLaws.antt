@@ -22,10 +22,10 @@ use Rattle.roff_run.specs.Reading.Escapes.{argument_named}
 use Rattle.roff_run.specs.Reading.Items.{PageInput}
 use Rattle.roff_run.specs.Registers.{Known, StepBy, changed_by, known_stepped, page_stepped, step_messages, text_of_register}
 use Rattle.roff_run.specs.Requests.Effects.{page_numbered}
-use Rattle.roff_run.specs.declared.event.PageEvent.{PageEvent}
+use Rattle.roff_run.specs.PageEvents.{PageEvent}
 use Rattle.roff_run.specs.Run.{State, known, answered, item_read, step, after, source_answer}
 use Rattle.roff_run.specs.declared.line_state.LineState.{LineState}
-use Rattle.roff_run.specs.declared.line_state.LineState.TheVariants.{LineStart, Branch, Braced, Text as InText, Control, Name, Arguments as InArguments, Deciding, StringName, StringText, Skipping, Dropped, Telling, Told, Exiting, Calling, Defining}
+use Rattle.roff_run.specs.declared.line_state.LineState.TheVariants.{LineStart, Branch, Braced, Text as InText, Control, Name, Arguments as InArguments, Deciding, StringName, StringText, Skipping, Dropped, Telling, Told, Exiting, Calling, Defining, TitleFront, Title as InTitle}
 use Rattle.roff_run.specs.ItemsTaken.{TakesItems}
 
 -- where nothing is ahead and nothing is half read, the unread input is the source's tape, or it has ended where it is closed
@@ -73,9 +73,11 @@ reads_text Dropped = false
 reads_text (Telling aborts is_front) = false
 reads_text (Told aborts) = false
 reads_text Exiting = false
+reads_text TitleFront = false
+reads_text (InTitle delimiter) = false
 
 -- whether escapes are read: those of text, those among the arguments of a request or a call, those of conditions, those of a
--- string's name and text, and those of the text of a message or a definition
+-- string's name and text, and those of the text of a message or a definition. Of those of titles no law speaks.
 abbrev pub reads_escapes : LineState → Bool
 reads_escapes LineStart = true
 reads_escapes Branch = true
@@ -94,6 +96,8 @@ reads_escapes Dropped = false
 reads_escapes (Telling aborts is_front) = true
 reads_escapes (Told aborts) = false
 reads_escapes Exiting = false
+reads_escapes TitleFront = false
+reads_escapes (InTitle delimiter) = false
 
 -- whether a backslash of a condition begins an escape: not where it delimits texts, nor once the condition is read
 abbrev pub reads_in_condition : ConditionPart → Bool

@@ -18,4 +18,3 @@ pub mod WordCalls
 pub mod MixedArguments
 pub mod EndLaws
 pub mod EndedLaws
-pub mod MessageLines

@@ -1,13 +1,31 @@
 -- What the lines of `.tm` and `.ab` tell (manual, section 20).
-use Rattle.std.specs.Prelude.{◌≡◌, ℕ, Bool, true, List, [], ◌∷◌, ◌++◌, All, if◌then◌else◌, ◌==◌}
+use Rattle.std.specs.Prelude.{◌≡◌, ℕ, Bool, true, false, List, [], ◌∷◌, ◌++◌, All, if◌then◌else◌, ◌==◌}
+use Rattle.roff_num.specs.ShortNames.{name_bytes}
+use Rattle.roff_num.specs.declared.short_name.ShortName.{ShortName}
 use Rattle.roff_arguments.specs.Arguments.{no_arguments}
 use Rattle.roff_source.specs.Bytes.{blank, newline}
+use Rattle.roff_store.specs.Named.{Named}
+use Rattle.roff_store.specs.Texts.{Entry}
+use Rattle.roff_rules.specs.CallLaws.{IsControl}
 use Rattle.roff_rules.specs.InterpolationLaws.{StandsForItself}
 use Rattle.roff_rules.specs.Quoting.{taking_all}
+use Rattle.roff_run.specs.Reading.ControlLines.{BelongsToName}
 use Rattle.roff_run.specs.Reading.Items.{PageInput, Taking}
 use Rattle.roff_run.specs.Reading.Messages.{message_text_read}
 use Rattle.roff_run.specs.Registers.{Known}
+use Rattle.roff_run.specs.Requests.{called_by, row_of}
 use Rattle.roff_run.specs.declared.line_state.LineState.TheVariants.{Telling, Told}
+use Rattle.roff_run.specs.declared.request.Called.TheVariants.{Request as ARequest}
+use Rattle.roff_run.specs.declared.request.LineReading.TheVariants.{ByMessage}
+use Rattle.roff_run.specs.declared.request.Request.{Request}
+
+-- a line tells a message: its name stands for a request that does so, and goes on
+pub record HasMessage (names : Named Entry) (control : ℕ) (name : ShortName) : Type 0 where
+  pub begins : IsControl control
+  pub is_name : All BelongsToName (name_bytes name)
+  pub of_request : Request
+  pub stands_for : called_by name names ≡ ARequest of_request
+  pub reads_message : (row_of of_request).line ≡ ByMessage false
 
 -- a text without the blanks in front
 abbrev pub without_front : List ℕ → List ℕ

@@ -14,7 +14,7 @@ use Rattle.roff_rules.specs.WordCalls.{NamesBody, call_with, read_as}
 use Rattle.roff_run.specs.Reading.Items.{PageInput}
 use Rattle.roff_run.specs.Run.{State, after}
 use Rattle.roff_run.specs.Within.{IsWithin}
-use Rattle.roff_run.specs.declared.event.PageEvent.{PageEvent}
+use Rattle.roff_run.specs.PageEvents.{PageEvent}
 
 -- an argument as it is written: a word, or a text in quotes
 pub data Written : Type 0 where

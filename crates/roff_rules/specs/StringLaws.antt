@@ -17,7 +17,7 @@ use Rattle.roff_run.specs.Reading.Items.{PageInput}
 use Rattle.roff_run.specs.Requests.{called_by, row_of}
 use Rattle.roff_run.specs.Run.{State, after}
 use Rattle.roff_run.specs.Within.{IsWithin}
-use Rattle.roff_run.specs.declared.event.PageEvent.{PageEvent}
+use Rattle.roff_run.specs.PageEvents.{PageEvent}
 use Rattle.roff_run.specs.declared.request.Called.TheVariants.{Request as ARequest}
 use Rattle.roff_run.specs.declared.request.LineReading.TheVariants.{ByString}
 use Rattle.roff_run.specs.declared.request.Request.{Request}

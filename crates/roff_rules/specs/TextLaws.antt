@@ -10,13 +10,15 @@ use Rattle.roff_ahead.specs.Input.{Ahead, ByteAhead, lines_taken}
 use Rattle.roff_rules.specs.CallLaws.{BeginsLine}
 use Rattle.roff_run.specs.Environments.{PageHistory, interrupted_line}
 use Rattle.roff_run.specs.Reading.TextLines.{most_leading}
-use Rattle.roff_run.specs.declared.event.PageEvent.{PageEvent}
+use Rattle.roff_run.specs.PageEvents.{PageEvent}
 use Rattle.roff_pages.specs.declared.layout_event.LayoutEvent.TheVariants.{Space}
 use Rattle.roff_run.specs.declared.event.PageEvent.TheVariants.{Page, Text}
 use Rattle.roff_run.specs.Layouts.{layout_of}
 use Rattle.roff_run.specs.Springs.{next, springs}
 use Rattle.roff_run.specs.Run.{State, after}
 use Rattle.roff_run.specs.Run.Counts.{refusal}
+use Rattle.roff_run.specs.Registers.{AllRegisters}
+use Rattle.roff_run.specs.Titles.{told}
 use Rattle.roff_run.specs.TurnsToCome.{behind_all}
 use Rattle.roff_run.specs.Within.{IsWithin}
 
@@ -76,21 +78,23 @@ text_events t =
     ++ gap_events t.trailing ++ Text WordEnd ∷ Text LineEnd ∷ Text Count ∷ []
 
 -- an event as it is performed, with so many events in front of it at the most that come before it, and others behind it
-abbrev pub performed_with : ℕ → PageHistory → PageEvent → (PageHistory → List PageEvent) → List PageEvent
-performed_with zero h e behind = e ∷ behind (e ∷ h)
-performed_with (suc n) h e behind =
-    elim (next h e) [ None ↦ e ∷ behind (e ∷ h) | Some first ↦ first ∷ performed_with n (first ∷ h) e behind ]
+abbrev pub performed_with : AllRegisters → ℕ → PageHistory → PageEvent → (PageHistory → List PageEvent) → List PageEvent
+performed_with rs zero h e behind = e ∷ behind (told rs e ∷ h)
+performed_with rs (suc n) h e behind =
+    elim (next h e) [ None ↦ e ∷ behind (told rs e ∷ h) | Some first ↦ first ∷ performed_with rs n (told rs first ∷ h) e behind ]
 
 -- events as they are performed: in front of each stand the end of an open word and the first page's beginning, where these come
 -- before it
-abbrev pub all_performed : List PageEvent → PageHistory → List PageEvent
-all_performed [] h = []
-all_performed (e ∷ es) h = performed_with 2 h e (all_performed es)
+abbrev pub all_performed : AllRegisters → List PageEvent → PageHistory → List PageEvent
+all_performed rs [] h = []
+all_performed rs (e ∷ es) h = performed_with rs 2 h e (all_performed rs es)
 
 -- no limit refuses any of these events, one behind another, and the last page doesn't end with one
-abbrev pub AreAllowed : Limits → PageHistory → List PageEvent → Type 0
-AreAllowed l h [] = ⊤
-AreAllowed l h (e ∷ es) = (refusal l h e ≡ None) × ((layout_of (e ∷ h)).is_over ≡ false) × AreAllowed l (e ∷ h) es
+abbrev pub AreAllowed : Limits → AllRegisters → PageHistory → List PageEvent → Type 0
+AreAllowed l rs h [] = ⊤
+AreAllowed l rs h (e ∷ es) =
+    let behind : PageHistory = told rs e ∷ h in
+    (refusal l h (told rs e) ≡ None) × ((layout_of behind).is_over ≡ false) × AreAllowed l rs behind es
 
 -- A line of text tells its words and gaps, in order, and the first page begins where it has to. A step is taken for each byte, and
 -- one for each event, and each byte costs one; nothing else changes, and a line begins behind it. So it is where no line was
@@ -100,12 +104,12 @@ TextLinesTellTheirWords =
     (l : Limits) (s : State) (t : TextOnLine) (rest : List (Ahead PageEvent)) →
     BeginsLine s → interrupted_line s.history ≡ None → springs s.history (Text Count) ≡ None → IsTextOnLine t →
     s.input.ahead ≡ map ByteAhead (text_bytes t) ++ rest →
-    let events : List PageEvent = all_performed (text_events t) s.history in
-    IsWithin l s → s.input.charge + length (text_bytes t) ≤ l.bytes → AreAllowed l s.history events →
+    let events : List PageEvent = all_performed s.registers (text_events t) s.history in
+    IsWithin l s → s.input.charge + length (text_bytes t) ≤ l.bytes → AreAllowed l s.registers s.history events →
     after l (length (text_bytes t) + length events) s
     ≡ record s {
       input = record s.input { ahead = rest; charge = s.input.charge + length (text_bytes t) };
-      history = behind_all events s.history;
+      history = behind_all s.registers events s.history;
     }
 
 -- and so it is where the line stands in the source itself, with nothing ahead of it
@@ -114,10 +118,10 @@ TextLinesOfTheSourceTellTheirWords =
     (l : Limits) (s : State) (t : TextOnLine) (tape : Tape) →
     BeginsLine s → interrupted_line s.history ≡ None → springs s.history (Text Count) ≡ None → IsTextOnLine t → s.input.ahead ≡ [] →
     s.tape ≡ items_then (map OneByte (text_bytes t)) tape →
-    let events : List PageEvent = all_performed (text_events t) s.history in
-    IsWithin l s → s.input.charge + length (text_bytes t) ≤ l.bytes → AreAllowed l s.history events →
+    let events : List PageEvent = all_performed s.registers (text_events t) s.history in
+    IsWithin l s → s.input.charge + length (text_bytes t) ≤ l.bytes → AreAllowed l s.registers s.history events →
     after l (length (text_bytes t) + length events) s
-    ≡ record s { tape = tape; input = lines_taken (text_bytes t) s.input; history = behind_all events s.history }
+    ≡ record s { tape = tape; input = lines_taken (text_bytes t) s.input; history = behind_all s.registers events s.history }
 
 -- the bytes of a line of blanks alone
 abbrev pub blank_bytes : ℕ → List ℕ
@@ -133,12 +137,12 @@ abbrev pub BlankLinesSpace : Type 0
 BlankLinesSpace =
     (l : Limits) (s : State) (n : ℕ) (rest : List (Ahead PageEvent)) →
     BeginsLine s → interrupted_line s.history ≡ None → n ≤ most_leading → s.input.ahead ≡ map ByteAhead (blank_bytes n) ++ rest →
-    let events : List PageEvent = all_performed (blank_events n) s.history in
-    IsWithin l s → s.input.charge + length (blank_bytes n) ≤ l.bytes → AreAllowed l s.history events →
+    let events : List PageEvent = all_performed s.registers (blank_events n) s.history in
+    IsWithin l s → s.input.charge + length (blank_bytes n) ≤ l.bytes → AreAllowed l s.registers s.history events →
     after l (length (blank_bytes n) + length events) s
     ≡ record s {
       input = record s.input { ahead = rest; charge = s.input.charge + length (blank_bytes n) };
-      history = behind_all events s.history;
+      history = behind_all s.registers events s.history;
     }
 
 -- and so it is where the line stands in the source itself, with nothing ahead of it
@@ -147,7 +151,7 @@ BlankLinesOfTheSourceSpace =
     (l : Limits) (s : State) (n : ℕ) (tape : Tape) →
     BeginsLine s → interrupted_line s.history ≡ None → n ≤ most_leading → s.input.ahead ≡ [] →
     s.tape ≡ items_then (map OneByte (blank_bytes n)) tape →
-    let events : List PageEvent = all_performed (blank_events n) s.history in
-    IsWithin l s → s.input.charge + length (blank_bytes n) ≤ l.bytes → AreAllowed l s.history events →
+    let events : List PageEvent = all_performed s.registers (blank_events n) s.history in
+    IsWithin l s → s.input.charge + length (blank_bytes n) ≤ l.bytes → AreAllowed l s.registers s.history events →
     after l (length (blank_bytes n) + length events) s
-    ≡ record s { tape = tape; input = lines_taken (blank_bytes n) s.input; history = behind_all events s.history }
+    ≡ record s { tape = tape; input = lines_taken (blank_bytes n) s.input; history = behind_all s.registers events s.history }

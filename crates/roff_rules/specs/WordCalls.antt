@@ -17,7 +17,7 @@ use Rattle.roff_run.specs.Reading.ControlLines.{BelongsToName}
 use Rattle.roff_run.specs.Reading.Items.{PageInput}
 use Rattle.roff_run.specs.Run.{State, after}
 use Rattle.roff_run.specs.Within.{IsWithin}
-use Rattle.roff_run.specs.declared.event.PageEvent.{PageEvent}
+use Rattle.roff_run.specs.PageEvents.{PageEvent}
 
 -- a line that begins so and has this name, and behind that a blank and these bytes
 abbrev pub call_with : ℕ → ShortName → List ℕ → List ℕ

@@ -4,31 +4,16 @@ use Rattle.roff_num.specs.declared.limits.Limits.{Limits}
 use Rattle.roff_num.specs.declared.short_name.ShortName.{ShortName}
 use Rattle.roff_num.specs.ShortNames.{name_bytes}
 use Rattle.roff_source.specs.Bytes.{blank, newline}
-use Rattle.roff_store.specs.Named.{Named}
-use Rattle.roff_store.specs.Texts.{Entry}
 use Rattle.roff_ahead.specs.Input.{Ahead, ByteAhead, depth, pushed}
 use Rattle.roff_escape.specs.declared.escapes.NameUse.{NameUse}
 use Rattle.roff_escape.specs.declared.escapes.NameUse.TheVariants.{Register}
-use Rattle.roff_rules.specs.CallLaws.{BeginsLine, IsControl}
+use Rattle.roff_rules.specs.CallLaws.{BeginsLine}
 use Rattle.roff_rules.specs.InterpolationLaws.{IsEscapeOf, StandsForItself, text_named}
-use Rattle.roff_rules.specs.MessageLaws.{without_front}
+use Rattle.roff_rules.specs.MessageLaws.{HasMessage, without_front}
 use Rattle.roff_run.specs.Messages.{told_line}
-use Rattle.roff_run.specs.Reading.ControlLines.{BelongsToName}
-use Rattle.roff_run.specs.Requests.{called_by, row_of}
 use Rattle.roff_run.specs.Run.{State, after, known}
 use Rattle.roff_run.specs.Within.{IsWithin}
-use Rattle.roff_run.specs.declared.event.PageEvent.{PageEvent}
-use Rattle.roff_run.specs.declared.request.Called.TheVariants.{Request as ARequest}
-use Rattle.roff_run.specs.declared.request.LineReading.TheVariants.{ByMessage}
-use Rattle.roff_run.specs.declared.request.Request.{Request}
-
--- a line tells a message: its name stands for a request that does so, and goes on
-pub record HasMessage (names : Named Entry) (control : ℕ) (name : ShortName) : Type 0 where
-  pub begins : IsControl control
-  pub is_name : All BelongsToName (name_bytes name)
-  pub of_request : Request
-  pub stands_for : called_by name names ≡ ARequest of_request
-  pub reads_message : (row_of of_request).line ≡ ByMessage false
+use Rattle.roff_run.specs.PageEvents.{PageEvent}
 
 -- whether an escape steps the register that it reads
 abbrev pub steps : NameUse → Bool
@@ -40,9 +25,9 @@ abbrev pub message_line : ℕ → ShortName → List ℕ → List ℕ → List �
 message_line control name front escape behind =
     (control ∷ name_bytes name ++ blank ∷ front) ++ (escape ++ (behind ++ newline ∷ []))
 
--- A message with an escape in it tells what is read: the text that the escape stands for, in its place. Each byte of the line and of
--- that text is a step, and costs one; so does the text's end, and telling is a step of its own. There is room for the text beside
--- all that stands ahead.
+-- A message with an escape in it tells what is read: the text that the escape stands for, in its place. Each byte of the line and
+-- of that text is a step, and costs one; so does the text's end, and telling is a step of its own. There is room for the text
+-- beside all that stands ahead.
 abbrev pub MessagesTellWhatIsRead : Type 0
 MessagesTellWhatIsRead =
     (l : Limits) (s : State) (control : ℕ) (name : ShortName) (front behind : List ℕ) (purpose : NameUse) (named escape : List ℕ)

@@ -21,8 +21,8 @@ use Rattle.roff_escape.specs.declared.escapes.NameUse.TheVariants.{Register}
 use Rattle.roff_rules.proofs.InterpolatedNames.{escapes_read_as_texts}
 use Rattle.roff_rules.specs.CallLaws.{BeginsLine}
 use Rattle.roff_rules.specs.InterpolationLaws.{IsEscapeOf, Short, Long, ShortString, LongString, OfArgument, StandsForItself, stepped, text_named, with_text_ahead}
-use Rattle.roff_rules.specs.MessageLaws.{without_front}
-use Rattle.roff_rules.specs.MessageLines.{HasMessage, MessagesTellWhatIsRead, message_line, steps}
+use Rattle.roff_rules.specs.MessageLaws.{HasMessage, without_front}
+use Rattle.roff_rewriting.specs.MessageLines.{MessagesTellWhatIsRead, message_line, steps}
 use Rattle.roff_run.proofs.ItemsTaken.{Fits-IsWithin, FromAhead, Origin, made-Fits, step-reads, taken_as-going_on}
 use Rattle.roff_run.proofs.Leads.{after-add}
 use Rattle.roff_run.proofs.NameBytes.{stage}
@@ -36,7 +36,7 @@ use Rattle.roff_run.specs.Reading.Items.{PageInput}
 use Rattle.roff_run.specs.Run.{State, ahead_taken, after, known, made, message_told, step, stopped_by}
 use Rattle.roff_run.specs.Stages.{Stage}
 use Rattle.roff_run.specs.Within.{IsWithin}
-use Rattle.roff_run.specs.declared.event.PageEvent.{PageEvent}
+use Rattle.roff_run.specs.PageEvents.{PageEvent}
 use Rattle.roff_run.specs.declared.line_state.LineState.TheVariants.{LineStart, Told}
 use Rattle.roff_rules.proofs.MessageLaws.{held-fold, path-front, path-tell, tell, telling, told-front}
 use Rattle.roff_rules.proofs.CalledArguments.{most_of}
@@ -219,6 +219,7 @@ module _ (l : Limits) (s : State) (control : ℕ) (name : ShortName) (front behi
         making = before.making;
         conditions = before.conditions;
         registers = before.registers;
+        title = before.title;
         environments = before.environments;
         output = before.output;
       }
@@ -233,6 +234,7 @@ module _ (l : Limits) (s : State) (control : ℕ) (name : ShortName) (front behi
     making = room2.making;
     conditions = room2.conditions;
     registers = room2.registers;
+    title = room2.title;
     environments = room2.environments;
     output = room2.output;
   }
