@@ -3,3 +3,4 @@ pub mod CommandLine
 pub mod Commands
 pub mod OptionLaws
 pub mod PreparedWords
+pub mod PageLists

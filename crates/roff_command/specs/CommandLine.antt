@@ -1,5 +1,5 @@
 -- The command line: its commands, options and operands, and what its words ask for.
-use Rattle.std.specs.Prelude.{◌≡◌, ◌≢◌, ◌⊎◌, ◌^◌, ◌-◌, ◌&&◌, ℕ, true, List, [], ◌∷◌, length, map, fold, bytes_eq, nat_lt, Option, Some, None, if◌then◌else◌, option_and_then, unwrap_or, codes, decimal, pos}
+use Rattle.std.specs.Prelude.{◌≡◌, ◌≢◌, ◌⊎◌, ◌^◌, ◌-◌, ◌&&◌, ℕ, true, List, [], ◌∷◌, length, map, min, fold, bytes_eq, nat_lt, Option, Some, None, if◌then◌else◌, option_and_then, option_map, unwrap_or, codes, decimal, pos}
 use Rattle.std.specs.Char.{digit_value}
 use Rattle.std.specs.List.{list_all}
 use Rattle.std.specs.Str.Parse.{digits_value, without_leading_plus}
@@ -14,6 +14,8 @@ use Rattle.roff_num.specs.declared.limits.Limits.{Limits}
 use Rattle.roff_num.specs.Clauses.{default_limits, limit_name, limits_with, value_of}
 use Rattle.tbl_layout.specs.declared.limits.TblLimits.{TblLimits}
 use Rattle.tbl_layout.specs.TblLimits.{default_tbl_limits, tbl_limits_with, tbl_value_of}
+use Rattle.roff_num.specs.declared.num.Num.{Num}
+use Rattle.roff_command.specs.PagesAsked.{pages_asked, told_pages}
 use Rattle.roff_command.specs.RegistersAsked.{registers_asked, told}
 use Rattle.roff_command.specs.declared.options.LimitOf.{LimitOf}
 use Rattle.roff_command.specs.declared.options.LimitOf.TheVariants.{Formatter, Tables}
@@ -50,6 +52,22 @@ default_of Tables limit = tbl_value_of default_tbl_limits limit
 abbrev pub limit_option : LimitOf → Limit → Rule
 limit_option of limit = number_option (limit_name limit) (default_of of limit)
 
+-- the option that numbers the first page: no number is greater than this
+abbrev pub greatest_first_page : ℕ
+greatest_first_page = 99999
+
+abbrev pub first_page_option : Rule
+first_page_option = record (new_rule (codes "first-page")) {
+  short = Some 110;
+  long = Some (codes "first-page");
+  value_names = 1;
+  parser = Some (Signed (pos 0) (pos greatest_first_page));
+}
+
+-- the option that lists the pages that are written
+abbrev pub pages_option : Rule
+pages_option = record (new_rule (codes "pages")) { short = Some 111; long = Some (codes "pages"); value_names = 1 }
+
 -- the option that sets a number register: its name, and an expression behind it; it may be repeated
 abbrev pub register_option : Rule
 register_option = record (new_rule (codes "register")) {
@@ -58,6 +76,10 @@ register_option = record (new_rule (codes "register")) {
   value_names = 1;
   action = Some Append;
 }
+
+-- a command with the options of what is given to a run at its start
+abbrev pub with_start : App → App
+with_start app = with_rule (with_rule (with_rule app first_page_option) pages_option) register_option
 
 -- the line length, in columns, within which tables are centred
 abbrev pub line_length_option : Rule
@@ -77,14 +99,14 @@ command_named name = with_rule (new_app name) file_operand
 
 -- the command `nroff` formats text, `tbl` puts pictures for tables, and `both` does one behind the other
 unfoldable pub nroff_app : App
-nroff_app = fold with_rule (with_rule (command_named (codes "nroff")) register_option) (map (limit_option Formatter) option_limits)
+nroff_app = fold with_rule (with_start (command_named (codes "nroff"))) (map (limit_option Formatter) option_limits)
 
 unfoldable pub tbl_app : App
 tbl_app = with_rule (fold with_rule (command_named (codes "tbl")) (map (limit_option Tables) tbl_limits)) line_length_option
 
 unfoldable pub both_app : App
 both_app =
-    let named = with_rule (command_named (codes "both")) register_option in
+    let named = with_start (command_named (codes "both")) in
     let formatter = fold with_rule named (map (limit_option Formatter) option_limits) in
     with_rule (fold with_rule formatter (map (limit_option Tables) table_limits)) line_length_option
 
@@ -132,6 +154,13 @@ table_limits_asked rows =
 abbrev pub line_length_asked : List Row → ℕ
 line_length_asked rows = unwrap_or (option_and_then number_of (one_of (codes "line-length") rows)) 65
 
+-- the number of the first page, if one is asked for
+abbrev pub first_page_of : ℕ → Num
+first_page_of n = record { 0 = pos (min n greatest_first_page) }
+
+abbrev pub first_page_asked : List Row → Option Num
+first_page_asked rows = option_map first_page_of (option_and_then number_of (one_of (codes "first-page") rows))
+
 -- what a command's options ask for, by its name
 abbrev pub asked_by : Text → List Row → Option Asked
 asked_by name rows =
@@ -157,9 +186,11 @@ EachOptionSetsItsLimit {L} value asked default =
 abbrev pub files_asked : List Row → List Text
 files_asked rows = unwrap_or (all_of (codes "FILE") rows) []
 
--- the request is for these files and registers, and what else the command's options ask for
+-- the request is for these files, this first page, these pages and registers, and what else the command's options ask for
 pub record Asks (name : Text) (rows : List Row) (request : Request) : Type 0 where
   pub files : map (λ file. file.now) request.files.items ≡ files_asked rows
+  pub first_page : request.first_page ≡ first_page_asked rows
+  pub pages : told_pages request.pages ≡ pages_asked rows
   pub registers : told request.registers ≡ registers_asked rows
   pub asked : Some request.asked ≡ asked_by name rows
 

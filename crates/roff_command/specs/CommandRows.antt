@@ -5,7 +5,8 @@ use Rattle.roff_num.specs.declared.limits.Limits.{Limits}
 use Rattle.roff_num.specs.declared.num.Num.{Num}
 use Rattle.roff_num.specs.Clauses.{default_limits}
 use Rattle.tbl_layout.specs.declared.limits.TblLimits.{TblLimits}
-use Rattle.roff_command.specs.CommandLine.{asked_by, files_asked, roff_app}
+use Rattle.roff_command.specs.CommandLine.{asked_by, files_asked, first_page_asked, roff_app}
+use Rattle.roff_command.specs.PagesAsked.{pages_asked}
 use Rattle.roff_command.specs.RegistersAsked.{registers_asked}
 use Rattle.roff_command.specs.declared.request.Asked.{Asked}
 use Rattle.roff_command.specs.declared.request.Asked.TheVariants.{Nroff, Tbl, Both}
@@ -28,6 +29,18 @@ abbrev pub registers : List Text → Option (Result (List (ℕ × Num)) Text)
 registers words =
     let all = codes "roff" ∷ words in
     if takes roff_app all then option_map (λ p. registers_asked p.1) (subcommand_of roff_app all) else None
+
+-- the number of the first page, where the words are in order and ask for one, and the pages that are written, or the text of a bad
+-- list
+abbrev pub first_page : List Text → Option (Option Num)
+first_page words =
+    let all = codes "roff" ∷ words in
+    if takes roff_app all then option_map (λ p. first_page_asked p.1) (subcommand_of roff_app all) else None
+
+abbrev pub pages : List Text → Option (Result (List (Num × Num)) Text)
+pages words =
+    let all = codes "roff" ∷ words in
+    if takes roff_app all then option_map (λ p. pages_asked p.1) (subcommand_of roff_app all) else None
 
 -- a register of this name, with this value
 abbrev pub valued : ℕ → ℤ → ℕ × Num

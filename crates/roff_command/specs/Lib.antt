@@ -1,5 +1,6 @@
 pub mod Preparing
 pub mod RegistersAsked
+pub mod PagesAsked
 pub mod CommandLine
 pub mod CommandRows
 pub mod Clauses

@@ -31,10 +31,10 @@ most_registers = 64
 abbrev pub next_register : List (ℕ × Num) → Text → Option (ℕ × Num)
 next_register done text = if nat_lt (length done) most_registers then register_of text else None
 
--- the registers became these with one more, which is there
-abbrev pub Adds : Option (ℕ × Num) → List (ℕ × Num) → List (ℕ × Num) → Type 0
+-- the items became these with one more, which is there
+abbrev pub Adds : {X : Type 0} → Option X → List X → List X → Type 0
 Adds None old new = ⊥
-Adds (Some register) old new = new ≡ old ++ register ∷ []
+Adds (Some x) old new = new ≡ old ++ x ∷ []
 
 -- what follows a text that asks for this register, or for none
 abbrev pub behind_register : Option (ℕ × Num) → Text → ((ℕ × Num) → Result (List (ℕ × Num)) Text) → Result (List (ℕ × Num)) Text

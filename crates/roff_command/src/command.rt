@@ -2,9 +2,10 @@
 
 ghost use Rattle.std.specs.Prelude.{◌≡◌, ℕ, IfOk, decimal, fold, map};
 ghost use Rattle.roff_command.specs.Clauses.{app_of, both_app, command_named, file_operand};
-ghost use Rattle.roff_command.specs.Clauses.{limit_option, line_length_option, nroff_app};
-ghost use Rattle.roff_command.specs.Clauses.{number_option, register_option, roff_app, rule_of};
-ghost use Rattle.roff_command.specs.Clauses.{tbl_app, with_rule};
+ghost use Rattle.roff_command.specs.Clauses.{first_page_option, limit_option, line_length_option};
+ghost use Rattle.roff_command.specs.Clauses.{nroff_app, number_option, pages_option};
+ghost use Rattle.roff_command.specs.Clauses.{register_option, roff_app, rule_of, tbl_app};
+ghost use Rattle.roff_command.specs.Clauses.{with_rule, with_start};
 
 use crate::options::{FORMATTER_OPTIONS, LimitOption, TABLE_OPTIONS, TBL_OPTIONS, default_text};
 use crate::texts;
@@ -25,6 +26,12 @@ pub const BOTH: &str = "both";
 /// The operands.
 pub const FILE: &str = "FILE";
 
+/// The option that numbers the first page.
+pub const FIRST_PAGE: &str = "first-page";
+
+/// The option that lists the pages that are written.
+pub const PAGES: &str = "pages";
+
 /// The option that sets a number register.
 pub const REGISTER: &str = "register";
 
@@ -39,6 +46,9 @@ pub const STANDARD_INPUT: &str = "-";
 
 /// The greatest value that an option takes.
 const GREATEST_NUMBER: i64 = 1_000_000_000;
+
+/// The greatest number of the first page.
+pub const GREATEST_FIRST_PAGE: u32 = 99_999;
 
 /// The program, with its commands.
 pub fn roff_command<'a>(alloc: Global) -> Result<Command<'a>, AllocError>
@@ -58,7 +68,7 @@ fn nroff_command<'a>(alloc: Global) -> Result<Command<'a>, AllocError>
     ensures { IfOk result (λ command. app_of command ≡ nroff_app) }
 {
     let command = command(alloc, NROFF, texts::NROFF, texts::NROFF_NOTES)?;
-    let command = command.arg(register_argument(alloc))?;
+    let command = with_start(alloc, command)?;
     with_options(alloc, command, &FORMATTER_OPTIONS)
 }
 
@@ -73,7 +83,7 @@ fn both_command<'a>(alloc: Global) -> Result<Command<'a>, AllocError>
     ensures { IfOk result (λ command. app_of command ≡ both_app) }
 {
     let command = command(alloc, BOTH, texts::BOTH, texts::BOTH_NOTES)?;
-    let command = command.arg(register_argument(alloc))?;
+    let command = with_start(alloc, command)?;
     let command = with_options(alloc, command, &FORMATTER_OPTIONS)?;
     with_options(alloc, command, &TABLE_OPTIONS)?.arg(line_length_argument(alloc))
 }
@@ -91,6 +101,15 @@ fn command<'a>(
         .about(about)
         .after_help(notes)
         .arg(file_argument(alloc))
+}
+
+/// A command with the options of what is given to a run at its start.
+fn with_start<'a>(alloc: Global, command: Command<'a>) -> Result<Command<'a>, AllocError>
+    ensures { IfOk result (λ r. app_of r ≡ with_start (app_of command.entry)) }
+{
+    let command = command.arg(first_page_argument(alloc))?;
+    let command = command.arg(pages_argument(alloc))?;
+    command.arg(register_argument(alloc))
 }
 
 fn with_options<'a>(
@@ -117,6 +136,27 @@ fn file_argument<'a>(alloc: Global) -> Arg<'a>
         .action(ArgAction::Append)
         .default_value(STANDARD_INPUT)
         .help(texts::FILE)
+}
+
+fn first_page_argument<'a>(alloc: Global) -> Arg<'a>
+    ensures { rule_of result ≡ first_page_option }
+{
+    Arg::new(alloc, FIRST_PAGE)
+        .short('n')
+        .long(FIRST_PAGE)
+        .value_name("N")
+        .value_parser(value_parser!(u32).range(0..=i64::from(GREATEST_FIRST_PAGE)))
+        .help(texts::FIRST_PAGE)
+}
+
+fn pages_argument<'a>(alloc: Global) -> Arg<'a>
+    ensures { rule_of result ≡ pages_option }
+{
+    Arg::new(alloc, PAGES)
+        .short('o')
+        .long(PAGES)
+        .value_name("LIST")
+        .help(texts::PAGES)
 }
 
 fn register_argument<'a>(alloc: Global) -> Arg<'a>

@@ -1,10 +1,11 @@
 //! Facts about the definitions alone, as contracts of functions that do nothing.
 
-ghost use Rattle.std.specs.Prelude.{◌≡◌, [], ◌∷◌, Err, Ok, Some, codes, false, negsuc, pos};
+ghost use Rattle.std.specs.Prelude.{◌≡◌, [], ◌∷◌, Err, None, Ok, Some, codes, false, negsuc, pos};
 ghost use Rattle.roff_command.specs.Clauses.{ArgumentConflict, DisplayHelp, DisplayVersion};
 ghost use Rattle.roff_command.specs.Clauses.{EachOptionSetsItsLimit, InvalidValue};
 ghost use Rattle.roff_command.specs.Clauses.{MissingSubcommand, UnknownArgument, ValueValidation};
 ghost use Rattle.roff_command.specs.Clauses.{asked, default_limits, default_tbl_limits, fault};
+ghost use Rattle.roff_command.specs.Clauses.{first_page, page, pages};
 ghost use Rattle.roff_command.specs.Clauses.{formats, formats_tables, limited, limits_asked};
 ghost use Rattle.roff_command.specs.Clauses.{numbered, registers, tables, tables_numbered};
 ghost use Rattle.roff_command.specs.Clauses.{tbl_limits_asked, tbl_value_of, value_of, valued};
@@ -59,6 +60,26 @@ pub fn command_line_registers()
         ≡ codes "nroff" ∷ codes "--" ∷ codes "-r=5" ∷ [] }
 {}
 
+/// The number of the first page, and the pages that command lines ask for.
+pub fn command_line_pages()
+    ensures no_number { first_page (codes "nroff" ∷ []) ≡ Some None }
+    ensures number { first_page (codes "nroff" ∷ codes "-n5" ∷ []) ≡ Some (Some (page 5)) }
+    ensures greatest_number { first_page (codes "both" ∷ codes "--first-page" ∷ codes "99999" ∷ [])
+        ≡ Some (Some (page 99999)) }
+    ensures all { pages (codes "nroff" ∷ []) ≡ Some (Ok []) }
+    ensures one { pages (codes "nroff" ∷ codes "-o6" ∷ []) ≡ Some (Ok ((page 6, page 6) ∷ [])) }
+    ensures ranges { pages (codes "both" ∷ codes "--pages=1,3-4,0-0,7-" ∷ [])
+        ≡ Some (Ok ((page 1, page 1) ∷ (page 3, page 4) ∷ (page 0, page 0)
+        ∷ (page 7, page 2147483647) ∷ [])) }
+    ensures without_text { pages (codes "nroff" ∷ codes "--pages=" ∷ []) ≡ Some (Err []) }
+    ensures without_a_range { pages (codes "nroff" ∷ codes "-o1,,2" ∷ []) ≡ Some (Err (codes "1,,2")) }
+    ensures without_a_first_page { pages (codes "nroff" ∷ codes "-o-3" ∷ []) ≡ Some (Err (codes "-3")) }
+    ensures backwards { pages (codes "nroff" ∷ codes "-o4-3" ∷ []) ≡ Some (Err (codes "4-3")) }
+    ensures with_a_sign { pages (codes "nroff" ∷ codes "-o+3" ∷ []) ≡ Some (Err (codes "+3")) }
+    ensures too_great { pages (codes "nroff" ∷ codes "-o2147483648" ∷ [])
+        ≡ Some (Err (codes "2147483648")) }
+{}
+
 /// The faults of command lines.
 pub fn command_line_faults()
     ensures no_command { fault [] ≡ MissingSubcommand ∷ [] }
@@ -75,6 +96,12 @@ pub fn command_line_faults()
     ensures twice { fault (codes "nroff" ∷ codes "--line=1" ∷ codes "--line=2" ∷ [])
         ≡ ArgumentConflict ∷ [] }
     ensures not_of_tables { fault (codes "tbl" ∷ codes "--depth=1" ∷ []) ≡ UnknownArgument ∷ [] }
+    ensures no_first_page { fault (codes "nroff" ∷ codes "-nx" ∷ []) ≡ ValueValidation ∷ [] }
+    ensures too_great_a_first_page { fault (codes "nroff" ∷ codes "-n100000" ∷ [])
+        ≡ ValueValidation ∷ [] }
+    ensures no_pages_of_tables { fault (codes "tbl" ∷ codes "-o1" ∷ []) ≡ UnknownArgument ∷ [] }
+    ensures pages_twice { fault (codes "nroff" ∷ codes "-o1" ∷ codes "-o2" ∷ [])
+        ≡ ArgumentConflict ∷ [] }
     ensures no_register { fault (codes "nroff" ∷ codes "-r" ∷ []) ≡ InvalidValue ∷ [] }
     ensures no_register_of_tables { fault (codes "tbl" ∷ codes "-ra5" ∷ [])
         ≡ UnknownArgument ∷ [] }

@@ -4,6 +4,7 @@
 mod command;
 pub mod laws;
 mod options;
+mod pages;
 mod preparing;
 mod registers;
 mod request;
@@ -11,6 +12,7 @@ mod texts;
 mod words;
 
 pub use command::STANDARD_INPUT;
+pub use pages::{Pages, StartPages};
 pub use preparing::prepare_words;
 pub use registers::{Registers, StartRegisters};
 pub use request::{Asked, Request};

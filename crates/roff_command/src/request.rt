@@ -1,7 +1,8 @@
 //! What a command line asks for.
 
+use crate::pages::Pages;
 use crate::registers::Registers;
-use roff_num::Limits;
+use roff_num::{Limits, Num};
 use tbl_core::TblLimits;
 
 /// A command, with what its options ask for.
@@ -24,6 +25,10 @@ pub struct Request<'a> {
     /// The files to be read, in their order. [`STANDARD_INPUT`](crate::STANDARD_INPUT) is among
     /// them where it is meant.
     pub files: Vec<&'a str>,
+    /// The number of the first page, if one is asked for.
+    pub first_page: Option<Num>,
+    /// The pages that are to be written.
+    pub pages: Pages<'a>,
     /// The number registers that are to be set before anything is read.
     pub registers: Registers<'a>,
 }

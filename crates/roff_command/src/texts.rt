@@ -18,6 +18,12 @@ pub const BOTH: &str = "Format text with tables: tbl, and behind it nroff";
 /// What the operands are.
 pub const FILE: &str = "Files to be read; '-' is standard input";
 
+/// What the option `--first-page` sets.
+pub const FIRST_PAGE: &str = "Number of the first page, from 0 to 99999";
+
+/// What the option `--pages` sets.
+pub const PAGES: &str = "Pages that are written, such as 1,3-5,8-";
+
 /// What the option `--register` sets.
 pub const REGISTER: &str = "Number register a, to the expression N; may be repeated";
 
@@ -99,8 +105,9 @@ pub const ROFF_NOTES: &str = help_end!(
 pub const NROFF_NOTES: &str = help_end!(
     formatter: "nroff fills lines with the words of its input, and obeys its control lines, which
 begin with a period or an apostrophe. In -raN, N is an expression, which register
-a is set to before anything is read. Each other N is a number from 0 to 1000000000;
-a run stops, with status 3, before it would pass one.
+a is set to before anything is read. In a list of pages, N-M are the pages from N
+to M, and N- those from N on. Limits are numbers from 0 to 1000000000; a run stops,
+with status 3, before it would pass one.
 
 "
 );
@@ -118,9 +125,10 @@ limit.
 /// The end of the help of the command `both`.
 pub const BOTH_NOTES: &str = help_end!(
     formatter: "both does what tbl and nroff do one behind the other, in one program. In -raN, N
-is an expression, which register a is set to before anything is read. Each other N
-is a number from 0 to 1000000000; a run stops, with status 3, before it would pass
-a limit.
+is an expression, which register a is set to before anything is read. In a list of
+pages, N-M are the pages from N to M, and N- those from N on. Limits, and the line
+length, are numbers from 0 to 1000000000; a run stops, with status 3, before it
+would pass a limit.
 
 "
 );

@@ -1,22 +1,26 @@
 //! What the words of a command line ask for.
 
-ghost use Rattle.std.specs.Prelude.{◌≡◌, true, None, IfErr, IfOk, IfSome, fold, map};
+ghost use Rattle.std.specs.Prelude.{◌≡◌, true, None, IfErr, IfOk, IfSome, fold, map, option_map};
 ghost use Rattle.roff_command.specs.Clauses.{AsksFor, FailsBy, asked_by, asked_in, default_limits};
-ghost use Rattle.roff_command.specs.Clauses.{default_tbl_limits, fault_of, files_asked, found_of};
+ghost use Rattle.roff_command.specs.Clauses.{default_tbl_limits, fault_of, files_asked};
+ghost use Rattle.roff_command.specs.Clauses.{first_page_asked, first_page_of, found_of};
+ghost use Rattle.roff_command.specs.Clauses.{pages_asked, told_pages};
 ghost use Rattle.roff_command.specs.Clauses.{kind_of, limits_with, line_length_asked, roff_app};
 ghost use Rattle.roff_command.specs.Clauses.{registers_asked, rows_of, set_by, set_if_asked};
 ghost use Rattle.roff_command.specs.Clauses.{subcommand_of, subcommand_rows_of, takes};
 ghost use Rattle.roff_command.specs.Clauses.{tbl_limits_with, told};
 
 use crate::command::{
-    BOTH, DEFAULT_LINE_LENGTH, FILE, LINE_LENGTH, NROFF, REGISTER, TBL, roff_command,
+    BOTH, DEFAULT_LINE_LENGTH, FILE, FIRST_PAGE, GREATEST_FIRST_PAGE, LINE_LENGTH, NROFF, PAGES,
+    REGISTER, TBL, roff_command,
 };
 use crate::options::{FORMATTER_OPTIONS, LimitOption, TABLE_OPTIONS, TBL_OPTIONS};
+use crate::pages::{Pages, read_pages};
 use crate::registers::{Registers, read_registers};
 use crate::request::{Asked, Request};
 use clap::error::ErrorKind;
 use clap::{ArgMatches, Error};
-use roff_num::{Limit, Limits};
+use roff_num::{Limit, Limits, Num};
 use std::alloc::{AllocError, Global};
 use std::convert::AsStr;
 use tbl_core::TblLimits;
@@ -57,6 +61,8 @@ fn request_of<'a>(
     Ok(Some(Request {
         asked,
         files: files_of(alloc, options)?,
+        first_page: first_page_of(options),
+        pages: pages_of(options),
         registers: registers_of(options),
     }))
 }
@@ -91,6 +97,28 @@ fn files_of<'a>(alloc: Global, options: &ArgMatches<'a>) -> Result<Vec<&'a str>,
     let mut files = Vec::new(alloc);
     files.extend_from_slice(options.get_strs(FILE).unwrap_or(&[]))?;
     Ok(files)
+}
+
+/// The number of the first page, if one is asked for.
+fn first_page_of(options: &ArgMatches<'_>) -> Option<Num>
+    ensures { result ≡ first_page_asked (rows_of (found_of options.now)) }
+{
+    page_numbered(options.get_one::<u32>(FIRST_PAGE))
+}
+
+/// A number of the first page: the parser takes none that is greater.
+fn page_numbered(number: Option<u32>) -> Option<Num>
+    ensures { result ≡ option_map first_page_of number }
+{
+    let number = number?;
+    Some(Num(number.min(GREATEST_FIRST_PAGE) as i32))
+}
+
+/// What the option of pages asks for.
+fn pages_of<'a>(options: &ArgMatches<'a>) -> Pages<'a>
+    ensures { told_pages result ≡ pages_asked (rows_of (found_of options.now)) }
+{
+    read_pages(options.get_str(PAGES))
 }
 
 /// What the options of registers ask for.

@@ -6,7 +6,7 @@ use Rattle.roff_devices.specs.declared.inputs.Part.{Part}
 use Rattle.roff_devices.specs.Inputs.Part.{AreNamed, IsNamed}
 use Rattle.roff_tools.specs.StartFault.{NamesFile, NamesFirstRefused}
 use Rattle.roff_tools.specs.declared.fault.StartFault.{StartFault}
-use Rattle.roff_tools.specs.declared.fault.StartFault.TheVariants.{CannotOpen, BadRegister, NotText, OutOfMemory}
+use Rattle.roff_tools.specs.declared.fault.StartFault.TheVariants.{CannotOpen, BadPages, BadRegister, NotText, OutOfMemory}
 
 -- one more name, and one more part that it stands for
 AreNamed-push : {F S : Type 0} (opens : List ℕ → F → Type 0) (stands : S → Type 0) (names : List (List ℕ)) (parts : List (Part F S)) (name : List ℕ) (part : Part F S)
@@ -46,6 +46,7 @@ first_refused opens refuses stands names i d parts (CannotOpen s) within are ref
   opened = are;
   refused = subst refuses (sym refused.0) refused.1;
 }
+first_refused opens refuses stands names i d parts (BadPages s) within are refused = absurd refused
 first_refused opens refuses stands names i d parts (BadRegister s) within are refused = absurd refused
 first_refused opens refuses stands names i d parts NotText within are refused = absurd refused
 first_refused opens refuses stands names i d parts OutOfMemory within are refused = tt

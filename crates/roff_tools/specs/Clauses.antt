@@ -7,9 +7,10 @@ pub use Rattle.roff_sinks.specs.Devices.{seen}
 pub use Rattle.tbl_run.specs.Outcome.{PutsTables}
 pub use Rattle.roff_run.specs.Results.{messages_of, output_of}
 pub use Rattle.roff_command.specs.CommandLine.{AreMistaken, AskForHelp, roff_app}
+pub use Rattle.roff_command.specs.PagesAsked.{told_pages}
 pub use Rattle.roff_command.specs.RegistersAsked.{told}
 pub use Rattle.roff_tools.specs.Both.{RunsBoth}
-pub use Rattle.roff_tools.specs.Jobs.{RunsJob, job_of, registers_given}
+pub use Rattle.roff_tools.specs.Jobs.{RunsJob, job_of, start_read}
 pub use Rattle.roff_tools.specs.Exit.{exit_after, exit_flushed, exit_number}
 pub use Rattle.roff_tools.specs.InMemory.{IsWholeResult, RanInMemory}
 pub use Rattle.roff_devices.specs.Inputs.Part.{AreNamed, IsNamed}
@@ -17,4 +18,4 @@ pub use Rattle.roff_devices.specs.Buffered.{given_to}
 pub use Rattle.roff_devices.specs.Memory.{tape_of_bytes}
 pub use Rattle.roff_tools.specs.Program.{IsFinished, IsFlushed, IsPrepared, PerformsAsked, PerformsIfAsked, Starts}
 pub use Rattle.roff_tools.specs.RunOver.{Performs}
-pub use Rattle.roff_tools.specs.StartFault.{NamesBad, NamesFile, NamesFirstRefused, NamesRegister}
+pub use Rattle.roff_tools.specs.StartFault.{NamesBad, NamesFile, NamesFirstRefused, NamesPages, NamesRegister}

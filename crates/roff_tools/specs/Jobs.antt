@@ -1,13 +1,18 @@
 -- What a run of a job is.
-use Rattle.std.specs.Prelude.{ℕ, List}
+use Rattle.std.specs.Prelude.{ℕ, List, Option, Some, None, Result, Ok}
+use Rattle.clap.specs.Words.{Row, Text}
 use Rattle.roff_num.specs.declared.num.Num.{Num}
 use Rattle.roff_source.specs.Tape.{Tape}
 use Rattle.roff_run.specs.declared.status.Status.{Status}
 use Rattle.roff_run.specs.declared.start.Start.{Start}
 use Rattle.roff_engine.specs.Engine.Outcome.{Runs, Seen}
 use Rattle.tbl_run.specs.Outcome.{PutsTables}
+use Rattle.roff_command.specs.CommandLine.{first_page_asked}
+use Rattle.roff_command.specs.PagesAsked.{pages_asked, told_pages}
+use Rattle.roff_command.specs.RegistersAsked.{registers_asked, told}
 use Rattle.roff_command.specs.declared.request.Asked.{Asked}
 use Rattle.roff_command.specs.declared.request.Asked.TheVariants as asked
+use Rattle.roff_command.specs.declared.request.Request.{Request}
 use Rattle.roff_tools.specs.Both.{RunsBoth}
 use Rattle.roff_tools.specs.declared.job.Job.{Job}
 use Rattle.roff_tools.specs.declared.job.Job.TheVariants.{Nroff, Tbl, Both}
@@ -25,6 +30,16 @@ job_of (asked.Nroff limits) start = Nroff limits start
 job_of (asked.Tbl limits line_length) start = Tbl limits line_length
 job_of (asked.Both limits table_limits line_length) start = Both limits start table_limits line_length
 
--- these registers are given, and nothing else
-abbrev pub registers_given : List (ℕ × Num) → Start
-registers_given registers = record { registers = record { items = registers } }
+-- what is given to a run at its start, if neither the pages nor the registers that are asked for are bad
+abbrev pub start_given : Option Num → Result (List (Num × Num)) Text → Result (List (ℕ × Num)) Text → Option Start
+start_given first (Ok pages) (Ok registers) =
+    Some (record { first_page = first; pages = record { items = pages }; registers = record { items = registers } })
+start_given first (_) (_) = None
+
+-- what the options of a command ask for
+abbrev pub start_asked : List Row → Option Start
+start_asked rows = start_given (first_page_asked rows) (pages_asked rows) (registers_asked rows)
+
+-- and what is read of them
+abbrev pub start_read : Request → Option Start
+start_read request = start_given request.first_page (told_pages request.pages) (told request.registers)

@@ -1,27 +1,26 @@
 -- What the program does.
-use Rattle.std.specs.Prelude.{◌≡◌, ◌⊎◌, ℕ, false, true, List, Option, Some, None, Result, Ok, is_ok}
+use Rattle.std.specs.Prelude.{◌≡◌, ◌⊎◌, ℕ, false, true, List, Option, Some, None, Result, is_ok}
 use Rattle.clap.specs.Words.{Row, Text, fault_of, subcommand_of, takes}
-use Rattle.roff_num.specs.declared.num.Num.{Num}
 use Rattle.roff_source.specs.Tape.{Tape}
 use Rattle.roff_sinks.specs.Sinks.{Sunk}
 use Rattle.roff_sinks.specs.declared.sink.SinkFault.{SinkFault}
 use Rattle.roff_command.specs.CommandLine.{AreMistaken, AskForHelp, asked_by, files_asked, roff_app}
 use Rattle.roff_command.specs.Preparing.{words_prepared}
-use Rattle.roff_command.specs.RegistersAsked.{registers_asked}
 use Rattle.roff_command.specs.declared.request.Asked.{Asked}
 use Rattle.roff_devices.specs.Buffered.{Finishes}
 use Rattle.roff_tools.specs.Exit.{exit_flushed, exit_number}
-use Rattle.roff_tools.specs.Jobs.{job_of, registers_given}
+use Rattle.roff_run.specs.declared.start.Start.{Start}
+use Rattle.roff_tools.specs.Jobs.{job_of, start_asked}
 use Rattle.roff_tools.specs.RunOver.{Performs}
 use Rattle.roff_tools.specs.declared.exit.Exit.{Exit}
 use Rattle.roff_tools.specs.declared.exit.Exit.TheVariants.{Done, DeviceFailed, NotStarted}
 
--- a command ran over the files of these names as it was asked to, with these registers set first, if one was asked for and
--- no register is bad
+-- a command ran over the files of these names as it was asked to, with this given at its start, if one was asked for and what is
+-- given isn't bad
 abbrev pub PerformsIfAsked : {F S : Type 0} → (List ℕ → F → Type 0) → (S → Type 0) → (F → Tape → Type 0) → (S → Tape → Type 0)
-    → List (List ℕ) → Result (List (ℕ × Num)) Text → Option Asked → Exit → Sunk → Sunk → Sunk → Sunk → Type 0
-PerformsIfAsked opens stands file standard names (Ok registers) (Some asked) exit out out' err err' =
-    Performs opens stands file standard names (job_of asked (registers_given registers)) exit out out' err err'
+    → List (List ℕ) → Option Start → Option Asked → Exit → Sunk → Sunk → Sunk → Sunk → Type 0
+PerformsIfAsked opens stands file standard names (Some start) (Some asked) exit out out' err err' =
+    Performs opens stands file standard names (job_of asked start) exit out out' err err'
 PerformsIfAsked opens stands file standard names _ _ exit out out' err err' = ⊥
 
 -- the command that the words name ran over the files that they name, and as its options ask
@@ -29,7 +28,7 @@ abbrev pub PerformsAsked : {F S : Type 0} → (List ℕ → F → Type 0) → (S
     → Option (Text × List Row) → Exit → Sunk → Sunk → Sunk → Sunk → Type 0
 PerformsAsked opens stands file standard None exit out out' err err' = ⊥
 PerformsAsked opens stands file standard (Some (name, rows)) exit out out' err err' =
-    PerformsIfAsked opens stands file standard (files_asked rows) (registers_asked rows) (asked_by name rows) exit out out' err err'
+    PerformsIfAsked opens stands file standard (files_asked rows) (start_asked rows) (asked_by name rows) exit out out' err err'
 
 -- What these words ask for was done. Where they are in order a command ran as they ask, or couldn't start. Help and the version go
 -- to the output alone, and a mistake ends so that nothing is on it.

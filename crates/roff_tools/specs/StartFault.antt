@@ -4,11 +4,12 @@ use Rattle.roff_num.specs.declared.num.Num.{Num}
 use Rattle.roff_devices.specs.Inputs.Part.{AreNamed}
 use Rattle.roff_devices.specs.declared.inputs.Part.{Part}
 use Rattle.roff_tools.specs.declared.fault.StartFault.{StartFault}
-use Rattle.roff_tools.specs.declared.fault.StartFault.TheVariants.{CannotOpen, BadRegister, NotText, OutOfMemory}
+use Rattle.roff_tools.specs.declared.fault.StartFault.TheVariants.{CannotOpen, BadPages, BadRegister, NotText, OutOfMemory}
 
 -- the file that cannot be opened is this one, which was refused; or memory ran out
 abbrev pub NamesFile : (List ℕ → Type 0) → List ℕ → StartFault → Type 0
 NamesFile refuses name (CannotOpen s) = (string_bytes s ≡ name) × refuses name
+NamesFile refuses name (BadPages s) = ⊥
 NamesFile refuses name (BadRegister s) = ⊥
 NamesFile refuses name NotText = ⊥
 NamesFile refuses name OutOfMemory = Unit {0}
@@ -26,18 +27,30 @@ pub record IsFirstRefused {F S : Type 0} (opens : List ℕ → F → Type 0) (re
 -- the file that cannot be opened is the first of these that was refused; or memory ran out
 abbrev pub NamesFirstRefused : {F S : Type 0} → (List ℕ → F → Type 0) → (List ℕ → Type 0) → (S → Type 0) → List (List ℕ) → StartFault → Type 0
 NamesFirstRefused opens refuses stands names (CannotOpen s) = IsFirstRefused opens refuses stands names (string_bytes s)
+NamesFirstRefused opens refuses stands names (BadPages s) = ⊥
 NamesFirstRefused opens refuses stands names (BadRegister s) = ⊥
 NamesFirstRefused opens refuses stands names NotText = ⊥
 NamesFirstRefused opens refuses stands names OutOfMemory = Unit {0}
 
+-- the text that is no list of pages is this one, or memory ran out
+abbrev pub NamesPages : List ℕ → StartFault → Type 0
+NamesPages text (CannotOpen s) = ⊥
+NamesPages text (BadPages s) = string_bytes s ≡ text
+NamesPages text (BadRegister s) = ⊥
+NamesPages text NotText = ⊥
+NamesPages text OutOfMemory = Unit {0}
+
 -- the text that asks for no register is this one, or memory ran out
 abbrev pub NamesRegister : List ℕ → StartFault → Type 0
 NamesRegister text (CannotOpen s) = ⊥
+NamesRegister text (BadPages s) = ⊥
 NamesRegister text (BadRegister s) = string_bytes s ≡ text
 NamesRegister text NotText = ⊥
 NamesRegister text OutOfMemory = Unit {0}
 
--- a register is bad, or what is told is the fault of the files; where a register is bad no file is looked at
-abbrev pub NamesBad : Result (List (ℕ × Num)) (List ℕ) → (StartFault → Type 0) → StartFault → Type 0
-NamesBad (Ok registers) of_files fault = of_files fault
-NamesBad (Err text) of_files fault = NamesRegister text fault
+-- The list of pages is bad, or else a register is, or what is told is the fault of the files: where one is bad nothing behind it is
+-- looked at.
+abbrev pub NamesBad : Result (List (Num × Num)) (List ℕ) → Result (List (ℕ × Num)) (List ℕ) → (StartFault → Type 0) → StartFault → Type 0
+NamesBad (Err text) registers of_files fault = NamesPages text fault
+NamesBad (Ok pages) (Err text) of_files fault = NamesRegister text fault
+NamesBad (Ok pages) (Ok registers) of_files fault = of_files fault

@@ -9,6 +9,9 @@ pub enum StartFault {
     /// The file of this name, one of those on the command line, cannot be opened.
     #[error("cannot open {0}")]
     CannotOpen(String),
+    /// This text, on the command line, is no list of pages, or has too many ranges.
+    #[error("bad page list: {0}")]
+    BadPages(String),
     /// This text, on the command line, asks for no number register, or for one too many.
     #[error("bad register: {0}")]
     BadRegister(String),

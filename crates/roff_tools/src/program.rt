@@ -4,11 +4,11 @@ ghost use Rattle.std.specs.Prelude.{◌≡◌, ◌≢◌, ◌⊎◌, Some, true,
 ghost use Rattle.std.specs.Prelude.{string_bytes};
 ghost use Rattle.roff_tools.specs.Clauses.{AreMistaken, AreNamed, AskForHelp, IsFinished};
 ghost use Rattle.roff_tools.specs.Clauses.{IsFlushed, IsNamed, IsPrepared, NamesBad, NamesFile};
-ghost use Rattle.roff_tools.specs.Clauses.{NamesFirstRefused, NamesRegister, Performs};
+ghost use Rattle.roff_tools.specs.Clauses.{NamesFirstRefused, NamesPages, NamesRegister, Performs};
 ghost use Rattle.roff_tools.specs.Clauses.{PerformsAsked, PerformsIfAsked, Starts};
 ghost use Rattle.roff_tools.specs.Clauses.{exit_flushed, exit_number, exit_status};
 ghost use Rattle.roff_tools.specs.Clauses.{fault_of, given_to, job_of, kind_of, roff_app};
-ghost use Rattle.roff_tools.specs.Clauses.{subcommand_of, takes, told};
+ghost use Rattle.roff_tools.specs.Clauses.{start_read, subcommand_of, takes, told, told_pages};
 
 use crate::exit::Exit;
 use crate::fault::StartFault;
@@ -16,7 +16,7 @@ use crate::text_sink::TextSink;
 use crate::words::Words;
 use crate::{BlockWrite, ByteSink, Job, ReadSource, SinkFault, Start, WriteSink, run};
 use clap::error::ErrorKind;
-use roff_command::{Asked, Registers, Request, STANDARD_INPUT, parse_words, prepare_words};
+use roff_command::{Asked, Pages, Registers, Request, STANDARD_INPUT, parse_words, prepare_words};
 use roff_devices::{Buffered, Inputs, Part, Readers};
 use std::alloc::Global;
 use std::convert::AsStr;
@@ -182,7 +182,8 @@ fn show<O: ByteSink, E: ByteSink>(shown: &clap::Error, out: &mut O, err: &mut E)
     }
 }
 
-/// Looks at the registers that are to be set, and then runs the command over its files.
+/// Looks at the pages that are to be written, and at the registers that are to be set, and then runs
+/// the command over its files.
 fn perform<R, O, E>(
     rt: &R,
     request: Request<'_>,
@@ -195,24 +196,44 @@ where
     E: ByteSink,
     ensures performs { IfOk result (λ exit. PerformsIfAsked (R.opens rt.now) (R.stands rt.now)
         R.File.gives R.Standard.gives (map (λ name. name.now) request.entry.files.items)
-        (told request.entry.registers) (Some request.entry.asked) exit
+        (start_read request.entry) (Some request.entry.asked) exit
         (O.sunk out.old) (O.sunk out.new) (E.sunk err.old) (E.sunk err.new)) }
-    ensures fault { IfErr result (NamesBad (told request.entry.registers) (NamesFirstRefused
-        (R.opens rt.now) (R.refuses rt.now) (R.stands rt.now)
+    ensures fault { IfErr result (NamesBad (told_pages request.entry.pages)
+        (told request.entry.registers)
+        (NamesFirstRefused (R.opens rt.now) (R.refuses rt.now) (R.stands rt.now)
         (map (λ name. name.now) request.entry.files.items))) }
     ensures unwritten { OnErr result ((out.new ≡ out.old) × (err.new ≡ err.old)) }
 {
     let Request {
         asked,
         files,
+        first_page,
+        pages,
         registers,
     } = request;
-    match registers {
-        Registers::Set(registers) => {
-            let job = job_of(asked, Start { registers });
-            run_over(rt, files.as_slice(), job, out, err)
-        }
-        Registers::Bad(text) => Err(bad_register(rt.alloc(), text)),
+    match pages {
+        Pages::Listed(pages) => match registers {
+            Registers::Set(registers) => {
+                let start = Start {
+                    first_page,
+                    pages,
+                    registers,
+                };
+                run_over(rt, files.as_slice(), job_of(asked, start), out, err)
+            }
+            Registers::Bad(text) => Err(bad_register(rt.alloc(), text)),
+        },
+        Pages::Bad(text) => Err(bad_pages(rt.alloc(), text)),
+    }
+}
+
+/// The fault of a text that is no list of pages.
+fn bad_pages(alloc: Global, text: &str) -> StartFault
+    ensures { NamesPages text.now result }
+{
+    match String::from_str(alloc, text) {
+        Ok(text) => StartFault::BadPages(text),
+        Err(_) => StartFault::OutOfMemory,
     }
 }
 

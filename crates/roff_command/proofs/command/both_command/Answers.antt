@@ -2,7 +2,7 @@ use Rattle.std.proofs.Common.{◌∙◌, ap, ap₂, map}
 use Rattle.std.specs.Prelude.{fold}
 use Rattle.std.proofs.lemmas.Result.{IfOk-weaker}
 use Rattle.clap.specs.Words.{App, Rule, with_rule}
-use Rattle.roff_command.specs.CommandLine.{both_app, limit_option, option_limits, table_limits}
+use Rattle.roff_command.specs.CommandLine.{both_app, limit_option, option_limits, table_limits, with_start}
 use Rattle.roff_command.specs.declared.options.LimitOf.TheVariants.{Formatter, Tables}
 use Rattle.roff_command.proofs.CommandLine.{simple-global}
 use Rattle.roff_command.proofs.command.both_command.Goals as goal
@@ -10,11 +10,10 @@ use Rattle.roff_command.proofs.command.both_command.Goals as goal
 pub returns : goal.returns
 unfolding both_app
 returns c =
-    let named = c.in_ok-command-2.ensures.shape (simple-global c.register_argument.result (ap (λ (r : Rule). r.is_simple) c.register_argument.ensures))
-    ∙ ap₂ with_rule c.in_ok-command.ensures c.register_argument.ensures in
+    let named = c.in_ok-command-2.ensures ∙ ap with_start c.in_ok-command.ensures in
     let formatter = c.in_ok-command-3.ensures ∙ ap (λ (a : App). fold with_rule a (map (limit_option Formatter) option_limits)) named in
     let limits = c.in_ok-with_options.ensures ∙ ap (λ (a : App). fold with_rule a (map (limit_option Tables) table_limits)) formatter in
-    IfOk-weaker c.arg-2.result _ _
+    IfOk-weaker c.arg.result _ _
     (λ r adds. adds.shape (simple-global c.line_length_argument.result (ap (λ (r : Rule). r.is_simple) c.line_length_argument.ensures))
     ∙ ap₂ with_rule limits c.line_length_argument.ensures)
-    c.arg-2.ensures
+    c.arg.ensures

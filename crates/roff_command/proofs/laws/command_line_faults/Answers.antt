@@ -59,3 +59,19 @@ returns-clause-no_register c = refl
 pub returns-clause-no_register_of_tables : goal.returns-clause-no_register_of_tables
 unfolding clap_on_literals roff_app nroff_app tbl_app both_app digits
 returns-clause-no_register_of_tables c = refl
+
+pub returns-clause-no_first_page : goal.returns-clause-no_first_page
+unfolding clap_on_literals roff_app nroff_app tbl_app both_app digits
+returns-clause-no_first_page c = refl
+
+pub returns-clause-too_great_a_first_page : goal.returns-clause-too_great_a_first_page
+unfolding clap_on_literals roff_app nroff_app tbl_app both_app digits
+returns-clause-too_great_a_first_page c = refl
+
+pub returns-clause-no_pages_of_tables : goal.returns-clause-no_pages_of_tables
+unfolding clap_on_literals roff_app nroff_app tbl_app both_app digits
+returns-clause-no_pages_of_tables c = refl
+
+pub returns-clause-pages_twice : goal.returns-clause-pages_twice
+unfolding clap_on_literals roff_app nroff_app tbl_app both_app digits
+returns-clause-pages_twice c = refl
