@@ -192,10 +192,27 @@ LONG.update({
     "page_lengths_without_text": (b"", b".pl\n", b"a\n", 4 * LINES + 2),
     "page_lengths_too_small": (b"", b".pl 0\n", b"a\n", 6 * LINES + 2),
     "page_that_grows": (b".nf\n", b".pl +1\na\n", b"", 9 * LINES + 4),
+    "titles": (b"", b".tl 'left'- % -'right'\n", b"", 5 * MEGABYTE),
+    "titles_without_parts": (b"", b".tl\n", b"", MEGABYTE),
+    "titles_of_one_page_each": (b".pl 1\n", b".tl '%'\n", b"", MEGABYTE),
+    "title_lengths": (b"", b".lt 9n\n.lt +1\n.lt\n", b".tl 'a''b'\n", 5 * MEGABYTE),
+    "page_characters": (b"", b".pc #\n.pc\n", b".tl '%#'\n", 5 * MEGABYTE),
+    "part_of_a_title": (b".tl '", b"a", b"'\n", MEGABYTE),
+    "part_of_a_title_of_numbers": (b".tl '", b"%", b"'\n", MEGABYTE),
+    "part_of_a_title_of_nothing": (b".tl '", b"\\&", b"'\n", 5 * MEGABYTE),
+    "front_of_a_title": (b".tl", b" ", b"'a'\n", 10 * MEGABYTE),
+    "front_of_a_title_of_strings": (b".tl ", b"\\*x", b"'a'\n", 5 * MEGABYTE),
+    "arguments_behind_a_title": (b".tl 'a'b'c'", b" x", b"\n", MEGABYTE // 8),
+    "parts_of_strings": (b".ds x a'\n", b".tl '\\*x\\*x\\*x\n", b"", 5 * MEGABYTE),
+    "title_not_ended": (b".tl 'a'", b"\\\n", b"", 10 * MEGABYTE),
     "spaces_farthest": (b"", b".sp 2147483647u\n", b"", 16 * LINES // 2),
     "spaces_down": (b".pl 9\n", b".sp |9\na\n", b"", 5 * MEGABYTE),
     "spacings_farthest": (b".ls 2147483647\n", b"a\n.br\n", b"", MEGABYTE),
     "page_numbers_stepped": (b".nr % 0 1\n", b"\\n+%\n", b"", 5 * MEGABYTE),
+    "page_numbers_set": (b".pl 1\n.nf\n", b".pn +1\n\\n%\n", b"", 5 * MEGABYTE),
+    "page_numbers_without_pages": (b"", b".pn 2147483647\n.pn -1\n", b"a\n", 5 * MEGABYTE),
+    "page_offsets": (b".nf\n", b".po 9\n.po +1\na\n.po\n", b"", 5 * MEGABYTE),
+    "page_offsets_without_lines": (b"", b".po 2147483647u\n.po -9\n", b".po 0\na\n", 5 * MEGABYTE),
     "tab_stops": (b".ta", b" 9", b"\na\tb\n", 2 * LINES + 8),
     "tab_stops_past_the_stack": (b".ta", b" 9", b"\na\tb\n", 3 * LINES + 8),
     "tab_stops_that_count_from_others": (b".ta", b" +9", b"\na\tb\n", 3 * LINES // 2 + 8),
@@ -427,6 +444,11 @@ FAR = {
     "indent_farthest": (b".in 2147483647u\na b\n", None, b" " * 9, 2 * (FARTHEST + 2) + 64),
     "temporary_indent_farthest": (b".ti 2147483647u\na b\n", None, b" " * 9, FARTHEST + 2 + 2 + 64),
     "centre_farthest": (b".ll 2147483647u\n.ce\na\n", None, b" " * 9, (FARTHEST - 1) // 2 + 2 + 65),
+    "offset_farthest": (b".pl 1\n.po 2147483647u\na\n", None, b" " * 9, FARTHEST + 2),
+    "offset_and_indent_farthest": (b".pl 1\n.po 2147483647u\n.in 2147483647u\na\n", None, b" " * 9, 2 * FARTHEST + 2),
+    "offsets_farthest": (b".nf\n.po 2147483647u\n" + 1000 * b"a\n", ("output", 5), b" " * 9, 2 * (FARTHEST + 2)),
+    "title_farthest": (b".lt 2147483647u\n.tl '''a'\n", None, b" " * 9, FARTHEST + 1 + 65),
+    "motion_in_a_title_farthest": (b".tl 'a'\n.tl '\\h'2147483647u''\n", ("line", 2), b"a\n", 2),
     "tab_farthest": (b"a\n.br\n.ta 2147483647u\nb\tc\n", ("line", 4), b"a\n", 2),
     "indents_farthest": (b".in 2147483647u\n" + 1000 * b"a b\n", ("output", 3), b" " * 9, 2 * (FARTHEST + 2)),
     "indents_farthest_without_filling": (
@@ -503,6 +525,13 @@ AROUND = (
     b".em m%s",
     b".de m\nx\n..\n.it%s1 m%s\na\\c\nb%s\nc\n.it 1 %s\nd\n",
     b".de m\nx%s\n%s..\n.it 1 m\na%s\nb\n",
+    b".tl %sa%sb%sc%sd",
+    b".tl '%s\\%s'%s'\\%sx",
+    b".tl \\%sa\\b%s\\c",
+    b".tl%s'a'b'c",
+    b".lt 9%s",
+    b".pc %s\n.tl 'a%sb\\%s'",
+    b".pc \\%s\n.tl 'a%sb\\%s'\n.pc",
 )
 
 # What random documents are made of, how many there are of each kind, and the options with which each is formatted.
@@ -534,8 +563,14 @@ PIECES_OF_ENVIRONMENTS = (
 PIECES_OF_PAGES = (
     [b"\n.pl 1\n", b"\n.pl 3\n", b"\n.pl 9\n", b"\n.pl +1\n", b"\n.pl -1\n", b"\n.pl |2\n", b"\n.pl x\n", b"\n.pl\n"]
     + [b"\n.sp\n", b"\n.sp 2\n", b"\n.sp 99\n", b"\n.sp |2\n", b"\n.sp -1\n", b"\n'sp 1\n", b"\n\n", b"\n.ls 3\n", b"\n.ls 1\n"]
+    + [b"\n.po 3\n", b"\n.po +1\n", b"\n.po -9\n", b"\n.po\n", b"\n.po ", b"\n.pn 5\n", b"\n.pn +1\n", b"\n.pn ", b"\\n(.o"]
     + [b"\n.nr % 5 2\n", b"\n.af % i\n", b"\\n%", b"\\n+%", b"\\n-%", b"\\n(nl", b"\\n(.t", b"\\n(.p", b"\n.if o ", b"\n.if e "]
     + 2 * [b"\n.br\n", b"\n.nf\n", b"\n.fi\n", b"\na word\n", b" a word"]
+)
+PIECES_OF_TITLES = (
+    4 * [b"\n.tl ", b"\n.tl '", b"'", b"%", b"'a'b'c'", b"' '"]
+    + [b"\n.tl", b"\n'tl 'a'%", b"\n.tl %", b"\n.tl \\\\", b"\n.tl \\e", b'\n.tl "', b"\n.lt 9n\n", b"\n.lt +1\n", b"\n.lt ", b"\n.lt\n"]
+    + [b"\n.pc #\n", b"\n.pc\n", b"\n.pc ", b"\n.pc %\n", b"#", b"\\*s", b"\n.ds s a'b\n", b"\\h'2n'", b"\\w'a'", b"\\(em", b"\\c", b"\\{", b"\\\n"]
 )
 PIECES_OF_ENDS = (
     2 * [b"\n.em m\n", b"\n.em n\n", b"\n.em\n", b"\n.em "]
@@ -553,6 +588,7 @@ RANDOM = {
     "random_macros": PIECES + 20 * PIECES_OF_MACROS + 5 * PIECES_OF_STRINGS,
     "random_environments": PIECES + 20 * PIECES_OF_ENVIRONMENTS + 2 * PIECES_OF_MACROS,
     "random_pages": PIECES + 20 * PIECES_OF_PAGES + 4 * PIECES_OF_ENVIRONMENTS,
+    "random_titles": PIECES + 20 * PIECES_OF_TITLES + 6 * PIECES_OF_PAGES + 2 * PIECES_OF_ENVIRONMENTS,
     "random_ends": PIECES + 20 * PIECES_OF_ENDS + 5 * PIECES_OF_CONDITIONS,
     "random_springs": PIECES + 20 * PIECES_OF_SPRINGS + 4 * PIECES_OF_ENVIRONMENTS + 4 * PIECES_OF_ENDS,
 }

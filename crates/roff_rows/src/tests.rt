@@ -5,6 +5,7 @@ mod devices;
 mod failing_once;
 mod limit_options;
 mod long_documents;
+mod pages;
 mod registers;
 mod starts;
 mod table_commands;
@@ -17,7 +18,7 @@ use std::process::{Abort, ExitCode};
 use std::test::Fail;
 
 /// The files that a command line may name. Documents begin with a page of one line, and don't fill.
-static FILES: [(&str, &[u8]); 18] = [
+static FILES: [(&str, &[u8]); 19] = [
     ("one", b".pl 1\n.nf\none\n"),
     ("two", b".pl 1\n.nf\ntwo\n"),
     ("three", b".pl 1\n.nf\nthree\n"),
@@ -36,6 +37,7 @@ static FILES: [(&str, &[u8]); 18] = [
     ("leaving", b".pl 1\n.nf\nab\n.tm so far\n.ex\ncd\n"),
     ("telling", b".pl 1\n.nf\n\\na \\nb\n"),
     ("-r=5", b".pl 1\n.nf\nnamed like a register\n"),
+    ("paged", b".pl 1\n.nf\n\\n%\n\\n%\n\\n%\n"),
 ];
 
 /// Names that can be opened and not read.

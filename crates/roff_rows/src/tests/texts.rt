@@ -38,6 +38,8 @@ Arguments:
   [FILE]...  Files to be read; '-' is standard input [default: -]
 
 Options:
+  -n, --first-page <N>    Number of the first page, from 0 to 99999
+  -o, --pages <LIST>      Pages that are written, such as 1,3-5,8-
   -r, --register <aN>     Number register a, to the expression N; may be repeated
       --bytes <N>         Most bytes read [default: 50000000]
       --store <N>         Most bytes of strings and macros [default: 1048576]
@@ -54,8 +56,9 @@ Options:
 
 nroff fills lines with the words of its input, and obeys its control lines, which
 begin with a period or an apostrophe. In -raN, N is an expression, which register
-a is set to before anything is read. Each other N is a number from 0 to 1000000000;
-a run stops, with status 3, before it would pass one.
+a is set to before anything is read. In a list of pages, N-M are the pages from N
+to M, and N- those from N on. Limits are numbers from 0 to 1000000000; a run stops,
+with status 3, before it would pass one.
 
 Files are read one after another as one input; all are opened before the first
 is read. '-', or no file at all, is standard input. Text is written on standard
@@ -112,6 +115,8 @@ Arguments:
   [FILE]...  Files to be read; '-' is standard input [default: -]
 
 Options:
+  -n, --first-page <N>    Number of the first page, from 0 to 99999
+  -o, --pages <LIST>      Pages that are written, such as 1,3-5,8-
   -r, --register <aN>     Number register a, to the expression N; may be repeated
       --bytes <N>         Most bytes read [default: 50000000]
       --store <N>         Most bytes of strings and macros [default: 1048576]
@@ -132,9 +137,10 @@ Options:
   -h, --help              Print help
 
 both does what tbl and nroff do one behind the other, in one program. In -raN, N
-is an expression, which register a is set to before anything is read. Each other N
-is a number from 0 to 1000000000; a run stops, with status 3, before it would pass
-a limit.
+is an expression, which register a is set to before anything is read. In a list of
+pages, N-M are the pages from N to M, and N- those from N on. Limits, and the line
+length, are numbers from 0 to 1000000000; a run stops, with status 3, before it
+would pass a limit.
 
 Files are read one after another as one input; all are opened before the first
 is read. '-', or no file at all, is standard input. Text is written on standard
@@ -170,9 +176,9 @@ For more information, try '--help'.
 pub const WRONG_OPTION: &str = "\
 error: unexpected argument '--page' found
 
-  tip: to pass '--page' as a value, use '-- --page'
+  tip: a similar argument exists: '--pages'
 
-Usage: roff nroff [OPTIONS] [FILE]...
+Usage: roff nroff --pages <LIST> [FILE]...
 
 For more information, try '--help'.
 ";
@@ -278,9 +284,9 @@ For more information, try '--help'.
 pub const WRONG_OPTION_LATER: &str = "\
 error: unexpected argument '--page' found
 
-  tip: to pass '--page' as a value, use '-- --page'
+  tip: a similar argument exists: '--pages'
 
-Usage: roff nroff [FILE]...
+Usage: roff nroff --pages <LIST> [FILE]...
 
 For more information, try '--help'.
 ";
@@ -365,6 +371,66 @@ pub const EARLY_REGISTER: &str = "\
 error: unexpected argument '-r' found
 
 Usage: roff <COMMAND>
+
+For more information, try '--help'.
+";
+
+pub const NO_FIRST_PAGE: &str = "\
+error: invalid value 'x' for '--first-page <N>': invalid digit found in string
+
+For more information, try '--help'.
+";
+
+pub const FIRST_PAGE_ABOVE_RANGE: &str = "\
+error: invalid value '100000' for '--first-page <N>': 100000 is not in 0..=99999
+
+For more information, try '--help'.
+";
+
+pub const FIRST_PAGE_WITHOUT_NUMBER: &str = "\
+error: a value is required for '--first-page <N>' but none was supplied
+
+For more information, try '--help'.
+";
+
+pub const FIRST_PAGE_TWICE: &str = "\
+error: the argument '--first-page <N>' cannot be used multiple times
+
+Usage: roff nroff [OPTIONS] [FILE]...
+
+For more information, try '--help'.
+";
+
+pub const PAGES_WITHOUT_LIST: &str = "\
+error: a value is required for '--pages <LIST>' but none was supplied
+
+For more information, try '--help'.
+";
+
+pub const PAGES_TWICE: &str = "\
+error: the argument '--pages <LIST>' cannot be used multiple times
+
+Usage: roff nroff [OPTIONS] [FILE]...
+
+For more information, try '--help'.
+";
+
+pub const PAGES_OF_TABLES: &str = "\
+error: unexpected argument '-o' found
+
+  tip: to pass '-o' as a value, use '-- -o'
+
+Usage: roff tbl [OPTIONS] [FILE]...
+
+For more information, try '--help'.
+";
+
+pub const FIRST_PAGE_OF_TABLES: &str = "\
+error: unexpected argument '-n' found
+
+  tip: to pass '-n' as a value, use '-- -n'
+
+Usage: roff tbl [OPTIONS] [FILE]...
 
 For more information, try '--help'.
 ";
