@@ -1,10 +1,7 @@
 -- What the code does with an item that it took, as a step of the definition.
 use Rattle.std.proofs.Common.{◌≡◌, ℕ, ◌+◌, ◌*◌, ◌-◌, List, [], ◌∷◌, ◌++◌, ◌≤◌, arith, length, Option, Some, None, Result, Ok, Err, OnOk, inl, inr, refl, subst, sym, ap, append-nil, ◌∙◌}
 use Rattle.roff_num.specs.declared.limit.Limit.{Limit}
-use Rattle.roff_num.specs.declared.limit.Limit.TheVariants.{Names, Line, Stack, Depth, Store, Diversions, Conditions}
 use Rattle.roff_num.specs.declared.limits.Limits.{Limits}
-use Rattle.roff_ahead.specs.Input.{DoAhead, depth, result_count}
-use Rattle.roff_ahead.specs.Input.Names.{names_added, stored}
 use Rattle.roff_source.specs.Tape.{Tape}
 use Rattle.roff_scan.specs.Looking.{is_closed, looked_then}
 use Rattle.roff_scan.specs.declared.looked.Looked.{Looked}
@@ -14,42 +11,31 @@ use Rattle.roff_engine.specs.declared.halt.Halt.{Halt}
 use Rattle.roff_engine.specs.declared.halt.Halt.TheVariants.{Limit as Limited, Refused, Over, Output, Messages}
 use Rattle.roff_engine.specs.declared.running.Running.{Running as Coded}
 use Rattle.roff_engine.specs.Engine.Outcome.{Beginning, Seen, IsLeftOf, Reaches, OutcomeOf, seen}
-use Rattle.roff_engine.specs.Formatter.Performing.{CameBehind, ComesTo, TakingDone, DoesTaking, Opens, PerformedOne, PerformsOne, acting, behind_event, going, sinks}
+use Rattle.roff_engine.specs.Formatter.Performing.{CameBehind, TakingDone, DoesTaking, Opens, acting, going, sinks}
 use Rattle.roff_run.specs.Springs.{CountsLast}
-use Rattle.roff_engine.specs.Formatter.Sprung.{rest_left, sprung_last}
+use Rattle.roff_engine.specs.Formatter.Sprung.{rest_left}
 use Rattle.roff_run.specs.TurnsToCome.{most_left}
 use Rattle.roff_engine.specs.Running.Springing.{GoesOn, HasRoom, IsBehind}
 use Rattle.roff_engine.specs.declared.sprung.Sprung.{Sprung}
-use Rattle.roff_num.specs.declared.short_name.ShortName.{ShortName}
 use Rattle.roff_engine.specs.Running.Turning.{DoesItem, Halts, TookFrom, line_told, line_turns, lines_left_in, state_at, turns_at, turns_of_run}
 use Rattle.roff_sinks.specs.Sinks.{Sunk}
 use Rattle.roff_requests.specs.Composer.Standing.{StandFor}
 use Rattle.roff_requests.specs.declared.composer.Composer.{Composer as ComposerOf}
 use Rattle.roff_run.specs.Output.{PageHistory}
-use Rattle.roff_reader.specs.Reader.State.{ReaderState}
 use Rattle.roff_reader.specs.Reader.Taken.{CameTo, IsReady}
 use Rattle.roff_run.specs.Reading.Items.{PageUnread}
-use Rattle.roff_run.specs.Reading.{interrupted}
-use Rattle.roff_run.specs.Reading.Items.{PageInput, Taking, going_on}
-use Rattle.roff_run.specs.Reading.Units.{settling}
-use Rattle.roff_run.specs.Registers.{AllRegisters, Known}
-use Rattle.roff_run.specs.Run.{State, initial, ahead_taken, ending_as, known_at, made, step, taken_as, unless_refused, grown}
-use Rattle.roff_run.specs.Run.Counts.{counts_in, first_passed}
+use Rattle.roff_run.specs.Reading.Items.{Taking}
+use Rattle.roff_run.specs.Registers.{Known}
+use Rattle.roff_run.specs.Run.{State, ending_as, known_at, made, step, taken_as, unless_refused, grown}
+use Rattle.roff_run.specs.Run.Counts.{first_passed}
 use Rattle.roff_run.specs.PageEvents.{PageEvent}
 use Rattle.roff_run.specs.declared.line_state.LineState.{LineState}
-use Rattle.roff_run.specs.declared.line_state.LineState.TheVariants.{LineStart, Branch, Braced, Text as InText, Control, Name, Arguments as InArguments, Deciding, StringName, StringText, Skipping, Dropped, Telling, Told, Exiting, Calling, Defining, TitleFront, Title as InTitle}
 use Rattle.roff_run.specs.declared.phase.Phase.{Phase}
 use Rattle.roff_run.specs.declared.status.Status.{Status}
 use Rattle.roff_run.specs.declared.status.Status.TheVariants.{Done}
-use Rattle.roff_run.proofs.InputCounts.{pushed-settling}
-use Rattle.roff_run.proofs.Keeping.{Keeps-interrupted}
-use Rattle.roff_run.proofs.Leads.{Leads-to}
 use Rattle.roff_run.specs.Environments.{interrupted_line}
-use Rattle.roff_run.specs.TitleTexts.{title_length}
 use Rattle.roff_run.specs.TurnsToCome.{begun, lines_left, phases_left, turns_to_come, turns_within}
 use Rattle.roff_engine.proofs.Halting.{rest_over}
-use Rattle.roff_engine.proofs.LinesLeft.{last_left}
-use Rattle.roff_engine.proofs.Springing.{last-none, sprung-last}
 use Rattle.roff_engine.proofs.TurnsLeft.{line_turns-more, lines_left-stands}
 
 -- a tape is what is left of itself behind a byte that was looked at
@@ -306,114 +292,3 @@ DoesItem-as does other line old new now behind r same acts = record {
       subst (λ (s : State). OnOk r (turns_of_run new ≤ turns_at old.limits.bytes s)) (sym (same tape took.history took.messages took.stands))
       (acts.turns t tape start from (TookFrom-as does other line old t tape start now from same took));
 }
-
--- nothing that is counted grows where no quote follows the quote before
-counts_in-settling : (rs : AllRegisters) (i : PageInput) → counts_in rs (settling i) ≡ counts_in rs i
-counts_in-settling rs i =
-    let first : List (Limit × ℕ) → List (Limit × ℕ) = λ rest.
-    (Names, length rs.named) ∷ (Line, title_length rs.title) ∷ (Store, stored i) ∷ (Names, names_added i) ∷ (Diversions, length i.open_texts - 1) ∷ rest in
-    ap (λ bytes. first ((Stack, bytes) ∷ (Depth, depth i) ∷ (Conditions, result_count i) ∷ [])) (pushed-settling i)
-
--- nor where something that isn't a byte of the line has come
-counts_in-interrupted : (rs : AllRegisters) (reading : LineState) (i : PageInput) → counts_in rs (interrupted reading i) ≡ counts_in rs i
-counts_in-interrupted rs LineStart i = refl
-counts_in-interrupted rs Branch i = refl
-counts_in-interrupted rs Braced i = refl
-counts_in-interrupted rs (InText line) i = refl
-counts_in-interrupted rs (Control breaks) i = refl
-counts_in-interrupted rs (Name breaks byte) i = refl
-counts_in-interrupted rs (InArguments breaks request) i = counts_in-settling rs i
-counts_in-interrupted rs (StringName appends) i = counts_in-settling rs i
-counts_in-interrupted rs (Calling name) i = counts_in-settling rs i
-counts_in-interrupted rs (Deciding keeping) i = refl
-counts_in-interrupted rs (StringText name appends is_front) i = refl
-counts_in-interrupted rs (Defining name appends end matched) i = refl
-counts_in-interrupted rs (Telling aborts is_front) i = refl
-counts_in-interrupted rs (Told aborts) i = refl
-counts_in-interrupted rs Exiting i = refl
-counts_in-interrupted rs (Skipping opened closed behind) i = refl
-counts_in-interrupted rs Dropped i = refl
-counts_in-interrupted rs TitleFront i = refl
-counts_in-interrupted rs (InTitle delimiter) i = refl
-
--- so no limit refuses what it didn't refuse before
-within-interrupted : (l : Limits) (rs : AllRegisters) (reading : LineState) (i : PageInput)
-    → first_passed l (counts_in rs i) ≡ None → first_passed l (counts_in rs (interrupted reading i)) ≡ None
-within-interrupted l rs reading i within = ap (first_passed l) (counts_in-interrupted rs reading i) ∙ within
-
--- an event that was put back does as the taking of nothing, with that event to perform
-abbrev pub event_taking : LineState → PageInput → Known → Taking
-event_taking reading i k = going_on (interrupted reading i) reading
-
--- the answer of an event, as that of a step's
-abbrev pub last_of : Result (Option ShortName) Halt → Result (Option Sprung) Halt
-last_of (Ok name) = Ok (sprung_last name)
-last_of (Err halt) = Err halt
-
--- what is performed of it, by the answer
-pub TakingDone-performed : (l : Limits) (t : Beginning) (start now : Seen) (from done : State) (e : PageEvent) (h : PageHistory) (kept rest : List PageEvent) (r : Result (Option ShortName) Halt) (es : ComposerOf)
-    → PerformedOne l t start now done e (behind_event done.registers e h) rest r es → TakingDone l t start now from done (e ∷ []) h kept rest (last_of r) es
-TakingDone-performed l t start now from done e h kept rest (Ok name) es p = record {
-  history = behind_event done.registers e h;
-  reaches = subst (λ (there : State). Reaches l t start now there) (sprung-last name kept rest (acting done [] (behind_event done.registers e h))) p.reaches;
-  stands = p.stands;
-  few = last_left done.registers e [] h;
-  last = λ counts. last-none name kept;
-}
-TakingDone-performed l t start now from done e h kept rest (Err (Limited limit)) es p = p
-TakingDone-performed l t start now from done e h kept rest (Err Output) es p = p
-TakingDone-performed l t start now from done e h kept rest (Err Over) es p = p
-TakingDone-performed l t start now from done e h kept rest (Err Messages) es p = absurd p
-TakingDone-performed l t start now from done e h kept rest (Err (Refused limit)) es p = absurd p
-
-pub TakingDone-came : (l : Limits) (t : Beginning) (start now : Seen) (from done : State) (events : List PageEvent) (h : PageHistory) (kept rest : List PageEvent) (r : Result (Option Sprung) Halt) (es : ComposerOf)
-    → ComesTo l t start now done events h kept rest r es → TakingDone l t start now from done events h kept rest r es
-TakingDone-came l t start now from done events h kept rest (Ok sprung) es p = p
-TakingDone-came l t start now from done events h kept rest (Err (Limited limit)) es p = p
-TakingDone-came l t start now from done events h kept rest (Err Output) es p = p
-TakingDone-came l t start now from done events h kept rest (Err Over) es p = p
-TakingDone-came l t start now from done events h kept rest (Err Messages) es p = absurd p
-TakingDone-came l t start now from done events h kept rest (Err (Refused limit)) es p = absurd p
-
--- a fact is one of an answer that goes on
-pub OnOk-fact : {A F : Type 0} (r : Result A F) (P : Type 0) → P → OnOk r P
-OnOk-fact (Ok x) P fact = fact
-OnOk-fact (Err e) P fact = tt
-
--- what is performed of an event that was put back is done of its taking
-pub event_does : (event : PageEvent) (old new : Formatter) (before behind : PageUnread) (out_old out_new err : Sunk) (r : Result (Option ShortName) Halt)
-    → behind ≡ record before { input = interrupted old.reader.reading before.input }
-    → PerformsOne event old new out_old out_new r
-    → DoesTaking (event_taking old.reader.reading before.input) (event ∷ []) old new before behind (sinks out_old err) (sinks out_new err) (last_of r)
-event_does event old new before behind out_old out_new err r input performs = record {
-  became = λ l h stands ready. OnOk-fact (last_of r) _ (record {
-    input = input;
-    reading = ap (λ (s : ReaderState). s.reading) performs.reader;
-    registers = ap (λ (s : ReaderState). s.registers) performs.reader;
-    within = within-interrupted before.limits old.reader.registers.all old.reader.reading before.input ready.within;
-  });
-  does = λ t0 start failures from tape h messages phase closed rest stands ready reaches opens.
-      let done : State =
-      taken_as (event_taking old.reader.reading before.input (known_at h old.reader.registers.all before.input))
-      (going tape before.input old.reader.reading old.reader.registers.all h messages phase closed (event ∷ rest)) in
-      let allowed : first_passed before.limits (grown done) ≡ None =
-      within-interrupted before.limits old.reader.registers.all old.reader.reading before.input ready.within in
-      let step_is : step before.limits from ≡ done = opens.opens ∙ ap (λ (o : Option Limit). unless_refused before.limits o from done) allowed in
-      TakingDone-performed before.limits t0 start _ from done event h new.reader.meaning.events rest r new.composer
-      (performs.one before.limits t0 start failures err done h rest stands refl (record {
-        comes = Leads-to before.limits (initial before.limits t0.start t0.tape) from done reaches.comes step_is;
-        text = rw (← opens.wrote) reaches.text;
-        messages = rw (append-nil (messages ++ []), append-nil messages, ← opens.said) reaches.messages;
-        faults = reaches.faults;
-      }));
-}
-
--- that an event was put back is that taking
-pub event_meant : (event : PageEvent) (old : Coded)
-    → IsTaking (event_taking old.formatter.reader.reading old.unread.input) (ahead_taken (DoAhead event)) old.phase (event ∷ []) old
-event_meant event old tape h messages =
-    ap (λ (told : List ℕ). record (ahead_taken (DoAhead event) (state_at tape old h messages)) { messages = told }) (sym (append-nil messages))
-
--- the line stays where no quote follows
-pub line-interrupted : (reading : LineState) (i : PageInput) → (interrupted reading i).line ≡ i.line
-line-interrupted reading i = (Keeps-interrupted reading i).line

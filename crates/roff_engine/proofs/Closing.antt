@@ -6,7 +6,7 @@ use Rattle.roff_engine.specs.declared.halt.Halt.{Halt}
 use Rattle.roff_engine.specs.Formatter.Performing.{DoesTaking, PerformsAll, Sinks, TakingDone, going, sinks}
 use Rattle.roff_engine.specs.Engine.Outcome.{seen}
 use Rattle.roff_engine.specs.declared.sprung.Sprung.{Sprung}
-use Rattle.roff_engine.proofs.Acting.{OnOk-fact, TakingDone-came}
+use Rattle.roff_engine.proofs.EventsTaken.{OnOk-fact, TakingDone-came}
 use Rattle.roff_sinks.specs.Sinks.{Sunk}
 use Rattle.roff_reader.specs.Reader.State.{ReaderState}
 use Rattle.roff_reader.specs.Reader.Taken.{TakesAs}

@@ -26,7 +26,7 @@ use Rattle.roff_engine.specs.declared.formatter.Formatter.{Formatter}
 use Rattle.roff_engine.specs.declared.halt.Halt.{Halt}
 use Rattle.roff_engine.specs.declared.halt.Halt.TheVariants.{Limit as Limited, Refused, Over, Output, Messages}
 use Rattle.roff_engine.specs.Engine.Outcome.{Beginning, Seen, Reaches, seen}
-use Rattle.roff_engine.specs.Formatter.Performing.{EndsWordFirst, OnePerformed, Performs, PerformedOne, PerformsOne, PerformsOnly, StoppedAt, acting, behind_event}
+use Rattle.roff_engine.specs.Formatter.Performing.{EndsWordFirst, Performs, PerformedOne, PerformsOne, PerformsOnly, StoppedAt, acting, behind_event}
 use Rattle.roff_engine.specs.Formatter.Paging.{PutsFinished, PutsOnPage, ReadyFor, halted_by}
 use Rattle.roff_engine.specs.Formatter.Setting.{DoesBy, DoesOnPage, SetsOnPage, may_put}
 use Rattle.roff_engine.specs.Formatter.Sprung.{none_sprung}

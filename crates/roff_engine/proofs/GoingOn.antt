@@ -1,5 +1,5 @@
 -- A run that goes on behind events, of which one may have sprung a macro that is read.
-use Rattle.std.proofs.Common.{◌∙◌, ◌≡◌, ◌≤◌, ◌<◌, ◌+◌, ℕ, List, [], ◌∷◌, ◌++◌, length, Option, Some, None, Result, Ok, Err, ap, append-nil, arith, refl, subst, sym}
+use Rattle.std.proofs.Common.{◌∙◌, ◌≡◌, ◌≤◌, ℕ, List, length, Option, Some, None, Result, Ok, Err, ap, append-nil, arith, refl, subst, sym}
 use Rattle.std.specs.Prelude.{false, is_some, map, nat_lt}
 use Rattle.std.proofs.lemmas.Bool.{le-ltb}
 use Rattle.std.proofs.lemmas.Bool.Decides.{nat_tests}
@@ -22,7 +22,7 @@ use Rattle.roff_run.proofs.InputCounts.{NoMore, first_passed-few_names, first_pa
 use Rattle.roff_run.proofs.KeepingText.{free_ahead-called}
 use Rattle.roff_run.proofs.Leads.{Leads-to}
 use Rattle.roff_run.proofs.PutBack.{bytes_ahead-back, ends_ahead-back, free_ahead-back}
-use Rattle.roff_run.proofs.Readings.{begun-behind_return}
+use Rattle.roff_run.proofs.Behind.{begun-behind_return}
 use Rattle.roff_run.specs.Reading.Items.{PageInput, PageUnread}
 use Rattle.roff_run.specs.Reading.Returns.{back_of, in_sprung}
 use Rattle.roff_run.specs.Requests.{called_by}

@@ -8,6 +8,7 @@ pub mod DoesTakings
 pub mod Halting
 pub mod TurnsLeft
 pub mod Acting
+pub mod EventsTaken
 pub mod PuttingBack
 pub mod GoingOn
 pub mod Ending

@@ -18,7 +18,7 @@ use Rattle.roff_ahead.specs.Shown.{ShowsEnd, ShowsRefusal}
 use Rattle.roff_scan.specs.Unread.Calls.{PassesEnd, PassesReturn, Takes}
 use Rattle.roff_run.specs.Reading.Items.{PageUnread}
 use Rattle.roff_run.specs.Reading.Returns.{behind_return}
-use Rattle.roff_run.proofs.Readings.{begun-behind_return}
+use Rattle.roff_run.proofs.Behind.{begun-behind_return}
 use Rattle.roff_run.specs.Reading.Ends.{due}
 use Rattle.roff_run.specs.Reading.Items.{PageInput}
 use Rattle.roff_run.specs.Registers.{AllRegisters}

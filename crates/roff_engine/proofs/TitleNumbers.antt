@@ -1,12 +1,12 @@
 -- The page's number as a title prints it: it has a byte or more, and none is a blank; and how wide a part may be with it.
-use Rattle.std.proofs.Common.{◌≡◌, ℕ, zero, suc, ◌+◌, ◌-◌, ◌*◌, ◌<◌, ◌≤◌, ◌^◌, Bool, true, false, ◌&&◌, List, [], ◌∷◌, ◌++◌, length, map, replicate, cond, refl, sym, ap, subst, ◌∙◌, w32, FitsSigned, arith, length-append}
-use Rattle.std.specs.Prelude.{ℤ, pos, negsuc, codes, nat_le, nat_lt, min, ◌/◌, ◌%◌, ◌==◌, if◌then◌else◌}
+use Rattle.std.proofs.Common.{◌≡◌, ℕ, zero, suc, ◌+◌, ◌-◌, ◌*◌, ◌<◌, ◌≤◌, ◌^◌, Bool, true, false, ◌&&◌, List, [], ◌∷◌, ◌++◌, length, replicate, refl, w32, FitsSigned, arith, length-append}
+use Rattle.std.specs.Prelude.{ℤ, pos, negsuc, codes, nat_le, min, ◌/◌, ◌%◌, ◌==◌, if◌then◌else◌}
 use Rattle.std.specs.List.{AllByRecursion}
 use Rattle.std.specs.Char.{to_ascii_uppercase}
 use Rattle.std.specs.Fmt.{decimal}
 use Rattle.std.specs.Str.{str_to_ascii_uppercase}
 use Rattle.std.specs.Str.Parse.{AllDigits}
-use Rattle.std.proofs.lemmas.Bool.{cases_Bool, and_parts}
+use Rattle.std.proofs.lemmas.Bool.{and_parts}
 use Rattle.std.proofs.lemmas.Bool.Decides.{nat_tests}
 use Rattle.std.proofs.lemmas.Fmt.{decimal_is_IsNumeral}
 use Rattle.std.proofs.lemmas.List.{length-map}
@@ -16,7 +16,7 @@ use Rattle.roff_num.specs.RegisterText.{alphabetic_text, decimal_field, register
 use Rattle.roff_num.specs.Roman.{digit_of, hundreds, ones, roman, roman_value, tens, thousands}
 use Rattle.roff_num.specs.declared.format.Format.{Format}
 use Rattle.roff_num.specs.declared.format.Format.TheVariants.{Decimal, RomanLower, RomanUpper, AlphaLower, AlphaUpper}
-use Rattle.roff_num.proofs.Fields.{AllDigits-decimal_field, digits_value-decimal_field}
+use Rattle.roff_num.proofs.Fields.{AllDigits-decimal_field}
 use Rattle.roff_num.proofs.Listing.{IsOverLetters-word, place-word}
 use Rattle.roff_num.proofs.RomanValues.{roman_value-roman}
 use Rattle.roff_lines.specs.Glyphs.{glyph_blank, text_width}

@@ -21,7 +21,6 @@ use Rattle.roff_escape.specs.declared.open_escape.Found.TheVariants.{GoesOn, Uni
 use Rattle.roff_escape.specs.declared.open_escape.Surroundings.TheVariants.{Text as AboveText}
 use Rattle.roff_ahead.specs.Input.{Ahead, ByteAhead, bytes_taken, lines_taken}
 use Rattle.roff_scan.specs.Looking.{is_closed, looked_then}
-use Rattle.roff_scan.specs.Unread.{input_refusal}
 use Rattle.roff_scan.specs.Unread.Calls.{OfSource, OfTexts, PassesFront}
 use Rattle.roff_scan.specs.declared.looked.Looked.{Looked}
 use Rattle.roff_run.proofs.InputCounts.{NoMore-item_taken, first_passed-few_names, first_passed-no_more}
@@ -37,10 +36,10 @@ use Rattle.roff_run.specs.Reading.Found.{read_in}
 use Rattle.roff_run.specs.Reading.Items.{PageInput, PageUnread, Taking, going_on}
 use Rattle.roff_run.specs.Reading.Titles.{bytes_for, is_page_character, part_taking, title_byte, title_ended}
 use Rattle.roff_run.specs.Registers.{AllRegisters, Known, TitleGets, changed_by}
-use Rattle.roff_run.specs.Registers.Capped.{Capped, with_change}
+use Rattle.roff_run.specs.Registers.Capped.{with_change}
 use Rattle.roff_run.specs.Run.{Leads, State, byte_taken, known_at, made, step, taken_as, unless_refused}
 use Rattle.roff_run.specs.Run.Counts.{counts_in, first_passed}
-use Rattle.roff_run.specs.TitleTexts.{TitleText, title_length, with_bytes}
+use Rattle.roff_run.specs.TitleTexts.{TitleText, title_length}
 use Rattle.roff_run.specs.TurnsToCome.{turns_within}
 use Rattle.roff_run.specs.declared.line_state.LineState.{LineState}
 use Rattle.roff_run.specs.declared.line_state.LineState.TheVariants.{Title as InTitle}
@@ -51,12 +50,12 @@ use Rattle.roff_reader.proofs.PrintedRuns.{counted-behind, turns-counted}
 use Rattle.roff_reader.proofs.TakesAs.{few_names_in}
 use Rattle.roff_reader.proofs.TurnedRuns.{counted-bytes_taken}
 use Rattle.roff_reader.specs.Reader.State.{ReaderState}
-use Rattle.roff_reader.specs.Reader.Titles.{ReadsTitle, TakesNone, TitleBytes}
+use Rattle.roff_reader.specs.Reader.Titles.{ReadsTitle, TitleBytes}
 use Rattle.roff_engine.specs.declared.formatter.Formatter.{Formatter}
 use Rattle.roff_engine.specs.declared.running.Running.{Running as Coded}
 use Rattle.roff_engine.specs.Engine.Outcome.{Beginning, Seen, seen}
 use Rattle.roff_engine.specs.Formatter.Performing.{going}
-use Rattle.roff_engine.specs.Running.Turning.{GoesPast, IsAt, state_at, turns_of_run}
+use Rattle.roff_engine.specs.Running.Turning.{GoesPast, IsAt, turns_of_run}
 use Rattle.roff_engine.proofs.Passing.{IsAt-leads, goes_past_fewer}
 use Rattle.roff_engine.proofs.TurnsLeft.{turns_of_run-no_more}
 

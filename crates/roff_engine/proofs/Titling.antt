@@ -1,9 +1,8 @@
 -- Titles that are placed: they are the definition's, with the text, the title length and the number of then.
-use Rattle.std.proofs.Common.{◌≡◌, ◌∙◌, ℕ, ◌+◌, ◌*◌, ◌<◌, ◌≤◌, ◌^◌, List, length, Option, Some, Result, ap, arith, refl, subst, sym}
+use Rattle.std.proofs.Common.{◌≡◌, ◌∙◌, ℕ, ◌+◌, ◌*◌, ◌<◌, ◌≤◌, ◌^◌, List, length, Option, Some, Result, ap, arith, subst, sym}
 use Rattle.std.proofs.lemmas.Nat.{mul-le}
 use Rattle.roff_num.specs.RegisterText.{register_text}
 use Rattle.roff_num.specs.declared.limits.Limits.{Limits}
-use Rattle.roff_lines.specs.Events.{settings_after}
 use Rattle.roff_lines.specs.Glyphs.{text_width}
 use Rattle.roff_lines.specs.declared.settings.Settings.{Settings}
 use Rattle.roff_pages.specs.Happenings.{Happening, Titles}
@@ -15,11 +14,11 @@ use Rattle.roff_requests.specs.Composer.Standing.{StandFor}
 use Rattle.roff_requests.specs.Environments.Standing.{StandBy}
 use Rattle.roff_requests.specs.declared.environments.Environments.{Environments as EnvironmentsOf}
 use Rattle.roff_reader.specs.Reader.State.{ReaderState}
-use Rattle.roff_run.specs.Environments.{PageHistory, environments, text_of}
+use Rattle.roff_run.specs.Environments.{PageHistory, environments}
 use Rattle.roff_run.specs.Layouts.{happens, layout_of}
 use Rattle.roff_run.specs.PageEvents.{PastEvent}
 use Rattle.roff_run.specs.Registers.{AllRegisters}
-use Rattle.roff_run.specs.Run.Counts.{first_passed, refusal, written_counted}
+use Rattle.roff_run.specs.Run.Counts.{first_passed, written_counted}
 use Rattle.roff_run.specs.TitleTexts.{TitleText}
 use Rattle.roff_run.specs.Titles.{title_of, title_told}
 use Rattle.roff_run.specs.declared.event.PageEvent.TheVariants.{Title}

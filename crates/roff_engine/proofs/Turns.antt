@@ -32,7 +32,7 @@ use Rattle.roff_sinks.specs.Sinks.{Sunk, Puts}
 use Rattle.roff_engine.proofs.Calls.{EndsThere, EndsThere-takes, Leaves, Leaves-takes}
 use Rattle.roff_engine.proofs.Items.{end_passed, moved, return_passed, returned, note_told, refused, source_failed, source_stopped, took}
 use Rattle.roff_run.proofs.InFront.{Given-asked, IsEnding, in_front, items_asked, over_unread, over_unread-ending, shown_step}
-use Rattle.roff_run.proofs.Readings.{begun-behind_return}
+use Rattle.roff_run.proofs.Behind.{begun-behind_return}
 use Rattle.roff_run.proofs.TurnsToCome.{IsTaken, turns_to_come-taking, turns_within-byte}
 use Rattle.roff_requests.specs.Composer.Standing.{StandFor}
 use Rattle.roff_engine.proofs.TurnsLeft.{input_ends-fewer, turns_at-fewer, turns_at-run, turns_of_run-fewer}

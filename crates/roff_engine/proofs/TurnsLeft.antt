@@ -21,7 +21,8 @@ use Rattle.roff_run.specs.declared.line_state.LineState.TheVariants.{LineStart, 
 use Rattle.roff_run.specs.declared.line_state.TextLine.{TextLine}
 use Rattle.roff_run.specs.declared.phase.Phase.{Phase}
 use Rattle.roff_run.specs.declared.phase.Phase.TheVariants.{Reading, LastMacro, Closing}
-use Rattle.roff_run.proofs.Keeping.{AtBrace, AtStart, Keeps-end_taking, Keeps-last_called, LineEnded, Within, line_ended, unended-few}
+use Rattle.roff_run.proofs.Keeping.{Keeps-end_taking, Keeps-last_called}
+use Rattle.roff_run.proofs.LinesEnded.{AtBrace, AtStart, LineEnded, Within, line_ended, unended-few}
 use Rattle.roff_run.proofs.TurnsToCome.{turns_within-escape_ended}
 
 -- an interrupted line counts where one is to go on

@@ -1,10 +1,13 @@
 pub mod Leads
 pub mod Readings
+pub mod Behind
 pub mod MarkEnds
 pub mod KeepingText
 pub mod KeepingLines
 pub mod KeepingTitles
+pub mod KeepingNames
 pub mod Keeping
+pub mod LinesEnded
 pub mod NumberedRequests
 pub mod InputCounts
 pub mod TurnsToCome

@@ -17,7 +17,8 @@ use Rattle.roff_run.specs.Requests.{PageEvent}
 use Rattle.roff_run.specs.declared.line_state.LineState.{LineState}
 use Rattle.roff_run.specs.TurnsToCome.{begun, endings_of, turns_within, turns_to_come}
 use Rattle.roff_run.proofs.EscapeCounts.{some_ending}
-use Rattle.roff_run.proofs.Keeping.{KeepsTwoMore, Keeps-taking, Keeps-escape_ended}
+use Rattle.roff_run.proofs.KeepingNames.{KeepsTwoMore}
+use Rattle.roff_run.proofs.Keeping.{Keeps-taking, Keeps-escape_ended}
 
 -- a call took a byte, the end of a text or of a body, or an event
 abbrev pub IsTaken : Shown PageEvent → Type 0

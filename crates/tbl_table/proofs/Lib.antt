@@ -5,6 +5,7 @@ pub mod RowTexts
 pub mod LinesLeft
 pub mod OutputLeft
 pub mod TableFits
+pub mod DataFits
 pub mod TableReads
 pub mod TableOptions
 pub mod RowsBehind

@@ -23,7 +23,7 @@ use Rattle.tbl_table.specs.declared.phase.Phase.TheVariants.{InData}
 use Rattle.tbl_layout.specs.Data.{judged}
 use Rattle.tbl_table.proofs.FewNotes.{judged-none}
 use Rattle.tbl_table.proofs.RowTexts.{Holds-longer}
-use Rattle.tbl_table.proofs.TableFits.{columns-same, has-rows}
+use Rattle.tbl_table.proofs.DataFits.{columns-same, has-rows}
 use Rattle.tbl_table.proofs.TableReads.{texts-stay}
 
 -- columns that are not too wide

@@ -1,8 +1,7 @@
--- The parts of a table hold together behind each line.
-use Rattle.std.proofs.Common.{◌≡◌, ℕ, ◌+◌, ◌-◌, ◌<◌, ◌≤◌, true, false, List, [], ◌∷◌, ◌++◌, length, map, take, Option, Some, None, refl, sym, ap, subst, ◌∙◌, arith, length-append}
-use Rattle.std.proofs.lemmas.List.{length-replicate, length-take}
+-- The parts of a table hold together in front of its first line, behind more bytes, and behind each line but those of its data.
+use Rattle.std.proofs.Common.{◌≡◌, ℕ, ◌+◌, ◌-◌, ◌<◌, ◌≤◌, true, false, List, [], ◌∷◌, ◌++◌, length, Option, Some, None, refl, sym, ap, subst, ◌∙◌, arith, length-append}
+use Rattle.std.proofs.lemmas.List.{length-replicate}
 use Rattle.std.specs.Prelude.{is_some}
-use Rattle.std.specs.List.{slice_range}
 use Rattle.roff_source.specs.Bytes.{newline}
 use Rattle.tbl_table.specs.Begun.{FewKeys, begun_in}
 use Rattle.tbl_layout.specs.Format.{Format, no_format}
@@ -10,18 +9,13 @@ use Rattle.tbl_layout.specs.FormatRows.{KeptFormat, key_count, keeping}
 use Rattle.tbl_table.specs.Joined.{Joined, behind_joined}
 use Rattle.tbl_table.specs.Kept.{HasEnd, HasRooms, KeysFit, NotesFit, PartsFit, PhaseFits, RowsFit, TextFits, faults, opened}
 use Rattle.tbl_layout.specs.Notes.{IsWithin, NotesWithin, ignored_message, told_at, told_of, told_of_all}
-use Rattle.tbl_layout.specs.Data.{kept_fields}
-use Rattle.tbl_layout.specs.Pieces.{fields_from}
-use Rattle.tbl_table.specs.Steps.{fault_noted, is_front, notes_judged, phase_behind, phase_judged, rows_judged, rows_started, with_cause}
+use Rattle.tbl_table.specs.Steps.{fault_noted, is_front, phase_behind, rows_started, with_cause}
 use Rattle.tbl_table.specs.Table.{is_bad_phase}
 use Rattle.tbl_table.specs.TableNotes.{KeptNotes, no_notes}
-use Rattle.tbl_table.specs.TableRows.{Holds, KeptRows, fields_of, starting, with_fields}
-use Rattle.tbl_table.specs.TableText.{KeptText, no_text, text_closed, text_ended, text_joined}
+use Rattle.tbl_table.specs.TableRows.{KeptRows, fields_of, starting}
+use Rattle.tbl_table.specs.TableText.{KeptText, no_text, text_ended}
 use Rattle.tbl_table.specs.declared.begun.Begun.{Begun}
 use Rattle.tbl_table.specs.declared.begun.Begun.TheVariants.{Front, Keys, Nothing}
-use Rattle.tbl_layout.specs.declared.data.Field.{Field}
-use Rattle.tbl_layout.specs.declared.data.Judged.{Judged}
-use Rattle.tbl_layout.specs.declared.data.Judged.TheVariants.{Refused, Row}
 use Rattle.tbl_layout.specs.declared.format.FormatPlace.{FormatPlace}
 use Rattle.tbl_layout.specs.declared.format.FormatPlace.TheVariants.{AtEnd, AtFault, InRows}
 use Rattle.tbl_layout.specs.declared.limits.TblLimits.{TblLimits}
@@ -31,7 +25,7 @@ use Rattle.tbl_layout.specs.declared.notes.KeptNote.{KeptNote}
 use Rattle.tbl_table.specs.declared.phase.Phase.{Phase}
 use Rattle.tbl_table.specs.declared.phase.Phase.TheVariants.{AtHead, Bad, InData, InFormat}
 use Rattle.tbl_layout.proofs.Parts.{slice_range-append}
-use Rattle.tbl_table.proofs.RowTexts.{Holds-line, Holds-longer, Holds-start, length-widened}
+use Rattle.tbl_table.proofs.RowTexts.{Holds-longer, Holds-start}
 
 -- options within a text are within a longer one
 pub IsWithin-more : (len more : ℕ) (cause : Cause) → len ≤ more → IsWithin len cause → IsWithin more cause
@@ -63,6 +57,10 @@ told-longer block more [] within = refl
 told-longer block more (note ∷ notes) within =
     ap (λ t. t ∷ told_of_all (block ++ more) notes) (told_of-longer block more note.line note.cause within.0)
     ∙ ap (λ ts. told_of block note ∷ ts) (told-longer block more notes within.1)
+
+-- what was read is longer by a line and its newline, where the line is done
+pub ended-read : (text : KeptText) → length (text_ended text).read ≡ length text.read + length text.line + 1
+ended-read text = omega (arith, length-append (text.read ++ text.line) (newline ∷ []), length-append text.read text.line)
 
 -- more keys may be counted than there are
 pub FewKeys-more : (most more : ℕ) (begun : Begun) → most ≤ more → FewKeys most begun → FewKeys more begun
@@ -96,14 +94,14 @@ some-none : (pending : Option Joined) → pending ≡ None → is_some pending �
 some-none None is some = absurd (cc)
 some-none (Some j) is some = absurd (cc)
 
-open-by : (phase : Phase) (settled : List ℕ) (pending : Option Joined) (f : Format) (rows : KeptRows) (notes : KeptNotes)
+pub open-by : (phase : Phase) (settled : List ℕ) (pending : Option Joined) (f : Format) (rows : KeptRows) (notes : KeptNotes)
     → PhaseFits phase settled pending f rows notes → is_some pending ≡ true → phase ≡ InData
 open-by AtHead settled pending f rows notes fits some = absurd (some-none pending fits.alone some)
 open-by InFormat settled pending f rows notes fits some = absurd (some-none pending fits.0 some)
 open-by InData settled pending f rows notes fits some = refl
 open-by Bad settled pending f rows notes fits some = absurd (some-none pending fits some)
 
-behind-len : (pending : Option Joined) (line : List ℕ) → length (behind_joined pending line) ≡ length (behind_joined pending []) + length line
+pub behind-len : (pending : Option Joined) (line : List ℕ) → length (behind_joined pending line) ≡ length (behind_joined pending []) + length line
 behind-len None line = omega arith
 behind-len (Some j) line = omega (arith, length-append j.bytes line, length-append j.bytes [])
 
@@ -199,17 +197,14 @@ module _ (l : TblLimits) (phase : Phase) (begun : Begun) (text : KeptText) (form
       (FewKeys-more (l.columns + length text.line) (l.columns + length text.line + length more) begun (omega arith) fits.keys.few)
 
   -- behind the newline of a line that is done
-  ended-read : length (text_ended text).read ≡ length text.read + length text.line + 1
-  ended-read = omega (arith, length-append (text.read ++ text.line) (newline ∷ []), length-append text.read text.line)
-
   pub whole-len : length text.settled + length (behind_joined text.pending text.line) ≤ length text.read + length text.line
   whole-len = omega (arith, behind-len text.pending text.line, fits.bytes.block, length-append text.settled (behind_joined text.pending []))
 
-  text-ends : length (text.read ++ text.line) < l.text → TextFits l (text_ended text).settled None [] (text_ended text).read
+  pub text-ends : length (text.read ++ text.line) < l.text → TextFits l (text_ended text).settled None [] (text_ended text).read
   text-ends room = record {
-    few = omega (arith, room, ended-read, length-append text.read text.line);
-    most = omega (arith, room, ended-read, length-append text.read text.line);
-    block = omega (arith, ended-read, whole-len, length-append (text_ended text).settled [], length-append text.settled (behind_joined text.pending text.line ++ newline ∷ []), length-append (behind_joined text.pending text.line) (newline ∷ []));
+    few = omega (arith, room, ended-read text, length-append text.read text.line);
+    most = omega (arith, room, ended-read text, length-append text.read text.line);
+    block = omega (arith, ended-read text, whole-len, length-append (text_ended text).settled [], length-append text.settled (behind_joined text.pending text.line ++ newline ∷ []), length-append (behind_joined text.pending text.line) (newline ∷ []));
   }
 
   pub longer-settled : length text.settled ≤ length (text_ended text).settled
@@ -241,15 +236,15 @@ module _ (l : TblLimits) (phase : Phase) (begun : Begun) (text : KeptText) (form
     keys-keys p = record {
       is = refl;
       few = few-start (l.columns + 0) p g row (omega (arith, columns));
-      keys = omega (arith, keys, ended-read);
-      asked = omega (arith, asked, ended-read);
+      keys = omega (arith, keys, ended-read text);
+      asked = omega (arith, asked, ended-read text);
       columns = columns;
       ended = ended;
     }
 
     rows-same : RowsFit l (text_ended text).settled None (text_ended text).read rows
     rows-same = record {
-      few = omega (arith, no_rows, ended-read);
+      few = omega (arith, no_rows, ended-read text);
       most = omega (arith, no_rows);
       fields = omega (arith, no_fields);
       holds = Holds-longer text.settled (behind_joined text.pending text.line ++ newline ∷ []) rows fits.kept.holds;
@@ -257,7 +252,7 @@ module _ (l : TblLimits) (phase : Phase) (begun : Begun) (text : KeptText) (form
 
     rows-none : RowsFit l (text_ended text).settled None (text_ended text).read (starting rows (length g.asked))
     rows-none = record {
-      few = omega (arith, ended-read);
+      few = omega (arith, ended-read text);
       most = omega arith;
       fields = omega arith;
       holds = Holds-start (text_ended text).settled (starting rows (length g.asked)) (length g.asked) refl refl;
@@ -265,14 +260,14 @@ module _ (l : TblLimits) (phase : Phase) (begun : Begun) (text : KeptText) (form
 
     notes-same : (p : Phase) → NotesFit (text_ended text).settled None (text_ended text).read p kept.notes kept.to_tell
     notes-same p = record {
-      few = omega (arith, few, ended-read);
+      few = omega (arith, few, ended-read text);
       within = within;
       telling = to_tell;
     }
 
     notes-fault : NotesFit (text_ended text).settled None (text_ended text).read Bad (with_cause number BadFormat kept).notes kept.to_tell
     notes-fault = record {
-      few = omega (arith, few, ended-read, length-append kept.notes (record { line = number; cause = BadFormat } ∷ []));
+      few = omega (arith, few, ended-read text, length-append kept.notes (record { line = number; cause = BadFormat } ∷ []));
       within = NotesWithin-append (length (text_ended text).settled) kept.notes (record { line = number; cause = BadFormat }) tt within;
       telling = to_tell;
     }
@@ -314,210 +309,24 @@ module _ (l : TblLimits) (phase : Phase) (begun : Begun) (text : KeptText) (form
         keys = record {
           is = fits.keys.is ∙ ap (λ (p : Phase). begun_in p format.format text.line) is ∙ ap (λ (p : Phase). begun_in p format.format []) (sym is);
           few = subst (λ (b : Begun). FewKeys (l.columns + 0) b) (sym (fits.keys.is ∙ ap (λ (p : Phase). begun_in p format.format text.line) is)) tt;
-          keys = omega (arith, fits.keys.keys, ended-read);
-          asked = omega (arith, fits.keys.asked, ended-read);
+          keys = omega (arith, fits.keys.keys, ended-read text);
+          asked = omega (arith, fits.keys.asked, ended-read text);
           columns = fits.keys.columns;
           ended = fits.keys.ended;
         };
         messages = record {
-          few = omega (arith, fits.messages.few, ended-read);
+          few = omega (arith, fits.messages.few, ended-read text);
           within = NotesWithin-more (length text.settled) (length (text_ended text).settled) notes.notes longer-settled fits.messages.within;
           telling = NotesWithin-more (length text.settled) (length (text_ended text).settled) notes.to_tell longer-settled fits.messages.telling;
         };
         kept = record {
-          few = omega (arith, fits.kept.few, ended-read);
+          few = omega (arith, fits.kept.few, ended-read text);
           most = omega (arith, fits.kept.most);
           fields = omega (arith, fits.kept.fields, longer-settled);
           holds = Holds-longer text.settled (behind_joined text.pending text.line ++ newline ∷ []) rows fits.kept.holds;
         };
         by_phase = subst (λ (p : Phase). PhaseFits p (text_ended text).settled None format.format rows notes) (sym is) refl;
       }
-
-  -- a line that goes on is one of the data
-  pub open-data : is_some text.pending ≡ true → phase ≡ InData
-  open-data some = open-by phase text.settled text.pending format.format rows notes fits.by_phase some
-
-  -- in the data
-  module _ (is : phase ≡ InData) where
-    begun-none : begun ≡ Nothing
-    begun-none = fits.keys.is ∙ ap (λ (p : Phase). begun_in p format.format text.line) is
-
-    data-phase : (length rows.widths ≡ length format.format.asked) × (0 < length format.format.rows)
-    data-phase = subst (λ (p : Phase). PhaseFits p text.settled text.pending format.format rows notes) is fits.by_phase
-
-    pub columns-same : length rows.widths ≡ length format.format.asked
-    columns-same = (data-phase).0
-
-    pub has-rows : 0 < length format.format.rows
-    has-rows = (data-phase).1
-
-    pub no-fault : faults phase ≡ 0
-    no-fault = ap faults is
-
-    pub data-keys : (read line : List ℕ) (p : Phase) → length text.read ≤ length read → Nothing ≡ begun_in p format.format line
-        → KeysFit l read line p begun format.format
-    data-keys read line p more none = record {
-      is = begun-none ∙ none;
-      few = subst (λ (b : Begun). FewKeys (l.columns + length line) b) (sym begun-none) tt;
-      keys = omega (arith, fits.keys.keys, more);
-      asked = omega (arith, fits.keys.asked, more);
-      columns = fits.keys.columns;
-      ended = fits.keys.ended;
-    }
-
-    -- a line goes on
-    pub join-fits : (number : ℕ) → 0 < length text.line → length (text.read ++ text.line) < l.text → length rows.rows ≤ l.rows
-        → PartsFit l phase begun (text_joined number text) format rows notes
-    join-fits number some room few =
-        let bytes = behind_joined text.pending (take (length text.line - 1) text.line) in
-        record {
-          rooms = fits.rooms;
-          bytes = record {
-            few = omega (arith, room, ended-read, length-append text.read text.line);
-            most = omega (arith, room, ended-read, length-append text.read text.line);
-            block = omega (arith, ended-read, fits.bytes.block, length-append text.settled (behind_joined text.pending []), length-append text.settled (bytes ++ []), length-append bytes [], behind-len text.pending (take (length text.line - 1) text.line), length-take (length text.line - 1) text.line);
-          };
-          keys = subst (λ (p : Phase). KeysFit l (text_joined number text).read [] p begun format.format) (sym is) (data-keys (text_joined number text).read [] InData (omega (arith, ended-read)) refl);
-          messages = record {
-            few = omega (arith, fits.messages.few, no-fault, ended-read);
-            within = fits.messages.within;
-            telling = fits.messages.telling;
-          };
-          kept = record {
-            few = omega (arith, fits.kept.few, ended-read);
-            most = omega (arith, few);
-            fields = fits.kept.fields;
-            holds = fits.kept.holds;
-          };
-          by_phase = subst (λ (p : Phase). PhaseFits p text.settled (text_joined number text).pending format.format rows notes) (sym is) (columns-same, has-rows);
-        }
-
-    -- a whole line is done, of which this is the row
-    module _ (new : KeptText) (more : List ℕ) (separator from to line : ℕ) (settled : new.settled ≡ text.settled ++ more) (done : new.pending ≡ None) (same_room : new.text_room ≡ text.text_room) (text_fits : TextFits l new.settled new.pending new.line new.read) (longer : length text.read ≤ length new.read) (noted : length notes.notes + 1 ≤ length new.read) (counted : length rows.rows + 1 ≤ length new.read) (limit : length rows.rows ≤ l.rows) (order : from ≤ to) (in_block : to ≤ length new.settled) (behind : to - from + length text.settled ≤ length new.settled) where
-      abbrev fields-new : List Field
-      fields-new = fields_from from (kept_fields separator (length rows.widths) (slice_range new.settled from to))
-
-      holds-same : Holds new.settled rows
-      holds-same = subst (λ (b : List ℕ). Holds b rows) (sym settled) (Holds-longer text.settled more rows fits.kept.holds)
-
-      settled-longer : length text.settled ≤ length new.settled
-      settled-longer = omega (arith, ap (λ (b : List ℕ). length b) settled, length-append text.settled more)
-
-      none-open : opened new.pending ≡ 0
-      none-open = ap opened done
-
-      notes-within : NotesWithin (length new.settled) notes.notes
-      notes-within = NotesWithin-more (length text.settled) (length new.settled) notes.notes settled-longer fits.messages.within
-
-      to_tell-within : NotesWithin (length new.settled) notes.to_tell
-      to_tell-within = NotesWithin-more (length text.settled) (length new.settled) notes.to_tell settled-longer fits.messages.telling
-
-      rooms-new : HasRooms l new.text_room format.key_room format.column_room rows.field_room rows.row_room rows.column_room notes.note_room
-      rooms-new = record {
-        text = same_room ∙ fits.rooms.text;
-        keys = fits.rooms.keys;
-        columns = fits.rooms.columns;
-        fields = fits.rooms.fields;
-        rows = fits.rooms.rows;
-        widths = fits.rooms.widths;
-        notes = fits.rooms.notes;
-        small = fits.rooms.small;
-        narrow = fits.rooms.narrow;
-        wide = fits.rooms.wide;
-      }
-
-      rows-refused : RowsFit l new.settled new.pending new.read rows
-      rows-refused = record {
-        few = omega (arith, counted, none-open);
-        most = omega (arith, limit, none-open);
-        fields = omega (arith, fits.kept.fields, settled-longer);
-        holds = holds-same;
-      }
-
-      rows-more : fields_of (with_fields rows fields-new).rows ≤ fields_of rows.rows + (to - from) + 1
-          → RowsFit l new.settled new.pending new.read (with_fields rows fields-new)
-      rows-more few = record {
-        few = omega (arith, counted, none-open, length-append rows.rows (fields-new ∷ []));
-        most = omega (arith, limit, none-open, length-append rows.rows (fields-new ∷ []));
-        fields = omega (arith, few, fits.kept.fields, behind, length-append rows.rows (fields-new ∷ []));
-        holds = Holds-line new.settled rows separator from to order in_block holds-same;
-      }
-
-      notes-kept : NotesFit new.settled new.pending new.read InData notes.notes notes.to_tell
-      notes-kept = record {
-        few = omega (arith, noted, none-open);
-        within = notes-within;
-        telling = to_tell-within;
-      }
-
-      notes-more : (p : Phase) (cause : Cause) → IsWithin (length new.settled) cause
-          → NotesFit new.settled new.pending new.read p (with_cause line cause notes).notes notes.to_tell
-      notes-more p cause within = record {
-        few = omega (arith, noted, none-open, length-append notes.notes (record { line = line; cause = cause } ∷ []));
-        within = NotesWithin-append (length new.settled) notes.notes (record { line = line; cause = cause }) within notes-within;
-        telling = to_tell-within;
-      }
-
-      columns-new : length (with_fields rows fields-new).widths ≡ length format.format.asked
-      columns-new = length-widened rows.widths (map (λ (field : Field). field.width) fields-new) ∙ columns-same
-
-      pub row-fits : (judged : Judged) → fields_of (rows_judged judged fields-new rows).rows ≤ fields_of rows.rows + (to - from) + 1
-          → PartsFit l (phase_judged judged) begun new format (rows_judged judged fields-new rows) (notes_judged judged line notes)
-      row-fits (Refused place) few = record {
-        rooms = rooms-new;
-        bytes = text_fits;
-        keys = data-keys new.read new.line Bad longer refl;
-        messages = notes-more Bad BadFormat tt;
-        kept = rows-refused;
-        by_phase = done;
-      }
-      row-fits (Row None) few = record {
-        rooms = rooms-new;
-        bytes = text_fits;
-        keys = data-keys new.read new.line InData longer refl;
-        messages = notes-kept;
-        kept = rows-more few;
-        by_phase = (columns-new, has-rows);
-      }
-      row-fits (Row (Some place)) few = record {
-        rooms = rooms-new;
-        bytes = text_fits;
-        keys = data-keys new.read new.line InData longer refl;
-        messages = notes-more InData TooManyFields tt;
-        kept = rows-more few;
-        by_phase = (columns-new, has-rows);
-      }
-
-    -- it ends with its newline, or as it goes on no more
-    module _ (separator from to line : ℕ) (from_is : from ≡ length text.settled) where
-      pub end_row-fits : to ≡ length text.settled + length (behind_joined text.pending text.line) → length (text.read ++ text.line) < l.text → length rows.rows ≤ l.rows
-          → (judged : Judged)
-          → fields_of (rows_judged judged (fields_from from (kept_fields separator (length rows.widths) (slice_range (text_ended text).settled from to))) rows).rows ≤ fields_of rows.rows + (to - from) + 1
-          → PartsFit l (phase_judged judged) begun (text_ended text) format
-          (rows_judged judged (fields_from from (kept_fields separator (length rows.widths) (slice_range (text_ended text).settled from to))) rows) (notes_judged judged line notes)
-      end_row-fits to_is room limit judged few =
-          let whole = behind_joined text.pending text.line in
-          let len : length (text_ended text).settled ≡ length text.settled + length whole + 1 =
-          omega (arith, length-append text.settled (whole ++ newline ∷ []), length-append whole (newline ∷ [])) in
-          row-fits (text_ended text) (whole ++ newline ∷ []) separator from to line refl refl refl (text-ends room) (omega (arith, ended-read))
-          (omega (arith, fits.messages.few, no-fault, ended-read)) (omega (arith, fits.kept.few, ended-read)) limit (omega (arith, from_is, to_is)) (omega (arith, to_is, len))
-          (omega (arith, from_is, to_is, len)) judged few
-
-      pub close_row-fits : to ≡ length text.settled + length (behind_joined text.pending []) → opened text.pending ≡ 1 → (judged : Judged)
-          → fields_of (rows_judged judged (fields_from from (kept_fields separator (length rows.widths) (slice_range (text_closed text).settled from to))) rows).rows ≤ fields_of rows.rows + (to - from) + 1
-          → PartsFit l (phase_judged judged) begun (text_closed text) format
-          (rows_judged judged (fields_from from (kept_fields separator (length rows.widths) (slice_range (text_closed text).settled from to))) rows) (notes_judged judged line notes)
-      close_row-fits to_is one judged few =
-          let begun_line = behind_joined text.pending [] in
-          let len : length (text_closed text).settled ≡ length text.settled + length begun_line = length-append text.settled begun_line in
-          let bytes : TextFits l (text_closed text).settled None text.line text.read = record {
-            few = fits.bytes.few;
-            most = fits.bytes.most;
-            block = omega (arith, fits.bytes.block, length-append (text_closed text).settled []);
-          } in
-          row-fits (text_closed text) begun_line separator from to line refl refl refl bytes (omega arith)
-          (omega (arith, fits.messages.few, no-fault, one)) (omega (arith, fits.kept.few, one)) (omega (arith, fits.kept.most, one)) (omega (arith, from_is, to_is)) (omega (arith, to_is, len))
-          (omega (arith, from_is, to_is, len)) judged few
 
 -- a table without a line
 pub start-fits : (l : TblLimits) (text keys columns note_room : ℕ) (rows : KeptRows)

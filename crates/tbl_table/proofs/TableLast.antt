@@ -29,7 +29,8 @@ use Rattle.tbl_table.specs.declared.phase.Phase.{Phase}
 use Rattle.tbl_table.specs.declared.phase.Phase.TheVariants.{Bad, InData, InFormat}
 use Rattle.tbl_table.proofs.JudgedPlaces.{IsJudgedBefore, judged-before, line_at-last}
 use Rattle.tbl_table.proofs.RowTexts.{Holds-longer}
-use Rattle.tbl_table.proofs.TableFits.{NotesWithin-append, NotesWithin-more, columns-same, data-keys, few-start, has-rows, no-fault, whole-len}
+use Rattle.tbl_table.proofs.DataFits.{columns-same, data-keys, has-rows, no-fault}
+use Rattle.tbl_table.proofs.TableFits.{NotesWithin-append, NotesWithin-more, few-start, whole-len}
 
 module _ (l : TblLimits) (phase : Phase) (begun : Begun) (text : KeptText) (format : KeptFormat) (rows : KeptRows) (notes : KeptNotes) (fits : PartsFit l phase begun text format rows notes) (room : length (text.read ++ text.line) ≤ l.text) where
   whole-read : length (text_whole text).read ≡ length text.read + length text.line

@@ -1,4 +1,4 @@
-use Rattle.std.proofs.Common.{◌≡◌, ◌<◌, ℕ, List, length, FitsSigned, ap, rules, subst, sym, w32, ◌∙◌}
+use Rattle.std.proofs.Common.{◌<◌, ℕ, List, length, FitsSigned, ap, rules, subst, sym, w32, ◌∙◌}
 use Rattle.roff_num.specs.RegisterText.{register_text}
 use Rattle.roff_num.specs.declared.format.Format.{Format}
 use Rattle.roff_num.specs.declared.num.Num.{Num}

@@ -3,7 +3,8 @@ use Rattle.roff_ahead.specs.Input.{DoAhead}
 use Rattle.roff_run.specs.Run.{ahead_taken}
 use Rattle.roff_engine.specs.Formatter.Sprung.{sprung_last}
 use Rattle.roff_engine.proofs.EventsLeft.{counts_last-one}
-use Rattle.roff_engine.proofs.Acting.{taking_acts, halted_acts, event_taking, event_does, event_meant, line-interrupted}
+use Rattle.roff_engine.proofs.Acting.{taking_acts, halted_acts}
+use Rattle.roff_engine.proofs.EventsTaken.{event_taking, event_does, event_meant, line-interrupted}
 use Rattle.roff_engine.proofs.running.Running.perform.Goals as goal
 
 pub returns-in-Ok : goal.returns-in-Ok

@@ -13,7 +13,7 @@ use Rattle.tbl_table.specs.TableText.{KeptText, block_of, text_closed}
 use Rattle.tbl_layout.specs.declared.data.Judged.{Judged}
 use Rattle.tbl_layout.specs.declared.message.Told.{Told}
 use Rattle.tbl_layout.proofs.Parts.{slice_range-append}
-use Rattle.tbl_table.proofs.TableFits.{close_row-fits, columns-same, open-data}
+use Rattle.tbl_table.proofs.DataFits.{close_row-fits, columns-same, open-data}
 use Rattle.tbl_table.proofs.TableReads.{close_row-read, closed-as, opened-some, to_tell-stay, untold-judged}
 use Rattle.tbl_table.proofs.table.Table.close_row.Goals as goal
 

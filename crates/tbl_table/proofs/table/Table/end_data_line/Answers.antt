@@ -1,6 +1,6 @@
 use Rattle.std.proofs.Common.{◌≡◌, true, sym, ap, ◌∙◌}
 use Rattle.tbl_table.specs.Joined.{goes_on}
-use Rattle.tbl_table.proofs.TableFits.{join-fits}
+use Rattle.tbl_table.proofs.DataFits.{join-fits}
 use Rattle.tbl_table.proofs.TableReads.{length-texts}
 use Rattle.tbl_table.proofs.TextBlocks.{goes_on-some}
 use Rattle.tbl_table.proofs.table.Table.end_data_line.Goals as goal

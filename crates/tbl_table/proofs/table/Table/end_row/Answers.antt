@@ -12,7 +12,7 @@ use Rattle.tbl_table.specs.TableText.{KeptText, block_of, text_ended}
 use Rattle.tbl_layout.specs.declared.data.Judged.{Judged}
 use Rattle.tbl_layout.specs.declared.message.Told.{Told}
 use Rattle.std.specs.List.{slice_range}
-use Rattle.tbl_table.proofs.TableFits.{columns-same, end_row-fits}
+use Rattle.tbl_table.proofs.DataFits.{columns-same, end_row-fits}
 use Rattle.tbl_table.proofs.TableReads.{end_row-read, length-texts, to_tell-stay, untold-judged}
 use Rattle.tbl_table.proofs.table.Table.end_row.Goals as goal
 
