@@ -40,7 +40,8 @@ use Rattle.roff_run.proofs.Leads.{Leads-refl, Leads-trans, Leads-step, after-add
 use Rattle.roff_run.proofs.LinesLeft.{most_left-fewer, lines_left-event}
 use Rattle.roff_run.proofs.PutBack.{free_ahead-back}
 use Rattle.roff_laws.proofs.PerformedOrStopped.{PerformedOrStopped, Performed, Sprang, EndsOver, StoppedAt, performed_or_stopped}
-use Rattle.roff_run.proofs.Readings.{ReadsOn-reading_on, begun-behind_return}
+use Rattle.roff_run.proofs.Readings.{ReadsOn-reading_on}
+use Rattle.roff_run.proofs.Behind.{begun-behind_return}
 use Rattle.roff_laws.proofs.ComesBefore.{ComesBefore, NothingComes, PageComes, WordEndComes, comes_before, steps_in_front, steps_in_front-few}
 use Rattle.roff_laws.proofs.TurnsNeeded.{EndsWithin, EndsWithin-read, turns_needed}
 

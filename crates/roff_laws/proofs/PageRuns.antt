@@ -36,7 +36,8 @@ use Rattle.roff_run.specs.declared.status.Status.{Status}
 use Rattle.roff_run.specs.declared.status.Status.TheVariants.{Aborted, Done, Device, Limit as Limited}
 use Rattle.roff_run.specs.declared.start.Start.{Start}
 use Rattle.roff_run.proofs.GivenPages.{keeps-given}
-use Rattle.roff_run.proofs.Readings.{ReadsOn, LimitStops, AheadTaken, ByteTaken, NoteTaken, HalfEnds, InputLeft, LineEnds, PhaseEnds, MessageTold, RunAborts, SourceFails, SourceStops, SprungRead, ReadsOn-with_sprung, Behind-ahead_taken, Behind-sprung_read}
+use Rattle.roff_run.proofs.Readings.{ReadsOn, LimitStops, AheadTaken, ByteTaken, NoteTaken, HalfEnds, InputLeft, LineEnds, PhaseEnds, MessageTold, RunAborts, SourceFails, SourceStops, SprungRead, ReadsOn-with_sprung}
+use Rattle.roff_run.proofs.Behind.{Behind-ahead_taken, Behind-sprung_read}
 use Rattle.roff_laws.specs.PageLaws.{WritesWholePages}
 use Rattle.roff_laws.proofs.ComesBefore.{ComesBefore, NothingComes, PageComes, WordEndComes, comes_before}
 use Rattle.roff_laws.proofs.Endings.{at_last_state, step-ended, step-going}

@@ -39,7 +39,8 @@ use Rattle.roff_run.specs.declared.request.Called.{Called}
 use Rattle.roff_run.specs.declared.start.Start.{Start}
 use Rattle.roff_run.proofs.GivenPages.{keeps-given}
 use Rattle.roff_run.specs.declared.request.Called.TheVariants.{Request as ARequest, Body as ABody, Nothing as Unknown}
-use Rattle.roff_run.proofs.Readings.{ReadsOn, LimitStops, AheadTaken, ByteTaken, HasEnded, NoteTaken, HalfEnds, InputLeft, LineEnds, PhaseEnds, MessageTold, RunAborts, SourceFails, SourceStops, SprungRead, Behind-ahead_taken, Behind-sprung_read}
+use Rattle.roff_run.proofs.Readings.{ReadsOn, LimitStops, AheadTaken, ByteTaken, HasEnded, NoteTaken, HalfEnds, InputLeft, LineEnds, PhaseEnds, MessageTold, RunAborts, SourceFails, SourceStops, SprungRead}
+use Rattle.roff_run.proofs.Behind.{Behind-ahead_taken, Behind-sprung_read}
 use Rattle.roff_laws.proofs.ComesBefore.{ComesBefore, NothingComes, PageComes, WordEndComes, comes_before}
 use Rattle.roff_laws.proofs.MeantEvents.{AreMeant, AreMeantAhead, Means, ahead-back, ahead-called, ahead-interrupted, ahead-same, meant-append, meant-back, meant-first, meant-others}
 use Rattle.roff_laws.proofs.PerformedOrStopped.{PerformedOrStopped, Performed, Sprang, EndsOver, StoppedAt, first_of, left_of}

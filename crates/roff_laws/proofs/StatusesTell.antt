@@ -24,7 +24,8 @@ use Rattle.roff_source.specs.Tape.{Tape, Item, Ending, Ends, Ended, Failed, Stop
 use Rattle.roff_laws.proofs.Stages.{Stage, Stage-event, Stage-given, Stage-paged, Stage-read, ended-over}
 use Rattle.roff_laws.proofs.Endings.{at_last_state, ended_or_not, step-ended, step-going}
 use Rattle.roff_laws.proofs.PerformedOrStopped.{PerformedOrStopped, Performed, Sprang, EndsOver, StoppedAt, first_of, left_of, performed_or_stopped}
-use Rattle.roff_run.proofs.Readings.{ReadsOn, LimitStops, AheadTaken, ByteTaken, HasEnded, NoteTaken, HalfEnds, InputLeft, LineEnds, PhaseEnds, MessageTold, RunAborts, SourceFails, SourceStops, SprungRead, ReadsOn-with_sprung, Behind, Behind-ahead_taken, Behind-sprung_read}
+use Rattle.roff_run.proofs.Readings.{ReadsOn, LimitStops, AheadTaken, ByteTaken, HasEnded, NoteTaken, HalfEnds, InputLeft, LineEnds, PhaseEnds, MessageTold, RunAborts, SourceFails, SourceStops, SprungRead, ReadsOn-with_sprung}
+use Rattle.roff_run.proofs.Behind.{Behind, Behind-ahead_taken, Behind-sprung_read}
 
 -- what is known of a run while it goes on: it has no last message yet, and nothing closes it before its input has ended
 pub record GoesOn (s : State) : Type 0 where

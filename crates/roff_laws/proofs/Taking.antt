@@ -24,7 +24,8 @@ use Rattle.roff_ahead.specs.Input.{Ahead, counting, item_taken}
 use Rattle.roff_source.specs.Tape.{Tape, Item, Ending, OneByte, OneNote, Gives, front, behind_front}
 use Rattle.roff_laws.proofs.Endings.{at_last_state}
 use Rattle.roff_laws.proofs.PerformedOrStopped.{PerformedOrStopped, Performed, Sprang, EndsOver, StoppedAt, first_of, left_of, performed_or_stopped}
-use Rattle.roff_run.proofs.Readings.{ReadsOn, LimitStops, AheadTaken, ByteTaken, NoteTaken, HalfEnds, InputLeft, LineEnds, PhaseEnds, MessageTold, RunAborts, SourceFails, SourceStops, SprungRead, ReadsOn-with_sprung, Behind, Behind-sprung_read, Behind-byte_taken, Behind-ahead_taken, Behind-escape_ends, Behind-line_ends, Passed-phase_ended, behind_note}
+use Rattle.roff_run.proofs.Readings.{ReadsOn, LimitStops, AheadTaken, ByteTaken, NoteTaken, HalfEnds, InputLeft, LineEnds, PhaseEnds, MessageTold, RunAborts, SourceFails, SourceStops, SprungRead, ReadsOn-with_sprung, behind_note}
+use Rattle.roff_run.proofs.Behind.{Behind, Behind-sprung_read, Behind-byte_taken, Behind-ahead_taken, Behind-escape_ends, Behind-line_ends, Passed-phase_ended}
 use Rattle.roff_laws.proofs.RunsStayWithin.{no_limit_is_passed}
 
 -- the bytes of two lists of items

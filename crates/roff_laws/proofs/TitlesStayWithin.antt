@@ -30,7 +30,8 @@ use Rattle.roff_run.specs.declared.request.Called.{Called}
 use Rattle.roff_run.specs.declared.request.Called.TheVariants.{Request as ARequest, Body as ABody, Nothing as Unknown}
 use Rattle.roff_run.specs.declared.status.Status.{Status}
 use Rattle.roff_run.proofs.GivenPages.{keeps-given}
-use Rattle.roff_run.proofs.Readings.{ReadsOn, LimitStops, AheadTaken, ByteTaken, NoteTaken, HalfEnds, InputLeft, LineEnds, PhaseEnds, MessageTold, RunAborts, SourceFails, SourceStops, SprungRead, ReadsOn-with_sprung, Behind-ahead_taken, Behind-sprung_read, Passed-phase_ended}
+use Rattle.roff_run.proofs.Readings.{ReadsOn, LimitStops, AheadTaken, ByteTaken, NoteTaken, HalfEnds, InputLeft, LineEnds, PhaseEnds, MessageTold, RunAborts, SourceFails, SourceStops, SprungRead, ReadsOn-with_sprung}
+use Rattle.roff_run.proofs.Behind.{Behind-ahead_taken, Behind-sprung_read, Passed-phase_ended}
 use Rattle.roff_laws.specs.Laws.{HasTitlesWithin, NoTitleIsLonger, TitlesAreWithin}
 use Rattle.roff_laws.proofs.PerformedOrStopped.{PerformedOrStopped, Performed, Sprang, EndsOver, StoppedAt, first_of, left_of, performed_or_stopped}
 use Rattle.roff_laws.proofs.RunsStayWithin.{IsWithin-initial, IsWithin-step, title-chosen, title-given}

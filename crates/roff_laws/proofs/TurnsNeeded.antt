@@ -16,8 +16,10 @@ use Rattle.roff_run.specs.declared.phase.Phase.{Phase}
 use Rattle.roff_run.specs.declared.phase.Phase.TheVariants.{Reading, LastMacro, Closing}
 use Rattle.roff_run.proofs.EscapeCounts.{some_ending}
 use Rattle.roff_run.proofs.LinesLeft.{left-few, left_behind}
-use Rattle.roff_run.proofs.Keeping.{AtBrace, AtStart, Keeps-end_taking, Keeps-last_called, LineEnded, Within, line_ended, unended-few}
-use Rattle.roff_run.proofs.Readings.{ReadsOn, LimitStops, AheadTaken, ByteTaken, NoteTaken, HalfEnds, InputLeft, LineEnds, PhaseEnds, MessageTold, RunAborts, SourceFails, SourceStops, SprungRead, Behind-byte_taken, Behind-ahead_taken, Behind-escape_ends, line_ends}
+use Rattle.roff_run.proofs.Keeping.{Keeps-end_taking, Keeps-last_called}
+use Rattle.roff_run.proofs.LinesEnded.{AtBrace, AtStart, LineEnded, Within, line_ended, unended-few}
+use Rattle.roff_run.proofs.Readings.{ReadsOn, LimitStops, AheadTaken, ByteTaken, NoteTaken, HalfEnds, InputLeft, LineEnds, PhaseEnds, MessageTold, RunAborts, SourceFails, SourceStops, SprungRead, line_ends}
+use Rattle.roff_run.proofs.Behind.{Behind-byte_taken, Behind-ahead_taken, Behind-escape_ends}
 
 -- How many turns are enough. What is still to be charged may begin something that ends, and a line that ends behind that, and so
 -- may a free byte; an item of the source takes one. A condition takes two endings, and the escape that begins it one more: the

@@ -3,7 +3,7 @@ use Rattle.std.proofs.Common.{◌≡◌, ℕ, ◌+◌, ◌≤◌, Bool, true, fa
 use Rattle.std.specs.Prelude.{All, not, if◌then◌else◌, ◌==◌}
 use Rattle.std.proofs.lemmas.Bool.{eqb-true}
 use Rattle.std.proofs.lemmas.List.{append-nil, length-append}
-use Rattle.std.proofs.lemmas.List.Elements.{All-head, All-tail, All-weaker}
+use Rattle.std.proofs.lemmas.List.Elements.{All-cons, All-head, All-nil, All-tail, All-weaker}
 use Rattle.roff_arguments.specs.Arguments.{Arguments}
 use Rattle.roff_source.specs.Bytes.{backslash, is_dropped, newline}
 use Rattle.roff_escape.specs.EscapeLaws.{copied, copied_escape}
@@ -13,9 +13,10 @@ use Rattle.roff_escape.specs.declared.open_escape.CopyUnit.TheVariants.{Byte, Ke
 use Rattle.roff_store.specs.Named.{Named}
 use Rattle.roff_store.specs.Texts.{Entry}
 use Rattle.roff_rewriting.proofs.PartRuns.{NoPart, OnBytes, OnText, PartsPath}
-use Rattle.roff_rewriting.specs.Parts.{AreParts, MayHave, MayRead, MayWrite, Part, rewritten}
-use Rattle.roff_rewriting.specs.TextsInDefinitions.{IsCopiedPart}
-use Rattle.roff_rules.proofs.DefinedBytes.{Allows, Copies, Definition, IsCopied, NoUnit, OneUnit, copies-mark, copies-text, defining, front_of-part, goes_on-unit, line_from-part, making, no_backslash, no_newline, onward-unit, other_way}
+use Rattle.roff_rewriting.proofs.ReadTexts.{ByName, IsOfOneLine}
+use Rattle.roff_rewriting.specs.Parts.{AreParts, Escape, MayHave, MayMeasure, MayRead, MayWrite, Part, known_behind_part, rewritten}
+use Rattle.roff_rewriting.specs.TextsInDefinitions.{BeginsWidth, IsCopiedPart, OnlyCopied}
+use Rattle.roff_rules.proofs.DefinedBytes.{Allows, Copies, Definition, Escaped, IsCopied, NoUnit, OneUnit, copies-mark, copies-text, defining, front_of-part, goes_on-unit, line_from-part, making, no_backslash, no_newline, onward-unit, other_way}
 use Rattle.roff_rules.proofs.DefinitionLaws.{copied-line}
 use Rattle.roff_rules.specs.ConditionLaws.{is_whole}
 use Rattle.roff_rules.specs.DefinitionLaws.{IsOfLine, is_end}
@@ -151,32 +152,51 @@ copied-plain : (b : ℕ) (behind : List ℕ) → (b == backslash) ≡ false → 
 copied-plain b [] plain = refl
 copied-plain b (c ∷ behind) plain = ap (λ (x : Bool). if x then copied_escape c ++ copied behind else b ∷ copied (c ∷ behind)) plain
 
-pub copied-append : (front behind : List ℕ) → is_whole front ≡ true → copied (front ++ behind) ≡ copied front ++ copied behind
+copied-append : (front behind : List ℕ) → is_whole front ≡ true → copied (front ++ behind) ≡ copied front ++ copied behind
 copied-append [] behind whole = refl
 copied-append (b ∷ []) behind whole = copied-plain b behind (not-true (b == backslash) whole)
 copied-append (b ∷ c ∷ front) behind whole =
     copied-two (b == backslash) b c front behind whole (copied-append front behind) (copied-append (c ∷ front) behind)
 
+-- a part that is copied ends no line, is whole, and its units don't end it
+pub part-of_line : (part : List ℕ) → IsCopiedPart part → IsOfOneLine part
+part-of_line _ (OnlyCopied part bytes only whole) =
+    All-weaker IsOfLine (λ b. (b == newline) ≡ false) (λ b of_line. not-second (is_dropped b) (b == newline) of_line) part bytes
+part-of_line _ BeginsWidth = All-cons (λ b. (b == newline) ≡ false) backslash (119 ∷ []) refl (All-cons (λ b. (b == newline) ≡ false) 119 [] refl (All-nil (λ b. (b == newline) ≡ false)))
+
+whole-part : (part : List ℕ) → IsCopiedPart part → is_whole part ≡ true
+whole-part _ (OnlyCopied part bytes only whole) = whole
+whole-part _ BeginsWidth = refl
+
+pub copied-part : (part : List ℕ) → IsCopiedPart part → IsCopied part (copied part)
+copied-part _ (OnlyCopied part bytes only whole) = copied-line part bytes only whole
+copied-part _ BeginsWidth = OneUnit (Kept 119) (backslash ∷ 119 ∷ []) [] [] (Escaped (Kept 119) 119 refl refl) refl NoUnit
+
+-- and what stands behind it is copied behind it
+pub copied-behind : (part behind : List ℕ) → IsCopiedPart part → copied (part ++ behind) ≡ copied part ++ copied behind
+copied-behind part behind is = copied-append part behind (whole-part part is)
+
 -- the parts of a line are copied, one behind another
-pub record ReadsCopies (k : Known) (j : PageInput) (most : Most) (names : Named Entry) (d : Definition) (a : Arguments) (text : List ℕ) (matched : Option ℕ) (all : List ℕ) (parts : List Part) : Type 0 where
+pub record ReadsCopies (j : PageInput) (most : Most) (names : Named Entry) (d : Definition) (a : Arguments) (k : Known) (text : List ℕ) (matched : Option ℕ) (all : List ℕ) (parts : List Part) : Type 0 where
   pub there : List ℕ
   pub m : Option ℕ
-  pub path : PartsPath k j most names (defining d a text matched) parts (defining d a there m)
+  pub path : PartsPath j most names k (defining d a text matched) parts (defining d a there m)
   pub so_far : SoFar (end_mark d.end) [] there m (all ++ copied (rewritten k j parts))
 
 -- some of the bytes of the first one, and the others
 reads-copy : (k : Known) (j : PageInput) (most : Most) (names : Named Entry) (d : Definition) (a : Arguments) (bound : ℕ) (text : List ℕ) (matched : Option ℕ) (all : List ℕ) (part : Part) (parts : List Part)
-    → Allows most d a bound → MayHave IsCopiedPart k j part → SoFar (end_mark d.end) (copied (rewritten k j (part ∷ parts))) text matched all
+    → Allows most d a bound → MayHave false IsCopiedPart k j part → SoFar (end_mark d.end) (copied (rewritten k j (part ∷ parts))) text matched all
     → length all + length (copied (rewritten k j (part ∷ parts))) ≤ bound
-    → ((there : List ℕ) (m : Option ℕ) (next : List ℕ) → SoFar (end_mark d.end) (copied (rewritten k j parts)) there m next
-    → length next + length (copied (rewritten k j parts)) ≤ bound → ReadsCopies k j most names d a there m next parts)
-    → ReadsCopies k j most names d a text matched all (part ∷ parts)
+    → (let k1 : Known = known_behind_part k part in
+    (there : List ℕ) (m : Option ℕ) (next : List ℕ) → SoFar (end_mark d.end) (copied (rewritten k1 j parts)) there m next
+    → length next + length (copied (rewritten k1 j parts)) ≤ bound → ReadsCopies j most names d a k1 there m next parts)
+    → ReadsCopies j most names d a k text matched all (part ∷ parts)
 reads-copy k j most names d a bound text matched all _ parts allows (MayWrite bytes is) so_far few reads =
     let others : List ℕ = copied (rewritten k j parts) in
-    let same : copied (bytes ++ rewritten k j parts) ≡ copied bytes ++ others = copied-append bytes (rewritten k j parts) is.whole in
+    let same : copied (bytes ++ rewritten k j parts) ≡ copied bytes ++ others = copied-behind bytes (rewritten k j parts) is in
     let sizes : length (copied (bytes ++ rewritten k j parts)) ≡ length (copied bytes) + length others = ap length same ∙ length-append (copied bytes) others in
     let one =
-    reads-copied most names d a bound others text matched all bytes (copied bytes) allows (copied-line bytes is.bytes is.only_copied is.whole)
+    reads-copied most names d a bound others text matched all bytes (copied bytes) allows (copied-part bytes is)
     (subst (λ (rest : List ℕ). SoFar (end_mark d.end) rest text matched all) same so_far) (omega (arith, few, sizes)) in
     let next : List ℕ = all ++ copied bytes in
     let rest = reads one.there one.m next one.so_far (omega (arith, few, sizes, length-append all (copied bytes))) in
@@ -184,17 +204,19 @@ reads-copy k j most names d a bound text matched all _ parts allows (MayWrite by
       there = rest.there;
       m = rest.m;
       path =
-          OnBytes (defining d a text matched) (defining d a one.there one.m) (defining d a rest.there rest.m) bytes parts
-          (All-weaker IsOfLine (λ b. (b == newline) ≡ false) (λ b of_line. not-second (is_dropped b) (b == newline) of_line) bytes is.bytes) one.path rest.path;
+          OnBytes k (defining d a text matched) (defining d a one.there one.m) (defining d a rest.there rest.m) bytes parts
+          (part-of_line bytes is) one.path rest.path;
       so_far = subst (SoFar (end_mark d.end) [] rest.there rest.m) (append_assoc all (copied bytes) others ∙ ap (λ (copy : List ℕ). all ++ copy) (sym same)) rest.so_far;
     }
-reads-copy k j most names d a bound text matched all _ parts allows (MayRead purpose name bytes is_escape none is) so_far few reads =
+reads-copy k j most names d a bound text matched all _ parts allows (MayRead purpose name bytes is_escape quiet is) so_far few reads =
+    let part : Part = Escape purpose name bytes in
     let own : List ℕ = text_named k j purpose name in
-    let others : List ℕ = copied (rewritten k j parts) in
-    let same : copied (own ++ rewritten k j parts) ≡ copied own ++ others = copied-append own (rewritten k j parts) is.whole in
-    let sizes : length (copied (own ++ rewritten k j parts)) ≡ length (copied own) + length others = ap length same ∙ length-append (copied own) others in
+    let behind : List ℕ = rewritten (known_behind_part k part) j parts in
+    let others : List ℕ = copied behind in
+    let same : copied (own ++ behind) ≡ copied own ++ others = copied-behind own behind is in
+    let sizes : length (copied (own ++ behind)) ≡ length (copied own) + length others = ap length same ∙ length-append (copied own) others in
     let one =
-    reads-copied most names d a bound others text matched all own (copied own) allows (copied-line own is.bytes is.only_copied is.whole)
+    reads-copied most names d a bound others text matched all own (copied own) allows (copied-part own is)
     (subst (λ (rest : List ℕ). SoFar (end_mark d.end) rest text matched all) same so_far) (omega (arith, few, sizes)) in
     let next : List ℕ = all ++ copied own in
     let rest = reads one.there one.m next one.so_far (omega (arith, few, sizes, length-append all (copied own))) in
@@ -202,23 +224,24 @@ reads-copy k j most names d a bound text matched all _ parts allows (MayRead pur
       there = rest.there;
       m = rest.m;
       path =
-          OnText (Defining d.name d.appends d.end matched) (Defining d.name d.appends d.end one.m) a a (making d.name d.before d.others text) (making d.name d.before d.others one.there)
-          (defining d a rest.there rest.m) purpose name bytes parts refl refl is_escape none one.path rest.path;
+          OnText k (Defining d.name d.appends d.end matched) (Defining d.name d.appends d.end one.m) a a (making d.name d.before d.others text) (making d.name d.before d.others one.there)
+          (defining d a rest.there rest.m) part parts refl (ByName purpose name bytes refl is_escape quiet) one.path rest.path;
       so_far = subst (SoFar (end_mark d.end) [] rest.there rest.m) (append_assoc all (copied own) others ∙ ap (λ (copy : List ℕ). all ++ copy) (sym same)) rest.so_far;
     }
+reads-copy k j most names d a bound text matched all _ parts allows (MayMeasure delimiter measured measures may plain) so_far few reads = absurd (cc)
 
-pub reads-copies : (k : Known) (j : PageInput) (most : Most) (names : Named Entry) (d : Definition) (a : Arguments) (bound : ℕ) (text : List ℕ) (matched : Option ℕ) (all : List ℕ) (parts : List Part)
-    → Allows most d a bound → AreParts IsCopiedPart k j parts → SoFar (end_mark d.end) (copied (rewritten k j parts)) text matched all
-    → length all + length (copied (rewritten k j parts)) ≤ bound → ReadsCopies k j most names d a text matched all parts
-reads-copies k j most names d a bound text matched all [] allows may so_far few = record {
+pub reads-copies : (j : PageInput) (most : Most) (names : Named Entry) (d : Definition) (a : Arguments) (bound : ℕ) (k : Known) (text : List ℕ) (matched : Option ℕ) (all : List ℕ) (parts : List Part)
+    → Allows most d a bound → AreParts false IsCopiedPart k j parts → SoFar (end_mark d.end) (copied (rewritten k j parts)) text matched all
+    → length all + length (copied (rewritten k j parts)) ≤ bound → ReadsCopies j most names d a k text matched all parts
+reads-copies j most names d a bound k text matched all [] allows may so_far few = record {
   there = text;
   m = matched;
-  path = NoPart (defining d a text matched);
+  path = NoPart k (defining d a text matched);
   so_far = subst (SoFar (end_mark d.end) [] text matched) (sym (append-nil all)) so_far;
 }
-reads-copies k j most names d a bound text matched all (part ∷ parts) allows may so_far few =
-    reads-copy k j most names d a bound text matched all part parts allows (All-head (MayHave IsCopiedPart k j) part parts may) so_far few
-    (λ there m next. reads-copies k j most names d a bound there m next parts allows (All-tail (MayHave IsCopiedPart k j) part parts may))
+reads-copies j most names d a bound k text matched all (part ∷ parts) allows may so_far few =
+    reads-copy k j most names d a bound text matched all part parts allows may.0 so_far few
+    (λ there m next. reads-copies j most names d a bound (known_behind_part k part) there m next parts allows may.1)
 
 -- the newline of the line is copied too, and the next line begins
 pub copies-newline : (names : Named Entry) (d : Definition) (a : Arguments) (text : List ℕ) (matched : Option ℕ) (all : List ℕ) → SoFar (end_mark d.end) [] text matched all

@@ -3,7 +3,10 @@ pub mod ReadTexts
 pub mod PartRuns
 pub mod TextsInCalls
 pub mod CopiedParts
+pub mod CopiedMarks
 pub mod TextsInDefinitions
+pub mod DroppedRests
+pub mod MessageBytes
 pub mod TextsInMessages
 pub mod TextsInStrings
 pub mod TitleColumns

@@ -1,5 +1,5 @@
 -- Runs over lines in parts: bytes as they stand, and the texts of escapes in their places.
-use Rattle.std.proofs.Common.{◌≡◌, ℕ, ◌+◌, ◌-◌, ◌≤◌, Bool, true, false, List, [], ◌∷◌, ◌++◌, length, None, refl, ap, sym, subst, ◌∙◌, arith, append_assoc}
+use Rattle.std.proofs.Common.{◌≡◌, ℕ, ◌+◌, ◌-◌, ◌≤◌, Bool, false, List, [], ◌∷◌, ◌++◌, length, None, refl, ap, sym, subst, ◌∙◌, arith, append_assoc}
 use Rattle.std.specs.Prelude.{map, if◌then◌else◌, ◌==◌}
 use Rattle.std.proofs.lemmas.List.{append-nil, length-append}
 use Rattle.std.proofs.lemmas.List.Elements.{All-append, All-head, All-nil, All-tail}
@@ -8,14 +8,12 @@ use Rattle.roff_arguments.specs.Arguments.{Arguments, held, live_bytes}
 use Rattle.roff_source.specs.Bytes.{newline}
 use Rattle.roff_store.specs.Named.{Named}
 use Rattle.roff_store.specs.Texts.{Entry}
-use Rattle.roff_escape.specs.declared.escapes.NameUse.{NameUse}
 use Rattle.roff_ahead.specs.Input.{Ahead, ByteAhead, EndAhead, bytes_ahead, ends_ahead}
-use Rattle.roff_rewriting.proofs.ReadTexts.{IsMore, IsOfOneLine, charged, escape-of_line, in_front, more-behind, reads-end, reads-text, standing}
-use Rattle.roff_rewriting.specs.Parts.{Escape, Part, Written, bytes_of, cost_of_texts, rewritten}
+use Rattle.roff_rewriting.proofs.ReadTexts.{AreAsMany, IsMore, IsOfOneLine, IsRead, behind_read, charged, in_front, more-behind, part-many, read-cost, read-escapes, read-of_line, read-same, reads-end, reads-text, standing}
+use Rattle.roff_rewriting.specs.Parts.{Part, Written, bytes_of, bytes_of_part, cost_of_texts, known_behind_part, registers_behind, registers_behind_part, rewritten, rewritten_part}
 use Rattle.roff_rules.proofs.Interpolation.{ReadsEscapes-reads_escapes, held-settled_for, settled_for}
-use Rattle.roff_rewriting.proofs.MessageLines.{same-text}
-use Rattle.roff_rules.specs.InterpolationLaws.{IsEscapeOf, reads_escapes, text_named}
-use Rattle.roff_rewriting.specs.MessageLines.{steps}
+use Rattle.roff_run.specs.Environments.{environments}
+use Rattle.roff_run.specs.Output.{PageHistory, written}
 use Rattle.roff_run.proofs.ItemsTaken.{FromAhead, FromSource, Origin, ahead_at}
 use Rattle.roff_run.proofs.Leads.{after-add}
 use Rattle.roff_run.proofs.NameBytes.{stage}
@@ -26,28 +24,29 @@ use Rattle.roff_run.specs.Reading.Items.{PageInput}
 use Rattle.roff_run.specs.Registers.{Known}
 use Rattle.roff_run.specs.Run.{State, after, known, known_at}
 use Rattle.roff_run.specs.Stages.{Stage}
-use Rattle.roff_run.specs.Within.{IsWithin}
+use Rattle.roff_run.specs.Within.{EnvironmentsWithin, IsWithin}
 use Rattle.roff_run.specs.PageEvents.{PageEvent}
 use Rattle.roff_run.specs.declared.line_state.LineState.{LineState}
 
--- parts of a line lead from stage to stage: their bytes, and the texts of their escapes
-pub data PartsPath (k : Known) (j : PageInput) (most : Most) (names : Named Entry) : Stage → List Part → Stage → Type 0 where
-  NoPart : (p : Stage) → PartsPath k j most names p [] p
-  OnBytes : (p q r : Stage) (bytes : List ℕ) (parts : List Part) → IsOfOneLine bytes → Path most names p bytes q
-      → PartsPath k j most names q parts r → PartsPath k j most names p (Written bytes ∷ parts) r
-  OnText : (reading there : LineState) (a b : Arguments) (texts made : List (List ℕ)) (r : Stage) (purpose : NameUse) (name bytes : List ℕ) (parts : List Part)
-      → reads_escapes reading ≡ true → due there ≡ None → IsEscapeOf purpose name bytes → steps purpose ≡ false
-      → Path most names (stage reading (settled_for reading a) texts) (text_named k j purpose name) (stage there b made)
-      → PartsPath k j most names (stage there b made) parts r
-      → PartsPath k j most names (stage reading a texts) (Escape purpose name bytes ∷ parts) r
+-- parts of a line lead from stage to stage: their bytes, and the texts that are read in their places
+pub data PartsPath (j : PageInput) (most : Most) (names : Named Entry) : Known → Stage → List Part → Stage → Type 0 where
+  NoPart : (k : Known) (p : Stage) → PartsPath j most names k p [] p
+  OnBytes : (k : Known) (p q r : Stage) (bytes : List ℕ) (parts : List Part) → IsOfOneLine bytes → Path most names p bytes q
+      → PartsPath j most names k q parts r → PartsPath j most names k p (Written bytes ∷ parts) r
+  OnText : (k : Known) (reading there : LineState) (a b : Arguments) (texts made : List (List ℕ)) (r : Stage) (part : Part) (parts : List Part)
+      → due there ≡ None → IsRead k reading part
+      → Path most names (stage reading (settled_for reading a) texts) (rewritten_part k j part) (stage there b made)
+      → PartsPath j most names (known_behind_part k part) (stage there b made) parts r
+      → PartsPath j most names k (stage reading a texts) (part ∷ parts) r
 
 -- none of their bytes ends a line
-pub one-of_line : (k : Known) (j : PageInput) (most : Most) (names : Named Entry) (p q : Stage) (parts : List Part) → PartsPath k j most names p parts q → IsOfOneLine (bytes_of parts)
-one-of_line k j most names _ q _ (NoPart p) = All-nil (λ b. (b == newline) ≡ false)
-one-of_line k j most names _ q _ (OnBytes p next _ bytes parts one path more) =
-    All-append (λ b. (b == newline) ≡ false) bytes (bytes_of parts) one (one-of_line k j most names next q parts more)
-one-of_line k j most names _ q _ (OnText reading there a b texts made _ purpose name bytes parts reads none_due is none path more) =
-    All-append (λ b. (b == newline) ≡ false) bytes (bytes_of parts) (escape-of_line purpose name bytes is) (one-of_line k j most names (stage there b made) q parts more)
+pub one-of_line : (j : PageInput) (most : Most) (names : Named Entry) (k : Known) (p q : Stage) (parts : List Part) → PartsPath j most names k p parts q → IsOfOneLine (bytes_of parts)
+one-of_line j most names _ _ q _ (NoPart k p) = All-nil (λ b. (b == newline) ≡ false)
+one-of_line j most names _ _ q _ (OnBytes k p next _ bytes parts one path more) =
+    All-append (λ b. (b == newline) ≡ false) bytes (bytes_of parts) one (one-of_line j most names k next q parts more)
+one-of_line j most names _ _ q _ (OnText k reading there a b texts made _ part parts none_due is path more) =
+    All-append (λ b. (b == newline) ≡ false) (bytes_of_part part) (bytes_of parts) (read-of_line k reading part is)
+    (one-of_line j most names (known_behind_part k part) (stage there b made) q parts more)
 
 -- what is held behind a path
 small-Path : (most : Most) (names : Named Entry) (p q : Stage) (bytes : List ℕ) → Path most names p bytes q → IsSmall most p → IsSmall most q
@@ -117,12 +116,13 @@ pub record RoomFor (l : Limits) (s : State) (names : Named Entry) (from : Origin
   pub stack : bytes_ahead (ahead_at from bytes) + held p.arguments + read + live_bytes i.calls ≤ l.stack
   pub deep : ends_ahead (ahead_at from bytes) + 1 ≤ l.depth
 
--- so there is room for other bytes, if there is for what is held
-room-again : (l : Limits) (s : State) (names : Named Entry) (from : Origin) (most : Most) (p q : Stage) (bytes more : List ℕ) (i j : PageInput)
+-- so there is room for other bytes, if there is for what is held, and where as many registers are set
+room-again : (l : Limits) (s t : State) (names : Named Entry) (from : Origin) (most : Most) (p q : Stage) (bytes more : List ℕ) (i j : PageInput)
+    → AreAsMany t.registers s.registers → t.history ≡ s.history
     → HasRoom l s names from most p bytes i → j.charge + length more ≤ l.bytes → bytes_ahead (ahead_at from more) + held q.arguments + live_bytes j.calls ≤ l.stack
     → ends_ahead (ahead_at from more) ≤ l.depth → live_bytes j.calls ≡ live_bytes i.calls → length names - j.first_names ≤ l.names → length j.results ≤ l.conditions
-    → HasRoom l s names from most q more j
-room-again l s names (FromAhead rest) most p q bytes more i j room charged_few stack_few deep live names_few results_few = record {
+    → HasRoom l t names from most q more j
+room-again l s t names (FromAhead rest) most p q bytes more i j many same room charged_few stack_few deep live names_few results_few = record {
   charged = charged_few;
   stack = stack_few;
   depth = deep;
@@ -130,12 +130,12 @@ room-again l s names (FromAhead rest) most p q bytes more i j room charged_few s
   texts = names_few;
   making = room.making;
   conditions = results_few;
-  registers = room.registers;
-  title = room.title;
-  environments = room.environments;
-  output = room.output;
+  registers = omega (arith, room.registers, many.named);
+  title = omega (arith, room.title, many.title);
+  environments = subst (λ (h : PageHistory). EnvironmentsWithin l (environments h)) (sym same) room.environments;
+  output = omega (arith, room.output, ap (λ (h : PageHistory). length (written h)) same);
 }
-room-again l s names (FromSource tape) most p q bytes more i j room charged_few stack_few deep live names_few results_few = record {
+room-again l s t names (FromSource tape) most p q bytes more i j many same room charged_few stack_few deep live names_few results_few = record {
   charged = charged_few;
   stack = omega (arith, room.stack, live);
   depth = deep;
@@ -143,10 +143,10 @@ room-again l s names (FromSource tape) most p q bytes more i j room charged_few 
   texts = names_few;
   making = room.making;
   conditions = results_few;
-  registers = room.registers;
-  title = room.title;
-  environments = room.environments;
-  output = room.output;
+  registers = omega (arith, room.registers, many.named);
+  title = omega (arith, room.title, many.title);
+  environments = subst (λ (h : PageHistory). EnvironmentsWithin l (environments h)) (sym same) room.environments;
+  output = omega (arith, room.output, ap (λ (h : PageHistory). length (written h)) same);
 }
 
 -- a run behind some parts, where there is room for what comes
@@ -174,14 +174,17 @@ module _ (l : Limits) (s : State) (names : Named Entry) (from : Origin) (most : 
         };
       }
 
-  -- an escape, its text, and the text's end
-  module _ (reading there : LineState) (a b : Arguments) (texts made : List (List ℕ)) (purpose : NameUse) (name bytes last : List ℕ) (read cost : ℕ) (i : PageInput) (is_more : IsMore last)
-      (reads : reads_escapes reading ≡ true) (none_due : due there ≡ None) (is : IsEscapeOf purpose name bytes) (none : steps purpose ≡ false)
-      (path : Path most names (stage reading (settled_for reading a) texts) (text_named k j purpose name) (stage there b made))
+  -- a part that is read as a text, the text, and its end: behind it the registers are those behind the part
+  module _ (reading there : LineState) (a b : Arguments) (texts made : List (List ℕ)) (part : Part) (last : List ℕ) (read cost : ℕ) (i : PageInput) (is_more : IsMore last)
+      (none_due : due there ≡ None) (is : IsRead k reading part)
+      (path : Path most names (stage reading (settled_for reading a) texts) (rewritten_part k j part) (stage there b made))
       (small : IsSmall most (stage reading a texts)) (knows : Knows s k j i)
-      (room : RoomFor l s names from most (stage reading a texts) (length (text_named k j purpose name) + read) (length (text_named k j purpose name) + 1 + cost) (bytes ++ last) i) where
+      (room : RoomFor l s names from most (stage reading a texts) (length (rewritten_part k j part) + read) (length (rewritten_part k j part) + 1 + cost) (bytes_of_part part ++ last) i) where
+    abbrev bytes : List ℕ
+    bytes = bytes_of_part part
+
     abbrev text : List ℕ
-    text = text_named k j purpose name
+    text = rewritten_part k j part
 
     abbrev before : Stage
     before = stage reading (settled_for reading a) texts
@@ -195,14 +198,24 @@ module _ (l : Limits) (s : State) (names : Named Entry) (from : Origin) (most : 
     abbrev total : ℕ
     total = length text + 1
 
+    -- the registers behind the part
+    abbrev s1 : State
+    s1 = behind_read s part
+
     abbrev s2 : State
-    s2 = standing s from last
+    s2 = standing s1 from last
+
+    as_many : AreAsMany s1.registers s.registers
+    as_many = part-many s.registers part
+
+    abbrev on1 : TakesItems s1
+    on1 = record { going = on.going; is_open = on.is_open; idle = on.idle; unsprung = on.unsprung; none_due = on.none_due }
 
     abbrev on2 : TakesItems s2
     on2 = record { going = on.going; is_open = on.is_open; idle = on.idle; unsprung = on.unsprung; none_due = on.none_due }
 
     held-before : held (settled_for reading a) ≡ held a
-    held-before = held-settled_for reading a (ReadsEscapes-reads_escapes reading reads)
+    held-before = held-settled_for reading a (ReadsEscapes-reads_escapes reading (read-escapes k reading part is))
 
     small-before : IsSmall most before
     small-before = record { none_half = small.none_half; held_few = omega (arith, small.held_few, held-before); stored_few = small.stored_few; texts_few = small.texts_few }
@@ -226,27 +239,27 @@ module _ (l : Limits) (s : State) (names : Named Entry) (from : Origin) (most : 
           texts = subst (λ (n : ℕ). length names - n ≤ l.names) (sym (ap (λ (m : PageInput). m.first_names) (behind_bytes-counts from bytes i))) room.room.texts;
           making = room.room.making;
           conditions = omega (arith, room.room.conditions, ap (λ (m : PageInput). length m.results) (behind_bytes-counts from bytes i));
-          registers = room.room.registers;
-          title = room.room.title;
+          registers = omega (arith, room.room.registers, as_many.named);
+          title = omega (arith, room.room.title, as_many.title);
           environments = room.room.environments;
           output = room.room.output;
         }
 
-    room-last : HasRoom l s names from most behind last (charged total i2)
+    room-last : HasRoom l s1 names from most behind last (charged total i2)
     room-last =
-        room-again l s names from most (stage reading a texts) behind (bytes ++ last) last i (charged total i2) room.room
+        room-again l s s1 names from most (stage reading a texts) behind (bytes ++ last) last i (charged total i2) as_many refl room.room
         (omega (arith, room.charged_all, behind_bytes-charge from bytes i, length-append bytes last))
         (omega (arith, room.stack, live, held-before, bytes_ahead-front from bytes last, held-Path most names before behind text path))
         (omega (arith, room.deep, ends_ahead-front from bytes last)) live room-text.texts room-text.conditions
 
-    -- the escape
+    -- the part
     at-text : after l (length bytes) (run_at s names (stage reading a texts) from (bytes ++ last) i) ≡ run_at s2 names before (in_front from last) (text ++ []) i2
     at-text =
         let u : State = run_at s names (stage reading a texts) from (bytes ++ last) i in
         let at : List ℕ → State = λ t. run_at s2 names before (in_front from last) t i2 in
-        let same : at (text_named (known u) u.input purpose name) ≡ at (text ++ []) =
-        ap at (same-text (known u) k u.input j purpose name bytes is knows.is_known same_names knows.calls ∙ sym (append-nil text)) in
-        reads-text l s names from reading a texts purpose name bytes last i on reads (ReadsEscapes-reads_escapes reading reads) is none
+        let same : at (rewritten_part (known u) u.input part) ≡ at (text ++ []) =
+        ap at (sym (read-same k (known u) j u.input reading part is (sym knows.is_known) (sym same_names) (sym knows.calls)) ∙ sym (append-nil text)) in
+        reads-text l s names from reading a texts part last i on (subst (λ (m : Known). IsRead m reading part) (sym knows.is_known) is)
         (IsWithin-HasRoom l s names from most (stage reading a texts) (bytes ++ last) i small room.room)
         (subst (IsWithin l) (sym same) (IsWithin-HasRoom l s2 names (in_front from last) most before (text ++ []) i2 small-before room-text))
         ∙ same
@@ -258,17 +271,17 @@ module _ (l : Limits) (s : State) (names : Named Entry) (from : Origin) (most : 
         ∙ ap (run_at s2 names behind (in_front from last) []) (behind_bytes-ahead (EndAhead ∷ ahead_at from last) text i2)
 
     -- and the text's end
-    at-last : after l 1 (run_at s2 names behind (in_front from last) [] (charged (length text) i2)) ≡ run_at s names behind from last (charged total i2)
+    at-last : after l 1 (run_at s2 names behind (in_front from last) [] (charged (length text) i2)) ≡ run_at s1 names behind from last (charged total i2)
     at-last =
         let sum : i2.charge + length text + 1 ≡ i2.charge + total = omega arith in
-        let same : run_at s names behind from last (charged 1 (charged (length text) i2)) ≡ run_at s names behind from last (charged total i2) =
-        ap (λ (n : ℕ). run_at s names behind from last (record i2 { charge = n })) sum in
-        reads-end l s names from there b made last (charged (length text) i2) on is_more none_due
+        let same : run_at s1 names behind from last (charged 1 (charged (length text) i2)) ≡ run_at s1 names behind from last (charged total i2) =
+        ap (λ (n : ℕ). run_at s1 names behind from last (record i2 { charge = n })) sum in
+        reads-end l s1 names from there b made last (charged (length text) i2) on1 is_more none_due
         (omega (arith, room.charged_all, behind_bytes-charge from bytes i, length-append bytes last))
-        (subst (IsWithin l) (sym same) (IsWithin-HasRoom l s names from most behind last (charged total i2) (small-Path most names before behind text path small-before) room-last))
+        (subst (IsWithin l) (sym same) (IsWithin-HasRoom l s1 names from most behind last (charged total i2) (small-Path most names before behind text path small-before) room-last))
         ∙ same
 
-    after-text : ComesTo l s names from most (length bytes + total) (run_at s names (stage reading a texts) from (bytes ++ last) i) behind read cost last (charged total i2)
+    pub after-text : ComesTo l s1 names from most (length bytes + total) (run_at s names (stage reading a texts) from (bytes ++ last) i) behind read cost last (charged total i2)
     after-text =
         let u : State = run_at s names (stage reading a texts) from (bytes ++ last) i in
         record {
@@ -287,84 +300,103 @@ module _ (l : Limits) (s : State) (names : Named Entry) (from : Origin) (most : 
           };
         }
 
-  -- one run behind another
-  pub comes-on : (n m all : ℕ) (u : State) (p q : Stage) (first_read first_cost read cost : ℕ) (mid more : List ℕ) (between behind_all end : PageInput)
-      → ComesTo l s names from most n u p first_read first_cost mid between → ComesTo l s names from most m (run_at s names p from mid between) q read cost more behind_all
-      → behind_all ≡ end → all ≡ n + m → ComesTo l s names from most all u q read cost more end
-  comes-on n m all u p q first_read first_cost read cost mid more between behind_all end first others is sum = record {
-    leads =
-        ap (λ (t : ℕ). after l t u) sum ∙ after-add l n m u ∙ ap (after l m) first.leads ∙ others.leads
-        ∙ ap (run_at s names q from more) is;
-    small = others.small;
-    room = subst (RoomFor l s names from most q read cost more) is others.room;
-  }
+-- one run behind another
+pub comes-on : (l : Limits) (s t : State) (names : Named Entry) (from : Origin) (most : Most) (n m all : ℕ) (u : State) (p q : Stage) (first_read first_cost read cost : ℕ) (mid more : List ℕ)
+    (between behind_all end : PageInput) → ComesTo l s names from most n u p first_read first_cost mid between
+    → ComesTo l t names from most m (run_at s names p from mid between) q read cost more behind_all
+    → behind_all ≡ end → all ≡ n + m → ComesTo l t names from most all u q read cost more end
+comes-on l s t names from most n m all u p q first_read first_cost read cost mid more between behind_all end first others is sum = record {
+  leads =
+      ap (λ (c : ℕ). after l c u) sum ∙ after-add l n m u ∙ ap (after l m) first.leads ∙ others.leads
+      ∙ ap (run_at t names q from more) is;
+  small = others.small;
+  room = subst (RoomFor l t names from most q read cost more) is others.room;
+}
 
-  -- parts of a line, and the bytes behind them
-  pub after-parts : (p q : Stage) (parts : List Part) (more : List ℕ) (read cost : ℕ) (i : PageInput) → IsMore more → PartsPath k j most names p parts q → IsSmall most p → Knows s k j i
-      → RoomFor l s names from most p (length (rewritten k j parts) + read) (cost_of_texts k j parts + cost) (bytes_of parts ++ more) i
-      → ComesTo l s names from most (length (bytes_of parts) + cost_of_texts k j parts) (run_at s names p from (bytes_of parts ++ more) i) q read cost more
-      (charged (cost_of_texts k j parts) (behind_bytes from (bytes_of parts) i))
-  after-parts _ q _ more read cost i is_more (NoPart p) small knows room =
-      let same : i ≡ charged 0 i = ap (λ (n : ℕ). record i { charge = n }) (omega arith) in
-      let none : 0 + 0 ≡ 0 = omega arith in
-      record {
-        leads = ap (λ (n : ℕ). after l n (run_at s names p from more i)) none ∙ ap (run_at s names p from more) same;
-        small = small;
-        room = record {
-          room = subst (HasRoom l s names from most p more) same room.room;
-          charged_all = omega (arith, room.charged_all);
-          stack = omega (arith, room.stack);
-          deep = room.deep;
-        };
-      }
-  after-parts _ q _ more read cost i is_more (OnBytes p next _ bytes parts one path others) small knows room =
-      let rest : List ℕ = bytes_of parts in
-      let texts_read : ℕ = length (rewritten k j parts) in
-      let texts_cost : ℕ = cost_of_texts k j parts in
-      let same : (bytes ++ rest) ++ more ≡ bytes ++ (rest ++ more) = append_assoc bytes rest more in
-      let begun : RoomFor l s names from most p (length bytes + (texts_read + read)) (texts_cost + cost) (bytes ++ (rest ++ more)) i = record {
-        room = subst (λ (all : List ℕ). HasRoom l s names from most p all i) same room.room;
-        charged_all = omega (arith, room.charged_all, ap length same);
-        stack = omega (arith, room.stack, ap (λ (all : List ℕ). bytes_ahead (ahead_at from all)) same, length-append bytes (rewritten k j parts));
-        deep = omega (arith, room.deep, ap (λ (all : List ℕ). ends_ahead (ahead_at from all)) same);
-      } in
-      let first = after-bytes p next bytes (rest ++ more) (texts_read + read) (texts_cost + cost) i path small begun in
-      let i2 : PageInput = behind_bytes from bytes i in
-      let behind = after-parts next q parts more read cost i2 is_more others first.small (knows-behind s k j from bytes i one knows) first.room in
-      subst (λ (all : List ℕ). ComesTo l s names from most (length (bytes ++ rest) + texts_cost) (run_at s names p from all i) q read cost more (charged texts_cost (behind_bytes from (bytes ++ rest) i)))
-      (sym same)
-      (comes-on (length bytes) (length rest + texts_cost) (length (bytes ++ rest) + texts_cost) (run_at s names p from (bytes ++ (rest ++ more)) i) next q
-      (texts_read + read) (texts_cost + cost) read cost (rest ++ more) more i2 (charged texts_cost (behind_bytes from rest i2)) (charged texts_cost (behind_bytes from (bytes ++ rest) i))
-      first behind (ap (charged texts_cost) (behind_bytes-append from bytes rest i)) (omega (arith, length-append bytes rest)))
-  after-parts _ q _ more read cost i is_more (OnText reading there a b texts made _ purpose name bytes parts reads none_due is none path others) small knows room =
-      let rest : List ℕ = bytes_of parts in
-      let text : List ℕ = text_named k j purpose name in
-      let own : ℕ = length text + 1 in
-      let p : Stage = stage reading a texts in
-      let next : Stage = stage there b made in
-      let texts_read : ℕ = length (rewritten k j parts) in
-      let texts_cost : ℕ = cost_of_texts k j parts in
-      let same : (bytes ++ rest) ++ more ≡ bytes ++ (rest ++ more) = append_assoc bytes rest more in
-      let begun : RoomFor l s names from most p (length text + (texts_read + read)) (own + (texts_cost + cost)) (bytes ++ (rest ++ more)) i = record {
-        room = subst (λ (all : List ℕ). HasRoom l s names from most p all i) same room.room;
-        charged_all = omega (arith, room.charged_all, ap length same);
-        stack = omega (arith, room.stack, ap (λ (all : List ℕ). bytes_ahead (ahead_at from all)) same, length-append text (rewritten k j parts));
-        deep = omega (arith, room.deep, ap (λ (all : List ℕ). ends_ahead (ahead_at from all)) same);
-      } in
-      let first =
-      after-text reading there a b texts made purpose name bytes (rest ++ more) (texts_read + read) (texts_cost + cost) i (more-behind rest more is_more)
-      reads none_due is none path small knows begun in
-      let one : IsOfOneLine bytes = escape-of_line purpose name bytes is in
-      let i2 : PageInput = charged own (behind_bytes from bytes i) in
-      let after_escape = knows-behind s k j from bytes i one knows in
-      let behind = after-parts next q parts more read cost i2 is_more others first.small (record { is_known = after_escape.is_known; calls = after_escape.calls }) first.room in
-      let sum : (behind_bytes from (bytes ++ rest) i).charge + own + texts_cost ≡ (behind_bytes from (bytes ++ rest) i).charge + (own + texts_cost) = omega arith in
-      let end : PageInput = charged (own + texts_cost) (behind_bytes from (bytes ++ rest) i) in
-      let is_end : charged texts_cost (behind_bytes from rest i2) ≡ end =
-      ap (charged texts_cost) (behind_bytes-charged from rest own (behind_bytes from bytes i) ∙ ap (charged own) (behind_bytes-append from bytes rest i))
-      ∙ ap (λ (n : ℕ). record (behind_bytes from (bytes ++ rest) i) { charge = n }) sum in
-      subst (λ (all : List ℕ). ComesTo l s names from most (length (bytes ++ rest) + (own + texts_cost)) (run_at s names p from all i) q read cost more end)
-      (sym same)
-      (comes-on (length bytes + own) (length rest + texts_cost) (length (bytes ++ rest) + (own + texts_cost)) (run_at s names p from (bytes ++ (rest ++ more)) i) next q
-      (texts_read + read) (texts_cost + cost) read cost (rest ++ more) more i2 (charged texts_cost (behind_bytes from rest i2)) end
-      first behind is_end (omega (arith, length-append bytes rest)))
+-- what is known behind a part
+pub knows-part : (s : State) (k : Known) (j : PageInput) (i : PageInput) (n : ℕ) (part : Part) → Knows s k j i → Knows (behind_read s part) (known_behind_part k part) j (charged n i)
+knows-part s k j i n part knows = record {
+  is_known = ap (λ (m : Known). record m { registers = registers_behind_part m.registers part }) knows.is_known;
+  calls = knows.calls;
+}
+
+-- parts of a line, and the bytes behind them
+pub after-parts : (l : Limits) (j : PageInput) (most : Most) (names : Named Entry) (s : State) (from : Origin) (k : Known) (on : TakesItems s) (same_names : names ≡ j.names) (p q : Stage) (parts : List Part)
+    (more : List ℕ) (read cost : ℕ) (i : PageInput) → IsMore more → PartsPath j most names k p parts q → IsSmall most p → Knows s k j i
+    → RoomFor l s names from most p (length (rewritten k j parts) + read) (cost_of_texts k j parts + cost) (bytes_of parts ++ more) i
+    → ComesTo l (record s { registers = registers_behind s.registers parts }) names from most (length (bytes_of parts) + cost_of_texts k j parts) (run_at s names p from (bytes_of parts ++ more) i) q
+    read cost more (charged (cost_of_texts k j parts) (behind_bytes from (bytes_of parts) i))
+after-parts l j most names s from _ on same_names _ q _ more read cost i is_more (NoPart k p) small knows room =
+    let same : i ≡ charged 0 i = ap (λ (n : ℕ). record i { charge = n }) (omega arith) in
+    let none : 0 + 0 ≡ 0 = omega arith in
+    record {
+      leads = ap (λ (n : ℕ). after l n (run_at s names p from more i)) none ∙ ap (run_at s names p from more) same;
+      small = small;
+      room = record {
+        room = subst (HasRoom l s names from most p more) same room.room;
+        charged_all = omega (arith, room.charged_all);
+        stack = omega (arith, room.stack);
+        deep = room.deep;
+      };
+    }
+after-parts l j most names s from _ on same_names _ q _ more read cost i is_more (OnBytes k p next _ bytes parts one path others) small knows room =
+    let rest : List ℕ = bytes_of parts in
+    let texts_read : ℕ = length (rewritten k j parts) in
+    let texts_cost : ℕ = cost_of_texts k j parts in
+    let t : State = record s { registers = registers_behind s.registers parts } in
+    let same : (bytes ++ rest) ++ more ≡ bytes ++ (rest ++ more) = append_assoc bytes rest more in
+    let begun : RoomFor l s names from most p (length bytes + (texts_read + read)) (texts_cost + cost) (bytes ++ (rest ++ more)) i = record {
+      room = subst (λ (all : List ℕ). HasRoom l s names from most p all i) same room.room;
+      charged_all = omega (arith, room.charged_all, ap length same);
+      stack = omega (arith, room.stack, ap (λ (all : List ℕ). bytes_ahead (ahead_at from all)) same, length-append bytes (rewritten k j parts));
+      deep = omega (arith, room.deep, ap (λ (all : List ℕ). ends_ahead (ahead_at from all)) same);
+    } in
+    let first = after-bytes l s names from most k j on same_names p next bytes (rest ++ more) (texts_read + read) (texts_cost + cost) i path small begun in
+    let i2 : PageInput = behind_bytes from bytes i in
+    let behind = after-parts l j most names s from k on same_names next q parts more read cost i2 is_more others first.small (knows-behind s k j from bytes i one knows) first.room in
+    subst (λ (all : List ℕ). ComesTo l t names from most (length (bytes ++ rest) + texts_cost) (run_at s names p from all i) q read cost more (charged texts_cost (behind_bytes from (bytes ++ rest) i)))
+    (sym same)
+    (comes-on l s t names from most (length bytes) (length rest + texts_cost) (length (bytes ++ rest) + texts_cost) (run_at s names p from (bytes ++ (rest ++ more)) i) next q
+    (texts_read + read) (texts_cost + cost) read cost (rest ++ more) more i2 (charged texts_cost (behind_bytes from rest i2)) (charged texts_cost (behind_bytes from (bytes ++ rest) i))
+    first behind (ap (charged texts_cost) (behind_bytes-append from bytes rest i)) (omega (arith, length-append bytes rest)))
+after-parts l j most names s from _ on same_names _ q _ more read cost i is_more (OnText k reading there a b texts made _ part parts none_due is path others) small knows room =
+    let bytes : List ℕ = bytes_of_part part in
+    let rest : List ℕ = bytes_of parts in
+    let text : List ℕ = rewritten_part k j part in
+    let own : ℕ = length text + 1 in
+    let k1 : Known = known_behind_part k part in
+    let s1 : State = behind_read s part in
+    let t : State = record s { registers = registers_behind s.registers (part ∷ parts) } in
+    let p : Stage = stage reading a texts in
+    let next : Stage = stage there b made in
+    let texts_read : ℕ = length (rewritten k1 j parts) in
+    let texts_cost : ℕ = cost_of_texts k1 j parts in
+    let total : cost_of_texts k j (part ∷ parts) ≡ own + texts_cost = read-cost k j reading part parts is in
+    let same : (bytes ++ rest) ++ more ≡ bytes ++ (rest ++ more) = append_assoc bytes rest more in
+    let begun : RoomFor l s names from most p (length text + (texts_read + read)) (own + (texts_cost + cost)) (bytes ++ (rest ++ more)) i = record {
+      room = subst (λ (all : List ℕ). HasRoom l s names from most p all i) same room.room;
+      charged_all = omega (arith, room.charged_all, ap length same, total);
+      stack = omega (arith, room.stack, ap (λ (all : List ℕ). bytes_ahead (ahead_at from all)) same, length-append text (rewritten k1 j parts));
+      deep = omega (arith, room.deep, ap (λ (all : List ℕ). ends_ahead (ahead_at from all)) same);
+    } in
+    let first =
+    after-text l s names from most k j on same_names reading there a b texts made part (rest ++ more) (texts_read + read) (texts_cost + cost) i (more-behind rest more is_more)
+    none_due is path small knows begun in
+    let one : IsOfOneLine bytes = read-of_line k reading part is in
+    let i2 : PageInput = charged own (behind_bytes from bytes i) in
+    let on1 : TakesItems s1 = record { going = on.going; is_open = on.is_open; idle = on.idle; unsprung = on.unsprung; none_due = on.none_due } in
+    let behind =
+    after-parts l j most names s1 from k1 on1 same_names next q parts more read cost i2 is_more others first.small
+    (knows-part s k j (behind_bytes from bytes i) own part (knows-behind s k j from bytes i one knows)) first.room in
+    let sum : (behind_bytes from (bytes ++ rest) i).charge + own + texts_cost ≡ (behind_bytes from (bytes ++ rest) i).charge + (own + texts_cost) = omega arith in
+    let end : PageInput = charged (own + texts_cost) (behind_bytes from (bytes ++ rest) i) in
+    let is_end : charged texts_cost (behind_bytes from rest i2) ≡ end =
+    ap (charged texts_cost) (behind_bytes-charged from rest own (behind_bytes from bytes i) ∙ ap (charged own) (behind_bytes-append from bytes rest i))
+    ∙ ap (λ (n : ℕ). record (behind_bytes from (bytes ++ rest) i) { charge = n }) sum in
+    subst (λ (n : ℕ). ComesTo l t names from most (length (bytes ++ rest) + n) (run_at s names p from ((bytes ++ rest) ++ more) i) q read cost more (charged n (behind_bytes from (bytes ++ rest) i)))
+    (sym total)
+    (subst (λ (all : List ℕ). ComesTo l t names from most (length (bytes ++ rest) + (own + texts_cost)) (run_at s names p from all i) q read cost more end)
+    (sym same)
+    (comes-on l s1 t names from most (length bytes + own) (length rest + texts_cost) (length (bytes ++ rest) + (own + texts_cost)) (run_at s names p from (bytes ++ (rest ++ more)) i) next q
+    (texts_read + read) (texts_cost + cost) read cost (rest ++ more) more i2 (charged texts_cost (behind_bytes from rest i2)) end
+    first behind is_end (omega (arith, length-append bytes rest))))

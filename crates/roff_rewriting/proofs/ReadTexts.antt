@@ -1,9 +1,26 @@
 -- An escape is read as its text, wherever its line stands, and the text's end is taken.
 use Rattle.std.proofs.Common.{◌≡◌, ℕ, ◌+◌, ◌≤◌, Bool, true, false, List, [], ◌∷◌, ◌++◌, length, Option, Some, None, refl, ap, sym, subst, ◌∙◌, arith}
-use Rattle.std.specs.Prelude.{All, map, if◌then◌else◌, ◌==◌}
+use Rattle.std.specs.Prelude.{All, decimal, is_some, map, not, ◌&&◌, ◌||◌, if◌then◌else◌, ◌==◌}
 use Rattle.std.proofs.lemmas.Bool.{le-ltb}
-use Rattle.std.proofs.lemmas.List.Elements.{All-append, All-cons, All-head, All-nil, All-tail}
+use Rattle.std.proofs.lemmas.List.Elements.{All-append, All-cons, All-head, All-nil, All-tail, All-weaker}
+use Rattle.std.proofs.lemmas.List.{append-nil}
 use Rattle.roff_num.specs.declared.direction.Direction.{Direction}
+use Rattle.roff_escape.specs.OpenEscape.{names_in}
+use Rattle.roff_source.specs.Bytes.{is_dropped}
+use Rattle.roff_store.proofs.Calls.{length-with_entry_same}
+use Rattle.roff_store.specs.Named.{entry_of, with_entry}
+use Rattle.roff_store.specs.Registers.{Registers, next_value, register_of, with_step}
+use Rattle.roff_store.specs.declared.register.Register.{Register as ARegister}
+use Rattle.roff_num.specs.Ranges.{is_in_range}
+use Rattle.roff_escape.specs.declared.escapes.NameUse.TheVariants.{Register}
+use Rattle.roff_rules.proofs.WidthLaws.{measured_texts_of_the_source_read_as_digits, measured_texts_read_as_digits}
+use Rattle.roff_rules.specs.WidthLaws.{IsPlain, MayDelimit, measures_texts, text_units, width_escape, with_width_ahead}
+use Rattle.roff_run.proofs.ItemsTaken.{not-second}
+use Rattle.roff_run.specs.Messages.{message_lines}
+use Rattle.roff_run.specs.Registers.{AllRegisters, Known, StepBy, changed_by, is_page, is_read_only, is_step_out_of_range, number_in_range, page_register}
+use Rattle.roff_run.specs.Requests.Effects.{page_numbered}
+use Rattle.roff_run.specs.TitleTexts.{title_length}
+use Rattle.roff_run.specs.declared.message.Message.TheVariants.{BadNumber}
 use Rattle.roff_num.specs.declared.direction.Direction.TheVariants.{Down, Up}
 use Rattle.roff_num.specs.declared.limit.Limit.TheVariants.{Bytes}
 use Rattle.roff_num.specs.declared.limits.Limits.{Limits}
@@ -21,10 +38,10 @@ use Rattle.roff_escape.specs.declared.open_escape.Waiting.TheVariants.{Decides, 
 use Rattle.roff_ahead.specs.Input.{Ahead, ByteAhead, EndAhead, item_taken, pushing}
 use Rattle.roff_ahead.specs.Shown.{seen_ahead}
 use Rattle.roff_rules.proofs.InterpolatedNames.{escapes_of_the_source_read_as_texts, escapes_read_as_texts, with_text_ahead-arguments}
-use Rattle.roff_rules.proofs.Interpolation.{ReadsEscapes, is_no_newline, none_due-reads, settled_for}
-use Rattle.roff_rewriting.proofs.MessageLines.{same-text, split-ahead, stepped-none}
-use Rattle.roff_rules.specs.InterpolationLaws.{IsEscapeOf, Long, LongString, OfArgument, Short, ShortString, reads_escapes, text_named, with_source_behind, with_text_ahead}
-use Rattle.roff_rewriting.specs.MessageLines.{steps}
+use Rattle.roff_rules.proofs.Interpolation.{ReadsEscapes, ReadsEscapes-reads_escapes, interrupted-arguments, is_no_newline, none_due-reads, settled_for}
+use Rattle.roff_rewriting.proofs.MessageLines.{same-text, split-ahead}
+use Rattle.roff_rules.specs.InterpolationLaws.{IsEscapeOf, Long, LongString, OfArgument, Short, ShortString, StandsForItself, reads_above, reads_escapes, stepped, text_named, with_source_behind, with_text_ahead}
+use Rattle.roff_rewriting.specs.Parts.{Escape, Measured, Part, Written, bytes_of_part, cost_of_texts, known_behind_part, registers_behind_part, registers_stepped, rewritten_part, steps_quietly}
 use Rattle.roff_run.proofs.ItemsTaken.{Fits-IsWithin, FromAhead, FromSource, Origin, ahead_at, made-Fits, step-reads, tape_at}
 use Rattle.roff_run.proofs.NameBytes.{stage}
 use Rattle.roff_run.proofs.PlainRuns.{behind_bytes, behind_bytes-ahead, run_at}
@@ -106,8 +123,96 @@ line_after-escape _ _ _ newlines line (ShortString x may no_opening) = refl
 line_after-escape _ _ _ newlines line (LongString x y first second) = refl
 line_after-escape _ _ _ newlines line (OfArgument x may) = refl
 
+-- the escape of a text that is measured ends no line, either
+plain-of_line : (d : ℕ) (text : List ℕ) → IsPlain d text → IsOfOneLine text
+plain-of_line d text plain = All-weaker (λ b. ((b == d) ≡ false) × StandsForItself b) (λ b. (b == newline) ≡ false) (λ b is. is_no_newline b is.1) text plain
+
+measured-of_line : (d : ℕ) (text : List ℕ) → MayDelimit d → IsPlain d text → IsOfOneLine (width_escape d text)
+measured-of_line d text may plain =
+    let is_kept : (d == newline) ≡ false = not-second (is_dropped d) (d == newline) may in
+    next-of_line 92 (119 ∷ d ∷ text ++ d ∷ []) refl
+    (next-of_line 119 (d ∷ text ++ d ∷ []) refl
+    (next-of_line d (text ++ d ∷ []) is_kept (All-append (λ b. (b == newline) ≡ false) text (d ∷ []) (plain-of_line d text plain) (last-of_line d is_kept))))
+
+-- a part is read as a text, where this is read
+pub data IsRead (k : Known) (reading : LineState) : Part → Type 0 where
+  ByName : (purpose : NameUse) (name bytes : List ℕ) → reads_escapes reading ≡ true → IsEscapeOf purpose name bytes → steps_quietly k purpose name ≡ true
+      → IsRead k reading (Escape purpose name bytes)
+  ByWidth : (d : ℕ) (text : List ℕ) → reads_escapes reading ≡ true → measures_texts reading ≡ true → MayDelimit d → IsPlain d text → IsRead k reading (Measured d text)
+
+pub read-escapes : (k : Known) (reading : LineState) (part : Part) → IsRead k reading part → reads_escapes reading ≡ true
+read-escapes k reading _ (ByName purpose name bytes reads is quiet) = reads
+read-escapes k reading _ (ByWidth d text reads measures may plain) = reads
+
+pub read-of_line : (k : Known) (reading : LineState) (part : Part) → IsRead k reading part → IsOfOneLine (bytes_of_part part)
+read-of_line k reading _ (ByName purpose name bytes reads is quiet) = escape-of_line purpose name bytes is
+read-of_line k reading _ (ByWidth d text reads measures may plain) = measured-of_line d text may plain
+
+-- what it costs
+pub read-cost : (k : Known) (j : PageInput) (reading : LineState) (part : Part) (parts : List Part) → IsRead k reading part
+    → cost_of_texts k j (part ∷ parts) ≡ length (rewritten_part k j part) + 1 + cost_of_texts (known_behind_part k part) j parts
+read-cost k j reading _ parts (ByName purpose name bytes reads is quiet) = refl
+read-cost k j reading _ parts (ByWidth d text reads measures may plain) = refl
+
+-- its text is the same in front of it
+pub read-same : (k m : Known) (i j : PageInput) (reading : LineState) (part : Part) → IsRead k reading part → k ≡ m → i.names ≡ j.names → i.calls ≡ j.calls
+    → rewritten_part k i part ≡ rewritten_part m j part
+read-same k m i j reading _ (ByName purpose name bytes reads is quiet) known names calls = same-text k m i j purpose name bytes is known names calls
+read-same k m i j reading _ (ByWidth d text reads measures may plain) known names calls = refl
+
+-- a step that nothing is told of changes the registers alone
+quiet-step : (page out : Bool) (direction : Direction) (name : List ℕ) (s : State) → not (page || out) ≡ true
+    → record s {
+      registers = changed_by (StepBy name direction) s.registers;
+      messages = s.messages ++ message_lines s.input.line (if out then BadNumber ∷ [] else []);
+      to_do = page_numbered (if page then number_in_range (next_value direction (page_register (known s))) else None) ++ s.to_do;
+    }
+    ≡ record s { registers = changed_by (StepBy name direction) s.registers }
+quiet-step true out direction name s quiet = absurd (cc)
+quiet-step false true direction name s quiet = absurd (cc)
+quiet-step false false direction name s quiet =
+    ap (λ (m : List ℕ). record s { registers = changed_by (StepBy name direction) s.registers; messages = m }) (append-nil s.messages)
+
+stepped-quietly : (purpose : NameUse) (name : List ℕ) (s : State) → steps_quietly (known s) purpose name ≡ true
+    → stepped purpose name s ≡ record s { registers = registers_stepped purpose name s.registers }
+stepped-quietly (Register None) name s quiet = refl
+stepped-quietly (Register (Some direction)) name s quiet = quiet-step (is_page name) (is_step_out_of_range direction name (known s)) direction name s quiet
+stepped-quietly purpose name s quiet = refl
+
+-- the registers are as many behind a step, and no title changes
+pub record AreAsMany (now before : AllRegisters) : Type 0 where
+  pub named : length now.named ≡ length before.named
+  pub title : title_length now.title ≡ title_length before.title
+
+stepped-named : (direction : Direction) (name : List ℕ) (named : Registers) (has in_range : Bool) (r : ARegister) → is_some (entry_of name named) ≡ has
+    → length (if has && in_range then with_entry name r named else named) ≡ length named
+stepped-named direction name named true true r is = length-with_entry_same name r named is
+stepped-named direction name named true false r is = refl
+stepped-named direction name named false in_range r is = refl
+
+step-many : (read_only page : Bool) (direction : Direction) (name : List ℕ) (rs : AllRegisters)
+    → AreAsMany (if read_only then rs else if page then rs else record rs { named = with_step direction name rs.named }) rs
+step-many true page direction name rs = record { named = refl; title = refl }
+step-many false true direction name rs = record { named = refl; title = refl }
+step-many false false direction name rs =
+    let r : ARegister = register_of name rs.named in
+    record {
+      named = stepped-named direction name rs.named (is_some (entry_of name rs.named)) (is_in_range (next_value direction r)) (record r { value = record { 0 = next_value direction r } }) refl;
+      title = refl;
+    }
+
+registers-stepped : (purpose : NameUse) (name : List ℕ) (rs : AllRegisters) → AreAsMany (registers_stepped purpose name rs) rs
+registers-stepped (Register None) name rs = record { named = refl; title = refl }
+registers-stepped (Register (Some direction)) name rs = step-many (is_read_only name) (is_page name) direction name rs
+registers-stepped purpose name rs = record { named = refl; title = refl }
+
+pub part-many : (rs : AllRegisters) (part : Part) → AreAsMany (registers_behind_part rs part) rs
+part-many rs (Written bytes) = record { named = refl; title = refl }
+part-many rs (Escape purpose name bytes) = registers-stepped purpose name rs
+part-many rs (Measured d text) = record { named = refl; title = refl }
+
 -- a tape behind some bytes
-split-tape : (bytes more : List ℕ) (tape : Tape) → items_then (map OneByte (bytes ++ more)) tape ≡ items_then (map OneByte bytes) (items_then (map OneByte more) tape)
+pub split-tape : (bytes more : List ℕ) (tape : Tape) → items_then (map OneByte (bytes ++ more)) tape ≡ items_then (map OneByte bytes) (items_then (map OneByte more) tape)
 split-tape [] more tape = refl
 split-tape (b ∷ bytes) more tape = ap (λ (t : Tape). record t { items = OneByte b ∷ t.items }) (split-tape bytes more tape)
 
@@ -118,51 +223,99 @@ in_front from bytes = FromAhead (EndAhead ∷ ahead_at from bytes)
 abbrev pub standing : State → Origin → List ℕ → State
 standing s from bytes = record s { tape = tape_at from bytes s.tape }
 
+-- a run with the registers behind a part
+abbrev pub behind_read : State → Part → State
+behind_read s part = record s { registers = registers_behind_part s.registers part }
+
 -- nothing else changes where it is read
 abbrev with_text : State → LineState → Arguments → List (Ahead PageEvent) → List ℕ → PageInput → State
 with_text u reading a rest text i = record u { input = pushing text (record i { ahead = rest; arguments = settled_for reading a }) }
 
-with_text-ahead : (purpose : NameUse) (name : List ℕ) (taken : ℕ) (rest : List (Ahead PageEvent)) (u : State) → ReadsEscapes u.reading → steps purpose ≡ false
+with_text-ahead : (purpose : NameUse) (name bytes : List ℕ) (taken : ℕ) (rest : List (Ahead PageEvent)) (u : State) → ReadsEscapes u.reading → steps_quietly (known u) purpose name ≡ true
     → with_text_ahead purpose name taken rest u
-    ≡ with_text u u.reading u.input.arguments rest (text_named (known u) u.input purpose name) (charged taken u.input)
-with_text-ahead purpose name taken rest u on none =
+    ≡ with_text (behind_read u (Escape purpose name bytes)) u.reading u.input.arguments rest (text_named (known u) u.input purpose name) (charged taken u.input)
+with_text-ahead purpose name bytes taken rest u on quiet =
     with_text_ahead-arguments purpose name taken rest u on
     ∙ ap (λ (v : State). record v {
       input = pushing (text_named (known u) u.input purpose name) (record u.input { ahead = rest; arguments = settled_for u.reading u.input.arguments; charge = u.input.charge + taken });
-    }) (stepped-none purpose name u none)
+    }) (stepped-quietly purpose name u quiet)
 
--- an escape is read as its text
-pub reads-text : (l : Limits) (s : State) (names : Named Entry) (from : Origin) (reading : LineState) (a : Arguments) (texts : List (List ℕ))
-    (purpose : NameUse) (name bytes last : List ℕ) (i : PageInput)
-    → TakesItems s → reads_escapes reading ≡ true → ReadsEscapes reading → IsEscapeOf purpose name bytes → steps purpose ≡ false
-    → let u : State = run_at s names (stage reading a texts) from (bytes ++ last) i in
-    let text : List ℕ = text_named (known u) u.input purpose name in
-    let read : State = run_at (standing s from last) names (stage reading (settled_for reading a) texts) (in_front from last) text (behind_bytes from bytes i) in
+with_width-ahead : (width taken : ℕ) (rest : List (Ahead PageEvent)) (u : State) → ReadsEscapes u.reading → u.input.escapes ≡ []
+    → with_width_ahead width [] taken rest u ≡ with_text u u.reading u.input.arguments rest (decimal width) (charged taken u.input)
+with_width-ahead width taken rest u on half =
+    ap (λ (i : PageInput). record u { input = pushing (decimal width) (record i { ahead = rest; escapes = []; charge = u.input.charge + taken }) }) (interrupted-arguments u.reading u.input on)
+    ∙ ap (λ (h : List OpenEscape). record u {
+      input = pushing (decimal width) (record u.input { ahead = rest; escapes = h; arguments = settled_for u.reading u.input.arguments; charge = u.input.charge + taken });
+    }) (sym half)
+
+-- a part is read as its text, where its bytes stand ahead
+part-ahead : (l : Limits) (u : State) (part : Part) (rest : List (Ahead PageEvent)) → TakesItems u → IsRead (known u) u.reading part → u.input.escapes ≡ []
+    → u.input.ahead ≡ map ByteAhead (bytes_of_part part) ++ rest
+    → let read : State = with_text (behind_read u part) u.reading u.input.arguments rest (rewritten_part (known u) u.input part) (charged (length (bytes_of_part part)) u.input) in
+    IsWithin l u → IsWithin l read → after l (length (bytes_of_part part)) u ≡ read
+part-ahead l u _ rest takes (ByName purpose name bytes reads is quiet) half ahead within within_read =
+    let same = with_text-ahead purpose name bytes (length bytes) rest u (ReadsEscapes-reads_escapes u.reading reads) quiet in
+    escapes_read_as_texts l u purpose name bytes rest is takes (ap reads_above half) (omega (arith, ap names_in half)) reads ahead within (subst (IsWithin l) (sym same) within_read) ∙ same
+part-ahead l u _ rest takes (ByWidth d text reads measures may plain) half ahead within within_read =
+    let same = with_width-ahead (text_units text) (length (width_escape d text)) rest u (ReadsEscapes-reads_escapes u.reading reads) half in
+    measured_texts_read_as_digits l u d text rest may plain takes measures half ahead within (subst (IsWithin l) (sym same) within_read) ∙ same
+
+-- and where they stand in the source
+part-of_source : (l : Limits) (u : State) (part : Part) (tape : Tape) → TakesItems u → IsRead (known u) u.reading part → u.input.escapes ≡ [] → u.input.ahead ≡ []
+    → u.tape ≡ items_then (map OneByte (bytes_of_part part)) tape
+    → let v : State = with_source_behind tape u in
+    let read : State = with_text (behind_read v part) u.reading u.input.arguments [] (rewritten_part (known u) u.input part) (charged (length (bytes_of_part part)) v.input) in
+    IsWithin l u → IsWithin l read → after l (length (bytes_of_part part)) u ≡ read
+part-of_source l u _ tape takes (ByName purpose name bytes reads is quiet) half none stands within within_read =
+    let v : State = with_source_behind tape u in
+    let same =
+    with_text-ahead purpose name bytes (length bytes) [] v (ReadsEscapes-reads_escapes u.reading reads) quiet
+    ∙ ap (λ (t : List ℕ). with_text (behind_read v (Escape purpose name bytes)) u.reading u.input.arguments [] t (charged (length bytes) v.input))
+    (same-text (known v) (known u) v.input u.input purpose name bytes is refl refl refl) in
+    escapes_of_the_source_read_as_texts l u purpose name bytes tape is takes (ap reads_above half) (omega (arith, ap names_in half)) reads none stands within
+    (subst (IsWithin l) (sym same) within_read) ∙ same
+part-of_source l u _ tape takes (ByWidth d text reads measures may plain) half none stands within within_read =
+    let v : State = with_source_behind tape u in
+    let same = with_width-ahead (text_units text) (length (width_escape d text)) [] v (ReadsEscapes-reads_escapes u.reading reads) half in
+    measured_texts_of_the_source_read_as_digits l u d text tape may plain takes measures half none stands within (subst (IsWithin l) (sym same) within_read) ∙ same
+
+-- a part has a byte
+line_after-part : (k : Known) (reading : LineState) (part : Part) (newlines line : ℕ) → IsRead k reading part → line_after (bytes_of_part part) newlines line ≡ newlines + 1
+line_after-part k reading _ newlines line (ByName purpose name bytes reads is quiet) = line_after-escape purpose name bytes newlines line is
+line_after-part k reading _ newlines line (ByWidth d text reads measures may plain) = refl
+
+-- so it is at a stage
+pub reads-text : (l : Limits) (s : State) (names : Named Entry) (from : Origin) (reading : LineState) (a : Arguments) (texts : List (List ℕ)) (part : Part) (last : List ℕ) (i : PageInput)
+    → let bytes : List ℕ = bytes_of_part part in
+    let u : State = run_at s names (stage reading a texts) from (bytes ++ last) i in
+    TakesItems s → IsRead (known u) reading part
+    → let text : List ℕ = rewritten_part (known u) u.input part in
+    let read : State = run_at (standing (behind_read s part) from last) names (stage reading (settled_for reading a) texts) (in_front from last) text (behind_bytes from bytes i) in
     IsWithin l u → IsWithin l read → after l (length bytes) u ≡ read
-reads-text l s names (FromAhead rest) reading a texts purpose name bytes last i takes reads on is none within within_read =
-    let u : State = run_at s names (stage reading a texts) (FromAhead rest) (bytes ++ last) i in
-    let text : List ℕ = text_named (known u) u.input purpose name in
+reads-text l s names (FromAhead rest) reading a texts part last i takes is within within_read =
+    let bytes : List ℕ = bytes_of_part part in
+    let from : Origin = FromAhead rest in
+    let u : State = run_at s names (stage reading a texts) from (bytes ++ last) i in
+    let text : List ℕ = rewritten_part (known u) u.input part in
     let behind : List (Ahead PageEvent) = map ByteAhead last ++ rest in
+    let on : ReadsEscapes reading = ReadsEscapes-reads_escapes reading (read-escapes (known u) reading part is) in
     let taking : TakesItems u = record { going = takes.going; is_open = takes.is_open; idle = takes.idle; unsprung = takes.unsprung; none_due = none_due-reads reading on } in
-    let same : with_text_ahead purpose name (length bytes) behind u
-    ≡ run_at (standing s (FromAhead rest) last) names (stage reading (settled_for reading a) texts) (in_front (FromAhead rest) last) text (behind_bytes (FromAhead rest) bytes i) =
-    with_text-ahead purpose name (length bytes) behind u on none
-    ∙ ap (run_at (standing s (FromAhead rest) last) names (stage reading (settled_for reading a) texts) (in_front (FromAhead rest) last) text) (sym (behind_bytes-ahead rest bytes i)) in
-    escapes_read_as_texts l u purpose name bytes behind is taking refl (omega arith) reads (split-ahead bytes last rest) within (subst (IsWithin l) (sym same) within_read) ∙ same
-reads-text l s names (FromSource tape) reading a texts purpose name bytes last i takes reads on is none within within_read =
-    let u : State = run_at s names (stage reading a texts) (FromSource tape) (bytes ++ last) i in
-    let text : List ℕ = text_named (known u) u.input purpose name in
-    let behind : Tape = items_then (map OneByte last) tape in
+    let at : PageInput → State = run_at (standing (behind_read s part) from last) names (stage reading (settled_for reading a) texts) (in_front from last) text in
+    let same : at (charged (length bytes) i) ≡ at (behind_bytes from bytes i) = ap at (sym (behind_bytes-ahead rest bytes i)) in
+    part-ahead l u part behind taking is refl (split-ahead bytes last rest) within (subst (IsWithin l) (sym same) within_read) ∙ same
+reads-text l s names (FromSource tape) reading a texts part last i takes is within within_read =
+    let bytes : List ℕ = bytes_of_part part in
     let from : Origin = FromSource tape in
+    let u : State = run_at s names (stage reading a texts) from (bytes ++ last) i in
+    let text : List ℕ = rewritten_part (known u) u.input part in
+    let behind : Tape = items_then (map OneByte last) tape in
+    let on : ReadsEscapes reading = ReadsEscapes-reads_escapes reading (read-escapes (known u) reading part is) in
     let taking : TakesItems u = record { going = takes.going; is_open = takes.is_open; idle = takes.idle; unsprung = takes.unsprung; none_due = none_due-reads reading on } in
-    let at : PageInput → State = run_at (standing s from last) names (stage reading (settled_for reading a) texts) (in_front from last) text in
-    let v : State = with_source_behind behind u in
-    let same : with_text_ahead purpose name (length bytes) [] v ≡ at (behind_bytes from bytes i) =
-    with_text-ahead purpose name (length bytes) [] v on none
-    ∙ ap (λ (t : List ℕ). with_text v reading a [] t (charged (length bytes) v.input)) (same-text (known v) (known u) v.input u.input purpose name bytes is refl refl refl)
-    ∙ ap (λ (n : ℕ). at (record i { charge = i.charge + length bytes; line = n })) (sym (line_after-escape purpose name bytes i.newlines i.line is))
-    ∙ ap at (sym (source-of_line tape bytes i (escape-of_line purpose name bytes is))) in
-    escapes_of_the_source_read_as_texts l u purpose name bytes behind is taking refl (omega arith) reads refl (split-tape bytes last tape) within (subst (IsWithin l) (sym same) within_read) ∙ same
+    let at : PageInput → State = run_at (standing (behind_read s part) from last) names (stage reading (settled_for reading a) texts) (in_front from last) text in
+    let same : at (record i { charge = i.charge + length bytes; line = i.newlines + 1 }) ≡ at (behind_bytes from bytes i) =
+    ap (λ (n : ℕ). at (record i { charge = i.charge + length bytes; line = n })) (sym (line_after-part (known u) reading part i.newlines i.line is))
+    ∙ ap at (sym (source-of_line tape bytes i (read-of_line (known u) reading part is))) in
+    part-of_source l u part behind taking is refl refl (split-tape bytes last tape) within (subst (IsWithin l) (sym same) within_read) ∙ same
 
 -- behind a text its end is taken, whether a byte is waited for or not
 read-end : (l : Limits) (w : Waiting) (u : State) (items : List (Ahead PageEvent)) → decides w ≡ false → u.input.ahead ≡ EndAhead ∷ items

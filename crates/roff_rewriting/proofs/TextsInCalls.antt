@@ -1,8 +1,14 @@
 -- A body that a line calls gets the arguments that the line's parts are read as.
 use Rattle.std.proofs.Common.{◌≡◌, ℕ, ◌+◌, ◌≤◌, Bool, true, false, List, [], ◌∷◌, ◌++◌, length, refl, ap, sym, subst, ◌∙◌, arith, append_assoc}
-use Rattle.std.specs.Prelude.{All, ◌||◌, fold, nat_le, reverse, ◌==◌}
+use Rattle.std.specs.Prelude.{All, ◌*◌, ◌||◌, ◌&&◌, decimal, fold, nat_le, nat_lt, not, reverse, sum_by, ◌==◌}
+use Rattle.std.proofs.Math.Nat.{min-le_right}
+use Rattle.std.proofs.lemmas.Bool.{le-ltb, ne_eqb}
+use Rattle.std.proofs.lemmas.Fmt.{decimal_is_IsNumeral}
+use Rattle.std.proofs.lemmas.Str.Parse.{digit_from_value}
+use Rattle.std.specs.Str.Parse.{AllDigits}
+use Rattle.roff_escape.specs.Measures.{byte_columns, most_width}
 use Rattle.std.proofs.lemmas.List.{length-append}
-use Rattle.std.proofs.lemmas.List.Elements.{All-append, All-cons, All-head, All-nil, All-tail, All-weaker}
+use Rattle.std.proofs.lemmas.List.Elements.{All-append, All-cons, All-nil, All-weaker}
 use Rattle.std.proofs.lemmas.List.Sums.{fold-append}
 use Rattle.roff_num.specs.declared.limits.Limits.{Limits}
 use Rattle.roff_num.specs.declared.short_name.ShortName.{ShortName}
@@ -11,14 +17,14 @@ use Rattle.roff_arguments.proofs.Settling.{held-only_kept-settled}
 use Rattle.roff_arguments.specs.Arguments.{Arguments, arguments_read, held, is_behind_quote, live_bytes, no_arguments, only_kept, settled, settled_at, with_argument_byte}
 use Rattle.roff_arguments.specs.declared.arguments.Place.{Place}
 use Rattle.roff_arguments.specs.declared.arguments.Place.TheVariants.{BehindQuote, Between, InPlain, InQuotes}
-use Rattle.roff_source.specs.Bytes.{backslash, blank, is_dropped, newline, tab}
+use Rattle.roff_source.specs.Bytes.{backslash, blank, is_dropped, is_silent, newline, tab}
 use Rattle.roff_store.specs.Named.{Named}
 use Rattle.roff_store.specs.Texts.{Entry}
 use Rattle.roff_ahead.specs.Input.{bytes_ahead, counting, ends_ahead, lines_taken}
 use Rattle.roff_rewriting.proofs.PartRuns.{NoPart, OnBytes, OnText, PartsPath, RoomFor, after-parts, behind_bytes-append, behind_bytes-charged, bytes_ahead-front, ends_ahead-front, knows-behind}
-use Rattle.roff_rewriting.proofs.ReadTexts.{IsOfOneLine, More, charged}
-use Rattle.roff_rewriting.specs.Parts.{AreParts, Escape, MayHave, MayRead, MayWrite, Part, Written, bytes_of, cost_of_texts, rewritten}
-use Rattle.roff_rewriting.specs.TextsInCalls.{AreThemselves, BodiesGetTheTextsRead, BodiesOfTheSourceGetTheTextsRead, HasRoomForTexts, LinesAreReadAsRewritten, NoneBehindQuote, behind_part, parts_read_as}
+use Rattle.roff_rewriting.proofs.ReadTexts.{ByName, ByWidth, IsOfOneLine, IsRead, More, charged}
+use Rattle.roff_rewriting.specs.Parts.{AreParts, Escape, MayHave, MayMeasure, MayRead, MayWrite, Measured, Part, Written, bytes_of, cost_of_texts, known_behind_part, registers_behind, rewritten, rewritten_part}
+use Rattle.roff_rewriting.specs.TextsInCalls.{AreThemselves, BodiesGetTheTextsRead, BodiesOfTheSourceGetTheTextsRead, HasRoomForTexts, LinesAreReadAsRewritten, NoneBehindQuote, behind_part, behind_parts, parts_read_as}
 use Rattle.roff_rules.proofs.CallLaws.{called_from, newline-calls, reads-body}
 use Rattle.roff_rules.proofs.CalledArguments.{arguments_at, call_byte, most_of, only_kept-few, turns-call}
 use Rattle.roff_rules.proofs.Interpolation.{is_no_newline}
@@ -33,7 +39,9 @@ use Rattle.roff_run.proofs.Leads.{after-add}
 use Rattle.roff_run.proofs.NameBytes.{stage}
 use Rattle.roff_run.proofs.PlainRuns.{HasRoom, HasRoom-start, Here, Most, Path, Path-append, after-Path, behind_byte, behind_bytes, behind_bytes-charge, behind_bytes-counts, counted-ahead, counted-source, is-run_at, run_at, step-taken}
 use Rattle.roff_run.specs.Reading.Items.{PageInput}
-use Rattle.roff_run.specs.Registers.{Known}
+use Rattle.roff_rules.specs.WidthLaws.{text_units}
+use Rattle.roff_run.specs.ItemsTaken.{TakesItems}
+use Rattle.roff_run.specs.Registers.{AllRegisters, Known}
 use Rattle.roff_run.specs.Reading.ControlLines.{BelongsToName, ends_name}
 use Rattle.roff_run.specs.Run.{State, after, byte_taken, known}
 use Rattle.roff_run.specs.Stages.{Stage}
@@ -67,17 +75,66 @@ agrees-settled _ _ (Full whole more begun place full) =
     subst (λ (a : Arguments). Agrees a (settled (arguments_at (more ++ whole) begun place))) (sym (only_kept-few whole [] Between (omega (arith, full))))
     (full-settled whole more begun place full)
 
+-- the digits of a width stand for themselves
+digit-itself : (b : ℕ) → 48 ≤ b → b ≤ 57 → StandsForItself b
+digit-itself b low high =
+    let no_backslash : (b == backslash) ≡ false = ne_eqb b 92 (λ is. omega (arith, is, high)) in
+    let no_control : nat_lt b 32 ≡ false = le-ltb b 32 (omega (arith, low)) in
+    let no_delete : (b == 127) ≡ false = ne_eqb b 127 (λ is. omega (arith, is, high)) in
+    let no_newline : (b == newline) ≡ false = ne_eqb b 10 (λ is. omega (arith, is, low)) in
+    let mid : Bool = not (b == newline || b == tab || is_silent b) in
+    ap (λ (c : Bool). not (c || (is_dropped b || b == newline))) no_backslash
+    ∙ ap (λ (c : Bool). not (((c || b == 127) && mid) || b == newline)) no_control
+    ∙ ap (λ (c : Bool). not ((c && mid) || b == newline)) no_delete
+    ∙ ap not no_newline
+
+digits-themselves : (bytes : List ℕ) → AllDigits 10 bytes → AreThemselves bytes
+digits-themselves [] digits = All-nil StandsForItself
+digits-themselves (b ∷ bytes) digits =
+    let is = digit_from_value b digits.0 in All-cons StandsForItself b bytes (digit-itself b is.0 is.1) (digits-themselves bytes digits.1)
+
+themselves-width : (text : List ℕ) → AreThemselves (decimal (text_units text))
+themselves-width text =
+    let few : text_units text ≤ 2147483647 = min-le_right (24 * sum_by byte_columns text) most_width in
+    digits-themselves (decimal (text_units text)) (decimal_is_IsNumeral (text_units text) (omega (arith, few))).0.1
+
 -- parts are read behind arguments that are held
-record ReadsParts (k : Known) (j : PageInput) (names : Named Entry) (name : ShortName) (texts : List (List ℕ)) (most : ℕ) (a u : Arguments) (parts : List Part) : Type 0 where
+record ReadsParts (j : PageInput) (names : Named Entry) (name : ShortName) (texts : List (List ℕ)) (most : ℕ) (k : Known) (a u : Arguments) (parts : List Part) : Type 0 where
   there : Arguments
-  path : PartsPath k j (most_of most texts) names (stage (Calling name) a texts) parts (stage (Calling name) there texts)
-  agrees : Agrees there (fold (behind_part k j) u parts)
+  path : PartsPath j (most_of most texts) names k (stage (Calling name) a texts) parts (stage (Calling name) there texts)
+  agrees : Agrees there (behind_parts k j u parts)
+
+-- by the text of the first of them
+reads-text : (k : Known) (j : PageInput) (names : Named Entry) (name : ShortName) (texts : List (List ℕ)) (most : ℕ) (a u : Arguments) (part : Part) (parts : List Part)
+    → IsRead k (Calling name) part → AreThemselves (rewritten_part k j part) → behind_part k j u part ≡ fold with_argument_byte (settled u) (rewritten_part k j part)
+    → held a + length (rewritten k j (part ∷ parts)) ≤ most → Agrees a u
+    → (let k1 : Known = known_behind_part k part in
+    (b v : Arguments) → held b + length (rewritten k1 j parts) ≤ most → Agrees b v → ReadsParts j names name texts most k1 b v parts)
+    → ReadsParts j names name texts most k a u (part ∷ parts)
+reads-text k j names name texts most a u part parts is themselves behind few agrees reads =
+    let k1 : Known = known_behind_part k part in
+    let text : List ℕ = rewritten_part k j part in
+    let begun : Arguments = only_kept (settled a) in
+    let next : Arguments = fold call_byte begun text in
+    let same : held begun ≡ held a = held-only_kept-settled a in
+    let all : length (text ++ rewritten k1 j parts) ≡ length text + length (rewritten k1 j parts) = length-append text (rewritten k1 j parts) in
+    let others =
+    reads next (fold with_argument_byte (settled u) text) (omega (arith, few, all, same, held-bytes begun text)) (agrees-bytes begun (settled u) text (agrees-settled a u agrees)) in
+    record {
+      there = others.there;
+      path =
+          OnText k (Calling name) (Calling name) a next texts texts (stage (Calling name) others.there texts) part parts refl is
+          (path-call names name texts most begun text themselves (omega (arith, few, all, same, held-bytes begun text)))
+          others.path;
+      agrees = subst (λ (v : Arguments). Agrees others.there (behind_parts k1 j v parts)) (sym behind) others.agrees;
+    }
 
 -- by the first of them
 reads-part : (k : Known) (j : PageInput) (names : Named Entry) (name : ShortName) (texts : List (List ℕ)) (most : ℕ) (a u : Arguments) (part : Part) (parts : List Part)
-    → MayHave AreThemselves k j part → held a + length (rewritten k j (part ∷ parts)) ≤ most → Agrees a u
-    → ((b v : Arguments) → held b + length (rewritten k j parts) ≤ most → Agrees b v → ReadsParts k j names name texts most b v parts)
-    → ReadsParts k j names name texts most a u (part ∷ parts)
+    → MayHave true AreThemselves k j part → held a + length (rewritten k j (part ∷ parts)) ≤ most → Agrees a u
+    → (let k1 : Known = known_behind_part k part in
+    (b v : Arguments) → held b + length (rewritten k1 j parts) ≤ most → Agrees b v → ReadsParts j names name texts most k1 b v parts)
+    → ReadsParts j names name texts most k a u (part ∷ parts)
 reads-part k j names name texts most a u _ parts (MayWrite bytes themselves) few agrees reads =
     let next : Arguments = fold call_byte a bytes in
     let all : length (bytes ++ rewritten k j parts) ≡ length bytes + length (rewritten k j parts) = length-append bytes (rewritten k j parts) in
@@ -85,35 +142,22 @@ reads-part k j names name texts most a u _ parts (MayWrite bytes themselves) few
     record {
       there = others.there;
       path =
-          OnBytes (stage (Calling name) a texts) (stage (Calling name) next texts) (stage (Calling name) others.there texts) bytes parts
+          OnBytes k (stage (Calling name) a texts) (stage (Calling name) next texts) (stage (Calling name) others.there texts) bytes parts
           (All-weaker StandsForItself (λ b. (b == newline) ≡ false) is_no_newline bytes themselves)
           (path-call names name texts most a bytes themselves (omega (arith, few, all, held-bytes a bytes)))
           others.path;
       agrees = others.agrees;
     }
-reads-part k j names name texts most a u _ parts (MayRead purpose escape bytes is none themselves) few agrees reads =
-    let text : List ℕ = text_named k j purpose escape in
-    let begun : Arguments = only_kept (settled a) in
-    let next : Arguments = fold call_byte begun text in
-    let same : held begun ≡ held a = held-only_kept-settled a in
-    let all : length (text ++ rewritten k j parts) ≡ length text + length (rewritten k j parts) = length-append text (rewritten k j parts) in
-    let others =
-    reads next (fold with_argument_byte (settled u) text) (omega (arith, few, all, same, held-bytes begun text)) (agrees-bytes begun (settled u) text (agrees-settled a u agrees)) in
-    record {
-      there = others.there;
-      path =
-          OnText (Calling name) (Calling name) a next texts texts (stage (Calling name) others.there texts) purpose escape bytes parts refl refl is none
-          (path-call names name texts most begun text themselves (omega (arith, few, all, same, held-bytes begun text)))
-          others.path;
-      agrees = others.agrees;
-    }
+reads-part k j names name texts most a u _ parts (MayRead purpose escape bytes is quiet themselves) few agrees reads =
+    reads-text k j names name texts most a u (Escape purpose escape bytes) parts (ByName purpose escape bytes refl is quiet) themselves refl few agrees reads
+reads-part k j names name texts most a u _ parts (MayMeasure d text measures may plain) few agrees reads =
+    reads-text k j names name texts most a u (Measured d text) parts (ByWidth d text refl refl may plain) (themselves-width text) refl few agrees reads
 
-reads-parts : (k : Known) (j : PageInput) (names : Named Entry) (name : ShortName) (texts : List (List ℕ)) (most : ℕ) (a u : Arguments) (parts : List Part)
-    → AreParts AreThemselves k j parts → held a + length (rewritten k j parts) ≤ most → Agrees a u → ReadsParts k j names name texts most a u parts
-reads-parts k j names name texts most a u [] may few agrees = record { there = a; path = NoPart (stage (Calling name) a texts); agrees = agrees }
-reads-parts k j names name texts most a u (part ∷ parts) may few agrees =
-    reads-part k j names name texts most a u part parts (All-head (MayHave AreThemselves k j) part parts may) few agrees
-    (λ b v. reads-parts k j names name texts most b v parts (All-tail (MayHave AreThemselves k j) part parts may))
+reads-parts : (j : PageInput) (names : Named Entry) (name : ShortName) (texts : List (List ℕ)) (most : ℕ) (k : Known) (a u : Arguments) (parts : List Part)
+    → AreParts true AreThemselves k j parts → held a + length (rewritten k j parts) ≤ most → Agrees a u → ReadsParts j names name texts most k a u parts
+reads-parts j names name texts most k a u [] may few agrees = record { there = a; path = NoPart k (stage (Calling name) a texts); agrees = agrees }
+reads-parts j names name texts most k a u (part ∷ parts) may few agrees =
+    reads-part k j names name texts most a u part parts may.0 few agrees (λ b v. reads-parts j names name texts most (known_behind_part k part) b v parts may.1)
 
 -- a line up to the blank behind its name
 abbrev pub line_front : ℕ → ShortName → List ℕ
@@ -153,16 +197,16 @@ reads-front names name texts most control body call =
     (onward (most_of most texts) names no_arguments texts begins.reading (Calling name) blank [] end begins.does.none_due
     (λ k i. begins.does.at_blank k mid i ∙ turns-call names name no_arguments texts blank refl k i) allows (Here end))
 
--- a run that has paid for texts before it reads their line
-abbrev pub paid : State → ℕ → State
-paid s cost = record s { input = charged cost s.input }
+-- a run that has stepped the registers of a line, and paid for its texts, before it reads the line
+abbrev pub paid : State → AllRegisters → ℕ → State
+paid s registers cost = record s { registers = registers; input = charged cost s.input }
 
 -- the whole line
 called-with-texts : (l : Limits) (s : State) (from : Origin) (control : ℕ) (name : ShortName) (body : List ℕ) (parts : List Part)
-    → BeginsLine s → NamesBody s.input.names control name body → AreParts AreThemselves (known s) s.input parts
+    → BeginsLine s → NamesBody s.input.names control name body → AreParts true AreThemselves (known s) s.input parts
     → let line : List ℕ = call_with control name (bytes_of parts) in
     let cost : ℕ = cost_of_texts (known s) s.input parts in
-    let called : State = called_from (paid s cost) from line body (parts_read_as (known s) s.input parts) in
+    let called : State = called_from (paid s (registers_behind s.registers parts) cost) from line body (parts_read_as (known s) s.input parts) in
     s.input.ahead ≡ ahead_at from line → s.tape ≡ tape_at from line s.tape → HasRoomForTexts l s (rewritten (known s) s.input parts) → IsWithin l s → IsWithin l called
     → after l (length line + cost) s ≡ called
 called-with-texts l s from control name body parts begins call may ahead tape has_room within within_called =
@@ -176,7 +220,8 @@ called-with-texts l s from control name body parts begins call may ahead tape ha
     let line : List ℕ = call_with control name bytes in
     let cost : ℕ = cost_of_texts k j parts in
     let arguments : List (List ℕ) = parts_read_as k j parts in
-    let called : State = called_from (paid s cost) from line body arguments in
+    let v : State = paid s (registers_behind s.registers parts) cost in
+    let called : State = called_from v from line body arguments in
     let most : Most = most_of (length (rewritten k j parts)) texts in
     let start : Stage = stage LineStart no_arguments texts in
     let mid : Stage = stage (Calling name) no_arguments texts in
@@ -192,7 +237,7 @@ called-with-texts l s from control name body parts begins call may ahead tape ha
     (omega (arith, charge, ap length same)) (omega (arith, has_room.beside)) within.store within.making in
     let i1 : PageInput = behind_bytes from front s.input in
     let one = after-Path l s names from most start mid front last s.input begins.takes (reads-front names name texts (length (rewritten k j parts)) control body call) begun in
-    let reads = reads-parts k j names name texts (length (rewritten k j parts)) no_arguments no_arguments parts may (omega arith) (Same [] [] Between (omega arith) refl) in
+    let reads = reads-parts j names name texts (length (rewritten k j parts)) k no_arguments no_arguments parts may (omega arith) (Same [] [] Between (omega arith) refl) in
     let end : Stage = stage (Calling name) reads.there texts in
     let room : RoomFor l s names from most mid (length (rewritten k j parts) + 0) (cost + 0) last i1 = record {
       room = one.1;
@@ -202,41 +247,44 @@ called-with-texts l s from control name body parts begins call may ahead tape ha
       deep = omega (arith, has_room.deep, ap ends_ahead (ahead ∙ ap (ahead_at from) same), ends_ahead-front from front last);
     } in
     let behind =
-    after-parts l s names from most k j begins.takes refl mid end parts (newline ∷ []) 0 0 i1 (More newline []) reads.path
+    after-parts l j most names s from k begins.takes refl mid end parts (newline ∷ []) 0 0 i1 (More newline []) reads.path
     (record { none_half = refl; held_few = omega arith; stored_few = omega arith; texts_few = omega arith })
     (knows-behind s k j from front s.input (name-of_line control name call.begins call.is_name) (record { is_known = refl; calls = refl })) room in
     let i2 : PageInput = charged cost (behind_bytes from bytes i1) in
     let counts : i2 ≡ behind_bytes from (front ++ bytes) (charged cost s.input) =
     ap (charged cost) (behind_bytes-append from front bytes s.input) ∙ sym (behind_bytes-charged from (front ++ bytes) cost s.input) in
-    let taken : byte_taken newline (run_at s names end from [] (behind_byte from newline i2)) ≡ called =
-    ap (λ (m : PageInput). byte_taken newline (run_at s names end from [] (behind_byte from newline m))) counts
-    ∙ newline-calls (paid s cost) from name body (front ++ bytes) arguments (Calling name) reads.there
+    let takes : TakesItems v = record { going = begins.takes.going; is_open = begins.takes.is_open; idle = begins.takes.idle; unsprung = begins.takes.unsprung; none_due = begins.takes.none_due } in
+    let taken : byte_taken newline (run_at v names end from [] (behind_byte from newline i2)) ≡ called =
+    ap (λ (m : PageInput). byte_taken newline (run_at v names end from [] (behind_byte from newline m))) counts
+    ∙ newline-calls v from name body (front ++ bytes) arguments (Calling name) reads.there
     (record {
-      takes = record { going = begins.takes.going; is_open = begins.takes.is_open; idle = begins.takes.idle; unsprung = begins.takes.unsprung; none_due = begins.takes.none_due };
+      takes = takes;
       reading = begins.reading;
       escapes = begins.escapes;
       arguments = begins.arguments;
     })
-    call.stands_for (given-agrees reads.there (fold (behind_part k j) no_arguments parts) reads.agrees)
+    call.stands_for (given-agrees reads.there (behind_parts k j no_arguments parts) reads.agrees)
     (record { none_due = refl; at_blank = λ k p i. refl; at_newline = λ k p i. refl })
-    ∙ ap (λ (all : List ℕ). called_from (paid s cost) from all body arguments) (append_assoc front bytes (newline ∷ []) ∙ sym same) in
+    ∙ ap (λ (all : List ℕ). called_from v from all body arguments) (append_assoc front bytes (newline ∷ []) ∙ sym same) in
     let sum : length line + cost ≡ length front + ((length bytes + cost) + 1) = omega (arith, sizes, length-append bytes (newline ∷ [])) in
     ap (λ (n : ℕ). after l n s) sum
     ∙ after-add l (length front) ((length bytes + cost) + 1) s
     ∙ ap (after l ((length bytes + cost) + 1)) (ap (after l (length front)) (sym is) ∙ one.0)
     ∙ after-add l (length bytes + cost) 1 (run_at s names mid from last i1)
     ∙ ap (after l 1) behind.leads
-    ∙ step-taken l s names from end newline [] i2 called begins.takes refl refl (omega (arith, behind.room.charged_all)) taken within_called
+    ∙ step-taken l (record s { registers = registers_behind s.registers parts }) names from end newline [] i2 called
+    (record { going = begins.takes.going; is_open = begins.takes.is_open; idle = begins.takes.idle; unsprung = begins.takes.unsprung; none_due = begins.takes.none_due }) refl refl (omega (arith, behind.room.charged_all)) taken within_called
 
 pub bodies_get_the_texts_read : BodiesGetTheTextsRead
 bodies_get_the_texts_read l s control name body parts rest begins call may ahead room within within_called =
     let line : List ℕ = call_with control name (bytes_of parts) in
     let cost : ℕ = cost_of_texts (known s) s.input parts in
     let arguments : List (List ℕ) = parts_read_as (known s) s.input parts in
-    let of : ℕ → State = λ n. record s { input = with_call body arguments (record s.input { ahead = rest; charge = n }) } in
+    let registers : AllRegisters = registers_behind s.registers parts in
+    let of : ℕ → State = λ n. record s { registers = registers; input = with_call body arguments (record s.input { ahead = rest; charge = n }) } in
     let sum : s.input.charge + cost + length line ≡ s.input.charge + (length line + cost) = omega arith in
-    let is : called_from (paid s cost) (FromAhead rest) line body arguments ≡ of (s.input.charge + (length line + cost)) =
-    ap (λ (i : PageInput). record s { input = with_call body arguments i }) (counted-ahead rest line (charged cost s.input)) ∙ ap of sum in
+    let is : called_from (paid s registers cost) (FromAhead rest) line body arguments ≡ of (s.input.charge + (length line + cost)) =
+    ap (λ (i : PageInput). record s { registers = registers; input = with_call body arguments i }) (counted-ahead rest line (charged cost s.input)) ∙ ap of sum in
     called-with-texts l s (FromAhead rest) control name body parts begins call may ahead refl room within (subst (IsWithin l) (sym is) within_called) ∙ is
 
 -- lines of the source, and what was paid before
@@ -254,8 +302,9 @@ bodies_of_the_source_get_the_texts_read l s control name body parts tape begins 
     let line : List ℕ = call_with control name (bytes_of parts) in
     let cost : ℕ = cost_of_texts (known s) s.input parts in
     let arguments : List (List ℕ) = parts_read_as (known s) s.input parts in
-    let of : PageInput → State = λ i. record s { tape = tape; input = with_call body arguments i } in
-    let is : called_from (paid s cost) (FromSource tape) line body arguments ≡ of (record (lines_taken line s.input) { charge = s.input.charge + (length line + cost) }) =
+    let registers : AllRegisters = registers_behind s.registers parts in
+    let of : PageInput → State = λ i. record s { tape = tape; registers = registers; input = with_call body arguments i } in
+    let is : called_from (paid s registers cost) (FromSource tape) line body arguments ≡ of (record (lines_taken line s.input) { charge = s.input.charge + (length line + cost) }) =
     ap of (counted-source tape line (charged cost s.input) none ∙ lines_taken-charged line cost s.input) in
     called-with-texts l s (FromSource tape) control name body parts begins call may none stands room within (subst (IsWithin l) (sym is) within_called) ∙ is
 
@@ -266,16 +315,22 @@ settled-none InPlain a none = refl
 settled-none InQuotes a none = refl
 settled-none BehindQuote a none = absurd (cc)
 
-read-rewritten : (k : Known) (i : PageInput) (a : Arguments) (parts : List Part) → NoneBehindQuote k i a parts
-    → fold (behind_part k i) a parts ≡ fold with_argument_byte a (rewritten k i parts)
-read-rewritten k i a [] none = refl
-read-rewritten k i a (Written bytes ∷ parts) none =
-    read-rewritten k i (fold with_argument_byte a bytes) parts none ∙ sym (fold-append with_argument_byte a bytes (rewritten k i parts))
-read-rewritten k i a (Escape purpose name bytes ∷ parts) none =
+read-rewritten : (i : PageInput) (k : Known) (a : Arguments) (parts : List Part) → NoneBehindQuote k i a parts
+    → behind_parts k i a parts ≡ fold with_argument_byte a (rewritten k i parts)
+read-rewritten i k a [] none = refl
+read-rewritten i k a (Written bytes ∷ parts) none =
+    read-rewritten i k (fold with_argument_byte a bytes) parts none ∙ sym (fold-append with_argument_byte a bytes (rewritten k i parts))
+read-rewritten i k a (Escape purpose name bytes ∷ parts) none =
+    let k1 : Known = known_behind_part k (Escape purpose name bytes) in
     let text : List ℕ = text_named k i purpose name in
-    read-rewritten k i (fold with_argument_byte (settled a) text) parts none.1
+    read-rewritten i k1 (fold with_argument_byte (settled a) text) parts none.1
+    ∙ ap (λ (b : Arguments). fold with_argument_byte (fold with_argument_byte b text) (rewritten k1 i parts)) (settled-none a.place a none.0)
+    ∙ sym (fold-append with_argument_byte a text (rewritten k1 i parts))
+read-rewritten i k a (Measured d measured ∷ parts) none =
+    let text : List ℕ = decimal (text_units measured) in
+    read-rewritten i k (fold with_argument_byte (settled a) text) parts none.1
     ∙ ap (λ (b : Arguments). fold with_argument_byte (fold with_argument_byte b text) (rewritten k i parts)) (settled-none a.place a none.0)
     ∙ sym (fold-append with_argument_byte a text (rewritten k i parts))
 
 pub lines_are_read_as_rewritten : LinesAreReadAsRewritten
-lines_are_read_as_rewritten k i parts none = ap arguments_read (read-rewritten k i no_arguments parts none)
+lines_are_read_as_rewritten k i parts none = ap arguments_read (read-rewritten i k no_arguments parts none)

@@ -2,42 +2,41 @@
 use Rattle.std.proofs.Common.{◌≡◌, ℕ, ◌+◌, ◌≤◌, Bool, true, false, List, [], ◌∷◌, ◌++◌, length, Some, refl, ap, sym, subst, ◌∙◌, arith, append_assoc}
 use Rattle.std.specs.Prelude.{not, replicate, if◌then◌else◌, ◌==◌}
 use Rattle.std.proofs.lemmas.List.{append-nil, length-append}
-use Rattle.std.proofs.lemmas.List.Elements.{All-append, All-cons, All-head, All-nil, All-replicate, All-tail, All-weaker}
+use Rattle.std.proofs.lemmas.List.Elements.{All-append, All-cons, All-nil, All-replicate, All-weaker}
 use Rattle.roff_num.specs.declared.limits.Limits.{Limits}
 use Rattle.roff_num.specs.declared.short_name.ShortName.{ShortName}
 use Rattle.roff_num.specs.ShortNames.{name_bytes}
 use Rattle.roff_arguments.specs.Arguments.{live_bytes, no_arguments}
-use Rattle.roff_source.specs.Bytes.{blank, is_dropped, newline, quote}
+use Rattle.roff_source.specs.Bytes.{blank, newline, quote}
 use Rattle.roff_store.specs.Named.{Named}
 use Rattle.roff_store.specs.Texts.{Entry}
 use Rattle.roff_escape.specs.EscapeLaws.{copied}
 use Rattle.roff_escape.specs.OpenEscape.{unit_bytes}
 use Rattle.roff_ahead.specs.Input.{bytes_ahead, ends_ahead, lines_taken}
 use Rattle.roff_ahead.specs.Input.Names.{stored}
-use Rattle.roff_rewriting.proofs.CopiedParts.{copied-append}
+use Rattle.roff_rewriting.proofs.CopiedParts.{copied-behind, copied-part, part-of_line}
 use Rattle.roff_rewriting.proofs.PartRuns.{NoPart, OnBytes, OnText, PartsPath, RoomFor, after-parts, behind_bytes-append, behind_bytes-charged, bytes_ahead-front, ends_ahead-front, knows-behind}
-use Rattle.roff_rewriting.proofs.ReadTexts.{IsOfOneLine, More, charged}
+use Rattle.roff_rewriting.proofs.ReadTexts.{ByName, IsOfOneLine, More, charged}
 use Rattle.roff_rewriting.proofs.TextsInCalls.{lines_taken-charged, no_newline-control, no_newline-name, paid}
-use Rattle.roff_rewriting.specs.Parts.{AreParts, Escape, MayHave, MayRead, MayWrite, Part, Written, bytes_of, cost_of_texts, rewritten}
+use Rattle.roff_rewriting.specs.Parts.{AreParts, Escape, MayHave, MayMeasure, MayRead, MayWrite, Part, Written, bytes_of, cost_of_texts, known_behind_part, registers_behind, rewritten}
 use Rattle.roff_rewriting.specs.TextsInCalls.{HasRoomForTexts}
 use Rattle.roff_rewriting.specs.TextsInDefinitions.{IsCopiedPart}
 use Rattle.roff_rewriting.specs.TextsInStrings.{SetsTexts, StringsAreTheTextsRead, StringsOfTheSourceAreTheTextsRead}
 use Rattle.roff_rules.proofs.DefinedBytes.{IsCopied, NoUnit, OneUnit}
-use Rattle.roff_rules.proofs.DefinitionLaws.{copied-line}
 use Rattle.roff_rules.proofs.Interpolation.{is_no_newline}
 use Rattle.roff_rules.proofs.LineNames.{Allows, ReadsName, onward, reads-name}
 use Rattle.roff_rules.proofs.StringLaws.{making-few, most_for, newline-sets, onward-text, path-blanks, path-name, path-unit, reads-request, set_from, setting, stays-front, turns-quote, word-itself}
 use Rattle.roff_rules.specs.CallLaws.{BeginsLine}
-use Rattle.roff_rules.specs.DefinitionLaws.{IsOfLine, with_definition}
+use Rattle.roff_rules.specs.DefinitionLaws.{with_definition}
 use Rattle.roff_rules.specs.InterpolationLaws.{text_named}
 use Rattle.roff_rules.specs.StringLaws.{HasRoomForOne, IsOfWord, may_stand, string_line}
-use Rattle.roff_run.proofs.ItemsTaken.{FromAhead, FromSource, Origin, ahead_at, not-second, tape_at}
+use Rattle.roff_run.proofs.ItemsTaken.{FromAhead, FromSource, Origin, ahead_at, tape_at}
 use Rattle.roff_run.proofs.Leads.{after-add}
 use Rattle.roff_run.proofs.NameBytes.{stage}
 use Rattle.roff_run.proofs.PlainRuns.{HasRoom, HasRoom-start, Here, IsSmall, Most, Path, Path-append, after-Path, behind_byte, behind_bytes, behind_bytes-charge, behind_bytes-counts, counted-ahead, counted-source, is-run_at, run_at, step-taken}
 use Rattle.roff_run.specs.Reading.ControlLines.{BelongsToName}
 use Rattle.roff_run.specs.Reading.Items.{PageInput}
-use Rattle.roff_run.specs.Registers.{Known}
+use Rattle.roff_run.specs.Registers.{AllRegisters, Known}
 use Rattle.roff_run.specs.Run.{State, after, byte_taken, known}
 use Rattle.roff_run.specs.Stages.{Stage}
 use Rattle.roff_run.specs.Within.{IsWithin}
@@ -72,65 +71,70 @@ reads-bytes names name appends before bound quoted text _ _ rest (OneUnit unit w
       stands = more.stands;
     }
 
--- the parts of the text are copied, by the first of them
-record ReadsTexts (k : Known) (j : PageInput) (names : Named Entry) (name : ShortName) (appends : Bool) (before : List (List ℕ)) (bound : ℕ) (quoted : Bool) (text : List ℕ) (parts : List Part) : Type 0 where
+-- the parts of the text are copied
+record ReadsTexts (j : PageInput) (names : Named Entry) (name : ShortName) (appends : Bool) (before : List (List ℕ)) (bound : ℕ) (k : Known) (quoted : Bool) (text : List ℕ) (parts : List Part) : Type 0 where
   ends : Bool
-  path : PartsPath k j (most_for name before bound) names (setting name appends before (not quoted) text) parts (setting name appends before (not ends) (text ++ copied (rewritten k j parts)))
+  path : PartsPath j (most_for name before bound) names k (setting name appends before (not quoted) text) parts (setting name appends before (not ends) (text ++ copied (rewritten k j parts)))
 
+-- by the first of them
 reads-part : (k : Known) (j : PageInput) (names : Named Entry) (name : ShortName) (appends : Bool) (before : List (List ℕ)) (bound : ℕ) (quoted : Bool) (text : List ℕ) (part : Part) (parts : List Part)
-    → MayHave IsCopiedPart k j part → may_stand quoted (copied (rewritten k j (part ∷ parts))) ≡ true → length text + length (copied (rewritten k j (part ∷ parts))) ≤ bound
-    → ((q : Bool) (t : List ℕ) → may_stand q (copied (rewritten k j parts)) ≡ true → length t + length (copied (rewritten k j parts)) ≤ bound
-    → ReadsTexts k j names name appends before bound q t parts)
-    → ReadsTexts k j names name appends before bound quoted text (part ∷ parts)
+    → MayHave false IsCopiedPart k j part → may_stand quoted (copied (rewritten k j (part ∷ parts))) ≡ true → length text + length (copied (rewritten k j (part ∷ parts))) ≤ bound
+    → (let k1 : Known = known_behind_part k part in
+    (q : Bool) (t : List ℕ) → may_stand q (copied (rewritten k1 j parts)) ≡ true → length t + length (copied (rewritten k1 j parts)) ≤ bound
+    → ReadsTexts j names name appends before bound k1 q t parts)
+    → ReadsTexts j names name appends before bound k quoted text (part ∷ parts)
 reads-part k j names name appends before bound quoted text _ parts (MayWrite bytes is) stands few reads =
     let copy : List ℕ = copied bytes in
     let others : List ℕ = copied (rewritten k j parts) in
-    let same : copied (bytes ++ rewritten k j parts) ≡ copy ++ others = copied-append bytes (rewritten k j parts) is.whole in
+    let same : copied (bytes ++ rewritten k j parts) ≡ copy ++ others = copied-behind bytes (rewritten k j parts) is in
     let sizes : length (copied (bytes ++ rewritten k j parts)) ≡ length copy + length others = ap length same ∙ length-append copy others in
     let one =
-    reads-bytes names name appends before bound quoted text bytes copy others (copied-line bytes is.bytes is.only_copied is.whole)
+    reads-bytes names name appends before bound quoted text bytes copy others (copied-part bytes is)
     (subst (λ (all : List ℕ). may_stand quoted all ≡ true) same stands) (omega (arith, few, sizes)) in
     let more = reads one.ends (text ++ copy) one.stands (omega (arith, few, sizes, length-append text copy)) in
     record {
       ends = more.ends;
       path =
-          subst (λ (all : List ℕ). PartsPath k j (most_for name before bound) names (setting name appends before (not quoted) text) (Written bytes ∷ parts) (setting name appends before (not more.ends) all))
+          subst (λ (all : List ℕ). PartsPath j (most_for name before bound) names k (setting name appends before (not quoted) text) (Written bytes ∷ parts) (setting name appends before (not more.ends) all))
           (append_assoc text copy others ∙ ap (λ (rest : List ℕ). text ++ rest) (sym same))
-          (OnBytes (setting name appends before (not quoted) text) (setting name appends before (not one.ends) (text ++ copy)) (setting name appends before (not more.ends) ((text ++ copy) ++ others)) bytes parts
-          (All-weaker IsOfLine (λ b. (b == newline) ≡ false) (λ b of_line. not-second (is_dropped b) (b == newline) of_line) bytes is.bytes) one.path more.path);
+          (OnBytes k (setting name appends before (not quoted) text) (setting name appends before (not one.ends) (text ++ copy)) (setting name appends before (not more.ends) ((text ++ copy) ++ others)) bytes parts
+          (part-of_line bytes is) one.path more.path);
     }
-reads-part k j names name appends before bound quoted text _ parts (MayRead purpose escape bytes is_escape none is) stands few reads =
+reads-part k j names name appends before bound quoted text _ parts (MayRead purpose escape bytes is_escape quiet is) stands few reads =
+    let part : Part = Escape purpose escape bytes in
     let own : List ℕ = text_named k j purpose escape in
+    let behind : List ℕ = rewritten (known_behind_part k part) j parts in
     let copy : List ℕ = copied own in
-    let others : List ℕ = copied (rewritten k j parts) in
-    let same : copied (own ++ rewritten k j parts) ≡ copy ++ others = copied-append own (rewritten k j parts) is.whole in
-    let sizes : length (copied (own ++ rewritten k j parts)) ≡ length copy + length others = ap length same ∙ length-append copy others in
+    let others : List ℕ = copied behind in
+    let same : copied (own ++ behind) ≡ copy ++ others = copied-behind own behind is in
+    let sizes : length (copied (own ++ behind)) ≡ length copy + length others = ap length same ∙ length-append copy others in
     let one =
-    reads-bytes names name appends before bound quoted text own copy others (copied-line own is.bytes is.only_copied is.whole)
+    reads-bytes names name appends before bound quoted text own copy others (copied-part own is)
     (subst (λ (all : List ℕ). may_stand quoted all ≡ true) same stands) (omega (arith, few, sizes)) in
     let more = reads one.ends (text ++ copy) one.stands (omega (arith, few, sizes, length-append text copy)) in
     record {
       ends = more.ends;
       path =
-          subst (λ (all : List ℕ). PartsPath k j (most_for name before bound) names (setting name appends before (not quoted) text) (Escape purpose escape bytes ∷ parts) (setting name appends before (not more.ends) all))
+          subst (λ (all : List ℕ). PartsPath j (most_for name before bound) names k (setting name appends before (not quoted) text) (part ∷ parts) (setting name appends before (not more.ends) all))
           (append_assoc text copy others ∙ ap (λ (rest : List ℕ). text ++ rest) (sym same))
-          (OnText (StringText (Some name) appends (not quoted)) (StringText (Some name) appends (not one.ends)) no_arguments no_arguments (before ++ text ∷ []) (before ++ (text ++ copy) ∷ [])
-          (setting name appends before (not more.ends) ((text ++ copy) ++ others)) purpose escape bytes parts refl refl is_escape none one.path more.path);
+          (OnText k (StringText (Some name) appends (not quoted)) (StringText (Some name) appends (not one.ends)) no_arguments no_arguments (before ++ text ∷ []) (before ++ (text ++ copy) ∷ [])
+          (setting name appends before (not more.ends) ((text ++ copy) ++ others)) part parts refl (ByName purpose escape bytes refl is_escape quiet) one.path more.path);
     }
+reads-part k j names name appends before bound quoted text _ parts (MayMeasure d measured measures may plain) stands few reads = absurd (cc)
 
-reads-parts : (k : Known) (j : PageInput) (names : Named Entry) (name : ShortName) (appends : Bool) (before : List (List ℕ)) (bound : ℕ) (quoted : Bool) (text : List ℕ) (parts : List Part)
-    → AreParts IsCopiedPart k j parts → may_stand quoted (copied (rewritten k j parts)) ≡ true → length text + length (copied (rewritten k j parts)) ≤ bound
-    → ReadsTexts k j names name appends before bound quoted text parts
-reads-parts k j names name appends before bound quoted text [] may stands few =
+reads-parts : (j : PageInput) (names : Named Entry) (name : ShortName) (appends : Bool) (before : List (List ℕ)) (bound : ℕ) (k : Known) (quoted : Bool) (text : List ℕ) (parts : List Part)
+    → AreParts false IsCopiedPart k j parts → may_stand quoted (copied (rewritten k j parts)) ≡ true → length text + length (copied (rewritten k j parts)) ≤ bound
+    → ReadsTexts j names name appends before bound k quoted text parts
+reads-parts j names name appends before bound k quoted text [] may stands few =
     let here : Stage = setting name appends before (not quoted) text in
     record {
       ends = quoted;
       path =
-          subst (λ (all : List ℕ). PartsPath k j (most_for name before bound) names here [] (setting name appends before (not quoted) all)) (sym (append-nil text)) (NoPart here);
+          subst (λ (all : List ℕ). PartsPath j (most_for name before bound) names k here [] (setting name appends before (not quoted) all)) (sym (append-nil text)) (NoPart k here);
     }
-reads-parts k j names name appends before bound quoted text (part ∷ parts) may stands few =
-    reads-part k j names name appends before bound quoted text part parts (All-head (MayHave IsCopiedPart k j) part parts may) stands few
-    (λ q t. reads-parts k j names name appends before bound q t parts (All-tail (MayHave IsCopiedPart k j) part parts may))
+reads-parts j names name appends before bound k quoted text (part ∷ parts) may stands few =
+    reads-part k j names name appends before bound quoted text part parts may.0 stands few
+    (λ q t. reads-parts j names name appends before bound (known_behind_part k part) q t parts may.1)
 
 -- the bytes in front of the text: up to the blanks behind the string's name, and a quote
 abbrev up_to_blanks : ℕ → ShortName → ShortName → ℕ → List ℕ
@@ -193,7 +197,7 @@ set-with-texts : (l : Limits) (s : State) (from : Origin) (control : ℕ) (reque
     → let line : List ℕ = string_line control request name blanks quoted (bytes_of parts) in
     let read : List ℕ = rewritten (known s) s.input parts in
     let cost : ℕ = cost_of_texts (known s) s.input parts in
-    let set : State = set_from (paid s cost) from line name appends (copied read) in
+    let set : State = set_from (paid s (registers_behind s.registers parts) cost) from line name appends (copied read) in
     s.input.ahead ≡ ahead_at from line → s.tape ≡ tape_at from line s.tape → stored s.input + length (copied read) ≤ l.store → HasRoomForOne l s name → HasRoomForTexts l s read
     → IsWithin l s → IsWithin l set → after l (length line + cost) s ≡ set
 set-with-texts l s from control request appends name blanks quoted parts begins sets ahead tape stored_few one_more has_room within within_set =
@@ -210,7 +214,8 @@ set-with-texts l s from control request appends name blanks quoted parts begins 
     let read : List ℕ = rewritten k j parts in
     let text : List ℕ = copied read in
     let bound : ℕ = length text in
-    let set : State = set_from (paid s cost) from line name appends text in
+    let v : State = paid s (registers_behind s.registers parts) cost in
+    let set : State = set_from v from line name appends text in
     let most : Most = most_for name before bound in
     let start : Stage = stage LineStart no_arguments before in
     let mid : Stage = setting name appends before (not quoted) [] in
@@ -229,7 +234,7 @@ set-with-texts l s from control request appends name blanks quoted parts begins 
     let i1 : PageInput = behind_bytes from front s.input in
     let one =
     after-Path l s names from most start mid front last s.input begins.takes (path-front names control request appends name blanks quoted k j parts before bound sets) room_start in
-    let reads = reads-parts k j names name appends before bound quoted [] parts sets.parts sets.stands (omega arith) in
+    let reads = reads-parts j names name appends before bound k quoted [] parts sets.parts sets.stands (omega arith) in
     let end : Stage = setting name appends before (not reads.ends) text in
     let room : RoomFor l s names from most mid (length read + 0) (cost + 0) last i1 = record {
       room = one.1;
@@ -241,37 +246,39 @@ set-with-texts l s from control request appends name blanks quoted parts begins 
     let small : IsSmall most mid =
     record { none_half = refl; held_few = omega arith; stored_few = making-few before [] bound (omega arith); texts_few = omega (arith, length-append before ([] ∷ [])) } in
     let behind =
-    after-parts l s names from most k j begins.takes refl mid end parts (newline ∷ []) 0 0 i1 (More newline []) reads.path small
+    after-parts l j most names s from k begins.takes refl mid end parts (newline ∷ []) 0 0 i1 (More newline []) reads.path small
     (knows-behind s k j from front s.input (front-of_line names control request appends name blanks quoted k j parts sets) (record { is_known = refl; calls = refl })) room in
     let i2 : PageInput = charged cost (behind_bytes from bytes i1) in
     let counts : i2 ≡ behind_bytes from (front ++ bytes) (charged cost s.input) =
     ap (charged cost) (behind_bytes-append from front bytes s.input) ∙ sym (behind_bytes-charged from (front ++ bytes) cost s.input) in
-    let taken : byte_taken newline (run_at s names end from [] (behind_byte from newline i2)) ≡ set =
-    ap (λ (m : PageInput). byte_taken newline (run_at s names end from [] (behind_byte from newline m))) counts
-    ∙ newline-sets (paid s cost) from (front ++ bytes) name appends (not reads.ends) text
+    let taken : byte_taken newline (run_at v names end from [] (behind_byte from newline i2)) ≡ set =
+    ap (λ (m : PageInput). byte_taken newline (run_at v names end from [] (behind_byte from newline m))) counts
+    ∙ newline-sets v from (front ++ bytes) name appends (not reads.ends) text
     (record {
       takes = record { going = begins.takes.going; is_open = begins.takes.is_open; idle = begins.takes.idle; unsprung = begins.takes.unsprung; none_due = begins.takes.none_due };
       reading = begins.reading;
       escapes = begins.escapes;
       arguments = begins.arguments;
     })
-    ∙ ap (λ (all : List ℕ). set_from (paid s cost) from all name appends text) (append_assoc front bytes (newline ∷ []) ∙ sym same) in
+    ∙ ap (λ (all : List ℕ). set_from v from all name appends text) (append_assoc front bytes (newline ∷ []) ∙ sym same) in
     let sum : length line + cost ≡ length front + ((length bytes + cost) + 1) = omega (arith, sizes, length-append bytes (newline ∷ [])) in
     ap (λ (n : ℕ). after l n s) sum
     ∙ after-add l (length front) ((length bytes + cost) + 1) s
     ∙ ap (after l ((length bytes + cost) + 1)) (ap (after l (length front)) (sym is) ∙ one.0)
     ∙ after-add l (length bytes + cost) 1 (run_at s names mid from last i1)
     ∙ ap (after l 1) behind.leads
-    ∙ step-taken l s names from end newline [] i2 set begins.takes refl refl (omega (arith, behind.room.charged_all)) taken within_set
+    ∙ step-taken l (record s { registers = registers_behind s.registers parts }) names from end newline [] i2 set
+    (record { going = begins.takes.going; is_open = begins.takes.is_open; idle = begins.takes.idle; unsprung = begins.takes.unsprung; none_due = begins.takes.none_due }) refl refl (omega (arith, behind.room.charged_all)) taken within_set
 
 pub strings_are_the_texts_read : StringsAreTheTextsRead
 strings_are_the_texts_read l s control request appends name blanks quoted parts rest begins sets ahead stored_few one room within within_set =
     let line : List ℕ = string_line control request name blanks quoted (bytes_of parts) in
     let cost : ℕ = cost_of_texts (known s) s.input parts in
     let text : List ℕ = copied (rewritten (known s) s.input parts) in
-    let of : PageInput → State = λ i. record s { input = with_definition name appends text s.input.open_texts i } in
+    let registers : AllRegisters = registers_behind s.registers parts in
+    let of : PageInput → State = λ i. record s { registers = registers; input = with_definition name appends text s.input.open_texts i } in
     let sum : s.input.charge + cost + length line ≡ s.input.charge + (length line + cost) = omega arith in
-    let is : set_from (paid s cost) (FromAhead rest) line name appends text ≡ of (record s.input { ahead = rest; charge = s.input.charge + (length line + cost) }) =
+    let is : set_from (paid s registers cost) (FromAhead rest) line name appends text ≡ of (record s.input { ahead = rest; charge = s.input.charge + (length line + cost) }) =
     ap of (counted-ahead rest line (charged cost s.input)) ∙ ap (λ (n : ℕ). of (record s.input { ahead = rest; charge = n })) sum in
     set-with-texts l s (FromAhead rest) control request appends name blanks quoted parts begins sets ahead refl stored_few one room within (subst (IsWithin l) (sym is) within_set) ∙ is
 
@@ -280,7 +287,8 @@ strings_of_the_source_are_the_texts_read l s control request appends name blanks
     let line : List ℕ = string_line control request name blanks quoted (bytes_of parts) in
     let cost : ℕ = cost_of_texts (known s) s.input parts in
     let text : List ℕ = copied (rewritten (known s) s.input parts) in
-    let of : PageInput → State = λ i. record s { tape = tape; input = with_definition name appends text s.input.open_texts i } in
-    let is : set_from (paid s cost) (FromSource tape) line name appends text ≡ of (record (lines_taken line s.input) { charge = s.input.charge + (length line + cost) }) =
+    let registers : AllRegisters = registers_behind s.registers parts in
+    let of : PageInput → State = λ i. record s { tape = tape; registers = registers; input = with_definition name appends text s.input.open_texts i } in
+    let is : set_from (paid s registers cost) (FromSource tape) line name appends text ≡ of (record (lines_taken line s.input) { charge = s.input.charge + (length line + cost) }) =
     ap of (counted-source tape line (charged cost s.input) none ∙ lines_taken-charged line cost s.input) in
     set-with-texts l s (FromSource tape) control request appends name blanks quoted parts begins sets none stands stored_few one room within (subst (IsWithin l) (sym is) within_set) ∙ is

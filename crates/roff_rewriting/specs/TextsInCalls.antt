@@ -1,13 +1,14 @@
 -- Laws of control lines that call a body with escapes among their arguments (manual, sections 7 and 7.3).
-use Rattle.std.specs.Prelude.{◌≡◌, ℕ, ◌+◌, ◌≤◌, false, List, [], ◌∷◌, ◌++◌, length, map, fold, All, ⊤}
+use Rattle.std.specs.Prelude.{◌≡◌, ℕ, ◌+◌, ◌≤◌, true, false, List, [], ◌∷◌, ◌++◌, decimal, length, map, fold, All, ⊤}
 use Rattle.roff_num.specs.declared.limits.Limits.{Limits}
 use Rattle.roff_num.specs.declared.short_name.ShortName.{ShortName}
 use Rattle.roff_arguments.specs.Arguments.{Arguments, arguments_read, is_behind_quote, no_arguments, settled, with_argument_byte}
 use Rattle.roff_source.specs.Tape.{Tape, OneByte, items_then}
 use Rattle.roff_ahead.specs.Input.{Ahead, ByteAhead, depth, lines_taken, pushed}
-use Rattle.roff_rewriting.specs.Parts.{AreParts, Escape, Part, Written, bytes_of, cost_of_texts, rewritten}
+use Rattle.roff_rewriting.specs.Parts.{AreParts, Escape, Measured, Part, Written, bytes_of, cost_of_texts, known_behind_part, registers_behind, rewritten}
 use Rattle.roff_rules.specs.CallLaws.{BeginsLine, with_call}
 use Rattle.roff_rules.specs.InterpolationLaws.{StandsForItself, text_named}
+use Rattle.roff_rules.specs.WidthLaws.{text_units}
 use Rattle.roff_rules.specs.WordCalls.{NamesBody, call_with, read_as}
 use Rattle.roff_run.specs.Reading.Items.{PageInput}
 use Rattle.roff_run.specs.Registers.{Known}
@@ -20,10 +21,16 @@ use Rattle.roff_run.specs.PageEvents.{PageEvent}
 abbrev pub behind_part : Known → PageInput → Arguments → Part → Arguments
 behind_part k i a (Written bytes) = fold with_argument_byte a bytes
 behind_part k i a (Escape purpose name bytes) = fold with_argument_byte (settled a) (text_named k i purpose name)
+behind_part k i a (Measured delimiter text) = fold with_argument_byte (settled a) (decimal (text_units text))
+
+-- and behind several
+abbrev pub behind_parts : Known → PageInput → Arguments → List Part → Arguments
+behind_parts k i a [] = a
+behind_parts k i a (part ∷ parts) = behind_parts (known_behind_part k part) i (behind_part k i a part) parts
 
 -- the arguments that the parts of a line are read as
 abbrev pub parts_read_as : Known → PageInput → List Part → List (List ℕ)
-parts_read_as k i parts = arguments_read (fold (behind_part k i) no_arguments parts)
+parts_read_as k i parts = arguments_read (behind_parts k i no_arguments parts)
 
 -- bytes that stand for themselves
 abbrev pub AreThemselves : List ℕ → Type 0
@@ -35,38 +42,47 @@ pub record HasRoomForTexts (l : Limits) (s : State) (read : List ℕ) : Type 0 w
   pub deep : depth s.input + 1 ≤ l.depth
 
 -- A body that a line calls gets the first nine of the arguments that the line is read as, each escape as its text. Each byte of
--- the line and of those texts is a step, and costs one; so does each text's end.
+-- the line and of those texts is a step, and costs one; so does each text's end. Registers are stepped as their escapes say.
 abbrev pub BodiesGetTheTextsRead : Type 0
 BodiesGetTheTextsRead =
     (l : Limits) (s : State) (control : ℕ) (name : ShortName) (body : List ℕ) (parts : List Part)
     (rest : List (Ahead PageEvent)) →
-    BeginsLine s → NamesBody s.input.names control name body → AreParts AreThemselves (known s) s.input parts →
+    BeginsLine s → NamesBody s.input.names control name body → AreParts true AreThemselves (known s) s.input parts →
     let line : List ℕ = call_with control name (bytes_of parts) in
     let cost : ℕ = length line + cost_of_texts (known s) s.input parts in
     s.input.ahead ≡ map ByteAhead line ++ rest →
     let behind : PageInput = record s.input { ahead = rest; charge = s.input.charge + cost } in
-    let called : State = record s { input = with_call body (parts_read_as (known s) s.input parts) behind } in
+    let called : State =
+    record s {
+      registers = registers_behind s.registers parts;
+      input = with_call body (parts_read_as (known s) s.input parts) behind;
+    } in
     HasRoomForTexts l s (rewritten (known s) s.input parts) → IsWithin l s → IsWithin l called → after l cost s ≡ called
 
 -- and so it is where the line stands in the source itself, with nothing ahead of it
 abbrev pub BodiesOfTheSourceGetTheTextsRead : Type 0
 BodiesOfTheSourceGetTheTextsRead =
     (l : Limits) (s : State) (control : ℕ) (name : ShortName) (body : List ℕ) (parts : List Part) (tape : Tape) →
-    BeginsLine s → NamesBody s.input.names control name body → AreParts AreThemselves (known s) s.input parts →
+    BeginsLine s → NamesBody s.input.names control name body → AreParts true AreThemselves (known s) s.input parts →
     s.input.ahead ≡ [] →
     let line : List ℕ = call_with control name (bytes_of parts) in
     let cost : ℕ = length line + cost_of_texts (known s) s.input parts in
     s.tape ≡ items_then (map OneByte line) tape →
     let behind : PageInput = record (lines_taken line s.input) { charge = s.input.charge + cost } in
-    let called : State = record s { tape = tape; input = with_call body (parts_read_as (known s) s.input parts) behind } in
+    let called : State =
+    record s {
+      tape = tape;
+      registers = registers_behind s.registers parts;
+      input = with_call body (parts_read_as (known s) s.input parts) behind;
+    } in
     HasRoomForTexts l s (rewritten (known s) s.input parts) → IsWithin l s → IsWithin l called → after l cost s ≡ called
 
 -- no escape stands behind the quote that closes an argument, where a line in such parts is read behind these arguments
 abbrev pub NoneBehindQuote : Known → PageInput → Arguments → List Part → Type 0
 NoneBehindQuote k i a [] = ⊤
 NoneBehindQuote k i a (Written bytes ∷ parts) = NoneBehindQuote k i (behind_part k i a (Written bytes)) parts
-NoneBehindQuote k i a (Escape purpose name bytes ∷ parts) =
-    (is_behind_quote a.place ≡ false) × NoneBehindQuote k i (behind_part k i a (Escape purpose name bytes)) parts
+NoneBehindQuote k i a (part ∷ parts) =
+    (is_behind_quote a.place ≡ false) × NoneBehindQuote (known_behind_part k part) i (behind_part k i a part) parts
 
 -- then it is read as the line that has the texts in the places of the escapes
 abbrev pub LinesAreReadAsRewritten : Type 0

@@ -1,5 +1,5 @@
 -- Laws of the lines that set strings, or append to them, with escapes in their texts (manual, sections 7 and 8).
-use Rattle.std.specs.Prelude.{◌≡◌, ℕ, ◌+◌, ◌≤◌, Bool, true, List, [], ◌++◌, length, map, All}
+use Rattle.std.specs.Prelude.{◌≡◌, ℕ, ◌+◌, ◌≤◌, Bool, true, false, List, [], ◌++◌, length, map, All}
 use Rattle.roff_num.specs.declared.limits.Limits.{Limits}
 use Rattle.roff_num.specs.declared.short_name.ShortName.{ShortName}
 use Rattle.roff_num.specs.ShortNames.{name_bytes}
@@ -9,7 +9,7 @@ use Rattle.roff_store.specs.Texts.{Entry}
 use Rattle.roff_escape.specs.EscapeLaws.{copied}
 use Rattle.roff_ahead.specs.Input.{Ahead, ByteAhead, lines_taken}
 use Rattle.roff_ahead.specs.Input.Names.{stored}
-use Rattle.roff_rewriting.specs.Parts.{AreParts, Part, bytes_of, cost_of_texts, rewritten}
+use Rattle.roff_rewriting.specs.Parts.{AreParts, Part, bytes_of, cost_of_texts, registers_behind, rewritten}
 use Rattle.roff_rewriting.specs.TextsInCalls.{HasRoomForTexts}
 use Rattle.roff_rewriting.specs.TextsInDefinitions.{IsCopiedPart}
 use Rattle.roff_rules.specs.CallLaws.{BeginsLine, IsControl}
@@ -36,7 +36,7 @@ pub record SetsTexts (names : Named Entry) (control : ℕ) (request : ShortName)
   pub stands_for : called_by request names ≡ ARequest of_request
   pub reads_string : (row_of of_request).line ≡ ByString appends
   pub is_name : All IsOfWord (name_bytes name)
-  pub parts : AreParts IsCopiedPart k i text
+  pub parts : AreParts false IsCopiedPart k i text
   pub stands : may_stand quoted (copied (rewritten k i text)) ≡ true
 
 -- The string is the rest of the line as it is copied, with the text of each escape in its place, without the blanks in front of
@@ -52,7 +52,11 @@ StringsAreTheTextsRead =
     let cost : ℕ = length line + cost_of_texts (known s) s.input parts in
     s.input.ahead ≡ map ByteAhead line ++ rest →
     let behind : PageInput = record s.input { ahead = rest; charge = s.input.charge + cost } in
-    let set : State = record s { input = with_definition name appends (copied read) s.input.open_texts behind } in
+    let set : State =
+    record s {
+      registers = registers_behind s.registers parts;
+      input = with_definition name appends (copied read) s.input.open_texts behind;
+    } in
     stored s.input + length (copied read) ≤ l.store → HasRoomForOne l s name → HasRoomForTexts l s read → IsWithin l s →
     IsWithin l set → after l cost s ≡ set
 
@@ -68,6 +72,10 @@ StringsOfTheSourceAreTheTextsRead =
     s.tape ≡ items_then (map OneByte line) tape →
     let behind : PageInput = record (lines_taken line s.input) { charge = s.input.charge + cost } in
     let set : State =
-    record s { tape = tape; input = with_definition name appends (copied read) s.input.open_texts behind } in
+    record s {
+      tape = tape;
+      registers = registers_behind s.registers parts;
+      input = with_definition name appends (copied read) s.input.open_texts behind;
+    } in
     stored s.input + length (copied read) ≤ l.store → HasRoomForOne l s name → HasRoomForTexts l s read → IsWithin l s →
     IsWithin l set → after l cost s ≡ set

@@ -6,11 +6,13 @@ ghost use Rattle.roff_rewriting.specs.TextsInCalls.{BodiesOfTheSourceGetTheTexts
 ghost use Rattle.roff_rewriting.specs.TextsInCalls.{LinesAreReadAsRewritten};
 
 /// A body that a line calls gets the first nine of the arguments that the line is read as, where
-/// the escape of a register, a string or an argument is read as its text: blanks of the text
-/// separate, and quotes quote. So it is of any number of them, if no escape makes a step, and each
-/// byte beside them and of their texts stands for itself. Each byte of the line and of the texts is
-/// a step, and costs one, and so is the end of each text, if the limits allow the state before and
-/// the state behind, and the line and its texts beside all that stands ahead.
+/// the escape of a register, a string or an argument is read as its text, and that of a measured
+/// text as its width: blanks of a text separate, and quotes quote. A register that an escape steps
+/// is stepped before it is read, once for each escape, in their order. So it is of any number of
+/// escapes, if each byte beside them and of their texts stands for itself, measured texts have no
+/// escapes, and no step is out of range or one of the page number. Each byte of the line and of the
+/// texts is a step, and costs one, and so is the end of each text, if the limits allow the state
+/// before and the state behind, and the line and its texts beside all that stands ahead.
 pub fn called_with_texts()
     ensures ahead { BodiesGetTheTextsRead }
     ensures source { BodiesOfTheSourceGetTheTextsRead }

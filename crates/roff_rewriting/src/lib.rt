@@ -5,5 +5,6 @@
 pub mod call_laws;
 pub mod definition_laws;
 pub mod message_laws;
+pub mod name_laws;
 pub mod string_laws;
 pub mod title_laws;

@@ -4,6 +4,8 @@
 ghost use Rattle.roff_rewriting.specs.MessageLines.{MessagesTellWhatIsRead};
 ghost use Rattle.roff_rewriting.specs.TextsInMessages.{MessagesOfTheSourceTellTheTextsRead};
 ghost use Rattle.roff_rewriting.specs.TextsInMessages.{MessagesTellTheTextsRead};
+ghost use Rattle.roff_rewriting.specs.TextsInMessages.{RunsEndWithTheTextsOfTheSource};
+ghost use Rattle.roff_rewriting.specs.TextsInMessages.{RunsEndWithTheTextsRead};
 
 /// A message with the escape of a register, a string or an argument in it tells the text that is
 /// read in the escape's place, at the cost of that text and its end.
@@ -12,9 +14,17 @@ pub fn interpolated_messages()
 {}
 
 /// A message tells what is read, where the escape of a register, a string or an argument is read as
-/// its text, without the blanks in front. So it is of any number of them, under the same premises,
-/// and at the same cost, as in a line that calls a body; and telling is a step of its own.
+/// its text, without the blanks in front, and registers are stepped as the escapes say. So it is of
+/// any number of them, under the same premises, and at the same cost, as in a line that calls a
+/// body, but without widths, which aren't read there; and telling is a step of its own.
 pub fn messages_with_texts()
     ensures ahead { MessagesTellTheTextsRead }
     ensures source { MessagesOfTheSourceTellTheTextsRead }
+{}
+
+/// A message that ends the run ends it with what is read so, told last, at the same cost: nothing
+/// else happens, and what stood behind the line is left.
+pub fn last_messages()
+    ensures ahead { RunsEndWithTheTextsRead }
+    ensures source { RunsEndWithTheTextsOfTheSource }
 {}
