@@ -2,6 +2,9 @@
 //! the program on it.
 #![tactic(auto)]
 
+mod command_lines;
+
+pub use command_lines::{Expected, FILES, FOLDERS, STANDARD_INPUT};
 use std::alloc::{Allocator, Global};
 use std::cell::Cell;
 use std::convert::AsSlice;

@@ -1,10 +1,9 @@
 //! A worked row.
 
 use anyhow::Result;
-use roff_machine::{Given, Machine, Paper};
+use roff_machine::{Expected, Given, Machine, Paper};
 use roff_tools::{StdWrite, main_with};
 use std::alloc::{AllocError, Global};
-use std::process::ExitCode;
 use std::rt::Files;
 use std::{fs, io};
 
@@ -60,15 +59,13 @@ impl Row {
         let stdout = StdWrite::new(Paper::new(alloc));
         let stderr = StdWrite::new(Paper::new(alloc));
         let done = main_with(&machine, stdout, stderr);
-        Ok(if done.stdout.into_inner().kept != self.output {
-            Some("output")
-        } else if done.stderr.into_inner().kept != self.messages {
-            Some("messages")
-        } else if done.exit != ExitCode::from(self.status) {
-            Some("status")
-        } else {
-            None
-        })
+        let expected = Expected {
+            status: self.status,
+            out: self.output.as_slice(),
+            err: self.messages.as_slice(),
+        };
+        let (stdout, stderr) = (done.stdout.into_inner(), done.stderr.into_inner());
+        Ok(expected.difference(&stdout, &stderr, done.exit))
     }
 }
 

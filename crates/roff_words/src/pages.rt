@@ -1,7 +1,7 @@
 //! The first page's number, and the pages that are written, as command lines ask for them.
 
 use super::command_lines::{Row, check_rows};
-use super::texts;
+use super::mistake_texts;
 
 /// What is asked for.
 static GIVEN_ROWS: [Row; 10] = [
@@ -91,35 +91,50 @@ static MISTAKE_ROWS: [Row; 8] = [
         &["roff", "nroff", "-nx", "paged"],
         1,
         "",
-        texts::NO_FIRST_PAGE,
+        mistake_texts::NO_FIRST_PAGE,
     ),
     (
         &["roff", "nroff", "-ox", "-n100000"],
         1,
         "",
-        texts::FIRST_PAGE_ABOVE_RANGE,
+        mistake_texts::FIRST_PAGE_ABOVE_RANGE,
     ),
     (
         &["roff", "nroff", "paged", "-n"],
         1,
         "",
-        texts::FIRST_PAGE_WITHOUT_NUMBER,
+        mistake_texts::FIRST_PAGE_WITHOUT_NUMBER,
     ),
     (
         &["roff", "nroff", "-n1", "-n2"],
         1,
         "",
-        texts::FIRST_PAGE_TWICE,
+        mistake_texts::FIRST_PAGE_TWICE,
     ),
     (
         &["roff", "nroff", "paged", "-o"],
         1,
         "",
-        texts::PAGES_WITHOUT_LIST,
+        mistake_texts::PAGES_WITHOUT_LIST,
     ),
-    (&["roff", "nroff", "-o1", "-o2"], 1, "", texts::PAGES_TWICE),
-    (&["roff", "tbl", "-o1"], 1, "", texts::PAGES_OF_TABLES),
-    (&["roff", "tbl", "-n1"], 1, "", texts::FIRST_PAGE_OF_TABLES),
+    (
+        &["roff", "nroff", "-o1", "-o2"],
+        1,
+        "",
+        mistake_texts::PAGES_TWICE,
+    ),
+    (
+        &["roff", "tbl", "-o1"],
+        1,
+        "",
+        mistake_texts::PAGES_OF_TABLES,
+    ),
+    (
+        &["roff", "tbl", "-n1"],
+        1,
+        "",
+        mistake_texts::FIRST_PAGE_OF_TABLES,
+    ),
 ];
 
 #[test]

@@ -1,7 +1,7 @@
 //! Number registers that command lines set.
 
 use super::command_lines::{Row, check_rows};
-use super::texts;
+use super::mistake_texts;
 
 /// Registers that are set.
 static GIVEN_ROWS: [Row; 15] = [
@@ -269,27 +269,32 @@ static MISTAKE_ROWS: [Row; 5] = [
         &["roff", "nroff", "telling", "-r"],
         1,
         "",
-        texts::NO_REGISTER,
+        mistake_texts::NO_REGISTER,
     ),
     (
         &["roff", "nroff", "-r", "-5", "telling"],
         1,
         "",
-        texts::NEGATIVE_REGISTER,
+        mistake_texts::NEGATIVE_REGISTER,
     ),
     (
         &["roff", "nroff", "-rx", "--line", "x"],
         1,
         "",
-        texts::NO_NUMBER,
+        mistake_texts::NO_NUMBER,
     ),
     (
         &["roff", "tbl", "-ra5", "telling"],
         1,
         "",
-        texts::REGISTER_OF_TABLES,
+        mistake_texts::REGISTER_OF_TABLES,
     ),
-    (&["roff", "-ra5", "nroff"], 1, "", texts::EARLY_REGISTER),
+    (
+        &["roff", "-ra5", "nroff"],
+        1,
+        "",
+        mistake_texts::EARLY_REGISTER,
+    ),
 ];
 
 /// As many registers as can be set.

@@ -1,7 +1,8 @@
 //! Command lines of `tbl` and `both`, and what they give.
 
-use super::{Expected, check, machine, texts};
-use roff_machine::{Given, Machine, Paper};
+use super::check::check;
+use super::{help_texts, mistake_texts};
+use roff_machine::{Expected, Given, Machine, Paper};
 use std::alloc::Global;
 use std::process::Abort;
 
@@ -215,11 +216,11 @@ static LIMIT_ROWS: [Row; 26] = [
 
 /// Help.
 static HELP_ROWS: [Row; 5] = [
-    (&["roff", "tbl", "--help"], 0, texts::TBL_HELP, ""),
-    (&["roff", "help", "tbl"], 0, texts::TBL_HELP, ""),
-    (&["roff", "both", "--help"], 0, texts::BOTH_HELP, ""),
-    (&["roff", "both", "-h"], 0, texts::BOTH_HELP, ""),
-    (&["roff", "help", "both"], 0, texts::BOTH_HELP, ""),
+    (&["roff", "tbl", "--help"], 0, help_texts::TBL_HELP, ""),
+    (&["roff", "help", "tbl"], 0, help_texts::TBL_HELP, ""),
+    (&["roff", "both", "--help"], 0, help_texts::BOTH_HELP, ""),
+    (&["roff", "both", "-h"], 0, help_texts::BOTH_HELP, ""),
+    (&["roff", "help", "both"], 0, help_texts::BOTH_HELP, ""),
 ];
 
 /// Mistakes on the command line.
@@ -228,31 +229,31 @@ static MISTAKE_ROWS: [Row; 5] = [
         &["roff", "tbl", "--depth", "1"],
         1,
         "",
-        texts::OPTION_OF_TEXT,
+        mistake_texts::OPTION_OF_TEXT,
     ),
     (
         &["roff", "nroff", "--rows", "1"],
         1,
         "",
-        texts::OPTION_OF_TABLES,
+        mistake_texts::OPTION_OF_TABLES,
     ),
     (
         &["roff", "both", "--line-length=x"],
         1,
         "",
-        texts::NO_LINE_LENGTH,
+        mistake_texts::NO_LINE_LENGTH,
     ),
     (
         &["roff", "tbl", "--rows=1000000001"],
         1,
         "",
-        texts::ROWS_ABOVE_RANGE,
+        mistake_texts::ROWS_ABOVE_RANGE,
     ),
     (
         &["roff", "both", "--columns=1", "--columns=2"],
         1,
         "",
-        texts::COLUMNS_TWICE,
+        mistake_texts::COLUMNS_TWICE,
     ),
 ];
 
@@ -261,7 +262,7 @@ fn machine_with_tables<'a>(alloc: Global, words: &'a [&'a str]) -> Machine<'a, &
     Machine {
         files: &FILES,
         standard_input: Given::new(b".pl 1\n.nf\nstandard input\n"),
-        ..machine(alloc, words)
+        ..Machine::new(alloc, words)
     }
 }
 

@@ -1,7 +1,8 @@
 //! Command lines and what they give.
 
-use super::{Expected, check, machine, texts};
-use roff_machine::Paper;
+use super::check::check;
+use super::{help_texts, mistake_texts};
+use roff_machine::{Expected, Machine, Paper};
 use std::alloc::Global;
 use std::process::Abort;
 
@@ -126,81 +127,111 @@ static FILE_ROWS: [Row; 27] = [
 
 /// Help and version.
 static HELP_ROWS: [Row; 9] = [
-    (&["roff", "--help"], 0, texts::ROFF_HELP, ""),
-    (&["roff", "-h"], 0, texts::ROFF_HELP, ""),
-    (&["roff", "help"], 0, texts::ROFF_HELP, ""),
+    (&["roff", "--help"], 0, help_texts::ROFF_HELP, ""),
+    (&["roff", "-h"], 0, help_texts::ROFF_HELP, ""),
+    (&["roff", "help"], 0, help_texts::ROFF_HELP, ""),
     (&["roff", "--version"], 0, "roff 0.1.0\n", ""),
     (&["roff", "-V"], 0, "roff 0.1.0\n", ""),
-    (&["roff", "nroff", "--help"], 0, texts::NROFF_HELP, ""),
-    (&["roff", "nroff", "-h"], 0, texts::NROFF_HELP, ""),
-    (&["roff", "help", "nroff"], 0, texts::NROFF_HELP, ""),
+    (&["roff", "nroff", "--help"], 0, help_texts::NROFF_HELP, ""),
+    (&["roff", "nroff", "-h"], 0, help_texts::NROFF_HELP, ""),
+    (&["roff", "help", "nroff"], 0, help_texts::NROFF_HELP, ""),
     (
         &["roff", "nroff", "one", "--help"],
         0,
-        texts::NROFF_HELP,
+        help_texts::NROFF_HELP,
         "",
     ),
 ];
 
 /// Mistakes on the command line.
 static MISTAKE_ROWS: [Row; 18] = [
-    (&["roff"], 1, "", texts::NO_COMMAND),
-    (&["roff", "troff"], 1, "", texts::WRONG_COMMAND),
-    (&["roff", "one"], 1, "", texts::NO_SUCH_COMMAND),
+    (&["roff"], 1, "", mistake_texts::NO_COMMAND),
+    (&["roff", "troff"], 1, "", mistake_texts::WRONG_COMMAND),
+    (&["roff", "one"], 1, "", mistake_texts::NO_SUCH_COMMAND),
     (
         &["roff", "--bytes", "5", "nroff"],
         1,
         "",
-        texts::EARLY_OPTION,
+        mistake_texts::EARLY_OPTION,
     ),
-    (&["roff", "nroff", "--version"], 1, "", texts::NO_VERSION),
-    (&["roff", "nroff", "--page"], 1, "", texts::WRONG_OPTION),
+    (
+        &["roff", "nroff", "--version"],
+        1,
+        "",
+        mistake_texts::NO_VERSION,
+    ),
+    (
+        &["roff", "nroff", "--page"],
+        1,
+        "",
+        mistake_texts::WRONG_OPTION,
+    ),
     (
         &["roff", "nroff", "one", "--page"],
         1,
         "",
-        texts::WRONG_OPTION_LATER,
+        mistake_texts::WRONG_OPTION_LATER,
     ),
-    (&["roff", "nroff", "-x"], 1, "", texts::WRONG_LETTER),
+    (&["roff", "nroff", "-x"], 1, "", mistake_texts::WRONG_LETTER),
     (
         &["roff", "nroff", "--byte", "5"],
         1,
         "",
-        texts::SHORTENED_OPTION,
+        mistake_texts::SHORTENED_OPTION,
     ),
-    (&["roff", "nroff", "one", "--bytes"], 1, "", texts::NO_VALUE),
-    (&["roff", "nroff", "--line", "x"], 1, "", texts::NO_NUMBER),
-    (&["roff", "nroff", "--line", ""], 1, "", texts::EMPTY_NUMBER),
+    (
+        &["roff", "nroff", "one", "--bytes"],
+        1,
+        "",
+        mistake_texts::NO_VALUE,
+    ),
+    (
+        &["roff", "nroff", "--line", "x"],
+        1,
+        "",
+        mistake_texts::NO_NUMBER,
+    ),
+    (
+        &["roff", "nroff", "--line", ""],
+        1,
+        "",
+        mistake_texts::EMPTY_NUMBER,
+    ),
     (
         &["roff", "nroff", "--bytes", "-1"],
         1,
         "",
-        texts::NEGATIVE_WORD,
+        mistake_texts::NEGATIVE_WORD,
     ),
-    (&["roff", "nroff", "--bytes=-1"], 1, "", texts::BELOW_RANGE),
+    (
+        &["roff", "nroff", "--bytes=-1"],
+        1,
+        "",
+        mistake_texts::BELOW_RANGE,
+    ),
     (
         &["roff", "nroff", "--bytes=1000000001"],
         1,
         "",
-        texts::ABOVE_RANGE,
+        mistake_texts::ABOVE_RANGE,
     ),
     (
         &["roff", "nroff", "--line", "1000000001"],
         1,
         "",
-        texts::LINE_ABOVE_RANGE,
+        mistake_texts::LINE_ABOVE_RANGE,
     ),
     (
         &["roff", "nroff", "--conditions=1000000001"],
         1,
         "",
-        texts::LAST_ABOVE_RANGE,
+        mistake_texts::LAST_ABOVE_RANGE,
     ),
     (
         &["roff", "nroff", "--line=1", "--line=2"],
         1,
         "",
-        texts::TWICE,
+        mistake_texts::TWICE,
     ),
 ];
 
@@ -213,7 +244,7 @@ pub fn check_rows(rt: &impl Abort, alloc: Global, rows: &[Row]) {
             err: err.as_bytes(),
         };
         let (stdout, stderr) = (Paper::new(alloc), Paper::new(alloc));
-        check(rt, &machine(alloc, words), stdout, stderr, expected);
+        check(rt, &Machine::new(alloc, words), stdout, stderr, expected);
     }
 }
 

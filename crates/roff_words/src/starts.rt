@@ -1,0 +1,60 @@
+//! Starts: words that are no text, and more files than a command line often names.
+
+use super::check::check;
+use roff_machine::{Expected, FILES, FOLDERS, Given, Machine, Paper, STANDARD_INPUT};
+use roff_tools::{StdWrite, main_with};
+use std::process::ExitCode;
+use std::test::Fail;
+
+/// How many files the command line of the next test names.
+const COUNT: usize = 100;
+
+#[test]
+fn a_hundred_files(rt: HostRuntime) -> Result<(), Fail> {
+    let alloc = rt.alloc();
+    let mut words = vec![in alloc; "x"; COUNT + 2]?;
+    words[0] = "roff";
+    words[1] = "nroff";
+    words[2] = "y";
+    let machine = Machine {
+        files: &[("y", b".pl 1\n.nf\n"), ("x", b"x\n")],
+        ..Machine::new(alloc, words.as_slice())
+    };
+    let out = b"x\n".repeat(alloc, COUNT - 1)?;
+    let expected = Expected {
+        status: 0,
+        out: out.as_slice(),
+        err: b"",
+    };
+    check(
+        &rt,
+        &machine,
+        Paper::new(alloc),
+        Paper::new(alloc),
+        expected,
+    );
+    Ok(())
+}
+
+#[test]
+fn words_that_are_no_text(rt: HostRuntime) -> Result<(), Fail> {
+    let words: [&[u8]; 3] = [b"roff", b"nroff", b"na\xefve"];
+    let machine = Machine {
+        alloc: rt.alloc(),
+        words: words.as_slice(),
+        files: &FILES,
+        folders: &FOLDERS,
+        standard_input: Given::new(STANDARD_INPUT),
+        most: usize::MAX,
+    };
+    let stdout = StdWrite::new(Paper::new(rt.alloc()));
+    let stderr = StdWrite::new(Paper::new(rt.alloc()));
+    let done = main_with(&machine, stdout, stderr);
+    assert!(rt; done.stdout.into_inner().kept.is_empty());
+    assert_eq!(rt;
+        str::from_utf8(&done.stderr.into_inner().kept),
+        Ok("roff: an argument is not UTF-8 text\n")
+    );
+    assert_eq!(rt; done.exit, ExitCode::from(1));
+    Ok(())
+}
