@@ -15,8 +15,9 @@ use Rattle.roff_store.specs.Texts.{Entry}
 use Rattle.roff_rewriting.proofs.CopiedParts.{copied-behind, copied-part, part-of_line}
 use Rattle.roff_rewriting.proofs.PartRuns.{NoPart, OnBytes, OnText, PartsPath}
 use Rattle.roff_rewriting.proofs.ReadTexts.{ByName}
-use Rattle.roff_rewriting.specs.Parts.{AreParts, Escape, MayHave, MayMeasure, MayRead, MayWrite, Part, known_behind_part, rewritten}
-use Rattle.roff_rewriting.specs.TextsInDefinitions.{ABlank, ATab, IsCopiedPart, MayFollow, TheNewline, behind_mark}
+use Rattle.roff_rewriting.proofs.Ways.{way}
+use Rattle.roff_rewriting.specs.Parts.{AreParts, Escape, IsCopiedPart, MayHave, MayMeasure, MayRead, MayWrite, Part, known_behind_part, rewritten}
+use Rattle.roff_rewriting.specs.TextsInDefinitions.{ABlank, ATab, MayFollow, TheNewline, behind_mark}
 use Rattle.roff_rules.proofs.DefinedBytes.{Allows, Definition, IsCopied, NoUnit, OneUnit, defining, making, no_backslash, onward-mark, reads-itself, reads-unit}
 use Rattle.roff_rules.proofs.DefinitionLaws.{entered-by, entered_by}
 use Rattle.roff_rules.specs.InterpolationLaws.{StandsForItself, text_named}
@@ -76,7 +77,7 @@ path-part_of_mark k j most names d a bound text done _ parts allows small (MayWr
     let one =
     path-copied_mark most names d a bound text done rest bytes (copied bytes) allows small (copied-part bytes may) (subst (All StandsForItself) same mark) all in
     OnBytes k (defining d a text (Some (length done))) (defining d a text (Some (length next))) (defining d a text (Some (length (end_mark d.end)))) bytes parts
-    (part-of_line bytes may) one.0
+    (part-of_line bytes may) (way most names (defining d a text (Some (length done))) (defining d a text (Some (length next))) bytes one.0)
     (others next one.1 (all ∙ sym (append_assoc done (copied bytes) rest)))
 path-part_of_mark k j most names d a bound text done _ parts allows small (MayRead purpose name bytes is_escape quiet may) mark is others =
     let part : Part = Escape purpose name bytes in
@@ -90,7 +91,8 @@ path-part_of_mark k j most names d a bound text done _ parts allows small (MayRe
     let one =
     path-copied_mark most names d a bound text done rest own (copied own) allows small (copied-part own may) (subst (All StandsForItself) same mark) all in
     OnText k (Defining d.name d.appends d.end (Some (length done))) (Defining d.name d.appends d.end (Some (length next))) a a texts texts
-    (defining d a text (Some (length (end_mark d.end)))) part parts refl (ByName purpose name bytes refl is_escape quiet) one.0
+    (defining d a text (Some (length (end_mark d.end)))) part parts refl (ByName purpose name bytes refl is_escape quiet)
+    (way most names (defining d a text (Some (length done))) (defining d a text (Some (length next))) own one.0)
     (others next one.1 (all ∙ sym (append_assoc done (copied own) rest)))
 path-part_of_mark k j most names d a bound text done _ parts allows small (MayMeasure delimiter measured measures may plain) mark is others = absurd (cc)
 

@@ -14,8 +14,8 @@ use Rattle.roff_store.specs.Named.{Named}
 use Rattle.roff_store.specs.Texts.{Entry}
 use Rattle.roff_rewriting.proofs.PartRuns.{NoPart, OnBytes, OnText, PartsPath}
 use Rattle.roff_rewriting.proofs.ReadTexts.{ByName, IsOfOneLine}
-use Rattle.roff_rewriting.specs.Parts.{AreParts, Escape, MayHave, MayMeasure, MayRead, MayWrite, Part, known_behind_part, rewritten}
-use Rattle.roff_rewriting.specs.TextsInDefinitions.{BeginsWidth, IsCopiedPart, OnlyCopied}
+use Rattle.roff_rewriting.proofs.Ways.{way}
+use Rattle.roff_rewriting.specs.Parts.{AreParts, BeginsWidth, Escape, IsCopiedPart, IsOnlyCopied, MayHave, MayMeasure, MayRead, MayWrite, OnlyCopied, Part, known_behind_part, rewritten}
 use Rattle.roff_rules.proofs.DefinedBytes.{Allows, Copies, Definition, Escaped, IsCopied, NoUnit, OneUnit, copies-mark, copies-text, defining, front_of-part, goes_on-unit, line_from-part, making, no_backslash, no_newline, onward-unit, other_way}
 use Rattle.roff_rules.proofs.DefinitionLaws.{copied-line}
 use Rattle.roff_rules.specs.ConditionLaws.{is_whole}
@@ -158,18 +158,22 @@ copied-append (b ∷ []) behind whole = copied-plain b behind (not-true (b == ba
 copied-append (b ∷ c ∷ front) behind whole =
     copied-two (b == backslash) b c front behind whole (copied-append front behind) (copied-append (c ∷ front) behind)
 
+-- bytes that are copied end no line
+pub copied-of_line : (part : List ℕ) → IsOnlyCopied part → IsOfOneLine part
+copied-of_line part is =
+    All-weaker IsOfLine (λ b. (b == newline) ≡ false) (λ b of_line. not-second (is_dropped b) (b == newline) of_line) part is.bytes
+
 -- a part that is copied ends no line, is whole, and its units don't end it
 pub part-of_line : (part : List ℕ) → IsCopiedPart part → IsOfOneLine part
-part-of_line _ (OnlyCopied part bytes only whole) =
-    All-weaker IsOfLine (λ b. (b == newline) ≡ false) (λ b of_line. not-second (is_dropped b) (b == newline) of_line) part bytes
+part-of_line _ (OnlyCopied part is) = copied-of_line part is
 part-of_line _ BeginsWidth = All-cons (λ b. (b == newline) ≡ false) backslash (119 ∷ []) refl (All-cons (λ b. (b == newline) ≡ false) 119 [] refl (All-nil (λ b. (b == newline) ≡ false)))
 
 whole-part : (part : List ℕ) → IsCopiedPart part → is_whole part ≡ true
-whole-part _ (OnlyCopied part bytes only whole) = whole
+whole-part _ (OnlyCopied part is) = is.whole
 whole-part _ BeginsWidth = refl
 
 pub copied-part : (part : List ℕ) → IsCopiedPart part → IsCopied part (copied part)
-copied-part _ (OnlyCopied part bytes only whole) = copied-line part bytes only whole
+copied-part _ (OnlyCopied part is) = copied-line part is.bytes is.only_copied is.whole
 copied-part _ BeginsWidth = OneUnit (Kept 119) (backslash ∷ 119 ∷ []) [] [] (Escaped (Kept 119) 119 refl refl) refl NoUnit
 
 -- and what stands behind it is copied behind it
@@ -205,7 +209,7 @@ reads-copy k j most names d a bound text matched all _ parts allows (MayWrite by
       m = rest.m;
       path =
           OnBytes k (defining d a text matched) (defining d a one.there one.m) (defining d a rest.there rest.m) bytes parts
-          (part-of_line bytes is) one.path rest.path;
+          (part-of_line bytes is) (way most names (defining d a text matched) (defining d a one.there one.m) bytes one.path) rest.path;
       so_far = subst (SoFar (end_mark d.end) [] rest.there rest.m) (append_assoc all (copied bytes) others ∙ ap (λ (copy : List ℕ). all ++ copy) (sym same)) rest.so_far;
     }
 reads-copy k j most names d a bound text matched all _ parts allows (MayRead purpose name bytes is_escape quiet is) so_far few reads =
@@ -225,7 +229,8 @@ reads-copy k j most names d a bound text matched all _ parts allows (MayRead pur
       m = rest.m;
       path =
           OnText k (Defining d.name d.appends d.end matched) (Defining d.name d.appends d.end one.m) a a (making d.name d.before d.others text) (making d.name d.before d.others one.there)
-          (defining d a rest.there rest.m) part parts refl (ByName purpose name bytes refl is_escape quiet) one.path rest.path;
+          (defining d a rest.there rest.m) part parts refl (ByName purpose name bytes refl is_escape quiet)
+          (way most names (defining d a text matched) (defining d a one.there one.m) own one.path) rest.path;
       so_far = subst (SoFar (end_mark d.end) [] rest.there rest.m) (append_assoc all (copied own) others ∙ ap (λ (copy : List ℕ). all ++ copy) (sym same)) rest.so_far;
     }
 reads-copy k j most names d a bound text matched all _ parts allows (MayMeasure delimiter measured measures may plain) so_far few reads = absurd (cc)

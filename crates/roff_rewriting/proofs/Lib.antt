@@ -1,8 +1,10 @@
 pub mod MessageLines
 pub mod ReadTexts
+pub mod Ways
 pub mod PartRuns
-pub mod TextsInCalls
 pub mod CopiedParts
+pub mod CallUnits
+pub mod TextsInCalls
 pub mod CopiedMarks
 pub mod TextsInDefinitions
 pub mod DroppedRests

@@ -10,6 +10,7 @@ use Rattle.roff_store.specs.Named.{Named}
 use Rattle.roff_store.specs.Texts.{Entry}
 use Rattle.roff_ahead.specs.Input.{Ahead, ByteAhead, EndAhead, bytes_ahead, ends_ahead}
 use Rattle.roff_rewriting.proofs.ReadTexts.{AreAsMany, IsMore, IsOfOneLine, IsRead, behind_read, charged, in_front, more-behind, part-many, read-cost, read-escapes, read-of_line, read-same, reads-end, reads-text, standing}
+use Rattle.roff_rewriting.proofs.Ways.{Way, after-Way, held-Way, small-Way}
 use Rattle.roff_rewriting.specs.Parts.{Part, Written, bytes_of, bytes_of_part, cost_of_texts, known_behind_part, registers_behind, registers_behind_part, rewritten, rewritten_part}
 use Rattle.roff_rules.proofs.Interpolation.{ReadsEscapes-reads_escapes, held-settled_for, settled_for}
 use Rattle.roff_run.specs.Environments.{environments}
@@ -17,7 +18,7 @@ use Rattle.roff_run.specs.Output.{PageHistory, written}
 use Rattle.roff_run.proofs.ItemsTaken.{FromAhead, FromSource, Origin, ahead_at}
 use Rattle.roff_run.proofs.Leads.{after-add}
 use Rattle.roff_run.proofs.NameBytes.{stage}
-use Rattle.roff_run.proofs.PlainRuns.{HasRoom, Here, IsSmall, IsWithin-HasRoom, Most, Onward, Path, after-Path, behind_byte, behind_bytes, behind_bytes-ahead, behind_bytes-charge, behind_bytes-counts, run_at}
+use Rattle.roff_run.proofs.PlainRuns.{HasRoom, IsSmall, IsWithin-HasRoom, Most, behind_byte, behind_bytes, behind_bytes-ahead, behind_bytes-charge, behind_bytes-counts, run_at}
 use Rattle.roff_run.specs.ItemsTaken.{TakesItems}
 use Rattle.roff_run.specs.Reading.Ends.{due}
 use Rattle.roff_run.specs.Reading.Items.{PageInput}
@@ -31,11 +32,11 @@ use Rattle.roff_run.specs.declared.line_state.LineState.{LineState}
 -- parts of a line lead from stage to stage: their bytes, and the texts that are read in their places
 pub data PartsPath (j : PageInput) (most : Most) (names : Named Entry) : Known → Stage → List Part → Stage → Type 0 where
   NoPart : (k : Known) (p : Stage) → PartsPath j most names k p [] p
-  OnBytes : (k : Known) (p q r : Stage) (bytes : List ℕ) (parts : List Part) → IsOfOneLine bytes → Path most names p bytes q
+  OnBytes : (k : Known) (p q r : Stage) (bytes : List ℕ) (parts : List Part) → IsOfOneLine bytes → Way most names p bytes q
       → PartsPath j most names k q parts r → PartsPath j most names k p (Written bytes ∷ parts) r
   OnText : (k : Known) (reading there : LineState) (a b : Arguments) (texts made : List (List ℕ)) (r : Stage) (part : Part) (parts : List Part)
       → due there ≡ None → IsRead k reading part
-      → Path most names (stage reading (settled_for reading a) texts) (rewritten_part k j part) (stage there b made)
+      → Way most names (stage reading (settled_for reading a) texts) (rewritten_part k j part) (stage there b made)
       → PartsPath j most names (known_behind_part k part) (stage there b made) parts r
       → PartsPath j most names k (stage reading a texts) (part ∷ parts) r
 
@@ -47,15 +48,6 @@ one-of_line j most names _ _ q _ (OnBytes k p next _ bytes parts one path more) 
 one-of_line j most names _ _ q _ (OnText k reading there a b texts made _ part parts none_due is path more) =
     All-append (λ b. (b == newline) ≡ false) (bytes_of_part part) (bytes_of parts) (read-of_line k reading part is)
     (one-of_line j most names (known_behind_part k part) (stage there b made) q parts more)
-
--- what is held behind a path
-small-Path : (most : Most) (names : Named Entry) (p q : Stage) (bytes : List ℕ) → Path most names p bytes q → IsSmall most p → IsSmall most q
-small-Path most names _ q _ (Here p) small = small
-small-Path most names _ q _ (Onward p next _ b bytes none_due stays turns is_small grows path) small = small-Path most names next q bytes path is_small
-
-held-Path : (most : Most) (names : Named Entry) (p q : Stage) (bytes : List ℕ) → Path most names p bytes q → held q.arguments ≤ held p.arguments + length bytes
-held-Path most names _ q _ (Here p) = omega arith
-held-Path most names _ q _ (Onward p next _ b bytes none_due stays turns is_small grows path) = omega (arith, grows, held-Path most names next q bytes path)
 
 -- bytes that are counted one after another, and what was counted before
 pub behind_bytes-append : (from : Origin) (bytes more : List ℕ) (i : PageInput) → behind_bytes from more (behind_bytes from bytes i) ≡ behind_bytes from (bytes ++ more) i
@@ -157,19 +149,19 @@ pub record ComesTo (l : Limits) (s : State) (names : Named Entry) (from : Origin
 
 module _ (l : Limits) (s : State) (names : Named Entry) (from : Origin) (most : Most) (k : Known) (j : PageInput) (on : TakesItems s) (same_names : names ≡ j.names) where
   -- bytes of a path
-  pub after-bytes : (p q : Stage) (bytes more : List ℕ) (read cost : ℕ) (i : PageInput) → Path most names p bytes q → IsSmall most p
+  pub after-bytes : (p q : Stage) (bytes more : List ℕ) (read cost : ℕ) (i : PageInput) → Way most names p bytes q → IsSmall most p
       → RoomFor l s names from most p (length bytes + read) cost (bytes ++ more) i
       → ComesTo l s names from most (length bytes) (run_at s names p from (bytes ++ more) i) q read cost more (behind_bytes from bytes i)
   after-bytes p q bytes more read cost i path small room =
-      let one = after-Path l s names from most p q bytes more i on path room.room in
+      let one = after-Way l s names from most p q bytes more i on path room.room in
       let live : live_bytes (behind_bytes from bytes i).calls ≡ live_bytes i.calls = ap (λ (m : PageInput). live_bytes m.calls) (behind_bytes-counts from bytes i) in
       record {
         leads = one.0;
-        small = small-Path most names p q bytes path small;
+        small = small-Way most names p q bytes path small;
         room = record {
           room = one.1;
           charged_all = omega (arith, room.charged_all, behind_bytes-charge from bytes i, length-append bytes more);
-          stack = omega (arith, room.stack, live, bytes_ahead-front from bytes more, held-Path most names p q bytes path);
+          stack = omega (arith, room.stack, live, bytes_ahead-front from bytes more, held-Way most names p q bytes path);
           deep = omega (arith, room.deep, ends_ahead-front from bytes more);
         };
       }
@@ -177,7 +169,7 @@ module _ (l : Limits) (s : State) (names : Named Entry) (from : Origin) (most : 
   -- a part that is read as a text, the text, and its end: behind it the registers are those behind the part
   module _ (reading there : LineState) (a b : Arguments) (texts made : List (List ℕ)) (part : Part) (last : List ℕ) (read cost : ℕ) (i : PageInput) (is_more : IsMore last)
       (none_due : due there ≡ None) (is : IsRead k reading part)
-      (path : Path most names (stage reading (settled_for reading a) texts) (rewritten_part k j part) (stage there b made))
+      (path : Way most names (stage reading (settled_for reading a) texts) (rewritten_part k j part) (stage there b made))
       (small : IsSmall most (stage reading a texts)) (knows : Knows s k j i)
       (room : RoomFor l s names from most (stage reading a texts) (length (rewritten_part k j part) + read) (length (rewritten_part k j part) + 1 + cost) (bytes_of_part part ++ last) i) where
     abbrev bytes : List ℕ
@@ -249,7 +241,7 @@ module _ (l : Limits) (s : State) (names : Named Entry) (from : Origin) (most : 
     room-last =
         room-again l s s1 names from most (stage reading a texts) behind (bytes ++ last) last i (charged total i2) as_many refl room.room
         (omega (arith, room.charged_all, behind_bytes-charge from bytes i, length-append bytes last))
-        (omega (arith, room.stack, live, held-before, bytes_ahead-front from bytes last, held-Path most names before behind text path))
+        (omega (arith, room.stack, live, held-before, bytes_ahead-front from bytes last, held-Way most names before behind text path))
         (omega (arith, room.deep, ends_ahead-front from bytes last)) live room-text.texts room-text.conditions
 
     -- the part
@@ -267,7 +259,7 @@ module _ (l : Limits) (s : State) (names : Named Entry) (from : Origin) (most : 
     -- its text
     at-end : after l (length text) (run_at s2 names before (in_front from last) (text ++ []) i2) ≡ run_at s2 names behind (in_front from last) [] (charged (length text) i2)
     at-end =
-        (after-Path l s2 names (in_front from last) most before behind text [] i2 on2 path room-text).0
+        (after-Way l s2 names (in_front from last) most before behind text [] i2 on2 path room-text).0
         ∙ ap (run_at s2 names behind (in_front from last) []) (behind_bytes-ahead (EndAhead ∷ ahead_at from last) text i2)
 
     -- and the text's end
@@ -278,7 +270,7 @@ module _ (l : Limits) (s : State) (names : Named Entry) (from : Origin) (most : 
         ap (λ (n : ℕ). run_at s1 names behind from last (record i2 { charge = n })) sum in
         reads-end l s1 names from there b made last (charged (length text) i2) on1 is_more none_due
         (omega (arith, room.charged_all, behind_bytes-charge from bytes i, length-append bytes last))
-        (subst (IsWithin l) (sym same) (IsWithin-HasRoom l s1 names from most behind last (charged total i2) (small-Path most names before behind text path small-before) room-last))
+        (subst (IsWithin l) (sym same) (IsWithin-HasRoom l s1 names from most behind last (charged total i2) (small-Way most names before behind text path small-before) room-last))
         ∙ same
 
     pub after-text : ComesTo l s1 names from most (length bytes + total) (run_at s names (stage reading a texts) from (bytes ++ last) i) behind read cost last (charged total i2)
@@ -291,11 +283,11 @@ module _ (l : Limits) (s : State) (names : Named Entry) (from : Origin) (most : 
               ∙ after-add l (length text) 1 (run_at s2 names before (in_front from last) (text ++ []) i2)
               ∙ ap (after l 1) at-end
               ∙ at-last;
-          small = small-Path most names before behind text path small-before;
+          small = small-Way most names before behind text path small-before;
           room = record {
             room = room-last;
             charged_all = omega (arith, room.charged_all, behind_bytes-charge from bytes i, length-append bytes last);
-            stack = omega (arith, room.stack, live, held-before, bytes_ahead-front from bytes last, held-Path most names before behind text path);
+            stack = omega (arith, room.stack, live, held-before, bytes_ahead-front from bytes last, held-Way most names before behind text path);
             deep = omega (arith, room.deep, ends_ahead-front from bytes last);
           };
         }

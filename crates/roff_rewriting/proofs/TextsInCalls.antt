@@ -1,6 +1,6 @@
 -- A body that a line calls gets the arguments that the line's parts are read as.
 use Rattle.std.proofs.Common.{◌≡◌, ℕ, ◌+◌, ◌≤◌, Bool, true, false, List, [], ◌∷◌, ◌++◌, length, refl, ap, sym, subst, ◌∙◌, arith, append_assoc}
-use Rattle.std.specs.Prelude.{All, ◌*◌, ◌||◌, ◌&&◌, decimal, fold, nat_le, nat_lt, not, reverse, sum_by, ◌==◌}
+use Rattle.std.specs.Prelude.{All, ◌*◌, ◌||◌, ◌&&◌, if◌then◌else◌, decimal, fold, nat_le, nat_lt, not, reverse, sum_by, ◌==◌}
 use Rattle.std.proofs.Math.Nat.{min-le_right}
 use Rattle.std.proofs.lemmas.Bool.{le-ltb, ne_eqb}
 use Rattle.std.proofs.lemmas.Fmt.{decimal_is_IsNumeral}
@@ -14,7 +14,7 @@ use Rattle.roff_num.specs.declared.limits.Limits.{Limits}
 use Rattle.roff_num.specs.declared.short_name.ShortName.{ShortName}
 use Rattle.roff_num.specs.ShortNames.{name_bytes}
 use Rattle.roff_arguments.proofs.Settling.{held-only_kept-settled}
-use Rattle.roff_arguments.specs.Arguments.{Arguments, arguments_read, held, is_behind_quote, live_bytes, no_arguments, only_kept, settled, settled_at, with_argument_byte}
+use Rattle.roff_arguments.specs.Arguments.{Arguments, arguments_read, held, is_behind_quote, live_bytes, no_arguments, only_kept, settled, settled_at, with_unit}
 use Rattle.roff_arguments.specs.declared.arguments.Place.{Place}
 use Rattle.roff_arguments.specs.declared.arguments.Place.TheVariants.{BehindQuote, Between, InPlain, InQuotes}
 use Rattle.roff_source.specs.Bytes.{backslash, blank, is_dropped, is_silent, newline, tab}
@@ -23,16 +23,19 @@ use Rattle.roff_store.specs.Texts.{Entry}
 use Rattle.roff_ahead.specs.Input.{bytes_ahead, counting, ends_ahead, lines_taken}
 use Rattle.roff_rewriting.proofs.PartRuns.{NoPart, OnBytes, OnText, PartsPath, RoomFor, after-parts, behind_bytes-append, behind_bytes-charged, bytes_ahead-front, ends_ahead-front, knows-behind}
 use Rattle.roff_rewriting.proofs.ReadTexts.{ByName, ByWidth, IsOfOneLine, IsRead, More, charged}
-use Rattle.roff_rewriting.specs.Parts.{AreParts, Escape, MayHave, MayMeasure, MayRead, MayWrite, Measured, Part, Written, bytes_of, cost_of_texts, known_behind_part, registers_behind, rewritten, rewritten_part}
-use Rattle.roff_rewriting.specs.TextsInCalls.{AreThemselves, BodiesGetTheTextsRead, BodiesOfTheSourceGetTheTextsRead, HasRoomForTexts, LinesAreReadAsRewritten, NoneBehindQuote, behind_part, behind_parts, parts_read_as}
+use Rattle.roff_rewriting.proofs.CallUnits.{AreUnits, agrees-units, call_unit_held, held-units, units-append, units-line, way-call}
+use Rattle.roff_rewriting.proofs.CopiedParts.{copied-of_line}
+use Rattle.roff_escape.specs.EscapeLaws.{begins_reading, is_only_copied}
+use Rattle.roff_rules.specs.ConditionLaws.{is_whole}
+use Rattle.roff_rules.specs.DefinitionLaws.{IsOfLine}
+use Rattle.roff_rewriting.specs.Parts.{AreParts, Escape, IsOnlyCopied, MayHave, MayMeasure, MayRead, MayWrite, Measured, Part, Written, bytes_of, cost_of_texts, known_behind_part, registers_behind, rewritten, rewritten_part}
+use Rattle.roff_rewriting.specs.TextsInCalls.{BodiesGetTheTextsRead, BodiesOfTheSourceGetTheTextsRead, HasRoomForTexts, LinesAreReadAsRewritten, NoneBehindQuote, behind_part, behind_parts, parts_read_as, units_of}
 use Rattle.roff_rules.proofs.CallLaws.{called_from, newline-calls, reads-body}
-use Rattle.roff_rules.proofs.CalledArguments.{arguments_at, call_byte, most_of, only_kept-few, turns-call}
-use Rattle.roff_rules.proofs.Interpolation.{is_no_newline}
+use Rattle.roff_rules.proofs.CalledArguments.{arguments_at, most_of, only_kept-few, turns-call}
 use Rattle.roff_rules.proofs.LineNames.{Allows, ReadsName, onward, reads-name}
-use Rattle.roff_rules.proofs.ReadArguments.{Agrees, Full, IsClean, Same, agrees-bytes, agrees-kept, agrees-whole, given-agrees, held-call_byte}
-use Rattle.roff_rules.proofs.WordCalls.{path-call}
+use Rattle.roff_rules.proofs.ReadArguments.{Agrees, Full, IsClean, Same, agrees-kept, agrees-whole, given-agrees}
 use Rattle.roff_rules.specs.CallLaws.{BeginsLine, IsApostrophe, IsControl, IsDot, with_call}
-use Rattle.roff_rules.specs.InterpolationLaws.{StandsForItself, text_named}
+use Rattle.roff_rules.specs.InterpolationLaws.{text_named}
 use Rattle.roff_rules.specs.WordCalls.{NamesBody, call_with}
 use Rattle.roff_run.proofs.ItemsTaken.{FromAhead, FromSource, Origin, ahead_at, not-second, tape_at}
 use Rattle.roff_run.proofs.Leads.{after-add}
@@ -47,11 +50,6 @@ use Rattle.roff_run.specs.Run.{State, after, byte_taken, known}
 use Rattle.roff_run.specs.Stages.{Stage}
 use Rattle.roff_run.specs.Within.{IsWithin}
 use Rattle.roff_run.specs.declared.line_state.LineState.TheVariants.{Calling, LineStart}
-
--- of bytes as many are held at the most
-held-bytes : (a : Arguments) (bytes : List ℕ) → held (fold call_byte a bytes) ≤ held a + length bytes
-held-bytes a [] = omega arith
-held-bytes a (b ∷ bytes) = omega (arith, (held-call_byte a b).1, held-bytes (call_byte a b) bytes)
 
 -- what is held in front of an escape is what the line was read as there
 same-settled : (whole : List (List ℕ)) (begun : List ℕ) (place : Place) → length whole ≤ 8 → IsClean place begun
@@ -75,28 +73,51 @@ agrees-settled _ _ (Full whole more begun place full) =
     subst (λ (a : Arguments). Agrees a (settled (arguments_at (more ++ whole) begun place))) (sym (only_kept-few whole [] Between (omega (arith, full))))
     (full-settled whole more begun place full)
 
--- the digits of a width stand for themselves
-digit-itself : (b : ℕ) → 48 ≤ b → b ≤ 57 → StandsForItself b
-digit-itself b low high =
-    let no_backslash : (b == backslash) ≡ false = ne_eqb b 92 (λ is. omega (arith, is, high)) in
+-- the digits of a width are copied
+record IsDigit (b : ℕ) : Type 0 where
+  of_line : IsOfLine b
+  plain : (b == backslash) ≡ false
+
+is-digit : (b : ℕ) → 48 ≤ b → b ≤ 57 → IsDigit b
+is-digit b low high =
     let no_control : nat_lt b 32 ≡ false = le-ltb b 32 (omega (arith, low)) in
     let no_delete : (b == 127) ≡ false = ne_eqb b 127 (λ is. omega (arith, is, high)) in
     let no_newline : (b == newline) ≡ false = ne_eqb b 10 (λ is. omega (arith, is, low)) in
     let mid : Bool = not (b == newline || b == tab || is_silent b) in
-    ap (λ (c : Bool). not (c || (is_dropped b || b == newline))) no_backslash
-    ∙ ap (λ (c : Bool). not (((c || b == 127) && mid) || b == newline)) no_control
-    ∙ ap (λ (c : Bool). not ((c && mid) || b == newline)) no_delete
-    ∙ ap not no_newline
+    record {
+      of_line =
+          ap (λ (c : Bool). not (((c || b == 127) && mid) || b == newline)) no_control
+          ∙ ap (λ (c : Bool). not ((c && mid) || b == newline)) no_delete
+          ∙ ap not no_newline;
+      plain = ne_eqb b 92 (λ is. omega (arith, is, high));
+    }
 
-digits-themselves : (bytes : List ℕ) → AllDigits 10 bytes → AreThemselves bytes
-digits-themselves [] digits = All-nil StandsForItself
-digits-themselves (b ∷ bytes) digits =
-    let is = digit_from_value b digits.0 in All-cons StandsForItself b bytes (digit-itself b is.0 is.1) (digits-themselves bytes digits.1)
+copied-digits : (bytes : List ℕ) → AllDigits 10 bytes → IsOnlyCopied bytes
+copied-digits [] digits = record { bytes = All-nil IsOfLine; only_copied = refl; whole = refl }
+copied-digits (b ∷ []) digits =
+    let range = digit_from_value b digits.0 in
+    let is : IsDigit b = is-digit b range.0 range.1 in
+    record { bytes = All-cons IsOfLine b [] is.of_line (All-nil IsOfLine); only_copied = refl; whole = ap not is.plain }
+copied-digits (b ∷ c ∷ bytes) digits =
+    let range = digit_from_value b digits.0 in
+    let is : IsDigit b = is-digit b range.0 range.1 in
+    let others : IsOnlyCopied (c ∷ bytes) = copied-digits (c ∷ bytes) digits.1 in
+    record {
+      bytes = All-cons IsOfLine b (c ∷ bytes) is.of_line others.bytes;
+      only_copied = ap (λ (x : Bool). if x then not (begins_reading c) && is_only_copied bytes else is_only_copied (c ∷ bytes)) is.plain ∙ others.only_copied;
+      whole = ap (λ (x : Bool). if x then is_whole bytes else is_whole (c ∷ bytes)) is.plain ∙ others.whole;
+    }
 
-themselves-width : (text : List ℕ) → AreThemselves (decimal (text_units text))
-themselves-width text =
+copied-width : (text : List ℕ) → IsOnlyCopied (decimal (text_units text))
+copied-width text =
     let few : text_units text ≤ 2147483647 = min-le_right (24 * sum_by byte_columns text) most_width in
-    digits-themselves (decimal (text_units text)) (decimal_is_IsNumeral (text_units text) (omega (arith, few))).0.1
+    copied-digits (decimal (text_units text)) (decimal_is_IsNumeral (text_units text) (omega (arith, few))).0.1
+
+-- what is read in the place of a part is copied
+text-copied : (k : Known) (j : PageInput) (part : Part) → MayHave true IsOnlyCopied k j part → IsOnlyCopied (rewritten_part k j part)
+text-copied k j _ (MayWrite bytes is) = is
+text-copied k j _ (MayRead purpose name bytes is_escape quiet is) = is
+text-copied k j _ (MayMeasure d text measures may plain) = copied-width text
 
 -- parts are read behind arguments that are held
 record ReadsParts (j : PageInput) (names : Named Entry) (name : ShortName) (texts : List (List ℕ)) (most : ℕ) (k : Known) (a u : Arguments) (parts : List Part) : Type 0 where
@@ -106,55 +127,57 @@ record ReadsParts (j : PageInput) (names : Named Entry) (name : ShortName) (text
 
 -- by the text of the first of them
 reads-text : (k : Known) (j : PageInput) (names : Named Entry) (name : ShortName) (texts : List (List ℕ)) (most : ℕ) (a u : Arguments) (part : Part) (parts : List Part)
-    → IsRead k (Calling name) part → AreThemselves (rewritten_part k j part) → behind_part k j u part ≡ fold with_argument_byte (settled u) (rewritten_part k j part)
+    → IsRead k (Calling name) part → IsOnlyCopied (rewritten_part k j part) → behind_part k j u part ≡ fold with_unit (settled u) (units_of (rewritten_part k j part))
     → held a + length (rewritten k j (part ∷ parts)) ≤ most → Agrees a u
     → (let k1 : Known = known_behind_part k part in
     (b v : Arguments) → held b + length (rewritten k1 j parts) ≤ most → Agrees b v → ReadsParts j names name texts most k1 b v parts)
     → ReadsParts j names name texts most k a u (part ∷ parts)
-reads-text k j names name texts most a u part parts is themselves behind few agrees reads =
+reads-text k j names name texts most a u part parts is may behind few agrees reads =
     let k1 : Known = known_behind_part k part in
     let text : List ℕ = rewritten_part k j part in
+    let units : AreUnits text (units_of text) = units-line text may in
     let begun : Arguments = only_kept (settled a) in
-    let next : Arguments = fold call_byte begun text in
+    let next : Arguments = fold call_unit_held begun (units_of text) in
     let same : held begun ≡ held a = held-only_kept-settled a in
     let all : length (text ++ rewritten k1 j parts) ≡ length text + length (rewritten k1 j parts) = length-append text (rewritten k1 j parts) in
     let others =
-    reads next (fold with_argument_byte (settled u) text) (omega (arith, few, all, same, held-bytes begun text)) (agrees-bytes begun (settled u) text (agrees-settled a u agrees)) in
+    reads next (fold with_unit (settled u) (units_of text)) (omega (arith, few, all, same, held-units begun text (units_of text) units))
+    (agrees-units begun (settled u) (units_of text) (agrees-settled a u agrees)) in
     record {
       there = others.there;
       path =
           OnText k (Calling name) (Calling name) a next texts texts (stage (Calling name) others.there texts) part parts refl is
-          (path-call names name texts most begun text themselves (omega (arith, few, all, same, held-bytes begun text)))
+          (way-call names name texts most begun text (units_of text) units (omega (arith, few, all, same)))
           others.path;
       agrees = subst (λ (v : Arguments). Agrees others.there (behind_parts k1 j v parts)) (sym behind) others.agrees;
     }
 
 -- by the first of them
 reads-part : (k : Known) (j : PageInput) (names : Named Entry) (name : ShortName) (texts : List (List ℕ)) (most : ℕ) (a u : Arguments) (part : Part) (parts : List Part)
-    → MayHave true AreThemselves k j part → held a + length (rewritten k j (part ∷ parts)) ≤ most → Agrees a u
+    → MayHave true IsOnlyCopied k j part → held a + length (rewritten k j (part ∷ parts)) ≤ most → Agrees a u
     → (let k1 : Known = known_behind_part k part in
     (b v : Arguments) → held b + length (rewritten k1 j parts) ≤ most → Agrees b v → ReadsParts j names name texts most k1 b v parts)
     → ReadsParts j names name texts most k a u (part ∷ parts)
-reads-part k j names name texts most a u _ parts (MayWrite bytes themselves) few agrees reads =
-    let next : Arguments = fold call_byte a bytes in
+reads-part k j names name texts most a u _ parts (MayWrite bytes may) few agrees reads =
+    let units : AreUnits bytes (units_of bytes) = units-line bytes may in
+    let next : Arguments = fold call_unit_held a (units_of bytes) in
     let all : length (bytes ++ rewritten k j parts) ≡ length bytes + length (rewritten k j parts) = length-append bytes (rewritten k j parts) in
-    let others = reads next (fold with_argument_byte u bytes) (omega (arith, few, all, held-bytes a bytes)) (agrees-bytes a u bytes agrees) in
+    let others = reads next (fold with_unit u (units_of bytes)) (omega (arith, few, all, held-units a bytes (units_of bytes) units)) (agrees-units a u (units_of bytes) agrees) in
     record {
       there = others.there;
       path =
-          OnBytes k (stage (Calling name) a texts) (stage (Calling name) next texts) (stage (Calling name) others.there texts) bytes parts
-          (All-weaker StandsForItself (λ b. (b == newline) ≡ false) is_no_newline bytes themselves)
-          (path-call names name texts most a bytes themselves (omega (arith, few, all, held-bytes a bytes)))
+          OnBytes k (stage (Calling name) a texts) (stage (Calling name) next texts) (stage (Calling name) others.there texts) bytes parts (copied-of_line bytes may)
+          (way-call names name texts most a bytes (units_of bytes) units (omega (arith, few, all)))
           others.path;
       agrees = others.agrees;
     }
-reads-part k j names name texts most a u _ parts (MayRead purpose escape bytes is quiet themselves) few agrees reads =
-    reads-text k j names name texts most a u (Escape purpose escape bytes) parts (ByName purpose escape bytes refl is quiet) themselves refl few agrees reads
+reads-part k j names name texts most a u _ parts (MayRead purpose escape bytes is quiet may) few agrees reads =
+    reads-text k j names name texts most a u (Escape purpose escape bytes) parts (ByName purpose escape bytes refl is quiet) may refl few agrees reads
 reads-part k j names name texts most a u _ parts (MayMeasure d text measures may plain) few agrees reads =
-    reads-text k j names name texts most a u (Measured d text) parts (ByWidth d text refl refl may plain) (themselves-width text) refl few agrees reads
+    reads-text k j names name texts most a u (Measured d text) parts (ByWidth d text refl refl may plain) (copied-width text) refl few agrees reads
 
 reads-parts : (j : PageInput) (names : Named Entry) (name : ShortName) (texts : List (List ℕ)) (most : ℕ) (k : Known) (a u : Arguments) (parts : List Part)
-    → AreParts true AreThemselves k j parts → held a + length (rewritten k j parts) ≤ most → Agrees a u → ReadsParts j names name texts most k a u parts
+    → AreParts true IsOnlyCopied k j parts → held a + length (rewritten k j parts) ≤ most → Agrees a u → ReadsParts j names name texts most k a u parts
 reads-parts j names name texts most k a u [] may few agrees = record { there = a; path = NoPart k (stage (Calling name) a texts); agrees = agrees }
 reads-parts j names name texts most k a u (part ∷ parts) may few agrees =
     reads-part k j names name texts most a u part parts may.0 few agrees (λ b v. reads-parts j names name texts most (known_behind_part k part) b v parts may.1)
@@ -203,7 +226,7 @@ paid s registers cost = record s { registers = registers; input = charged cost s
 
 -- the whole line
 called-with-texts : (l : Limits) (s : State) (from : Origin) (control : ℕ) (name : ShortName) (body : List ℕ) (parts : List Part)
-    → BeginsLine s → NamesBody s.input.names control name body → AreParts true AreThemselves (known s) s.input parts
+    → BeginsLine s → NamesBody s.input.names control name body → AreParts true IsOnlyCopied (known s) s.input parts
     → let line : List ℕ = call_with control name (bytes_of parts) in
     let cost : ℕ = cost_of_texts (known s) s.input parts in
     let called : State = called_from (paid s (registers_behind s.registers parts) cost) from line body (parts_read_as (known s) s.input parts) in
@@ -315,22 +338,31 @@ settled-none InPlain a none = refl
 settled-none InQuotes a none = refl
 settled-none BehindQuote a none = absurd (cc)
 
-read-rewritten : (i : PageInput) (k : Known) (a : Arguments) (parts : List Part) → NoneBehindQuote k i a parts
-    → behind_parts k i a parts ≡ fold with_argument_byte a (rewritten k i parts)
-read-rewritten i k a [] none = refl
-read-rewritten i k a (Written bytes ∷ parts) none =
-    read-rewritten i k (fold with_argument_byte a bytes) parts none ∙ sym (fold-append with_argument_byte a bytes (rewritten k i parts))
-read-rewritten i k a (Escape purpose name bytes ∷ parts) none =
-    let k1 : Known = known_behind_part k (Escape purpose name bytes) in
+read-rewritten : (i : PageInput) (k : Known) (a : Arguments) (parts : List Part) → AreParts true IsOnlyCopied k i parts → NoneBehindQuote k i a parts
+    → behind_parts k i a parts ≡ fold with_unit a (units_of (rewritten k i parts))
+read-rewritten i k a [] may none = refl
+read-rewritten i k a (Written bytes ∷ parts) may none =
+    let whole : IsOnlyCopied bytes = text-copied k i (Written bytes) may.0 in
+    read-rewritten i k (fold with_unit a (units_of bytes)) parts may.1 none
+    ∙ sym (fold-append with_unit a (units_of bytes) (units_of (rewritten k i parts)))
+    ∙ ap (fold with_unit a) (sym (units-append bytes (rewritten k i parts) whole.whole))
+read-rewritten i k a (Escape purpose name bytes ∷ parts) may none =
+    let part : Part = Escape purpose name bytes in
+    let others : List ℕ = rewritten (known_behind_part k part) i parts in
     let text : List ℕ = text_named k i purpose name in
-    read-rewritten i k1 (fold with_argument_byte (settled a) text) parts none.1
-    ∙ ap (λ (b : Arguments). fold with_argument_byte (fold with_argument_byte b text) (rewritten k1 i parts)) (settled-none a.place a none.0)
-    ∙ sym (fold-append with_argument_byte a text (rewritten k1 i parts))
-read-rewritten i k a (Measured d measured ∷ parts) none =
+    let whole : IsOnlyCopied text = text-copied k i part may.0 in
+    read-rewritten i (known_behind_part k part) (fold with_unit (settled a) (units_of text)) parts may.1 none.1
+    ∙ ap (λ (b : Arguments). fold with_unit (fold with_unit b (units_of text)) (units_of others)) (settled-none a.place a none.0)
+    ∙ sym (fold-append with_unit a (units_of text) (units_of others))
+    ∙ ap (fold with_unit a) (sym (units-append text others whole.whole))
+read-rewritten i k a (Measured d measured ∷ parts) may none =
+    let others : List ℕ = rewritten k i parts in
     let text : List ℕ = decimal (text_units measured) in
-    read-rewritten i k (fold with_argument_byte (settled a) text) parts none.1
-    ∙ ap (λ (b : Arguments). fold with_argument_byte (fold with_argument_byte b text) (rewritten k i parts)) (settled-none a.place a none.0)
-    ∙ sym (fold-append with_argument_byte a text (rewritten k i parts))
+    let whole : IsOnlyCopied text = copied-width measured in
+    read-rewritten i k (fold with_unit (settled a) (units_of text)) parts may.1 none.1
+    ∙ ap (λ (b : Arguments). fold with_unit (fold with_unit b (units_of text)) (units_of others)) (settled-none a.place a none.0)
+    ∙ sym (fold-append with_unit a (units_of text) (units_of others))
+    ∙ ap (fold with_unit a) (sym (units-append text others whole.whole))
 
 pub lines_are_read_as_rewritten : LinesAreReadAsRewritten
-lines_are_read_as_rewritten k i parts none = ap arguments_read (read-rewritten i k no_arguments parts none)
+lines_are_read_as_rewritten k i parts may none = ap arguments_read (read-rewritten i k no_arguments parts may none)

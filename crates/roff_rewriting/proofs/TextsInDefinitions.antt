@@ -17,6 +17,7 @@ use Rattle.roff_rewriting.proofs.CopiedParts.{AtMark, SoFar, copies-newline, rea
 use Rattle.roff_rewriting.proofs.PartRuns.{ComesTo, Knows, RoomFor, after-bytes, after-parts, behind_bytes-append, behind_bytes-charged, comes-on, knows-behind, one-of_line}
 use Rattle.roff_rewriting.proofs.ReadTexts.{More, charged}
 use Rattle.roff_rewriting.proofs.TextsInCalls.{lines_taken-charged, paid}
+use Rattle.roff_rewriting.proofs.Ways.{Done, One, Way}
 use Rattle.roff_rewriting.specs.Parts.{Part, bytes_of, cost_of_texts, known_behind, registers_behind, rewritten}
 use Rattle.roff_rewriting.specs.TextsInCalls.{HasRoomForTexts}
 use Rattle.roff_rewriting.specs.TextsInDefinitions.{AreCopiedMark, MayFollow, AreTextLines, DefinitionsEnterTheTextsRead, DefinitionsOfTheSourceEnterTheTextsRead, all_read, behind_mark, cost_of_all, cost_of_lines, known_behind_lines, lines_rewritten, lines_then, registers_behind_all, with_newline}
@@ -26,7 +27,7 @@ use Rattle.roff_rules.specs.DefinitionLaws.{BeginsDefinition, bytes_of_lines, te
 use Rattle.roff_rules.specs.InterpolationLaws.{StandsForItself}
 use Rattle.roff_run.proofs.ItemsTaken.{FromAhead, FromSource, Origin, ahead_at, tape_at}
 use Rattle.roff_run.proofs.Leads.{after-add}
-use Rattle.roff_run.proofs.PlainRuns.{HasRoom, HasRoom-start, Here, IsSmall, Most, Onward, Path, behind_byte, behind_bytes, counted-ahead, counted-source, is-run_at, run_at, step-taken}
+use Rattle.roff_run.proofs.PlainRuns.{HasRoom, HasRoom-start, IsSmall, Most, behind_byte, behind_bytes, counted-ahead, counted-source, is-run_at, run_at, step-taken}
 use Rattle.roff_run.specs.Definitions.{end_mark}
 use Rattle.roff_run.specs.ItemsTaken.{TakesItems}
 use Rattle.roff_run.specs.Reading.Items.{PageInput}
@@ -54,11 +55,11 @@ module _ (l : Limits) (from : Origin) (d : Definition) (a : Arguments) (bound : 
 
   -- its newline
   path-newline : (text there : List ℕ) (m : Option ℕ) → Copies names d a (Byte newline) text m there (Some 0) → length there ≤ bound
-      → Path most names (defining d a text m) (newline ∷ []) (begins there)
+      → Way most names (defining d a text m) (newline ∷ []) (begins there)
   path-newline text there m copies few =
-      Onward (defining d a text m) (begins there) (begins there) newline [] refl refl
+      One (defining d a text m) (begins there) (begins there) newline [] refl refl
       (λ k i. reads-unit names d a text m [] (Byte newline) newline k i refl refl ∙ copies k i)
-      (small-begins there (Some 0) few) (omega arith) (Here (begins there))
+      (small-begins there (Some 0) few) (omega arith) (Done (begins there))
 
   -- a line
   after-line : (s : State) → TakesItems s → KnowsNext s from next → (k : Known) (text : List ℕ) (line : List Part) (more : List ℕ) (read cost : ℕ) (i : PageInput)

@@ -1,8 +1,7 @@
 -- A message tells what the parts of its line are read as.
 use Rattle.std.proofs.Common.{◌≡◌, ℕ, ◌+◌, ◌≤◌, Bool, true, false, List, [], ◌∷◌, ◌++◌, length, reverse, None, refl, ap, sym, subst, ◌∙◌, arith, append_assoc}
-use Rattle.std.specs.Prelude.{fold, ◌==◌}
+use Rattle.std.specs.Prelude.{fold}
 use Rattle.std.proofs.lemmas.List.{length-append}
-use Rattle.std.proofs.lemmas.List.Elements.{All-weaker}
 use Rattle.std.proofs.lemmas.List.Sums.{fold-append}
 use Rattle.roff_num.specs.declared.limits.Limits.{Limits}
 use Rattle.roff_num.specs.declared.short_name.ShortName.{ShortName}
@@ -16,16 +15,17 @@ use Rattle.roff_ahead.specs.Input.{bytes_ahead, ends_ahead, lines_taken}
 use Rattle.roff_rewriting.proofs.PartRuns.{NoPart, OnBytes, OnText, PartsPath, RoomFor, after-parts, behind_bytes-append, behind_bytes-charged, bytes_ahead-front, ends_ahead-front, knows-behind}
 use Rattle.roff_rewriting.proofs.ReadTexts.{ByName, More, charged}
 use Rattle.roff_rewriting.proofs.TextsInCalls.{line_front, lines_taken-charged, name-of_line, paid}
-use Rattle.roff_rewriting.specs.Parts.{AreParts, Escape, MayHave, MayMeasure, MayRead, MayWrite, Part, Written, bytes_of, cost_of_texts, known_behind_part, registers_behind, rewritten}
-use Rattle.roff_rewriting.specs.TextsInCalls.{AreThemselves, HasRoomForTexts}
+use Rattle.roff_rewriting.specs.Parts.{AreParts, Escape, IsCopiedPart, MayHave, MayMeasure, MayRead, MayWrite, Part, Written, bytes_of, cost_of_texts, known_behind_part, registers_behind, rewritten, rewritten_part}
+use Rattle.roff_rewriting.specs.TextsInCalls.{HasRoomForTexts}
 use Rattle.roff_rewriting.specs.TextsInMessages.{EndsBy, MessagesOfTheSourceTellTheTextsRead, MessagesTellTheTextsRead, ReadsMessage, RunsEndWithTheTextsOfTheSource, RunsEndWithTheTextsRead}
 use Rattle.roff_rules.proofs.CalledArguments.{most_of}
-use Rattle.roff_rules.proofs.Interpolation.{is_no_newline}
-use Rattle.roff_rewriting.proofs.MessageBytes.{path-front, path-tell, telling}
+use Rattle.roff_rewriting.proofs.MessageBytes.{few-units, path-front, telling, way-tell}
+use Rattle.roff_rewriting.proofs.CopiedParts.{copied-behind, copied-part, part-of_line}
+use Rattle.roff_escape.specs.EscapeLaws.{copied}
 use Rattle.roff_rules.proofs.MessageLaws.{held-fold, tell, told-front}
 use Rattle.roff_rewriting.proofs.MessageLines.{step-told}
 use Rattle.roff_rules.specs.CallLaws.{BeginsLine}
-use Rattle.roff_rules.specs.InterpolationLaws.{StandsForItself, text_named}
+use Rattle.roff_rules.specs.InterpolationLaws.{text_named}
 use Rattle.roff_rules.specs.MessageLaws.{without_front}
 use Rattle.roff_rules.specs.WordCalls.{call_with}
 use Rattle.roff_run.proofs.ItemsTaken.{Fits-IsWithin, FromAhead, FromSource, Origin, ahead_at, made-Fits, tape_at, taken_as-going_on}
@@ -44,38 +44,59 @@ use Rattle.roff_run.specs.declared.line_state.LineState.TheVariants.{LineStart, 
 
 -- parts are told behind what is held, by the first of them
 tells-part : (aborts : Bool) (k : Known) (j : PageInput) (names : Named Entry) (texts : List (List ℕ)) (most : ℕ) (t : Bool × Arguments) (part : Part) (parts : List Part)
-    → MayHave false AreThemselves k j part → held t.1 + length (rewritten k j (part ∷ parts)) ≤ most
-    → (let k1 : Known = known_behind_part k part in
-    (u : Bool × Arguments) → held u.1 + length (rewritten k1 j parts) ≤ most
-    → PartsPath j (most_of most texts) names k1 (telling aborts texts u) parts (telling aborts texts (fold tell u (rewritten k1 j parts))))
-    → PartsPath j (most_of most texts) names k (telling aborts texts t) (part ∷ parts) (telling aborts texts (fold tell t (rewritten k j (part ∷ parts))))
-tells-part aborts k j names texts most t _ parts (MayWrite bytes themselves) few tells =
-    let u : Bool × Arguments = fold tell t bytes in
-    let others : List ℕ = rewritten k j parts in
-    let all : length (bytes ++ others) ≡ length bytes + length others = length-append bytes others in
-    subst (λ (v : Bool × Arguments). PartsPath j (most_of most texts) names k (telling aborts texts t) (Written bytes ∷ parts) (telling aborts texts v)) (sym (fold-append tell t bytes others))
-    (OnBytes k (telling aborts texts t) (telling aborts texts u) (telling aborts texts (fold tell u others)) bytes parts
-    (All-weaker StandsForItself (λ b. (b == newline) ≡ false) is_no_newline bytes themselves)
-    (path-tell aborts names texts most t bytes themselves (omega (arith, few, all)))
-    (tells u (omega (arith, few, all, held-fold t bytes))))
-tells-part aborts k j names texts most t _ parts (MayRead purpose name bytes is quiet themselves) few tells =
+    → MayHave false IsCopiedPart k j part → held t.1 + length (copied (rewritten k j (part ∷ parts))) ≤ most
+    → (let others : List ℕ = copied (rewritten (known_behind_part k part) j parts) in
+    (u : Bool × Arguments) → held u.1 + length others ≤ most
+    → PartsPath j (most_of most texts) names (known_behind_part k part) (telling aborts texts u) parts (telling aborts texts (fold tell u others)))
+    → PartsPath j (most_of most texts) names k (telling aborts texts t) (part ∷ parts) (telling aborts texts (fold tell t (copied (rewritten k j (part ∷ parts)))))
+tells-part aborts k j names texts most t _ parts (MayWrite bytes may) few tells =
+    let u : Bool × Arguments = fold tell t (copied bytes) in
+    let others : List ℕ = copied (rewritten k j parts) in
+    let same : copied (bytes ++ rewritten k j parts) ≡ copied bytes ++ others = copied-behind bytes (rewritten k j parts) may in
+    let all : length (copied (bytes ++ rewritten k j parts)) ≡ length (copied bytes) + length others = ap length same ∙ length-append (copied bytes) others in
+    subst (λ (v : Bool × Arguments). PartsPath j (most_of most texts) names k (telling aborts texts t) (Written bytes ∷ parts) (telling aborts texts v))
+    (sym (ap (fold tell t) same ∙ fold-append tell t (copied bytes) others))
+    (OnBytes k (telling aborts texts t) (telling aborts texts u) (telling aborts texts (fold tell u others)) bytes parts (part-of_line bytes may)
+    (way-tell aborts names texts most t bytes (copied bytes) (copied-part bytes may) (omega (arith, few, all)))
+    (tells u (omega (arith, few, all, held-fold t (copied bytes)))))
+tells-part aborts k j names texts most t _ parts (MayRead purpose name bytes is quiet may) few tells =
     let part : Part = Escape purpose name bytes in
     let text : List ℕ = text_named k j purpose name in
-    let u : Bool × Arguments = fold tell t text in
-    let others : List ℕ = rewritten (known_behind_part k part) j parts in
-    let all : length (text ++ others) ≡ length text + length others = length-append text others in
-    subst (λ (v : Bool × Arguments). PartsPath j (most_of most texts) names k (telling aborts texts t) (part ∷ parts) (telling aborts texts v)) (sym (fold-append tell t text others))
+    let u : Bool × Arguments = fold tell t (copied text) in
+    let behind : List ℕ = rewritten (known_behind_part k part) j parts in
+    let others : List ℕ = copied behind in
+    let same : copied (text ++ behind) ≡ copied text ++ others = copied-behind text behind may in
+    let all : length (copied (text ++ behind)) ≡ length (copied text) + length others = ap length same ∙ length-append (copied text) others in
+    subst (λ (v : Bool × Arguments). PartsPath j (most_of most texts) names k (telling aborts texts t) (part ∷ parts) (telling aborts texts v))
+    (sym (ap (fold tell t) same ∙ fold-append tell t (copied text) others))
     (OnText k (Telling aborts t.0) (Telling aborts u.0) t.1 u.1 texts texts (telling aborts texts (fold tell u others)) part parts refl (ByName purpose name bytes refl is quiet)
-    (path-tell aborts names texts most t text themselves (omega (arith, few, all)))
-    (tells u (omega (arith, few, all, held-fold t text))))
+    (way-tell aborts names texts most t text (copied text) (copied-part text may) (omega (arith, few, all)))
+    (tells u (omega (arith, few, all, held-fold t (copied text)))))
 tells-part aborts k j names texts most t _ parts (MayMeasure d text measures may plain) few tells = absurd (cc)
 
 tells-parts : (aborts : Bool) (j : PageInput) (names : Named Entry) (texts : List (List ℕ)) (most : ℕ) (k : Known) (t : Bool × Arguments) (parts : List Part)
-    → AreParts false AreThemselves k j parts → held t.1 + length (rewritten k j parts) ≤ most
-    → PartsPath j (most_of most texts) names k (telling aborts texts t) parts (telling aborts texts (fold tell t (rewritten k j parts)))
+    → AreParts false IsCopiedPart k j parts → held t.1 + length (copied (rewritten k j parts)) ≤ most
+    → PartsPath j (most_of most texts) names k (telling aborts texts t) parts (telling aborts texts (fold tell t (copied (rewritten k j parts))))
 tells-parts aborts j names texts most k t [] may few = NoPart k (telling aborts texts t)
 tells-parts aborts j names texts most k t (part ∷ parts) may few =
     tells-part aborts k j names texts most t part parts may.0 few (λ u. tells-parts aborts j names texts most (known_behind_part k part) u parts may.1)
+
+-- of them no more bytes are copied than are read
+copied-few : (part : List ℕ) → IsCopiedPart part → length (copied part) ≤ length part
+copied-few part may = few-units part (copied part) (copied-part part may)
+
+copied-parts : (j : PageInput) (k : Known) (parts : List Part) → AreParts false IsCopiedPart k j parts → length (copied (rewritten k j parts)) ≤ length (rewritten k j parts)
+copied-parts j k [] may = omega arith
+copied-parts j k (part ∷ parts) may =
+    let text : List ℕ = rewritten_part k j part in
+    let others : List ℕ = rewritten (known_behind_part k part) j parts in
+    let is : IsCopiedPart text = text-of k j part may.0 in
+    omega (arith, ap length (copied-behind text others is), length-append (copied text) (copied others), length-append text others, copied-few text is, copied-parts j (known_behind_part k part) parts may.1)
+  where
+    text-of : (k : Known) (j : PageInput) (part : Part) → MayHave false IsCopiedPart k j part → IsCopiedPart (rewritten_part k j part)
+    text-of k j _ (MayWrite bytes may) = may
+    text-of k j _ (MayRead purpose name bytes is quiet may) = may
+    text-of k j _ (MayMeasure d text measures may plain) = absurd (cc)
 
 -- how much they hold
 held-parts : (t : Bool × Arguments) (bytes : List ℕ) (most : ℕ) → held t.1 + length bytes ≤ most → held (fold tell t bytes).1 ≤ most
@@ -110,7 +131,7 @@ tells-behind s from front text begins =
 
 -- the whole line is read: its message is due
 module _ (l : Limits) (s : State) (from : Origin) (aborts : Bool) (control : ℕ) (name : ShortName) (parts : List Part)
-    (begins : BeginsLine s) (has : ReadsMessage aborts s.input.names control name) (may : AreParts false AreThemselves (known s) s.input parts)
+    (begins : BeginsLine s) (has : ReadsMessage aborts s.input.names control name) (may : AreParts false IsCopiedPart (known s) s.input parts)
     (ahead : s.input.ahead ≡ ahead_at from (call_with control name (bytes_of parts))) (tape : s.tape ≡ tape_at from (call_with control name (bytes_of parts)) s.tape)
     (charge : s.input.charge + cost_of_texts (known s) s.input parts + length (call_with control name (bytes_of parts)) ≤ l.bytes)
     (has_room : HasRoomForTexts l s (rewritten (known s) s.input parts)) (within : IsWithin l s) where
@@ -142,7 +163,10 @@ module _ (l : Limits) (s : State) (from : Origin) (aborts : Bool) (control : ℕ
   cost = cost_of_texts k j parts
 
   abbrev read : List ℕ
-  read = rewritten k j parts
+  read = copied (rewritten k j parts)
+
+  read-few : length read ≤ length (rewritten k j parts)
+  read-few = copied-parts j k parts may
 
   abbrev most : Most
   most = most_of (length read) texts
@@ -187,10 +211,10 @@ module _ (l : Limits) (s : State) (from : Origin) (aborts : Bool) (control : ℕ
       let stands : bytes_ahead s.input.ahead ≡ bytes_ahead (ahead_at from (front ++ last)) = ap bytes_ahead (ahead ∙ ap (ahead_at from) same) in
       let room_start : HasRoom l s names from most start (front ++ last) s.input =
       HasRoom-start l s names from most start (front ++ last) s.input (subst (IsWithin l) (sym is) within)
-      (omega (arith, charge, ap length same)) (omega (arith, has_room.beside)) within.store within.making in
+      (omega (arith, charge, ap length same)) (omega (arith, has_room.beside, read-few)) within.store within.making in
       let i1 : PageInput = behind_bytes from front s.input in
       let one = after-Path l s names from most start mid front last s.input begins.takes (path-front aborts names texts (length read) control name has) room_start in
-      let room : RoomFor l s names from most mid (length read + 0) (cost + 0) last i1 = record {
+      let room : RoomFor l s names from most mid (length (rewritten k j parts) + 0) (cost + 0) last i1 = record {
         room = one.1;
         charged_all = omega (arith, charge, sizes, behind_bytes-charge from front s.input);
         stack =
@@ -221,10 +245,10 @@ module _ (l : Limits) (s : State) (from : Origin) (aborts : Bool) (control : ℕ
 
 -- it is told
 told-with-texts : (l : Limits) (s : State) (from : Origin) (control : ℕ) (name : ShortName) (parts : List Part)
-    → BeginsLine s → ReadsMessage false s.input.names control name → AreParts false AreThemselves (known s) s.input parts
+    → BeginsLine s → ReadsMessage false s.input.names control name → AreParts false IsCopiedPart (known s) s.input parts
     → let line : List ℕ = call_with control name (bytes_of parts) in
     let cost : ℕ = cost_of_texts (known s) s.input parts in
-    let told : State = told_from (paid s (registers_behind s.registers parts) cost) from line (rewritten (known s) s.input parts) in
+    let told : State = told_from (paid s (registers_behind s.registers parts) cost) from line (copied (rewritten (known s) s.input parts)) in
     s.input.ahead ≡ ahead_at from line → s.tape ≡ tape_at from line s.tape → HasRoomForTexts l s (rewritten (known s) s.input parts) → IsWithin l s → IsWithin l told
     → after l (length line + cost + 1) s ≡ told
 told-with-texts l s from control name parts begins has may ahead tape has_room within within_told =
@@ -232,7 +256,7 @@ told-with-texts l s from control name parts begins has may ahead tape has_room w
     let bytes : List ℕ = bytes_of parts in
     let front : List ℕ = line_front control name in
     let line : List ℕ = call_with control name bytes in
-    let read : List ℕ = rewritten (known s) s.input parts in
+    let read : List ℕ = copied (rewritten (known s) s.input parts) in
     let v : State = paid s (registers_behind s.registers parts) cost in
     let told : State = told_from v from line read in
     let charge : s.input.charge + cost + length line ≤ l.bytes = omega (arith, within_told.bytes, behind_bytes-charge from line (charged cost s.input)) in
@@ -266,18 +290,18 @@ step-ends : (l : Limits) (u : State) → u.ended ≡ None → u.to_do ≡ [] →
 step-ends l u going idle unsprung reading = rw (going, idle, unsprung, reading) refl
 
 ended-with-texts : (l : Limits) (s : State) (from : Origin) (control : ℕ) (name : ShortName) (parts : List Part)
-    → BeginsLine s → ReadsMessage true s.input.names control name → AreParts false AreThemselves (known s) s.input parts
+    → BeginsLine s → ReadsMessage true s.input.names control name → AreParts false IsCopiedPart (known s) s.input parts
     → let line : List ℕ = call_with control name (bytes_of parts) in
     let cost : ℕ = length line + cost_of_texts (known s) s.input parts in
-    let read : List ℕ = rewritten (known s) s.input parts in
-    s.input.ahead ≡ ahead_at from line → s.tape ≡ tape_at from line s.tape → s.input.charge + cost ≤ l.bytes → HasRoomForTexts l s read → IsWithin l s
+    let read : List ℕ = copied (rewritten (known s) s.input parts) in
+    s.input.ahead ≡ ahead_at from line → s.tape ≡ tape_at from line s.tape → s.input.charge + cost ≤ l.bytes → HasRoomForTexts l s (rewritten (known s) s.input parts) → IsWithin l s
     → let ended : State = after l (cost + 1) s in
     EndsBy s (without_front read) cost ended × (ended.input.ahead ≡ ahead_at from []) × (ended.tape ≡ tape_at from [] s.tape)
 ended-with-texts l s from control name parts begins has may ahead tape charge has_room within =
     let line : List ℕ = call_with control name (bytes_of parts) in
     let texts_cost : ℕ = cost_of_texts (known s) s.input parts in
     let cost : ℕ = length line + texts_cost in
-    let read : List ℕ = rewritten (known s) s.input parts in
+    let read : List ℕ = copied (rewritten (known s) s.input parts) in
     let few : s.input.charge + texts_cost + length line ≤ l.bytes = omega (arith, charge) in
     let due = is-due l s from true control name parts begins has may ahead tape few has_room within in
     let u : State = due_state l s from true control name parts begins has may ahead tape few has_room within in
@@ -300,7 +324,7 @@ pub messages_tell_the_texts_read : MessagesTellTheTextsRead
 messages_tell_the_texts_read l s control name parts rest begins has may ahead room within within_told =
     let line : List ℕ = call_with control name (bytes_of parts) in
     let cost : ℕ = cost_of_texts (known s) s.input parts in
-    let read : List ℕ = rewritten (known s) s.input parts in
+    let read : List ℕ = copied (rewritten (known s) s.input parts) in
     let of : PageInput → State = λ i. record s { registers = registers_behind s.registers parts; input = i; messages = s.messages ++ told_line false (without_front read) } in
     let sum : s.input.charge + cost + length line ≡ s.input.charge + (length line + cost) = omega arith in
     let is : told_from (paid s (registers_behind s.registers parts) cost) (FromAhead rest) line read ≡ of (record s.input { ahead = rest; charge = s.input.charge + (length line + cost) }) =
@@ -311,7 +335,7 @@ pub messages_of_the_source_tell_the_texts_read : MessagesOfTheSourceTellTheTexts
 messages_of_the_source_tell_the_texts_read l s control name parts tape begins has may none stands room within within_told =
     let line : List ℕ = call_with control name (bytes_of parts) in
     let cost : ℕ = cost_of_texts (known s) s.input parts in
-    let read : List ℕ = rewritten (known s) s.input parts in
+    let read : List ℕ = copied (rewritten (known s) s.input parts) in
     let of : PageInput → State = λ i. record s { tape = tape; registers = registers_behind s.registers parts; input = i; messages = s.messages ++ told_line false (without_front read) } in
     let is : told_from (paid s (registers_behind s.registers parts) cost) (FromSource tape) line read ≡ of (record (lines_taken line s.input) { charge = s.input.charge + (length line + cost) }) =
     ap of (counted-source tape line (charged cost s.input) none ∙ lines_taken-charged line cost s.input) in

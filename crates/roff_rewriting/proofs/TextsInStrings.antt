@@ -18,9 +18,9 @@ use Rattle.roff_rewriting.proofs.CopiedParts.{copied-behind, copied-part, part-o
 use Rattle.roff_rewriting.proofs.PartRuns.{NoPart, OnBytes, OnText, PartsPath, RoomFor, after-parts, behind_bytes-append, behind_bytes-charged, bytes_ahead-front, ends_ahead-front, knows-behind}
 use Rattle.roff_rewriting.proofs.ReadTexts.{ByName, IsOfOneLine, More, charged}
 use Rattle.roff_rewriting.proofs.TextsInCalls.{lines_taken-charged, no_newline-control, no_newline-name, paid}
-use Rattle.roff_rewriting.specs.Parts.{AreParts, Escape, MayHave, MayMeasure, MayRead, MayWrite, Part, Written, bytes_of, cost_of_texts, known_behind_part, registers_behind, rewritten}
+use Rattle.roff_rewriting.proofs.Ways.{way}
+use Rattle.roff_rewriting.specs.Parts.{AreParts, Escape, IsCopiedPart, MayHave, MayMeasure, MayRead, MayWrite, Part, Written, bytes_of, cost_of_texts, known_behind_part, registers_behind, rewritten}
 use Rattle.roff_rewriting.specs.TextsInCalls.{HasRoomForTexts}
-use Rattle.roff_rewriting.specs.TextsInDefinitions.{IsCopiedPart}
 use Rattle.roff_rewriting.specs.TextsInStrings.{SetsTexts, StringsAreTheTextsRead, StringsOfTheSourceAreTheTextsRead}
 use Rattle.roff_rules.proofs.DefinedBytes.{IsCopied, NoUnit, OneUnit}
 use Rattle.roff_rules.proofs.Interpolation.{is_no_newline}
@@ -98,7 +98,8 @@ reads-part k j names name appends before bound quoted text _ parts (MayWrite byt
           subst (λ (all : List ℕ). PartsPath j (most_for name before bound) names k (setting name appends before (not quoted) text) (Written bytes ∷ parts) (setting name appends before (not more.ends) all))
           (append_assoc text copy others ∙ ap (λ (rest : List ℕ). text ++ rest) (sym same))
           (OnBytes k (setting name appends before (not quoted) text) (setting name appends before (not one.ends) (text ++ copy)) (setting name appends before (not more.ends) ((text ++ copy) ++ others)) bytes parts
-          (part-of_line bytes is) one.path more.path);
+          (part-of_line bytes is)
+          (way (most_for name before bound) names (setting name appends before (not quoted) text) (setting name appends before (not one.ends) (text ++ copy)) bytes one.path) more.path);
     }
 reads-part k j names name appends before bound quoted text _ parts (MayRead purpose escape bytes is_escape quiet is) stands few reads =
     let part : Part = Escape purpose escape bytes in
@@ -118,7 +119,8 @@ reads-part k j names name appends before bound quoted text _ parts (MayRead purp
           subst (λ (all : List ℕ). PartsPath j (most_for name before bound) names k (setting name appends before (not quoted) text) (part ∷ parts) (setting name appends before (not more.ends) all))
           (append_assoc text copy others ∙ ap (λ (rest : List ℕ). text ++ rest) (sym same))
           (OnText k (StringText (Some name) appends (not quoted)) (StringText (Some name) appends (not one.ends)) no_arguments no_arguments (before ++ text ∷ []) (before ++ (text ++ copy) ∷ [])
-          (setting name appends before (not more.ends) ((text ++ copy) ++ others)) part parts refl (ByName purpose escape bytes refl is_escape quiet) one.path more.path);
+          (setting name appends before (not more.ends) ((text ++ copy) ++ others)) part parts refl (ByName purpose escape bytes refl is_escape quiet)
+          (way (most_for name before bound) names (setting name appends before (not quoted) text) (setting name appends before (not one.ends) (text ++ copy)) own one.path) more.path);
     }
 reads-part k j names name appends before bound quoted text _ parts (MayMeasure d measured measures may plain) stands few reads = absurd (cc)
 

@@ -1,8 +1,12 @@
 -- Lines in parts: bytes as they stand, and escapes that are read as texts (manual, sections 7, 8 and 11.2).
-use Rattle.std.specs.Prelude.{◌≡◌, ℕ, ◌+◌, Bool, true, not, ◌||◌, List, [], ◌∷◌, ◌++◌, decimal, length, fold, ⊤, Some}
+use Rattle.std.specs.Prelude.{◌≡◌, ℕ, ◌+◌, Bool, true, not, ◌||◌, List, [], ◌∷◌, ◌++◌, decimal, length, fold, All, ⊤, Some}
 use Rattle.std.specs.List.{flat_map}
+use Rattle.roff_source.specs.Bytes.{backslash}
+use Rattle.roff_escape.specs.EscapeLaws.{is_only_copied}
 use Rattle.roff_escape.specs.declared.escapes.NameUse.{NameUse}
 use Rattle.roff_escape.specs.declared.escapes.NameUse.TheVariants.{Register}
+use Rattle.roff_rules.specs.ConditionLaws.{is_whole}
+use Rattle.roff_rules.specs.DefinitionLaws.{IsOfLine}
 use Rattle.roff_rules.specs.InterpolationLaws.{IsEscapeOf, text_named}
 use Rattle.roff_rules.specs.WidthLaws.{IsPlain, MayDelimit, text_units, width_escape}
 use Rattle.roff_run.specs.Reading.Items.{PageInput}
@@ -83,3 +87,15 @@ abbrev pub AreParts : Bool → (List ℕ → Type 0) → Known → PageInput →
 AreParts measures May k i [] = ⊤
 AreParts measures May k i (part ∷ parts) =
     MayHave measures May k i part × AreParts measures May (known_behind_part k part) i parts
+
+-- bytes that are copied: they have neither interpolations nor comments, and no backslash of them belongs to what stands behind
+-- them
+pub record IsOnlyCopied (part : List ℕ) : Type 0 where
+  pub bytes : All IsOfLine part
+  pub only_copied : is_only_copied part ≡ true
+  pub whole : is_whole part ≡ true
+
+-- a part of a line that is copied where no widths are read, or a text: also what a width begins with, which stays there
+pub data IsCopiedPart : List ℕ → Type 0 where
+  OnlyCopied : (part : List ℕ) → IsOnlyCopied part → IsCopiedPart part
+  BeginsWidth : IsCopiedPart (backslash ∷ 119 ∷ [])

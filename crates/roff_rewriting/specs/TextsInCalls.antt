@@ -1,27 +1,41 @@
 -- Laws of control lines that call a body with escapes among their arguments (manual, sections 7 and 7.3).
-use Rattle.std.specs.Prelude.{◌≡◌, ℕ, ◌+◌, ◌≤◌, true, false, List, [], ◌∷◌, ◌++◌, decimal, length, map, fold, All, ⊤}
+use Rattle.std.specs.Prelude.{if◌then◌else◌, ◌==◌, ◌≡◌, ℕ, ◌+◌, ◌≤◌, true, false, List, [], ◌∷◌, ◌++◌, decimal, length, map, fold, ⊤}
 use Rattle.roff_num.specs.declared.limits.Limits.{Limits}
 use Rattle.roff_num.specs.declared.short_name.ShortName.{ShortName}
-use Rattle.roff_arguments.specs.Arguments.{Arguments, arguments_read, is_behind_quote, no_arguments, settled, with_argument_byte}
+use Rattle.roff_arguments.specs.Arguments.{Arguments, arguments_read, is_behind_quote, no_arguments, settled, with_unit}
+use Rattle.roff_escape.specs.declared.open_escape.CopyUnit.{CopyUnit}
+use Rattle.roff_escape.specs.declared.open_escape.CopyUnit.TheVariants.{Byte, Kept}
+use Rattle.roff_source.specs.Bytes.{backslash, dot, tab}
 use Rattle.roff_source.specs.Tape.{Tape, OneByte, items_then}
 use Rattle.roff_ahead.specs.Input.{Ahead, ByteAhead, depth, lines_taken, pushed}
-use Rattle.roff_rewriting.specs.Parts.{AreParts, Escape, Measured, Part, Written, bytes_of, cost_of_texts, known_behind_part, registers_behind, rewritten}
+use Rattle.roff_rewriting.specs.Parts.{AreParts, Escape, IsOnlyCopied, Measured, Part, Written, bytes_of, cost_of_texts, known_behind_part, registers_behind, rewritten}
 use Rattle.roff_rules.specs.CallLaws.{BeginsLine, with_call}
-use Rattle.roff_rules.specs.InterpolationLaws.{StandsForItself, text_named}
+use Rattle.roff_rules.specs.InterpolationLaws.{text_named}
 use Rattle.roff_rules.specs.WidthLaws.{text_units}
-use Rattle.roff_rules.specs.WordCalls.{NamesBody, call_with, read_as}
+use Rattle.roff_rules.specs.WordCalls.{NamesBody, call_with}
 use Rattle.roff_run.specs.Reading.Items.{PageInput}
 use Rattle.roff_run.specs.Registers.{Known}
 use Rattle.roff_run.specs.Run.{State, after, known}
 use Rattle.roff_run.specs.Within.{IsWithin}
 use Rattle.roff_run.specs.PageEvents.{PageEvent}
 
--- the arguments behind a part of a line: those behind its bytes, or behind the bytes of a text, whose first one isn't the second
+-- the unit that copy mode makes of a backslash and the byte behind it: a byte, or an escape that stays
+abbrev pub unit_behind : ℕ → CopyUnit
+unit_behind b =
+    if b == backslash then Byte backslash else if b == dot then Byte dot else if b == 116 then Byte tab else Kept b
+
+-- the units of bytes without interpolations and comments
+abbrev pub units_of : List ℕ → List CopyUnit
+units_of [] = []
+units_of (b ∷ []) = Byte b ∷ []
+units_of (b ∷ c ∷ bytes) = if b == backslash then unit_behind c ∷ units_of bytes else Byte b ∷ units_of (c ∷ bytes)
+
+-- the arguments behind a part of a line: those behind its units, or behind the units of a text, whose first one isn't the second
 -- quote of two
 abbrev pub behind_part : Known → PageInput → Arguments → Part → Arguments
-behind_part k i a (Written bytes) = fold with_argument_byte a bytes
-behind_part k i a (Escape purpose name bytes) = fold with_argument_byte (settled a) (text_named k i purpose name)
-behind_part k i a (Measured delimiter text) = fold with_argument_byte (settled a) (decimal (text_units text))
+behind_part k i a (Written bytes) = fold with_unit a (units_of bytes)
+behind_part k i a (Escape purpose name bytes) = fold with_unit (settled a) (units_of (text_named k i purpose name))
+behind_part k i a (Measured delimiter text) = fold with_unit (settled a) (units_of (decimal (text_units text)))
 
 -- and behind several
 abbrev pub behind_parts : Known → PageInput → Arguments → List Part → Arguments
@@ -31,10 +45,6 @@ behind_parts k i a (part ∷ parts) = behind_parts (known_behind_part k part) i 
 -- the arguments that the parts of a line are read as
 abbrev pub parts_read_as : Known → PageInput → List Part → List (List ℕ)
 parts_read_as k i parts = arguments_read (behind_parts k i no_arguments parts)
-
--- bytes that stand for themselves
-abbrev pub AreThemselves : List ℕ → Type 0
-AreThemselves bytes = All StandsForItself bytes
 
 -- there is room for what is read of a line, beside all that is held and stands ahead, and for one text more
 pub record HasRoomForTexts (l : Limits) (s : State) (read : List ℕ) : Type 0 where
@@ -47,7 +57,7 @@ abbrev pub BodiesGetTheTextsRead : Type 0
 BodiesGetTheTextsRead =
     (l : Limits) (s : State) (control : ℕ) (name : ShortName) (body : List ℕ) (parts : List Part)
     (rest : List (Ahead PageEvent)) →
-    BeginsLine s → NamesBody s.input.names control name body → AreParts true AreThemselves (known s) s.input parts →
+    BeginsLine s → NamesBody s.input.names control name body → AreParts true IsOnlyCopied (known s) s.input parts →
     let line : List ℕ = call_with control name (bytes_of parts) in
     let cost : ℕ = length line + cost_of_texts (known s) s.input parts in
     s.input.ahead ≡ map ByteAhead line ++ rest →
@@ -63,7 +73,7 @@ BodiesGetTheTextsRead =
 abbrev pub BodiesOfTheSourceGetTheTextsRead : Type 0
 BodiesOfTheSourceGetTheTextsRead =
     (l : Limits) (s : State) (control : ℕ) (name : ShortName) (body : List ℕ) (parts : List Part) (tape : Tape) →
-    BeginsLine s → NamesBody s.input.names control name body → AreParts true AreThemselves (known s) s.input parts →
+    BeginsLine s → NamesBody s.input.names control name body → AreParts true IsOnlyCopied (known s) s.input parts →
     s.input.ahead ≡ [] →
     let line : List ℕ = call_with control name (bytes_of parts) in
     let cost : ℕ = length line + cost_of_texts (known s) s.input parts in
@@ -87,5 +97,6 @@ NoneBehindQuote k i a (part ∷ parts) =
 -- then it is read as the line that has the texts in the places of the escapes
 abbrev pub LinesAreReadAsRewritten : Type 0
 LinesAreReadAsRewritten =
-    (k : Known) (i : PageInput) (parts : List Part) → NoneBehindQuote k i no_arguments parts →
-    parts_read_as k i parts ≡ read_as (rewritten k i parts)
+    (k : Known) (i : PageInput) (parts : List Part) → AreParts true IsOnlyCopied k i parts →
+    NoneBehindQuote k i no_arguments parts →
+    parts_read_as k i parts ≡ arguments_read (fold with_unit no_arguments (units_of (rewritten k i parts)))

@@ -1,16 +1,15 @@
 -- Laws of definitions with escapes in their lines (manual, sections 7.1 and 8).
-use Rattle.std.specs.Prelude.{◌≡◌, ℕ, ◌+◌, ◌≤◌, Bool, true, false, List, [], ◌∷◌, ◌++◌, length, map, fold, All, ⊤, Option, Some, None, ◌==◌}
+use Rattle.std.specs.Prelude.{◌≡◌, ℕ, ◌+◌, ◌≤◌, Bool, false, List, [], ◌∷◌, ◌++◌, length, map, fold, All, ⊤, Option, Some, None, ◌==◌}
 use Rattle.roff_num.specs.declared.limits.Limits.{Limits}
 use Rattle.roff_num.specs.declared.short_name.ShortName.{ShortName}
-use Rattle.roff_escape.specs.EscapeLaws.{copied, is_only_copied}
-use Rattle.roff_source.specs.Bytes.{backslash, blank, newline, tab}
+use Rattle.roff_escape.specs.EscapeLaws.{copied}
+use Rattle.roff_source.specs.Bytes.{blank, newline, tab}
 use Rattle.roff_source.specs.Tape.{Tape, OneByte, items_then}
 use Rattle.roff_ahead.specs.Input.{Ahead, ByteAhead, lines_taken}
 use Rattle.roff_ahead.specs.Input.Names.{stored}
-use Rattle.roff_rewriting.specs.Parts.{AreParts, Part, bytes_of, cost_of_texts, known_behind, registers_behind, rewritten}
+use Rattle.roff_rewriting.specs.Parts.{AreParts, IsCopiedPart, Part, bytes_of, cost_of_texts, known_behind, registers_behind, rewritten}
 use Rattle.roff_rewriting.specs.TextsInCalls.{HasRoomForTexts}
-use Rattle.roff_rules.specs.ConditionLaws.{is_whole}
-use Rattle.roff_rules.specs.DefinitionLaws.{BeginsDefinition, IsOfLine, bytes_of_lines, is_end}
+use Rattle.roff_rules.specs.DefinitionLaws.{BeginsDefinition, bytes_of_lines, is_end}
 use Rattle.roff_rules.specs.DefinitionLaws.{text_of_lines, with_definition}
 use Rattle.roff_rules.specs.InterpolationLaws.{StandsForItself}
 use Rattle.roff_run.specs.Definitions.{end_mark}
@@ -21,12 +20,6 @@ use Rattle.roff_run.specs.Run.{State, after, known, taken_as}
 use Rattle.roff_run.specs.Within.{IsWithin}
 use Rattle.roff_run.specs.PageEvents.{PageEvent}
 use Rattle.roff_run.specs.declared.line_state.LineState.TheVariants.{LineStart}
-
--- a part of a line that is copied, or a text: it has neither interpolations nor comments, and no backslash of it belongs to what
--- stands behind it; or it is what a width begins with, which stays here
-pub data IsCopiedPart : List ℕ → Type 0 where
-  OnlyCopied : (part : List ℕ) → All IsOfLine part → is_only_copied part ≡ true → is_whole part ≡ true → IsCopiedPart part
-  BeginsWidth : IsCopiedPart (backslash ∷ 119 ∷ [])
 
 -- what is known where a line of the source begins behind another one: a newline more was taken
 abbrev pub with_newline : Known → Known

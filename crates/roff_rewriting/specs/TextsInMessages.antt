@@ -6,9 +6,10 @@ use Rattle.roff_num.specs.ShortNames.{name_bytes}
 use Rattle.roff_store.specs.Named.{Named}
 use Rattle.roff_store.specs.Texts.{Entry}
 use Rattle.roff_source.specs.Tape.{Tape, OneByte, items_then}
+use Rattle.roff_escape.specs.EscapeLaws.{copied}
 use Rattle.roff_ahead.specs.Input.{Ahead, ByteAhead, lines_taken}
-use Rattle.roff_rewriting.specs.Parts.{AreParts, Part, bytes_of, cost_of_texts, registers_behind, rewritten}
-use Rattle.roff_rewriting.specs.TextsInCalls.{AreThemselves, HasRoomForTexts}
+use Rattle.roff_rewriting.specs.Parts.{AreParts, IsCopiedPart, Part, bytes_of, cost_of_texts, registers_behind, rewritten}
+use Rattle.roff_rewriting.specs.TextsInCalls.{HasRoomForTexts}
 use Rattle.roff_rules.specs.CallLaws.{BeginsLine, IsControl}
 use Rattle.roff_rules.specs.MessageLaws.{without_front}
 use Rattle.roff_rules.specs.WordCalls.{call_with}
@@ -32,12 +33,12 @@ pub record ReadsMessage (aborts : Bool) (names : Named Entry) (control : ℕ) (n
   pub stands_for : called_by name names ≡ ARequest of_request
   pub reads_message : (row_of of_request).line ≡ ByMessage aborts
 
--- A message tells what is read, each escape as its text. Each byte of the line and of those texts is a step, and costs one; so
--- does each text's end, and telling is a step of its own.
+-- A message tells what is read as it is copied, each escape as its text. Each byte of the line and of those texts is a step, and
+-- costs one; so does each text's end, and telling is a step of its own.
 abbrev pub MessagesTellTheTextsRead : Type 0
 MessagesTellTheTextsRead =
     (l : Limits) (s : State) (control : ℕ) (name : ShortName) (parts : List Part) (rest : List (Ahead PageEvent)) →
-    BeginsLine s → ReadsMessage false s.input.names control name → AreParts false AreThemselves (known s) s.input parts →
+    BeginsLine s → ReadsMessage false s.input.names control name → AreParts false IsCopiedPart (known s) s.input parts →
     let line : List ℕ = call_with control name (bytes_of parts) in
     let read : List ℕ = rewritten (known s) s.input parts in
     let cost : ℕ = length line + cost_of_texts (known s) s.input parts in
@@ -46,7 +47,7 @@ MessagesTellTheTextsRead =
     record s {
       registers = registers_behind s.registers parts;
       input = record s.input { ahead = rest; charge = s.input.charge + cost };
-      messages = s.messages ++ told_line false (without_front read);
+      messages = s.messages ++ told_line false (without_front (copied read));
     } in
     HasRoomForTexts l s read → IsWithin l s → IsWithin l told → after l (cost + 1) s ≡ told
 
@@ -54,7 +55,7 @@ MessagesTellTheTextsRead =
 abbrev pub MessagesOfTheSourceTellTheTextsRead : Type 0
 MessagesOfTheSourceTellTheTextsRead =
     (l : Limits) (s : State) (control : ℕ) (name : ShortName) (parts : List Part) (tape : Tape) →
-    BeginsLine s → ReadsMessage false s.input.names control name → AreParts false AreThemselves (known s) s.input parts →
+    BeginsLine s → ReadsMessage false s.input.names control name → AreParts false IsCopiedPart (known s) s.input parts →
     s.input.ahead ≡ [] →
     let line : List ℕ = call_with control name (bytes_of parts) in
     let read : List ℕ = rewritten (known s) s.input parts in
@@ -66,7 +67,7 @@ MessagesOfTheSourceTellTheTextsRead =
       tape = tape;
       registers = registers_behind s.registers parts;
       input = behind;
-      messages = s.messages ++ told_line false (without_front read);
+      messages = s.messages ++ told_line false (without_front (copied read));
     } in
     HasRoomForTexts l s read → IsWithin l s → IsWithin l told → after l (cost + 1) s ≡ told
 
@@ -78,25 +79,25 @@ pub record EndsBy (s : State) (text : List ℕ) (cost : ℕ) (t : State) : Type 
   pub happened : t.history ≡ s.history
   pub taken : t.input.charge ≡ s.input.charge + cost
 
--- a message that ends the run does so with what is read, and at the same cost
+-- a message that ends the run does so with what is read as it is copied, and at the same cost
 abbrev pub RunsEndWithTheTextsRead : Type 0
 RunsEndWithTheTextsRead =
     (l : Limits) (s : State) (control : ℕ) (name : ShortName) (parts : List Part) (rest : List (Ahead PageEvent)) →
-    BeginsLine s → ReadsMessage true s.input.names control name → AreParts false AreThemselves (known s) s.input parts →
+    BeginsLine s → ReadsMessage true s.input.names control name → AreParts false IsCopiedPart (known s) s.input parts →
     let line : List ℕ = call_with control name (bytes_of parts) in
     let read : List ℕ = rewritten (known s) s.input parts in
     let cost : ℕ = length line + cost_of_texts (known s) s.input parts in
     s.input.ahead ≡ map ByteAhead line ++ rest → s.input.charge + cost ≤ l.bytes → HasRoomForTexts l s read → IsWithin l s →
-    EndsBy s (without_front read) cost (after l (cost + 1) s) × ((after l (cost + 1) s).input.ahead ≡ rest)
+    EndsBy s (without_front (copied read)) cost (after l (cost + 1) s) × ((after l (cost + 1) s).input.ahead ≡ rest)
 
 -- and so it is where the line stands in the source itself, with nothing ahead of it
 abbrev pub RunsEndWithTheTextsOfTheSource : Type 0
 RunsEndWithTheTextsOfTheSource =
     (l : Limits) (s : State) (control : ℕ) (name : ShortName) (parts : List Part) (tape : Tape) →
-    BeginsLine s → ReadsMessage true s.input.names control name → AreParts false AreThemselves (known s) s.input parts →
+    BeginsLine s → ReadsMessage true s.input.names control name → AreParts false IsCopiedPart (known s) s.input parts →
     s.input.ahead ≡ [] →
     let line : List ℕ = call_with control name (bytes_of parts) in
     let read : List ℕ = rewritten (known s) s.input parts in
     let cost : ℕ = length line + cost_of_texts (known s) s.input parts in
     s.tape ≡ items_then (map OneByte line) tape → s.input.charge + cost ≤ l.bytes → HasRoomForTexts l s read → IsWithin l s →
-    EndsBy s (without_front read) cost (after l (cost + 1) s) × ((after l (cost + 1) s).tape ≡ tape)
+    EndsBy s (without_front (copied read)) cost (after l (cost + 1) s) × ((after l (cost + 1) s).tape ≡ tape)

@@ -9,9 +9,8 @@ use Rattle.roff_store.specs.Texts.{Entry}
 use Rattle.roff_escape.specs.EscapeLaws.{copied}
 use Rattle.roff_ahead.specs.Input.{Ahead, ByteAhead, lines_taken}
 use Rattle.roff_ahead.specs.Input.Names.{stored}
-use Rattle.roff_rewriting.specs.Parts.{AreParts, Part, bytes_of, cost_of_texts, registers_behind, rewritten}
+use Rattle.roff_rewriting.specs.Parts.{AreParts, IsCopiedPart, Part, bytes_of, cost_of_texts, registers_behind, rewritten}
 use Rattle.roff_rewriting.specs.TextsInCalls.{HasRoomForTexts}
-use Rattle.roff_rewriting.specs.TextsInDefinitions.{IsCopiedPart}
 use Rattle.roff_rules.specs.CallLaws.{BeginsLine, IsControl}
 use Rattle.roff_rules.specs.DefinitionLaws.{with_definition}
 use Rattle.roff_rules.specs.StringLaws.{HasRoomForOne, IsOfWord, may_stand, string_line}

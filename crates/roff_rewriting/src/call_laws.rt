@@ -6,13 +6,15 @@ ghost use Rattle.roff_rewriting.specs.TextsInCalls.{BodiesOfTheSourceGetTheTexts
 ghost use Rattle.roff_rewriting.specs.TextsInCalls.{LinesAreReadAsRewritten};
 
 /// A body that a line calls gets the first nine of the arguments that the line is read as, where
-/// the escape of a register, a string or an argument is read as its text, and that of a measured
-/// text as its width: blanks of a text separate, and quotes quote. A register that an escape steps
-/// is stepped before it is read, once for each escape, in their order. So it is of any number of
-/// escapes, if each byte beside them and of their texts stands for itself, measured texts have no
-/// escapes, and no step is out of range or one of the page number. Each byte of the line and of the
-/// texts is a step, and costs one, and so is the end of each text, if the limits allow the state
-/// before and the state behind, and the line and its texts beside all that stands ahead.
+/// the escape of a register, a string or an argument is read as its text, that of a measured text
+/// as its width, and any other escape as what copy mode makes of it: blanks of a text separate, and
+/// quotes quote, and an escape that stays is two bytes of an argument. A register that an escape
+/// steps is stepped before it is read, once for each escape, in their order. So it is of any number
+/// of escapes, if there are no other interpolations and no comments in the line and the texts, no
+/// byte of them is dropped, measured texts have no escapes, and no step is out of range or one of
+/// the page number. Each byte of the line and of the texts is a step, and costs one, and so is the
+/// end of each text, if the limits allow the state before and the state behind, and the line and
+/// its texts beside all that stands ahead.
 pub fn called_with_texts()
     ensures ahead { BodiesGetTheTextsRead }
     ensures source { BodiesOfTheSourceGetTheTextsRead }

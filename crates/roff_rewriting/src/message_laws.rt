@@ -13,10 +13,11 @@ pub fn interpolated_messages()
     ensures { MessagesTellWhatIsRead }
 {}
 
-/// A message tells what is read, where the escape of a register, a string or an argument is read as
-/// its text, without the blanks in front, and registers are stepped as the escapes say. So it is of
-/// any number of them, under the same premises, and at the same cost, as in a line that calls a
-/// body, but without widths, which aren't read there; and telling is a step of its own.
+/// A message tells what is read, as it is copied and without the blanks in front, where the escape
+/// of a register, a string or an argument is read as its text, and registers are stepped as the
+/// escapes say. So it is of any number of them, if no step is out of range or one of the page
+/// number, and what stands beside them and the texts themselves are copied, as in a definition; at
+/// the same cost as in a line that calls a body, and telling is a step of its own.
 pub fn messages_with_texts()
     ensures ahead { MessagesTellTheTextsRead }
     ensures source { MessagesOfTheSourceTellTheTextsRead }
