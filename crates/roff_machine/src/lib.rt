@@ -2,9 +2,9 @@
 //! the program on it.
 #![tactic(auto)]
 
-mod command_lines;
+mod expected;
 
-pub use command_lines::{Expected, FILES, FOLDERS, STANDARD_INPUT};
+pub use expected::Expected;
 use std::alloc::{Allocator, Global};
 use std::cell::Cell;
 use std::convert::AsSlice;

@@ -12,8 +12,6 @@
 #![tactic(auto)]
 
 mod row;
-#[cfg(test)]
-mod tests;
 
 use anyhow::Result;
 use row::Row;
@@ -51,7 +49,7 @@ fn run_rows<R: Files + Print + AllocGlobal + Clone + Drop>(
     let path = format!(in rt.alloc(); "{top}/{folder}")?;
     for name in &names_in(rt, path.as_str(), ".roff")? {
         let row = Row::read(rt, format!(in rt.alloc(); "{path}/{name}")?.as_str())?;
-        match row.difference(rt.alloc())? {
+        match row.difference(rt.alloc()) {
             None => println!(rt; "{folder}/{name}")?,
             Some(what) => {
                 println!(rt; "{folder}/{name}: the {what} differs")?;

@@ -3,7 +3,8 @@
 use anyhow::Result;
 use roff_machine::{Expected, Given, Machine, Paper};
 use roff_tools::{StdWrite, main_with};
-use std::alloc::{AllocError, Global};
+use std::alloc::Global;
+use std::convert::AsSlice;
 use std::rt::Files;
 use std::{fs, io};
 
@@ -44,7 +45,7 @@ impl Row {
     }
 
     /// Runs the program on the document, and says what of its answer isn't the row's.
-    pub fn difference(&self, alloc: Global) -> Result<Option<&'static str>, AllocError> {
+    pub fn difference(&self, alloc: Global) -> Option<&'static str> {
         let machine = Machine {
             alloc,
             words: self.words.as_slice(),
@@ -56,17 +57,25 @@ impl Row {
             },
             most: usize::MAX,
         };
-        let stdout = StdWrite::new(Paper::new(alloc));
-        let stderr = StdWrite::new(Paper::new(alloc));
-        let done = main_with(&machine, stdout, stderr);
         let expected = Expected {
             status: self.status,
             out: self.output.as_slice(),
             err: self.messages.as_slice(),
         };
-        let (stdout, stderr) = (done.stdout.into_inner(), done.stderr.into_inner());
-        Ok(expected.difference(&stdout, &stderr, done.exit))
+        difference(&machine, expected)
     }
+}
+
+/// Runs the program on a machine, and says what of its answer isn't this.
+fn difference<W: AsSlice<u8>>(
+    machine: &Machine<'_, W>,
+    expected: Expected<'_>,
+) -> Option<&'static str> {
+    let stdout = StdWrite::new(Paper::new(machine.alloc));
+    let stderr = StdWrite::new(Paper::new(machine.alloc));
+    let done = main_with(machine, stdout, stderr);
+    let (stdout, stderr) = (done.stdout.into_inner(), done.stderr.into_inner());
+    expected.difference(&stdout, &stderr, done.exit)
 }
 
 /// What a file has, or a text where there is no file.

@@ -1,8 +1,8 @@
 //! Command lines and what they give.
 
-use super::check::check;
+use super::machine::{check, machine};
 use super::{help_texts, mistake_texts};
-use roff_machine::{Expected, Machine, Paper};
+use roff_machine::{Expected, Paper};
 use std::alloc::Global;
 use std::process::Abort;
 
@@ -244,7 +244,7 @@ pub fn check_rows(rt: &impl Abort, alloc: Global, rows: &[Row]) {
             err: err.as_bytes(),
         };
         let (stdout, stderr) = (Paper::new(alloc), Paper::new(alloc));
-        check(rt, &Machine::new(alloc, words), stdout, stderr, expected);
+        check(rt, &machine(alloc, words), stdout, stderr, expected);
     }
 }
 

@@ -1,16 +1,21 @@
-//! Tests of whole command lines, on a machine in memory: which files are read, what the options of
-//! limits, registers and pages do, the commands of tables, help, and mistakes. Those of devices that
-//! fail, and of long documents, stand in `roff_rows`.
+//! Tests of whole command lines, on a machine in memory: which files are read, what options do, the
+//! commands of tables, help, mistakes, devices that fail, and long documents.
 #![tactic(auto)]
 
 #[cfg(test)]
-mod check;
-#[cfg(test)]
 mod command_lines;
+#[cfg(test)]
+mod devices;
+#[cfg(test)]
+mod failing_once;
 #[cfg(test)]
 mod help_texts;
 #[cfg(test)]
 mod limit_options;
+#[cfg(test)]
+mod long_documents;
+#[cfg(test)]
+mod machine;
 #[cfg(test)]
 mod mistake_texts;
 #[cfg(test)]

@@ -1,9 +1,7 @@
 //! Starts: words that are no text, and more files than a command line often names.
 
-use super::check::check;
-use roff_machine::{Expected, FILES, FOLDERS, Given, Machine, Paper, STANDARD_INPUT};
-use roff_tools::{StdWrite, main_with};
-use std::process::ExitCode;
+use super::machine::{FILES, FOLDERS, STANDARD_INPUT, check, machine};
+use roff_machine::{Expected, Given, Machine, Paper};
 use std::test::Fail;
 
 /// How many files the command line of the next test names.
@@ -18,7 +16,7 @@ fn a_hundred_files(rt: HostRuntime) -> Result<(), Fail> {
     words[2] = "y";
     let machine = Machine {
         files: &[("y", b".pl 1\n.nf\n"), ("x", b"x\n")],
-        ..Machine::new(alloc, words.as_slice())
+        ..machine(alloc, words.as_slice())
     };
     let out = b"x\n".repeat(alloc, COUNT - 1)?;
     let expected = Expected {
@@ -37,7 +35,7 @@ fn a_hundred_files(rt: HostRuntime) -> Result<(), Fail> {
 }
 
 #[test]
-fn words_that_are_no_text(rt: HostRuntime) -> Result<(), Fail> {
+fn words_that_are_no_text(rt: HostRuntime) {
     let words: [&[u8]; 3] = [b"roff", b"nroff", b"na\xefve"];
     let machine = Machine {
         alloc: rt.alloc(),
@@ -47,14 +45,11 @@ fn words_that_are_no_text(rt: HostRuntime) -> Result<(), Fail> {
         standard_input: Given::new(STANDARD_INPUT),
         most: usize::MAX,
     };
-    let stdout = StdWrite::new(Paper::new(rt.alloc()));
-    let stderr = StdWrite::new(Paper::new(rt.alloc()));
-    let done = main_with(&machine, stdout, stderr);
-    assert!(rt; done.stdout.into_inner().kept.is_empty());
-    assert_eq!(rt;
-        str::from_utf8(&done.stderr.into_inner().kept),
-        Ok("roff: an argument is not UTF-8 text\n")
-    );
-    assert_eq!(rt; done.exit, ExitCode::from(1));
-    Ok(())
+    let expected = Expected {
+        status: 1,
+        out: b"",
+        err: b"roff: an argument is not UTF-8 text\n",
+    };
+    let (stdout, stderr) = (Paper::new(rt.alloc()), Paper::new(rt.alloc()));
+    check(&rt, &machine, stdout, stderr, expected);
 }

@@ -1,6 +1,6 @@
 //! Command lines of `tbl` and `both`, and what they give.
 
-use super::check::check;
+use super::machine::{check, machine};
 use super::{help_texts, mistake_texts};
 use roff_machine::{Expected, Given, Machine, Paper};
 use std::alloc::Global;
@@ -262,7 +262,7 @@ fn machine_with_tables<'a>(alloc: Global, words: &'a [&'a str]) -> Machine<'a, &
     Machine {
         files: &FILES,
         standard_input: Given::new(b".pl 1\n.nf\nstandard input\n"),
-        ..Machine::new(alloc, words)
+        ..machine(alloc, words)
     }
 }
 

@@ -2,7 +2,7 @@
 //! in front of the call that failed. And what is done behind a failure: the last flush, and nothing
 //! else.
 
-use super::check;
+use super::machine::{check, machine};
 use roff_machine::{Expected, Given, Machine, Paper};
 use std::alloc::Global;
 use std::cell::Cell;
@@ -59,7 +59,7 @@ fn reader_that_fails_once(rt: HostRuntime) {
             let given = Given::failing_once(before.as_bytes(), *error, behind.as_bytes());
             let machine = Machine {
                 standard_input: given,
-                ..Machine::new(alloc, words.as_slice())
+                ..machine(alloc, words.as_slice())
             };
             let expected = Expected {
                 status: 2,
@@ -84,7 +84,7 @@ fn file_behind_one_that_fails(rt: HostRuntime) {
     let (stdout, stderr) = (Paper::new(alloc), Paper::new(alloc));
     check(
         &rt,
-        &Machine::new(alloc, words.as_slice()),
+        &machine(alloc, words.as_slice()),
         stdout,
         stderr,
         expected,
@@ -121,7 +121,7 @@ fn messages_that_fail_once(rt: HostRuntime) {
             let stderr = failing_once(alloc, *at, *error);
             check(
                 &rt,
-                &Machine::new(alloc, words),
+                &machine(alloc, words),
                 Paper::new(alloc),
                 stderr,
                 expected,
@@ -148,7 +148,7 @@ fn output_that_fails_once(rt: HostRuntime) -> Result<(), Fail> {
     for error in &ERRORS {
         let machine = Machine {
             standard_input: Given::new(document.as_slice()),
-            ..Machine::new(alloc, words.as_slice())
+            ..machine(alloc, words.as_slice())
         };
         let expected = Expected {
             status: 2,
@@ -202,7 +202,7 @@ fn flushes_that_fail(rt: HostRuntime) {
         };
         check(
             &rt,
-            &Machine::new(alloc, words),
+            &machine(alloc, words),
             stdout,
             Paper::new(alloc),
             expected,
@@ -227,7 +227,7 @@ fn held_output_that_fails(rt: HostRuntime) {
         };
         check(
             &rt,
-            &Machine::new(alloc, words),
+            &machine(alloc, words),
             stdout,
             Paper::new(alloc),
             expected,
@@ -259,7 +259,7 @@ fn files_are_opened_before_anything_is_read(rt: HostRuntime) {
                 reads: Some(&reads),
                 ..Given::new(b"ab\n")
             },
-            ..Machine::new(alloc, words)
+            ..machine(alloc, words)
         };
         let expected = Expected {
             status: 1,
@@ -295,7 +295,7 @@ fn refused_starts_read_nothing(rt: HostRuntime) {
                 fails: true,
                 ..Given::new(b"")
             },
-            ..Machine::new(alloc, words)
+            ..machine(alloc, words)
         };
         let expected = Expected {
             status: 3,
@@ -326,7 +326,7 @@ fn reads_are_no_more_than_needed(rt: HostRuntime) {
                 fails: *fails,
                 ..Given::new(b".nf\n")
             },
-            ..Machine::new(alloc, words)
+            ..machine(alloc, words)
         };
         let expected = Expected {
             status: *status,

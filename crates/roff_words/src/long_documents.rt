@@ -1,6 +1,6 @@
 //! Documents, lines and lists of files that are longer than any buffer.
 
-use super::check;
+use super::machine::{check, machine};
 use roff_machine::{Expected, Given, Machine, Paper};
 use std::alloc::Global;
 use std::process::Abort;
@@ -43,7 +43,7 @@ fn check_bytes(rt: &impl Abort, alloc: Global, row: &CountedRow) {
             nuls: *nuls,
             ..Given::new(b"")
         },
-        ..Machine::new(alloc, words)
+        ..machine(alloc, words)
     };
     let expected = Expected {
         status: if err.is_empty() { 0 } else { 3 },
@@ -85,7 +85,7 @@ fn check_line(
     document.extend_from_slice(line.as_slice())?;
     let machine = Machine {
         standard_input: Given::new(document.as_slice()),
-        ..Machine::new(alloc, words)
+        ..machine(alloc, words)
     };
     let expected = if err.is_empty() {
         Expected {
@@ -151,7 +151,7 @@ fn long_input(rt: HostRuntime) -> Result<(), Fail> {
     document.extend_from_slice(lines.as_slice())?;
     let machine = Machine {
         standard_input: Given::new(document.as_slice()),
-        ..Machine::new(alloc, words.as_slice())
+        ..machine(alloc, words.as_slice())
     };
     let expected = Expected {
         status: 0,
@@ -174,7 +174,7 @@ fn wide_indent(rt: HostRuntime) -> Result<(), Fail> {
     let words = ["roff", "nroff"];
     let machine = Machine {
         standard_input: Given::new(b".pl 1\n.in 9000n\nab\n"),
-        ..Machine::new(alloc, words.as_slice())
+        ..machine(alloc, words.as_slice())
     };
     let mut line = b" ".repeat(alloc, 9_000)?;
     line.extend_from_slice(b"ab\n")?;
@@ -226,7 +226,7 @@ fn many_files(rt: HostRuntime) {
     let alloc = rt.alloc();
     let machine = Machine {
         files: &MANY_FILES,
-        ..Machine::new(alloc, &MANY_WORDS)
+        ..machine(alloc, &MANY_WORDS)
     };
     let expected = Expected {
         status: 0,

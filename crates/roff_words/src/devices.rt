@@ -1,6 +1,6 @@
 //! Devices that fail, and devices that take or give one byte at a time.
 
-use super::check;
+use super::machine::{check, machine};
 use roff_machine::{Expected, Given, Machine, Paper};
 use std::alloc::Global;
 
@@ -72,7 +72,7 @@ fn writers_that_fail(rt: HostRuntime) {
             err: err.as_bytes(),
         };
         let (stdout, stderr) = (room_for(alloc, *out_room), room_for(alloc, *err_room));
-        check(&rt, &Machine::new(alloc, words), stdout, stderr, expected);
+        check(&rt, &machine(alloc, words), stdout, stderr, expected);
     }
 }
 
@@ -89,7 +89,7 @@ fn flush_that_fails(rt: HostRuntime) {
         err: b"",
     };
     let words = ["roff", "nroff", "filled"];
-    let machine = Machine::new(alloc, words.as_slice());
+    let machine = machine(alloc, words.as_slice());
     check(&rt, &machine, stdout, Paper::new(alloc), expected);
 }
 
@@ -99,7 +99,7 @@ fn reader_that_fails(rt: HostRuntime) {
     let words = ["roff", "nroff", "one", "-", "two"];
     let machine = Machine {
         standard_input: Given::failing(b"ab\nc"),
-        ..Machine::new(alloc, words.as_slice())
+        ..machine(alloc, words.as_slice())
     };
     let expected = Expected {
         status: 2,
@@ -153,7 +153,7 @@ fn reader_that_fails_within_a_table(rt: HostRuntime) {
         let words = ["roff", *command];
         let machine = Machine {
             standard_input: Given::failing(given.as_bytes()),
-            ..Machine::new(alloc, words.as_slice())
+            ..machine(alloc, words.as_slice())
         };
         let expected = Expected {
             status: 2,
@@ -169,7 +169,7 @@ fn reader_that_fails_within_a_table(rt: HostRuntime) {
 fn one_byte_at_a_time(rt: HostRuntime) {
     let alloc = rt.alloc();
     let words = ["roff", "nroff", "one", "-", "mistaken"];
-    let usual = Machine::new(alloc, words.as_slice());
+    let usual = machine(alloc, words.as_slice());
     let machine = Machine {
         standard_input: Given {
             most: 1,
