@@ -59,53 +59,51 @@ use Rattle.roff_engine.specs.Running.Turning.{GoesPast, IsAt, turns_of_run}
 use Rattle.roff_engine.proofs.Passing.{IsAt-leads, goes_past_fewer}
 use Rattle.roff_engine.proofs.TurnsLeft.{turns_of_run-no_more}
 
--- what a byte is that stands for itself or a blank
-record Plain (character : Option ℕ) (delimiter b : ℕ) : Type 0 where
+-- what a byte is that stands for the page number, a blank or itself
+record Plain (delimiter b : ℕ) : Type 0 where
   above : 32 ≤ b
   del : (b == 127) ≡ false
   escape : (b == backslash) ≡ false
   other : (b == delimiter) ≡ false
-  number : is_page_character character b ≡ false
 
-plain-of : (character : Option ℕ) (delimiter b : ℕ) → is_plain character delimiter b ≡ true → Plain character delimiter b
-plain-of character delimiter b is = by (nat_le 32 b) (b == 127) (b == backslash) (b == delimiter) (is_page_character character b) refl refl refl refl refl is
+plain-of : (delimiter b : ℕ) → is_plain delimiter b ≡ true → Plain delimiter b
+plain-of delimiter b is = by (nat_le 32 b) (b == 127) (b == backslash) (b == delimiter) refl refl refl refl is
   where
-    by : (above del escape other number : Bool) → nat_le 32 b ≡ above → (b == 127) ≡ del → (b == backslash) ≡ escape → (b == delimiter) ≡ other
-        → is_page_character character b ≡ number → (above && (not del && (not escape && (not other && not number)))) ≡ true → Plain character delimiter b
-    by true false false false false above del escape other number is =
-        record { above = grind (arith, nat_tests, above); del = del; escape = escape; other = other; number = number }
-    by true false false false true above del escape other number is = absurd (cc)
-    by true false false true n above del escape other number is = absurd (cc)
-    by true false true o n above del escape other number is = absurd (cc)
-    by true true e o n above del escape other number is = absurd (cc)
-    by false d e o n above del escape other number is = absurd (cc)
+    by : (above del escape other : Bool) → nat_le 32 b ≡ above → (b == 127) ≡ del → (b == backslash) ≡ escape → (b == delimiter) ≡ other
+        → (above && (not del && (not escape && not other))) ≡ true → Plain delimiter b
+    by true false false false above del escape other is = record { above = grind (arith, nat_tests, above); del = del; escape = escape; other = other }
+    by true false false true above del escape other is = absurd (cc)
+    by true false true o above del escape other is = absurd (cc)
+    by true true e o above del escape other is = absurd (cc)
+    by false d e o above del escape other is = absurd (cc)
 
 -- it is one of plain text
-text-plain : (character : Option ℕ) (delimiter b : ℕ) → Plain character delimiter b → is_text_byte b ≡ true
-text-plain character delimiter b plain =
+text-plain : (delimiter b : ℕ) → Plain delimiter b → is_text_byte b ≡ true
+text-plain delimiter b plain =
     ap (λ (below : Bool). not (below || (b == 127 || b == backslash))) (le-ltb b 32 plain.above)
     ∙ ap (λ (del : Bool). not (del || b == backslash)) plain.del
     ∙ ap (λ (escape : Bool). not escape) plain.escape
 
 -- what it stands for
-kept-for : (b : ℕ) (is_blank none : Bool) → none ≡ false
-    → (if is_blank then glyph_blank ∷ [] else if none then [] else b ∷ []) ≡ (if is_blank then glyph_blank else b) ∷ []
-kept-for b true none is = refl
-kept-for b false none is = ap (λ (c : Bool). if c then [] else b ∷ []) is
+kept-for : (b : ℕ) (is_number is_blank none : Bool) → none ≡ false
+    → (if is_number then page_mark ∷ [] else (if is_blank then glyph_blank ∷ [] else if none then [] else b ∷ []))
+    ≡ (if is_number then page_mark else (if is_blank then glyph_blank else b)) ∷ []
+kept-for b true is_blank none is = refl
+kept-for b false true none is = refl
+kept-for b false false none is = ap (λ (c : Bool). if c then [] else b ∷ []) is
 
-bytes_for-plain : (k : Known) (delimiter b : ℕ) → Plain k.registers.page_character delimiter b → bytes_for k b ≡ kept_byte b ∷ []
+bytes_for-plain : (k : Known) (delimiter b : ℕ) → Plain delimiter b → bytes_for k b ≡ kept_byte k.registers.page_character b ∷ []
 bytes_for-plain k delimiter b plain =
-    let text : is_text_byte b ≡ true = text-plain k.registers.page_character delimiter b plain in
-    let others : List ℕ = if b == blank then glyph_blank ∷ [] else if b == tab || is_silent b then [] else b ∷ [] in
+    let text : is_text_byte b ≡ true = text-plain delimiter b plain in
     let none : (b == tab || is_silent b) ≡ false = ap (λ (c : Bool). c || is_silent b) (is_other b tab text refl) ∙ heard-text b text in
-    ap (λ (c : Bool). if c then page_mark ∷ [] else others) plain.number ∙ kept-for b (b == blank) (b == tab || is_silent b) none
+    kept-for b (is_page_character k.registers.page_character b) (b == blank) (b == tab || is_silent b) none
 
 -- so it is read as a byte of the part
-pub plain-title : (k : Known) (i : PageInput) (delimiter b : ℕ) → i.escapes ≡ [] → is_plain k.registers.page_character delimiter b ≡ true
-    → taking k (InTitle delimiter) i b ≡ part_taking i delimiter (kept_byte b ∷ [])
+pub plain-title : (k : Known) (i : PageInput) (delimiter b : ℕ) → i.escapes ≡ [] → is_plain delimiter b ≡ true
+    → taking k (InTitle delimiter) i b ≡ part_taking i delimiter (kept_byte k.registers.page_character b ∷ [])
 plain-title k i delimiter b none_half is =
-    let plain : Plain k.registers.page_character delimiter b = plain-of k.registers.page_character delimiter b is in
-    let text : is_text_byte b ≡ true = text-plain k.registers.page_character delimiter b plain in
+    let plain : Plain delimiter b = plain-of delimiter b is in
+    let text : is_text_byte b ≡ true = text-plain delimiter b plain in
     let reading : LineState = InTitle delimiter in
     ap (λ (c : Bool). if c then going_on (interrupted reading i) reading else undropped_taking k reading i b)
     (kept-text (nat_lt b 32) (b == 127) (b == backslash) (not (b == newline || b == tab || is_silent b)) text)
@@ -119,15 +117,16 @@ plain-title k i delimiter b none_half is =
 
 -- the registers behind bytes of a title
 abbrev with_title : List ℕ → AllRegisters → AllRegisters
-with_title bytes rs = changed_by (TitleGets (map kept_byte bytes)) rs
+with_title bytes rs = changed_by (TitleGets (map (kept_byte rs.page_character) bytes)) rs
 
 -- with a byte, and then with others
 with_title-next : (b : ℕ) (bytes : List ℕ) (rs : AllRegisters) → with_title bytes (with_title (b ∷ []) rs) ≡ with_title (b ∷ bytes) rs
-with_title-next b bytes rs = ap (λ (t : TitleText). record rs { title = t }) (bytes_added_again (kept_byte b ∷ []) (map kept_byte bytes) rs.title)
+with_title-next b bytes rs = ap (λ (t : TitleText). record rs { title = t }) (bytes_added_again (kept_byte rs.page_character b ∷ []) (map (kept_byte rs.page_character) bytes) rs.title)
 
 -- a title has so many bytes more
 length-title : (bytes : List ℕ) (rs : AllRegisters) → title_length (with_title bytes rs).title ≡ title_length rs.title + length bytes
-length-title bytes rs = omega (arith, bytes_added_length (map kept_byte bytes) rs.title, length-map bytes kept_byte)
+length-title bytes rs =
+    let kept : ℕ → ℕ = kept_byte rs.page_character in omega (arith, bytes_added_length (map kept bytes) rs.title, length-map bytes kept)
 
 -- no count is above its limit where the title has bytes more, if they are within that on the line
 fits-title : (l : Limits) (bytes : List ℕ) (rs : AllRegisters) (i : PageInput) → title_length rs.title + length bytes ≤ l.line
@@ -174,7 +173,7 @@ module _ (l : Limits) (delimiter : ℕ) (reading : LineState) (in_title : readin
   -- a byte that was taken is one of the title
   leads-byte : (b : ℕ) (before : State) (tape : Tape) (input : PageInput) (rs : AllRegisters)
       → step l before ≡ made l before (byte_taken b (going tape input reading rs h messages phase closed [])) → input.escapes ≡ []
-      → is_plain rs.page_character delimiter b ≡ true → first_passed l (counts_in (with_title (b ∷ []) rs) input) ≡ None
+      → is_plain delimiter b ≡ true → first_passed l (counts_in (with_title (b ∷ []) rs) input) ≡ None
       → Leads l before (going tape input reading (with_title (b ∷ []) rs) h messages phase closed [])
   leads-byte b before tape input rs taken none_half plain fits =
       let here : LineState → List ℕ → State = λ r said. going tape input r (with_title (b ∷ []) rs) h said phase closed [] in
@@ -190,7 +189,7 @@ module _ (l : Limits) (delimiter : ℕ) (reading : LineState) (in_title : readin
 
   -- the steps at such bytes, wherever they come from
   pub leads-title : (from : Origin) (tape : Tape) (bytes : List ℕ) (i : PageInput) (rs : AllRegisters) → IsOpenFor from closed → i.escapes ≡ [] → Fits from bytes i rs
-      → i.charge + length bytes ≤ l.bytes → AllByRecursion (λ b. is_plain rs.page_character delimiter b ≡ true) bytes → title_length rs.title + length bytes ≤ l.line
+      → i.charge + length bytes ≤ l.bytes → AllByRecursion (λ b. is_plain delimiter b ≡ true) bytes → title_length rs.title + length bytes ≤ l.line
       → Leads l (title_from from bytes tape i rs) (title_from from [] tape (behind_bytes from bytes i) (with_title bytes rs)) × Fits from [] (behind_bytes from bytes i) (with_title bytes rs)
   leads-title from tape [] i rs is_open none_half fits few plain room =
       let same : rs ≡ with_title [] rs = ap (λ (t : TitleText). record rs { title = t }) (sym (none_added rs.title)) in (
@@ -215,7 +214,7 @@ module _ (l : Limits) (delimiter : ℕ) (reading : LineState) (in_title : readin
 
 -- bytes that were read of a title
 module _ (old : Coded) (delimiter : ℕ) (bytes : List ℕ) (in_title : old.formatter.reader.reading ≡ InTitle delimiter) (none_half : old.unread.input.escapes ≡ [])
-    (plain : AllByRecursion (IsPlain old.formatter.reader.registers delimiter) bytes)
+    (plain : AllByRecursion (IsPlain delimiter) bytes)
     (room : title_length old.formatter.reader.registers.all.title + length bytes ≤ old.formatter.reader.registers.line) where
   abbrev rs : AllRegisters
   rs = old.formatter.reader.registers.all
@@ -223,7 +222,7 @@ module _ (old : Coded) (delimiter : ℕ) (bytes : List ℕ) (in_title : old.form
   -- the formatter behind them, and the code, with this input
   abbrev formatter_behind : Formatter
   formatter_behind = record old.formatter {
-    reader = record old.formatter.reader { registers = with_change (TitleGets (map kept_byte bytes)) old.formatter.reader.registers };
+    reader = record old.formatter.reader { registers = with_change (TitleGets (map (kept_byte old.formatter.reader.registers.all.page_character) bytes)) old.formatter.reader.registers };
   }
 
   abbrev behind : PageInput → Coded

@@ -1,6 +1,6 @@
 -- Bytes of a title's part that are read at once, one more.
 use Rattle.std.proofs.Common.{◌≡◌, ◌<◌, ℕ, zero, suc, ◌+◌, List, [], ◌∷◌, ◌++◌, length, refl, sym, subst, ap, ◌∙◌, arith}
-use Rattle.std.specs.Prelude.{map, slice_index_or, take}
+use Rattle.std.specs.Prelude.{map, slice_index_or, take, Option}
 use Rattle.std.specs.List.{AllByRecursion}
 use Rattle.std.proofs.lemmas.List.{map-append}
 use Rattle.roff_run.specs.TitleTexts.{TitleText, with_bytes}
@@ -31,9 +31,9 @@ take_next : (xs : List ℕ) (n : ℕ) → n < length xs → take (n + 1) xs ≡ 
 take_next xs n less = ap (λ (m : ℕ). take m xs) (sym (one_more n)) ∙ take_suc xs n less
 
 -- they are added to a title, and then the next one is
-pub added_one_more : (xs : List ℕ) (n : ℕ) (t : TitleText) → n < length xs
-    → with_bytes (kept_byte (slice_index_or xs n 0) ∷ []) (with_bytes (map kept_byte (take n xs)) t) ≡ with_bytes (map kept_byte (take (n + 1) xs)) t
-added_one_more xs n t less =
-    bytes_added_again (map kept_byte (take n xs)) (kept_byte (slice_index_or xs n 0) ∷ []) t
+pub added_one_more : (c : Option ℕ) (xs : List ℕ) (n : ℕ) (t : TitleText) → n < length xs
+    → with_bytes (kept_byte c (slice_index_or xs n 0) ∷ []) (with_bytes (map (kept_byte c) (take n xs)) t) ≡ with_bytes (map (kept_byte c) (take (n + 1) xs)) t
+added_one_more c xs n t less =
+    bytes_added_again (map (kept_byte c) (take n xs)) (kept_byte c (slice_index_or xs n 0) ∷ []) t
     ∙ ap (λ (bytes : List ℕ). with_bytes bytes t)
-    (sym (ap (λ (ys : List ℕ). map kept_byte ys) (take_next xs n less) ∙ map-append kept_byte (take n xs) (slice_index_or xs n 0 ∷ [])))
+    (sym (ap (λ (ys : List ℕ). map (kept_byte c) ys) (take_next xs n less) ∙ map-append (kept_byte c) (take n xs) (slice_index_or xs n 0 ∷ [])))

@@ -12,13 +12,13 @@ use Rattle.roff_run.specs.Registers.Capped.{with_change}
 use Rattle.roff_run.specs.TitleTexts.{title_length}
 use Rattle.roff_run.specs.declared.line_state.LineState.TheVariants.{Title as InTitle}
 
--- bytes of a part came next: each stands for itself or a blank, none passes the limit, and nothing but the title and what is counted
--- changes
+-- bytes of a part came next: each stands for the page number, a blank or itself, none passes the limit, and nothing but the title and
+-- what is counted changes
 pub record TitleBytes (delimiter : ℕ) (bytes : List ℕ) (gave gives : Tape → Type 0) (old new : ReaderState) (before after : PageUnread) : Type 0 where
   pub reading : old.reading ≡ InTitle delimiter
   pub none_half : before.input.escapes ≡ []
-  pub plain : AllByRecursion (IsPlain old.registers delimiter) bytes
-  pub added : new ≡ record old { registers = with_change (TitleGets (map kept_byte bytes)) old.registers }
+  pub plain : AllByRecursion (IsPlain delimiter) bytes
+  pub added : new ≡ record old { registers = with_change (TitleGets (map (kept_byte old.registers.all.page_character) bytes)) old.registers }
   pub room : title_length new.registers.all.title ≤ new.registers.line
   pub passes : PassesFront gave gives bytes before after
 

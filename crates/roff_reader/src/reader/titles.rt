@@ -169,7 +169,8 @@ impl Reader {
         }
     }
 
-    /// Takes bytes of a part together that stand in front, and stand for themselves or blanks.
+    /// Takes bytes of a part together that stand in front, and stand for the page number, a blank or
+    /// themselves.
     #[inline(always)]
     pub fn take_title_front<S: ByteSource>(
         &mut self,

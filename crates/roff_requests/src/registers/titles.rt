@@ -13,6 +13,7 @@ use crate::title_text::TitleText;
 use roff_lines::UNPADDABLE;
 use roff_num::{Format, Limit};
 use roff_run::{TitlePart, WhichTitle};
+use roff_sinks::PAGE_NUMBER;
 use std::mem;
 
 impl RunRegisters {
@@ -89,7 +90,7 @@ impl RunRegisters {
     }
 
     /// The first of these bytes are read of it, up to one that is the delimiter, or doesn't stand
-    /// for itself or a blank, and no more than a title may have. How many they are.
+    /// for the page number, a blank or itself, and no more than a title may have. How many they are.
     #[tactic(auto, using(crate::proofs::TitleFronts::plain_one_more, crate::proofs::TitleFronts::added_one_more))]
     pub fn add_front_to_title(&mut self, front: &[u8], delimiter: u8) -> usize
         ensures adds { AddsFront front.now delimiter result self.old self.new }
@@ -103,10 +104,10 @@ impl RunRegisters {
         let mut count = 0;
         while count < most {
             let byte = front[count];
-            if !is_plain(byte, delimiter, *page_character) {
+            if !is_plain(byte, delimiter) {
                 return count;
             }
-            title.push(kept_byte(byte));
+            title.push(kept_byte(byte, *page_character));
             count += 1;
         }
         count
@@ -148,17 +149,13 @@ impl RunRegisters {
     }
 }
 
-/// Whether a byte of a part stands for itself or a blank: it is neither the delimiter nor the page
-/// number's character, no control byte, and no backslash.
+/// Whether a byte of a part stands for the page number, a blank or itself: it is not the delimiter,
+/// no control byte, and no backslash.
 #[inline(always)]
-fn is_plain(byte: u8, delimiter: u8, character: Option<u8>) -> bool
-    ensures { result ≡ is_plain character delimiter byte }
+fn is_plain(byte: u8, delimiter: u8) -> bool
+    ensures { result ≡ is_plain delimiter byte }
 {
-    byte >= b' '
-        && byte != 127
-        && byte != b'\\'
-        && byte != delimiter
-        && !is_character(byte, character)
+    byte >= b' ' && byte != 127 && byte != b'\\' && byte != delimiter
 }
 
 /// Whether it is the page number's character, if there is one.
@@ -174,8 +171,14 @@ fn is_character(byte: u8, character: Option<u8>) -> bool
 
 /// What such a byte is in the part.
 #[inline(always)]
-fn kept_byte(byte: u8) -> u8
-    ensures { result ≡ kept_byte byte }
+fn kept_byte(byte: u8, character: Option<u8>) -> u8
+    ensures { result ≡ kept_byte character byte }
 {
-    if byte == b' ' { UNPADDABLE } else { byte }
+    if is_character(byte, character) {
+        PAGE_NUMBER
+    } else if byte == b' ' {
+        UNPADDABLE
+    } else {
+        byte
+    }
 }

@@ -8,8 +8,8 @@ use Rattle.roff_requests.proofs.registers.RunRegisters.add_front_to_title.Given 
 abbrev pub invariant-loop-count : goal.invariant-loop-count
 invariant-loop-count l =
     (l.count ≤ l.most)
-    × (AllByRecursion (IsPlain l.fn.self l.fn.delimiter) (take l.count l.fn.front))
-    × (l.title.text ≡ with_bytes (map kept_byte (take l.count l.fn.front)) l.fn.self.all.title)
+    × (AllByRecursion (IsPlain l.fn.delimiter) (take l.count l.fn.front))
+    × (l.title.text ≡ with_bytes (map (kept_byte l.fn.self.all.page_character) (take l.count l.fn.front)) l.fn.self.all.title)
     × (l.title.room ≡ l.fn.self.line)
 
 abbrev pub decreases-loop-count : goal.decreases-loop-count
