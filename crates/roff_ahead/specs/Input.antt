@@ -212,6 +212,15 @@ abbrev pub results_behind : {E : Type 0} → Ahead E → List (List (List ℕ)) 
 results_behind (ReturnAhead back) calls results = results_below (length calls) results
 results_behind (_) calls results = results
 
+-- what is gone back to behind the outermost end of a body, by its code, or this where no such end stands ahead
+abbrev pub outermost_back : {E : Type 0} → ℕ → List (Ahead E) → ℕ
+outermost_back back [] = back
+outermost_back back (ByteAhead b ∷ items) = outermost_back back items
+outermost_back back (FreeAhead b ∷ items) = outermost_back back items
+outermost_back back (EndAhead ∷ items) = outermost_back back items
+outermost_back back (ReturnAhead outer ∷ items) = outermost_back outer items
+outermost_back back (DoAhead event ∷ items) = outermost_back back items
+
 -- all that stands ahead is dropped, and so are the calls of bodies and what was kept in them
 abbrev pub leaving : {E : Type 0} → Input E → Input E
 leaving i = record i { ahead = []; calls = []; results = results_below 1 i.results }

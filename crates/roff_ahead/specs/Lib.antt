@@ -2,3 +2,5 @@ pub mod Input
 pub mod Shown
 pub mod PushedTexts
 pub mod InputAhead
+pub mod Looking
+pub mod Unread

@@ -3,7 +3,9 @@
 
 mod input_ahead;
 mod item;
+mod looked;
 mod pushed_texts;
 
 pub use input_ahead::InputAhead;
 pub use item::{Item, Sight};
+pub use looked::Looked;

@@ -11,9 +11,9 @@ use Rattle.roff_ahead.specs.Input.{Ahead, ByteAhead, FreeAhead, EndAhead, Return
 use Rattle.roff_arguments.specs.Arguments.{live_bytes}
 use Rattle.roff_ahead.specs.Input.Names.{names_added, stored}
 use Rattle.roff_source.specs.Tape.{Answer, Gives, Ends, OneByte, OneNote}
-use Rattle.roff_scan.specs.declared.looked.Looked.{Looked}
-use Rattle.roff_scan.specs.Looking.{answer_behind}
-use Rattle.roff_scan.specs.Unread.{Unread, IsWithin, taking, taking_answer, input_refusal}
+use Rattle.roff_ahead.specs.declared.looked.Looked.{Looked}
+use Rattle.roff_ahead.specs.Looking.{answer_behind}
+use Rattle.roff_ahead.specs.Unread.{Unread, IsWithin, taking, taking_answer, input_refusal}
 use Rattle.roff_ahead.specs.Shown.{Shown}
 use Rattle.roff_store.specs.Named.{Named}
 use Rattle.roff_store.specs.Texts.{Entry, bytes_in}

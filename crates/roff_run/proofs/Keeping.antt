@@ -193,7 +193,7 @@ Keeps-end_taking k (Skipping opened closed behind) i = KeepsTwoMore-same i LineS
 Keeps-end_taking k Dropped i = KeepsTwoMore-same i LineStart
 Keeps-end_taking k (Telling aborts is_front) i = Keeps-undropped_taking k (Telling aborts is_front) i newline
 Keeps-end_taking k (Told aborts) i = record { charge = refl; newlines = refl; line = refl; free = refl; few = λ room within few. few; escapes = omega arith }
-Keeps-end_taking k Exiting i = KeepsTwoMore-same i LineStart
+Keeps-end_taking k Exiting i = record { charge = refl; newlines = refl; line = refl; free = refl; few = λ room within few. few; escapes = omega arith }
 
 -- the last macro is read
 Keeps-called_last : (called : Called) (i : PageInput) → KeepsBy (2 * endings_of i.escapes) i (going_on (called_last called i) LineStart)

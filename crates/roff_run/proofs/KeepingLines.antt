@@ -121,24 +121,24 @@ Alike-holding_call unit i =
     Alike-if (nat_le 9 (length i.arguments.whole)) i (holding unit i) i (Alike-same i)
     (record { charge = refl; newlines = refl; line = refl; ahead = refl; escapes = refl })
 
--- behind a request's line no name is read
-unnamed-reading_behind : (line : LineReading) → begun (reading_behind line) ≡ 0
-unnamed-reading_behind ByArguments = refl
-unnamed-reading_behind (ByCondition keeping) = refl
-unnamed-reading_behind ByElse = refl
-unnamed-reading_behind ByLastLine = refl
-unnamed-reading_behind (ByMessage aborts) = refl
-unnamed-reading_behind (ByString appends) = refl
-unnamed-reading_behind (ByLines lines) = refl
-unnamed-reading_behind ByTitle = refl
+-- behind a request's line the input is left at the most
+few-reading_behind : (line : LineReading) → begun (reading_behind line) ≤ 1
+few-reading_behind ByArguments = omega arith
+few-reading_behind (ByCondition keeping) = omega arith
+few-reading_behind ByElse = omega arith
+few-reading_behind ByLastLine = omega arith
+few-reading_behind (ByMessage aborts) = omega arith
+few-reading_behind (ByString appends) = omega arith
+few-reading_behind (ByLines lines) = omega arith
+few-reading_behind ByTitle = omega arith
 
 -- the end of a request's line
-pub Keeps-ended_by : (most : ℕ) (i j : PageInput) (old : LineState) (request : Request) (effect : Effect) → Keeps most i j old → KeepsBy most i (ended_by j request effect)
-Keeps-ended_by most i j old request effect keeps =
+pub Keeps-ended_by : (most : ℕ) (i j : PageInput) (old : LineState) (request : Request) (effect : Effect) → Keeps most i j old
+    → begun (reading_behind (row_of request).line) ≤ begun old → KeepsBy most i (ended_by j request effect)
+Keeps-ended_by most i j old request effect keeps few =
     let released : PageInput = record j { arguments = no_arguments } in
-    Keeps-alike most i j old (calling_all effect.calls released) (reading_behind (row_of request).line) keeps
-    (Alike-calling_all effect.calls released j (record { charge = refl; newlines = refl; line = refl; ahead = refl; escapes = refl }))
-    (unnamed-reading_behind (row_of request).line)
+    Keeps-no_more most i j old (calling_all effect.calls released) (reading_behind (row_of request).line) keeps
+    (Alike-calling_all effect.calls released j (record { charge = refl; newlines = refl; line = refl; ahead = refl; escapes = refl })) few
 
 -- a definition begins
 Keeps-definition_begun : (most : ℕ) (i j : PageInput) (old : LineState) (name : Option ShortName) (appends : Bool)
@@ -162,25 +162,32 @@ Keeps-lines_begun most i j old (Macro appends) as_given keeps some =
 Keeps-lines_begun most i j old Nobody as_given keeps some =
     Keeps-definition_begun most i j old None false (name_or_none (name_at 0 as_given)) keeps some
 
--- the end of a line of arguments, behind which a definition may begin
+-- the end of a line of arguments
+Keeps-line_ended_by : (most : ℕ) (k : Known) (i j : PageInput) (old : LineState) (breaks : Bool) (request : Request) → Keeps most i j old → 3 ≤ begun old
+    → KeepsBy most i (ended_by j request (request_effect k breaks request (arguments_given j)))
+Keeps-line_ended_by most k i j old breaks request keeps some =
+    Keeps-ended_by most i j old request (request_effect k breaks request (arguments_given j)) keeps
+    (omega (arith, few-reading_behind (row_of request).line, some))
+
+-- the same, behind which a definition may begin
 pub Keeps-arguments_ended : (most : ℕ) (k : Known) (i j : PageInput) (old : LineState) (breaks : Bool) (request : Request)
     (line : LineReading) → Keeps most i j old → 3 ≤ begun old → KeepsBy most i (arguments_ended k j breaks request line)
 Keeps-arguments_ended most k i j old breaks request (ByLines lines) keeps some =
     Keeps-lines_begun most i j old lines (arguments_given j) keeps some
 Keeps-arguments_ended most k i j old breaks request ByArguments keeps some =
-    Keeps-ended_by most i j old request (request_effect k breaks request (arguments_given j)) keeps
+    Keeps-line_ended_by most k i j old breaks request keeps some
 Keeps-arguments_ended most k i j old breaks request (ByCondition keeping) keeps some =
-    Keeps-ended_by most i j old request (request_effect k breaks request (arguments_given j)) keeps
+    Keeps-line_ended_by most k i j old breaks request keeps some
 Keeps-arguments_ended most k i j old breaks request ByElse keeps some =
-    Keeps-ended_by most i j old request (request_effect k breaks request (arguments_given j)) keeps
+    Keeps-line_ended_by most k i j old breaks request keeps some
 Keeps-arguments_ended most k i j old breaks request ByLastLine keeps some =
-    Keeps-ended_by most i j old request (request_effect k breaks request (arguments_given j)) keeps
+    Keeps-line_ended_by most k i j old breaks request keeps some
 Keeps-arguments_ended most k i j old breaks request (ByMessage aborts) keeps some =
-    Keeps-ended_by most i j old request (request_effect k breaks request (arguments_given j)) keeps
+    Keeps-line_ended_by most k i j old breaks request keeps some
 Keeps-arguments_ended most k i j old breaks request (ByString appends) keeps some =
-    Keeps-ended_by most i j old request (request_effect k breaks request (arguments_given j)) keeps
+    Keeps-line_ended_by most k i j old breaks request keeps some
 Keeps-arguments_ended most k i j old breaks request ByTitle keeps some =
-    Keeps-ended_by most i j old request (request_effect k breaks request (arguments_given j)) keeps
+    Keeps-line_ended_by most k i j old breaks request keeps some
 
 -- a unit of a line of arguments
 Keeps-unit_found : (most : ℕ) (k : Known) (i j : PageInput) (breaks : Bool) (request : Request) (unit : CopyUnit) → Keeps most i j (InArguments breaks request)

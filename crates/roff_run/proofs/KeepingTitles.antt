@@ -1,5 +1,5 @@
 -- What each taking of a title changes in the input, as of text lines and others (`KeepingText`).
-use Rattle.std.proofs.Common.{ℕ, ◌+◌, ◌*◌, ◌≤◌, false, List, Option, Some, None, refl}
+use Rattle.std.proofs.Common.{ℕ, ◌+◌, ◌*◌, ◌≤◌, false, List, Option, Some, None, arith, refl}
 use Rattle.std.specs.Prelude.{◌==◌}
 use Rattle.roff_source.specs.Bytes.{newline, blank}
 use Rattle.roff_escape.specs.Characters.{character}
@@ -28,7 +28,7 @@ use Rattle.roff_run.proofs.KeepingLines.{Keeps-ended_by, Keeps-no_unit_found}
 
 -- the end of its line
 pub Keeps-title_ended : (most : ℕ) (k : Known) (i j : PageInput) (old : LineState) → Keeps most i j old → KeepsBy most i (title_ended k j)
-Keeps-title_ended most k i j old keeps = Keeps-ended_by most i j old TitleRequest (request_effect k false TitleRequest (arguments_given j)) keeps
+Keeps-title_ended most k i j old keeps = Keeps-ended_by most i j old TitleRequest (request_effect k false TitleRequest (arguments_given j)) keeps (omega arith)
 
 -- a byte of a part
 Keeps-title_byte : (most : ℕ) (k : Known) (i j : PageInput) (delimiter b : ℕ) → Keeps most i j (InTitle delimiter)

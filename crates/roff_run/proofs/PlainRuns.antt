@@ -17,6 +17,7 @@ use Rattle.roff_run.proofs.Leads.{after-add}
 use Rattle.roff_run.specs.ItemsTaken.{TakesItems}
 use Rattle.roff_run.specs.Within.{EnvironmentsWithin, IsWithin}
 use Rattle.roff_run.specs.Environments.{environments}
+use Rattle.roff_run.specs.Layouts.{layout_of}
 use Rattle.roff_run.specs.Reading.Ends.{due}
 use Rattle.roff_run.specs.Reading.Items.{PageInput, Taking}
 use Rattle.roff_run.specs.Requests.{PageEvent}
@@ -122,6 +123,7 @@ pub record HasRoom (l : Limits) (s : State) (names : Named Entry) (from : Origin
   pub title : title_length s.registers.title ≤ l.line
   pub environments : EnvironmentsWithin l (environments s.history)
   pub output : length (output s) ≤ l.output
+  pub traps : length (layout_of s.history).traps ≤ l.traps
 
 -- behind a byte too
 stack_room-behind : (l : Limits) (from : Origin) (most : Most) (p q : Stage) (b : ℕ) (bytes : List ℕ) (i : PageInput)
@@ -147,6 +149,7 @@ HasRoom-behind l s names from most p q b bytes i grows room = record {
   title = room.title;
   environments = room.environments;
   output = room.output;
+  traps = room.traps;
 }
 
 -- so the states on the way are within the limits
@@ -169,6 +172,7 @@ IsWithin-HasRoom l s names from most p bytes i small room = record {
   title = room.title;
   environments = room.environments;
   output = room.output;
+  traps = room.traps;
 }
 
 -- a run takes one step for each byte of a path, and there is room behind it for the others
@@ -283,6 +287,7 @@ HasRoom-start l s names from most p bytes i within charged held_few stored_few t
   title = within.title;
   environments = within.environments;
   output = within.output;
+  traps = within.traps;
 }
 
 -- where bytes were taken no more stands ahead than did

@@ -23,26 +23,26 @@ pub free_ahead-back : (events : List PageEvent) (items : List (Ahead PageEvent))
 free_ahead-back [] items = refl
 free_ahead-back (e ∷ events) items = free_ahead-back events items
 
--- so few events may all stand behind one that springs a macro
-pub few-short : (es : List PageEvent) → length es ≤ 6 → AreFewBehind es
+-- so few events can all be put back
+pub few-short : (es : List PageEvent) → length es ≤ 5 → AreFewBehind es
 few-short [] short = tt
-few-short (e ∷ es) short = (λ may. omega (arith, short), few-short es (omega (arith, short)))
+few-short (e ∷ es) short = ((λ may. short), few-short es (omega (arith, short)))
 
 -- an event springs a macro only if it may
 pub may_spring-springs : (rs : AllRegisters) (h : PageHistory) (e : PageEvent) (name : ShortName) → springs h (told rs e) ≡ Some name → may_spring e ≡ true
 may_spring-springs rs h (Text Count) name sprung = refl
-may_spring-springs rs h (Text (Print glyph)) name sprung = absurd (cc)
-may_spring-springs rs h (Text Tab) name sprung = absurd (cc)
-may_spring-springs rs h (Text WordEnd) name sprung = absurd (cc)
-may_spring-springs rs h (Text (Gap columns)) name sprung = absurd (cc)
-may_spring-springs rs h (Text LineEnd) name sprung = absurd (cc)
-may_spring-springs rs h (Text Break) name sprung = absurd (cc)
+may_spring-springs rs h (Text (Print glyph)) name sprung = refl
+may_spring-springs rs h (Text Tab) name sprung = refl
+may_spring-springs rs h (Text WordEnd) name sprung = refl
+may_spring-springs rs h (Text (Gap columns)) name sprung = refl
+may_spring-springs rs h (Text LineEnd) name sprung = refl
+may_spring-springs rs h (Text Break) name sprung = refl
 may_spring-springs rs h (Text Interrupted) name sprung = absurd (cc)
 may_spring-springs rs h (Text Resume) name sprung = absurd (cc)
 may_spring-springs rs h (Text (Set param)) name sprung = absurd (cc)
-may_spring-springs rs h (Page e) name sprung = absurd (cc)
+may_spring-springs rs h (Page e) name sprung = refl
 may_spring-springs rs h (Interrupt untold) name sprung = absurd (cc)
 may_spring-springs rs h (Environment number) name sprung = absurd (cc)
 may_spring-springs rs h Back name sprung = absurd (cc)
 may_spring-springs rs h (SetsTrap trap) name sprung = absurd (cc)
-may_spring-springs rs h (Title which) name sprung = absurd (cc)
+may_spring-springs rs h (Title which) name sprung = refl

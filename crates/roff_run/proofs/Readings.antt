@@ -22,7 +22,7 @@ use Rattle.roff_run.specs.declared.line_state.Due.TheVariants.{Leaves, Tells as 
 use Rattle.roff_run.specs.declared.line_state.LineState.{LineState}
 use Rattle.roff_run.specs.declared.line_state.LineState.TheVariants.{LineStart, Branch, Braced, Text as InText, Control, Name, Arguments as InArguments, Deciding, StringName, StringText, Skipping, Dropped, Telling, Told, Exiting, Calling, Defining, TitleFront, Title as InTitle}
 use Rattle.roff_run.specs.Reading.Waiting.{waiting_in}
-use Rattle.roff_run.specs.Run.{read_waiting, State, known, ending_as, ending_with, stopped_by, unless_refused, grown, made, moved, byte_taken, escape_ends, ahead_taken, taking_ahead, taking_byte, ending_input, answered, in_front_taken, front_seen, awaited_of_source, awaited, item_read, input_ended, message_told, aborted, input_left, reading_by, reading_on, phase_ended, sprung_read, with_sprung}
+use Rattle.roff_run.specs.Run.{read_waiting, State, known, ending_as, ending_with, stopped_by, unless_refused, grown, made, moved, byte_taken, escape_ends, ahead_taken, taking_ahead, taking_byte, ending_input, answered, in_front_taken, front_seen, awaited_of_source, awaited, item_read, input_ended, message_told, aborted, left_in, reading_by, reading_on, phase_ended, sprung_read, with_sprung}
 use Rattle.roff_run.specs.Run.Counts.{passes_bytes, first_passed}
 use Rattle.roff_run.specs.declared.message.Message.TheVariants.{ReadFailed}
 use Rattle.roff_run.specs.declared.status.Status.TheVariants.{Device, Limit as Limited}
@@ -75,8 +75,8 @@ pub data ReadsOn (l : Limits) (s : State) : State → Type 0 where
   MessageTold : s.reading ≡ Told false → IsMade l (message_told s) → ReadsOn l s (message_told s)
   -- a message ended the run
   RunAborts : s.reading ≡ Told true → ReadsOn l s (aborted s)
-  -- the input was left
-  InputLeft : s.reading ≡ Exiting → IsMade l (input_left s) → ReadsOn l s (input_left s)
+  -- the input was left, but as the run closes
+  InputLeft : s.reading ≡ Exiting → IsMade l (left_in s.phase s) → ReadsOn l s (left_in s.phase s)
   -- the source failed
   SourceFails : s.is_closed ≡ false → front s.tape ≡ Ends Failed → ReadsOn l s (ending_with Device ReadFailed s)
   -- the body of a macro that sprang was put in front, if its name has one
@@ -243,7 +243,7 @@ ReadsOn-reading_by : (l : Limits) (what : Option Due) (s : State) → due s.read
 ReadsOn-reading_by l None s is = ReadsOn-item_read l s
 ReadsOn-reading_by l (Some (TellsText false)) s is = ReadsOn-made l s (message_told s) (MessageTold (told_where_due s.reading false is))
 ReadsOn-reading_by l (Some (TellsText true)) s is = RunAborts (told_where_due s.reading true is)
-ReadsOn-reading_by l (Some Leaves) s is = ReadsOn-made l s (input_left s) (InputLeft (left_where_due s.reading is))
+ReadsOn-reading_by l (Some Leaves) s is = ReadsOn-made l s (left_in s.phase s) (InputLeft (left_where_due s.reading is))
 
 -- what is due, or one item of the input, or how it ends
 pub ReadsOn-reading_on : (l : Limits) (s : State) → ReadsOn l s (reading_on l s)

@@ -9,22 +9,23 @@ pub use Rattle.roff_run.specs.Registers.{Known}
 use Rattle.roff_run.specs.declared.request.LineReading.{LineReading}
 use Rattle.roff_run.specs.declared.request.LineReading.TheVariants.{ByArguments, ByCondition, ByElse, ByLastLine, ByMessage, ByString, ByLines, ByTitle}
 use Rattle.roff_run.specs.declared.request.Request.{Request}
-use Rattle.roff_run.specs.declared.request.Request.TheVariants.{Abort, Adjust, AppendString, AssignFormat, Break, DefineString, Else, EndMacro, Exit, Fill, If, IfElse, Indent, InputTrap, LineLength, NoAdjust, NoFill, NumberRegister, PageLength, PageNumber, PageOffset, RemoveNames, RemoveRegisters, Rename, Space as SpaceDown, TellMessage, WithoutEffect, LeftOut, AppendMacro, DefineMacro, Ignore, Centre, Environment as SwitchEnvironment, LineSpacing, TabStops, TemporaryIndent, PageCharacter, Title as TitleRequest, TitleLength}
+use Rattle.roff_run.specs.declared.request.Request.TheVariants.{Abort, Adjust, AppendString, AssignFormat, BeginPage, Break, ChangeTrap, DefineString, Else, EndMacro, Exit, Fill, If, IfElse, Indent, InputTrap, LineLength, Need, NoAdjust, NoFill, NoSpace, NumberRegister, PageLength, PageNumber, PageOffset, PlantTrap, RemoveNames, RemoveRegisters, Rename, RestoreSpacing, Space as SpaceDown, TellMessage, WithoutEffect, LeftOut, AppendMacro, DefineMacro, Ignore, Centre, Environment as SwitchEnvironment, LineSpacing, TabStops, TemporaryIndent, PageCharacter, Title as TitleRequest, TitleLength}
 use Rattle.roff_run.specs.declared.request.Called.{Called}
 use Rattle.roff_run.specs.declared.request.Called.TheVariants.{Request as ARequest, Body as ABody, Nothing as Unknown}
 use Rattle.roff_run.specs.declared.request.LinesFor.TheVariants.{Macro, Nobody}
 use Rattle.roff_num.specs.declared.short_name.ShortName.{ShortName}
 use Rattle.roff_num.specs.ShortNames.{name_bytes}
-pub use Rattle.roff_run.specs.Requests.Effects.{Effect, doing, saying, Response, Ignored, Obeyed, nothing, setting, left_out, meant_by}
+pub use Rattle.roff_run.specs.Requests.Effects.{Effect, doing, saying, Response, Around, Ignored, Obeyed, nothing, setting, left_out, meant_by}
 use Rattle.roff_run.specs.Requests.Adjustment.{adjust, centre}
-use Rattle.roff_run.specs.Requests.Spacing.{space_down, line_spacing}
+use Rattle.roff_run.specs.Requests.Spacing.{space_down, need, spaceless, line_spacing}
 use Rattle.roff_run.specs.Requests.Lengths.{line_length, indent, temporary_indent, title_length}
-use Rattle.roff_run.specs.Requests.Paging.{page_length, page_number, page_offset}
+use Rattle.roff_run.specs.Requests.Paging.{begin_page, page_length, page_number, page_offset}
 use Rattle.roff_run.specs.Requests.Tabs.{tab_stops}
 use Rattle.roff_run.specs.Requests.Switching.{switch}
 use Rattle.roff_run.specs.Requests.Naming.{end_macro, remove_names, rename}
 use Rattle.roff_run.specs.Requests.Springing.{input_trap}
 use Rattle.roff_run.specs.Requests.Titles.{page_character, place_title}
+use Rattle.roff_run.specs.Requests.Traps.{change_trap, plant_trap}
 use Rattle.roff_run.specs.Requests.Numbering.{assign_format, set_register, remove_registers}
 pub mod Effects
 pub mod Adjustment
@@ -37,6 +38,7 @@ pub mod Numbering
 pub mod Naming
 pub mod Springing
 pub mod Titles
+pub mod Traps
 
 -- a request's name, how its line is read, whether it breaks, and what it does with its arguments
 pub record Row : Type 0 where
@@ -60,8 +62,10 @@ row_of Adjust = row (codes "ad") ByArguments false (λ known. adjust)  -- sectio
 row_of AssignFormat = row (codes "af") ByArguments false (λ known. assign_format)  -- section 8
 row_of AppendMacro = row (codes "am") (ByLines (Macro true)) false (always nothing)  -- section 7
 row_of AppendString = row (codes "as") (ByString true) false (always nothing)  -- section 7
+row_of BeginPage = row (codes "bp") ByArguments true begin_page  -- section 3
 row_of Break = row (codes "br") ByArguments true (always nothing)  -- section 4
 row_of Centre = row (codes "ce") ByArguments true (λ known. centre)  -- section 4
+row_of ChangeTrap = row (codes "ch") ByArguments false change_trap  -- section 7
 row_of DefineMacro = row (codes "de") (ByLines (Macro false)) false (always nothing)  -- section 7
 row_of DefineString = row (codes "ds") (ByString false) false (always nothing)  -- section 7
 row_of Else = row (codes "el") ByElse false (always nothing)  -- section 16
@@ -78,8 +82,10 @@ row_of LineLength = row (codes "ll") ByArguments false line_length  -- section 6
 row_of LineSpacing = row (codes "ls") ByArguments false line_spacing  -- section 5
 row_of TitleLength = row (codes "lt") ByArguments false title_length  -- section 14
 row_of NoAdjust = row (codes "na") ByArguments false (always (setting (Adjusting false)))  -- section 4
+row_of Need = row (codes "ne") ByArguments false need  -- section 3
 row_of NoFill = row (codes "nf") ByArguments true (always (setting (Filling false)))  -- section 4
 row_of NumberRegister = row (codes "nr") ByArguments false set_register  -- section 8
+row_of NoSpace = row (codes "ns") ByArguments false (always (spaceless true))  -- section 5
 row_of PageCharacter = row (codes "pc") ByArguments false (λ known. page_character)  -- section 14
 row_of PageLength = row (codes "pl") ByArguments false page_length  -- section 3
 row_of PageNumber = row (codes "pn") ByArguments false page_number  -- section 3
@@ -87,11 +93,13 @@ row_of PageOffset = row (codes "po") ByArguments false page_offset  -- section 3
 row_of RemoveNames = row (codes "rm") ByArguments false (λ known. remove_names)  -- section 7
 row_of Rename = row (codes "rn") ByArguments false (λ known. rename)  -- section 7
 row_of RemoveRegisters = row (codes "rr") ByArguments false (λ known. remove_registers)  -- section 8
+row_of RestoreSpacing = row (codes "rs") ByArguments false (always (spaceless false))  -- section 5
 row_of SpaceDown = row (codes "sp") ByArguments true space_down  -- section 5
 row_of TabStops = row (codes "ta") ByArguments false (λ known. tab_stops)  -- section 9
 row_of TemporaryIndent = row (codes "ti") ByArguments true temporary_indent  -- section 6
 row_of TitleRequest = row (codes "tl") ByTitle false (always place_title)  -- section 14
 row_of TellMessage = row (codes "tm") (ByMessage false) false (always nothing)  -- section 20
+row_of PlantTrap = row (codes "wh") ByArguments false plant_trap  -- section 7
 row_of (WithoutEffect name) = row name ByArguments false (always nothing)
 row_of (LeftOut name) = row name ByArguments false (always (left_out name))
 
@@ -119,10 +127,11 @@ names_left_out =
 -- the requests that are built, in the order of their names
 abbrev pub built : List Request
 built =
-    Abort ∷ Adjust ∷ AssignFormat ∷ AppendMacro ∷ AppendString ∷ Break ∷ Centre ∷ DefineMacro ∷ DefineString ∷ Else
-    ∷ EndMacro ∷ SwitchEnvironment ∷ Exit ∷ Fill ∷ IfElse ∷ If ∷ Ignore ∷ Indent ∷ InputTrap ∷ LineLength ∷ LineSpacing
-    ∷ TitleLength ∷ NoAdjust ∷ NoFill ∷ NumberRegister ∷ PageCharacter ∷ PageLength ∷ PageNumber ∷ PageOffset ∷ RemoveNames
-    ∷ Rename ∷ RemoveRegisters ∷ SpaceDown ∷ TabStops ∷ TemporaryIndent ∷ TitleRequest ∷ TellMessage ∷ []
+    Abort ∷ Adjust ∷ AssignFormat ∷ AppendMacro ∷ AppendString ∷ BeginPage ∷ Break ∷ Centre ∷ ChangeTrap ∷ DefineMacro ∷ DefineString
+    ∷ Else ∷ EndMacro ∷ SwitchEnvironment ∷ Exit ∷ Fill ∷ IfElse ∷ If ∷ Ignore ∷ Indent ∷ InputTrap ∷ LineLength ∷ LineSpacing
+    ∷ TitleLength ∷ NoAdjust ∷ Need ∷ NoFill ∷ NumberRegister ∷ NoSpace ∷ PageCharacter ∷ PageLength ∷ PageNumber ∷ PageOffset
+    ∷ RemoveNames ∷ Rename ∷ RemoveRegisters ∷ RestoreSpacing ∷ SpaceDown ∷ TabStops ∷ TemporaryIndent ∷ TitleRequest ∷ TellMessage
+    ∷ PlantTrap ∷ []
 
 -- those that do nothing, or nothing but say that they are left out
 abbrev pub others : List Request

@@ -9,7 +9,7 @@ use Rattle.roff_escape.specs.declared.open_escape.Waiting.TheVariants.{Takes, De
 use Rattle.roff_num.specs.ShortNames.{name_bytes}
 use Rattle.roff_num.specs.declared.num.Num.{Num}
 use Rattle.roff_num.specs.declared.short_name.ShortName.{ShortName}
-use Rattle.roff_ahead.specs.Input.{Ahead, ByteAhead, FreeAhead, EndAhead, DoAhead, cost, item_taken, counting, leaving, putting_all_back, ReturnAhead}
+use Rattle.roff_ahead.specs.Input.{Ahead, ByteAhead, FreeAhead, EndAhead, DoAhead, cost, item_taken, counting, leaving, outermost_back, putting_all_back, ReturnAhead}
 use Rattle.roff_ahead.specs.Input.Calls.{springing}
 use Rattle.roff_ahead.specs.Input.Names.{body_named}
 use Rattle.roff_source.specs.Tape.{Tape, Answer, OneByte, OneNote, Ended, Failed, Stopped, Gives, Ends, front, behind_front}
@@ -23,13 +23,13 @@ use Rattle.roff_run.specs.Reading.Calls.{last_called}
 use Rattle.roff_run.specs.Reading.Ends.{end_taking, due, is_unfinished}
 use Rattle.roff_run.specs.Reading.Items.{Taking, going_on, meaning_events}
 use Rattle.roff_run.specs.Reading.Messages.{message_text_read}
-use Rattle.roff_run.specs.Reading.Returns.{back_of, behind_return, in_sprung}
+use Rattle.roff_run.specs.Reading.Returns.{back_of, behind_return, gone_back_to, in_sprung}
 use Rattle.roff_run.specs.Reading.Waiting.{waiting_in}
 use Rattle.roff_run.specs.Registers.{AllRegisters}
 use Rattle.roff_run.specs.Events.Lines.{closing_events}
 use Rattle.roff_run.specs.PageEvents.{PageEvent, PastEvent}
 use Rattle.roff_run.specs.Requests.{called_by}
-use Rattle.roff_run.specs.Springs.{next, springs}
+use Rattle.roff_run.specs.Springs.{left_of, next, springs}
 use Rattle.roff_run.specs.Titles.{keeping, put_back, told}
 use Rattle.roff_run.specs.declared.request.Called.{Called}
 use Rattle.roff_run.specs.declared.request.Called.TheVariants.{Body as ABody}
@@ -83,10 +83,12 @@ performed e left s =
     let behind : State = record s { history = e ∷ s.history } in
     done_if (layout_of behind.history).is_over behind (sprung_at (springs s.history e) left behind)
 
--- an event is performed, or refused by a limit; where something comes before it, that is, and the event is left
+-- an event is performed, or refused by a limit, and what goes on of it is left; where something comes before it, that is, and the
+-- event is left
 abbrev pub performing : Limits → Option PageEvent → PageEvent → List PageEvent → State → State
 performing l None e rest s =
-    let happens : PastEvent = told s.registers e in unless_refused l (refusal l s.history happens) s (performed happens rest s)
+    let happens : PastEvent = told s.registers e in
+    unless_refused l (refusal l s.history happens) s (performed happens (left_of s.history happens ++ rest) s)
 performing l (Some own) e rest s =
     let happens : PastEvent = told s.registers own in
     unless_refused l (refusal l s.history happens) s (performed happens (e ∷ rest) s)
@@ -139,9 +141,19 @@ message_told s = record s {
 abbrev pub aborted : State → State
 aborted s = record s { ended = Some Aborted; last_message = told_line true (message_text_read s.input) }
 
--- what stands ahead of the source is dropped, and nothing more is taken of it
+-- what stands ahead of the source is dropped, and nothing more is taken of it: what is read is what all ends of bodies lead back to
 abbrev pub input_left : State → State
-input_left s = record s { input = leaving s.input; reading = LineStart; is_closed = true }
+input_left s = record s {
+  input = leaving s.input;
+  reading = gone_back_to (outermost_back 0 s.input.ahead);
+  is_closed = true;
+}
+
+-- `ex` was read: the input is left, but as the run closes nothing is, and a line begins
+abbrev pub left_in : Phase → State → State
+left_in Reading s = input_left s
+left_in LastMacro s = input_left s
+left_in Closing s = record s { reading = LineStart }
 
 -- an item ahead of the source was taken: a byte is read, and an event that was put back is to be performed
 abbrev pub ahead_taken : Ahead PageEvent → State → State
@@ -222,7 +234,7 @@ abbrev pub reading_by : Limits → Option Due → State → State
 reading_by l None s = item_read l s
 reading_by l (Some (TellsText false)) s = made l s (message_told s)
 reading_by l (Some (TellsText true)) s = aborted s
-reading_by l (Some Leaves) s = made l s (input_left s)
+reading_by l (Some Leaves) s = made l s (left_in s.phase s)
 
 -- what is due, or one item of the input, or how it ends
 abbrev pub reading_on : Limits → State → State

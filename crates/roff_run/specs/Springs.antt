@@ -1,16 +1,20 @@
 -- What comes before an event, and the macro that an event springs (manual, section 7.5).
 --
 -- A macro that springs is read before anything else is done: what was still to do of the same list is put back, and stands behind it.
-use Rattle.std.specs.Prelude.{◌≡◌, ◌≤◌, Bool, true, false, not, ◌&&◌, ◌||◌, List, [], ◌∷◌, length, Option, Some, None, is_some}
+-- So do an event before which the first page began, and an eject whose page hasn't ended.
+use Rattle.std.specs.Prelude.{◌≡◌, ◌≤◌, Bool, true, false, not, ◌&&◌, ◌||◌, List, [], ◌∷◌, length, Option, Some, None, is_some, if◌then◌else◌}
 use Rattle.roff_lines.specs.Lines.{finished}
 use Rattle.roff_lines.specs.Words.{has_open_word}
-use Rattle.roff_lines.specs.declared.event.Event.TheVariants.{Break, Count, Gap, LineEnd, Print, Tab, WordEnd}
+use Rattle.roff_lines.specs.declared.event.Event.TheVariants.{Break, Count, Gap, Interrupt as Interrupted, LineEnd, Print, Resume, Set, Tab, WordEnd}
 use Rattle.roff_num.specs.declared.short_name.ShortName.{ShortName}
 use Rattle.roff_run.specs.Environments.{environments, text_of, trap_reached}
 use Rattle.roff_pages.specs.declared.layout_event.LayoutEvent.{LayoutEvent}
-use Rattle.roff_pages.specs.declared.layout_event.LayoutEvent.TheVariants.{Begin, Space, Need, Eject, EjectTo}
+use Rattle.roff_pages.specs.declared.layout_event.LayoutEvent.TheVariants.{Begin, Space, Need, Eject, EjectOn, EjectTo}
+use Rattle.roff_pages.specs.Happenings.{Happening, Does}
+use Rattle.roff_pages.specs.Layout.{Layout}
 use Rattle.roff_pages.specs.Queries.{takes_text}
-use Rattle.roff_run.specs.Layouts.{layout_of}
+use Rattle.roff_pages.specs.Springs.{goes_on, springs as springs_on_page}
+use Rattle.roff_run.specs.Layouts.{happens, layout_of}
 use Rattle.roff_run.specs.PageEvents.{PageEvent, PageHistory, PastEvent, Text, Page, Title}
 
 -- a word end, if a word is open
@@ -59,23 +63,44 @@ page_begin_or false other = other
 abbrev pub next : PageHistory → PageEvent → Option PageEvent
 next h e = elim (word_end_of h e) [ None ↦ page_begin_or (begins h e) None | Some own ↦ page_begin_or (begins h own) (Some own) ]
 
--- the macro that an event springs, if it springs one: a text line that counts may be the last that the input-line trap waits for
+-- the macro of the trap that a happening meets, if something happens
+abbrev pub sprung_on : Option Happening → Layout → Option ShortName
+sprung_on None L = None
+sprung_on (Some x) L = springs_on_page x L
+
+-- The macro that an event springs, if it springs one: a text line that counts may be the last that the input-line trap waits for,
+-- and what happens to the layout of pages may meet a trap there.
 abbrev pub springs : PageHistory → PastEvent → Option ShortName
 springs h (Text Count) = trap_reached (environments h).in_force.input_trap
-springs h (_) = None
+springs h e = sprung_on (happens h e) (layout_of h)
 
--- whether an event may spring one
+-- how an eject goes on behind a macro that it sprang; what isn't one stays
+abbrev pub going_on : LayoutEvent → LayoutEvent
+going_on (Eject asked) = EjectOn asked
+going_on (EjectTo asked number) = EjectOn asked
+going_on e = e
+
+-- an eject that goes on, if it does
+abbrev pub left_if : Bool → LayoutEvent → List PageEvent
+left_if goes_on e = if goes_on then Page (going_on e) ∷ [] else []
+
+-- what is left of an event once it happened: of an eject whose page hasn't ended with it, that it goes on
+abbrev pub left_of : PageHistory → PastEvent → List PageEvent
+left_of h (Page e) = left_if (goes_on (Does e) (layout_of h)) e
+left_of h (_) = []
+
+-- Whether a macro may be sprung by an event, or by what comes before it: by one that puts something on a page, or begins one, and
+-- by a text line that counts.
 abbrev pub may_spring : PageEvent → Bool
-may_spring (Text Count) = true
+may_spring (Text (Set param)) = false
+may_spring (Text Interrupted) = false
+may_spring (Text Resume) = false
+may_spring (Text e) = true
+may_spring (Page e) = true
+may_spring (Title which) = true
 may_spring (_) = false
 
--- behind each of these that may spring a macro stand so few that they can be put back
+-- each of these that may spring a macro can be put back, and those behind it: they are so few
 abbrev pub AreFewBehind : List PageEvent → Type 0
 AreFewBehind [] = Unit {0}
-AreFewBehind (e ∷ es) = (may_spring e ≡ true → length es ≤ 5) × AreFewBehind es
-
--- a text line counts as the last of these, if it does
-abbrev pub CountsLast : List PageEvent → Type 0
-CountsLast [] = Unit {0}
-CountsLast (Text Count ∷ events) = events ≡ []
-CountsLast (e ∷ events) = CountsLast events
+AreFewBehind (e ∷ es) = (may_spring e ≡ true → length (e ∷ es) ≤ 5) × AreFewBehind es

@@ -2,7 +2,7 @@
 use Rattle.std.specs.Prelude.{ℕ, ◌+◌, ◌-◌, ◌*◌, List, [], ◌∷◌, max, Option, Some, None}
 use Rattle.roff_escape.specs.OpenEscape.{OpenEscape, Condition}
 use Rattle.roff_ahead.specs.Input.{Ahead, ByteAhead, FreeAhead, EndAhead, ReturnAhead, DoAhead}
-use Rattle.roff_scan.specs.Unread.{Unread}
+use Rattle.roff_ahead.specs.Unread.{Unread}
 use Rattle.roff_escape.specs.declared.open_escape.ConditionPart.TheVariants.{Decided}
 use Rattle.roff_run.specs.Reading.Items.{PageInput}
 use Rattle.roff_lines.specs.declared.event.Event.TheVariants.{Interrupt as Interrupted, Resume}
@@ -14,7 +14,7 @@ use Rattle.roff_run.specs.declared.line_state.TextLine.{TextLine}
 use Rattle.roff_run.specs.declared.phase.Phase.{Phase}
 use Rattle.roff_run.specs.declared.phase.Phase.TheVariants.{Reading, LastMacro, Closing}
 use Rattle.roff_run.specs.declared.line_state.LineState.{LineState}
-use Rattle.roff_run.specs.declared.line_state.LineState.TheVariants.{LineStart, Braced, Name, Arguments as InArguments, Telling, Told, Calling, Defining}
+use Rattle.roff_run.specs.declared.line_state.LineState.TheVariants.{LineStart, Braced, Name, Arguments as InArguments, Telling, Told, Calling, Defining, Exiting}
 
 -- the bytes ahead that cost nothing
 abbrev pub free_ahead : List (Ahead PageEvent) → ℕ
@@ -41,6 +41,7 @@ begun (InArguments breaks request) = 4
 begun (Calling name) = 1
 begun (Telling aborts is_front) = 2
 begun (Told aborts) = 1
+begun Exiting = 1
 begun (Defining name appends end matched) = 3
 begun (_) = 0
 

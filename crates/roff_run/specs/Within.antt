@@ -3,6 +3,7 @@ use Rattle.std.specs.Prelude.{◌+◌, ◌≤◌, length}
 use Rattle.roff_lines.specs.Lines.{pending_length}
 use Rattle.roff_num.specs.declared.limits.Limits.{Limits}
 use Rattle.roff_run.specs.Environments.{Environments, environments}
+use Rattle.roff_run.specs.Layouts.{layout_of}
 use Rattle.roff_run.specs.Run.{State, output}
 use Rattle.roff_run.specs.TitleTexts.{title_length}
 use Rattle.roff_ahead.specs.Input.{pushed, depth, result_count}
@@ -28,3 +29,4 @@ pub record IsWithin (l : Limits) (s : State) : Type 0 where
   pub title : title_length s.registers.title ≤ l.line
   pub environments : EnvironmentsWithin l (environments s.history)
   pub output : length (output s) ≤ l.output
+  pub traps : length (layout_of s.history).traps ≤ l.traps

@@ -4,8 +4,8 @@ ghost use Rattle.std.specs.Prelude.{◌≡◌, ◌∷◌, [], drop};
 ghost use Rattle.roff_run.specs.Definitions.{end_mark, ends_mark, front_of, line_from, line_with, matched_behind};
 
 use arrayvec::ArrayVec;
+use roff_escape::CopyUnit;
 use roff_num::ShortName;
-use roff_scan::CopyUnit;
 
 /// What a line of a definition is, as far as it was read.
 #[derive(Clone, Copy, Debug, PartialEq, Eq)]

@@ -6,8 +6,8 @@ ghost use Rattle.roff_run.specs.Messages.{character_name, message_line, message_
 
 use arrayvec::ArrayVec;
 use itoa::Buffer;
+use roff_escape::Remark;
 use roff_num::{Limit, Name};
-use roff_scan::Remark;
 
 /// What a run reports.
 #[derive(Clone, Copy, Debug, PartialEq, Eq)]

@@ -23,10 +23,14 @@ pub enum Request {
     AppendString,
     /// `af`: how a number register is written.
     AssignFormat,
+    /// `bp`: the page is ejected.
+    BeginPage,
     /// `br`: a break.
     Break,
     /// `ce`: lines are centred.
     Centre,
+    /// `ch`: a trap is moved.
+    ChangeTrap,
     /// `de`: a macro.
     DefineMacro,
     /// `ds`: a string.
@@ -55,10 +59,14 @@ pub enum Request {
     LineLength,
     /// `ls`: the spacing of lines.
     LineSpacing,
+    /// `ne`: lines that are to stand together.
+    Need,
     /// `na`: adjusting off.
     NoAdjust,
     /// `nf`: filling off.
     NoFill,
+    /// `ns`: no-space mode on.
+    NoSpace,
     /// `nr`: a number register's value and increment.
     NumberRegister,
     /// `pc`: the character that stands for the page number in titles.
@@ -69,12 +77,16 @@ pub enum Request {
     PageNumber,
     /// `po`: the page offset.
     PageOffset,
+    /// `wh`: a trap is planted.
+    PlantTrap,
     /// `rm`: strings, macros and requests go.
     RemoveNames,
     /// `rr`: number registers go.
     RemoveRegisters,
     /// `rn`: a string, macro or request gets another name.
     Rename,
+    /// `rs`: no-space mode off.
+    RestoreSpacing,
     /// `sp`: blank lines.
     Space,
     /// `ta`: tab stops.
@@ -158,14 +170,16 @@ pub struct Row {
 }
 
 /// The requests that are built, in the order of their names.
-static BUILT: [Request; 37] = [
+static BUILT: [Request; 43] = [
     Request::Abort,
     Request::Adjust,
     Request::AssignFormat,
     Request::AppendMacro,
     Request::AppendString,
+    Request::BeginPage,
     Request::Break,
     Request::Centre,
+    Request::ChangeTrap,
     Request::DefineMacro,
     Request::DefineString,
     Request::Else,
@@ -182,8 +196,10 @@ static BUILT: [Request; 37] = [
     Request::LineSpacing,
     Request::TitleLength,
     Request::NoAdjust,
+    Request::Need,
     Request::NoFill,
     Request::NumberRegister,
+    Request::NoSpace,
     Request::PageCharacter,
     Request::PageLength,
     Request::PageNumber,
@@ -191,11 +207,13 @@ static BUILT: [Request; 37] = [
     Request::RemoveNames,
     Request::Rename,
     Request::RemoveRegisters,
+    Request::RestoreSpacing,
     Request::Space,
     Request::TabStops,
     Request::TemporaryIndent,
     Request::Title,
     Request::TellMessage,
+    Request::PlantTrap,
 ];
 
 /// The names of those that are read without effect.
@@ -223,7 +241,7 @@ static LEFT_OUT: [[u8; 2]; 24] = [
 
 impl Request {
     /// How many there are.
-    pub const COUNT: u16 = 76;
+    pub const COUNT: u16 = 82;
 
     /// The request of this place in the table, if there is one.
     pub fn numbered(number: usize) -> Option<Request>
@@ -250,8 +268,10 @@ impl Request {
             Request::AssignFormat => Row { name: *b"af", line: ByArguments, breaks: false },
             Request::AppendMacro => Row { name: *b"am", line: ByLines(LinesFor::Macro { appends: true }), breaks: false },
             Request::AppendString => Row { name: *b"as", line: ByString { appends: true }, breaks: false },
+            Request::BeginPage => Row { name: *b"bp", line: ByArguments, breaks: true },
             Request::Break => Row { name: *b"br", line: ByArguments, breaks: true },
             Request::Centre => Row { name: *b"ce", line: ByArguments, breaks: true },
+            Request::ChangeTrap => Row { name: *b"ch", line: ByArguments, breaks: false },
             Request::DefineMacro => Row { name: *b"de", line: ByLines(LinesFor::Macro { appends: false }), breaks: false },
             Request::DefineString => Row { name: *b"ds", line: ByString { appends: false }, breaks: false },
             Request::Else => Row { name: *b"el", line: ByElse, breaks: false },
@@ -268,8 +288,10 @@ impl Request {
             Request::LineSpacing => Row { name: *b"ls", line: ByArguments, breaks: false },
             Request::TitleLength => Row { name: *b"lt", line: ByArguments, breaks: false },
             Request::NoAdjust => Row { name: *b"na", line: ByArguments, breaks: false },
+            Request::Need => Row { name: *b"ne", line: ByArguments, breaks: false },
             Request::NoFill => Row { name: *b"nf", line: ByArguments, breaks: true },
             Request::NumberRegister => Row { name: *b"nr", line: ByArguments, breaks: false },
+            Request::NoSpace => Row { name: *b"ns", line: ByArguments, breaks: false },
             Request::PageCharacter => Row { name: *b"pc", line: ByArguments, breaks: false },
             Request::PageLength => Row { name: *b"pl", line: ByArguments, breaks: false },
             Request::PageNumber => Row { name: *b"pn", line: ByArguments, breaks: false },
@@ -277,11 +299,13 @@ impl Request {
             Request::RemoveNames => Row { name: *b"rm", line: ByArguments, breaks: false },
             Request::Rename => Row { name: *b"rn", line: ByArguments, breaks: false },
             Request::RemoveRegisters => Row { name: *b"rr", line: ByArguments, breaks: false },
+            Request::RestoreSpacing => Row { name: *b"rs", line: ByArguments, breaks: false },
             Request::Space => Row { name: *b"sp", line: ByArguments, breaks: true },
             Request::TabStops => Row { name: *b"ta", line: ByArguments, breaks: false },
             Request::TemporaryIndent => Row { name: *b"ti", line: ByArguments, breaks: true },
             Request::Title => Row { name: *b"tl", line: ByTitle, breaks: false },
             Request::TellMessage => Row { name: *b"tm", line: ByMessage { aborts: false }, breaks: false },
+            Request::PlantTrap => Row { name: *b"wh", line: ByArguments, breaks: false },
             WithoutEffect(name) => Row { name, line: ByArguments, breaks: false },
             LeftOut(name) => Row { name, line: ByArguments, breaks: false },
         }

@@ -3,8 +3,10 @@ use Rattle.std.proofs.Common.{Bool, true, false, ◌&&◌, ◌≡◌, ℕ, ◌�
 use Rattle.std.specs.Prelude.{IfSome, get_or, is_none}
 use Rattle.roff_ahead.specs.Input.{Ahead, ByteAhead, FreeAhead, EndAhead, ReturnAhead, DoAhead, is_none_ahead}
 use Rattle.roff_source.specs.Tape.{Tape, Answer, Answers, Took, Gives, Ends, OneByte, Ending, Ended}
-use Rattle.roff_scan.specs.Unread.{Unread, Asked, Stays, taking, taking_first, taking_answer, asks_to_take, looking, looking_past, looking_at, asks_to_look}
-use Rattle.roff_scan.specs.Looking.{Looked, Nothing, Byte, Closed, answer_behind, is_nothing}
+use Rattle.roff_ahead.specs.Unread.{Unread, Asked, Stays, taking, taking_first, taking_answer, asks_to_take, looking, looking_past, looking_at, asks_to_look}
+use Rattle.roff_ahead.specs.Looking.{answer_behind, is_nothing}
+use Rattle.roff_ahead.specs.declared.looked.Looked.{Looked}
+use Rattle.roff_ahead.specs.declared.looked.Looked.TheVariants.{Nothing, Byte, Closed}
 use Rattle.roff_ahead.specs.Shown.{Shown, ShowsByte, Sighted, SeesByte, SeesNote, SeesEnding, seen_ahead}
 use Rattle.roff_scan.specs.Unread.Calls.{Takes, Looks}
 

@@ -3,7 +3,7 @@ use Rattle.std.proofs.Common.{◌≡◌, ◌≤◌, ◌+◌, ℕ, Bool, true, fa
 use Rattle.std.specs.Prelude.{if◌then◌else◌, nat_le}
 use Rattle.roff_ahead.specs.Input.{Ahead, ByteAhead, FreeAhead, EndAhead, ReturnAhead, DoAhead, bytes_ahead, ends_ahead, item_taken, results_below, returns_ahead}
 use Rattle.roff_arguments.specs.Arguments.{live_bytes}
-use Rattle.roff_scan.specs.Unread.{Unread, IsWithin}
+use Rattle.roff_ahead.specs.Unread.{Unread, IsWithin}
 use Rattle.roff_ahead.specs.Shown.{ShowsReturn, shown_ahead}
 
 -- no more is kept than before

@@ -4,8 +4,10 @@ use Rattle.std.proofs.lemmas.List.{length-take-le, take-take}
 use Rattle.roff_source.specs.Bytes.{newline}
 use Rattle.roff_ahead.specs.Input.{Ahead, ByteAhead, Input, counting, is_none_ahead, leading, lines_taken, returns_ahead}
 use Rattle.roff_source.specs.Tape.{Tape, OneByte, Took}
-use Rattle.roff_scan.specs.Looking.{Looked, Nothing, Byte, Closed, is_nothing}
-use Rattle.roff_scan.specs.Unread.{Unread, IsWithin}
+use Rattle.roff_ahead.specs.Looking.{is_nothing}
+use Rattle.roff_ahead.specs.declared.looked.Looked.{Looked}
+use Rattle.roff_ahead.specs.declared.looked.Looked.TheVariants.{Nothing, Byte, Closed}
+use Rattle.roff_ahead.specs.Unread.{Unread, IsWithin}
 use Rattle.roff_scan.specs.Unread.Calls.{IsFront, NoNewline, PassesFront, OfTexts, PassesSource, front_bytes, next_bytes}
 use Rattle.roff_ahead.proofs.Counts.{returns_ahead-bytes}
 use Rattle.roff_scan.proofs.PassingAhead.{IsWithin-behind, behind_bytes, bytes_taken-is}

@@ -8,7 +8,7 @@ use Rattle.roff_source.specs.Bytes.{blank, quote}
 use Rattle.roff_arguments.specs.Calls.Kept.{first_call}
 use Rattle.roff_ahead.specs.Input.{Input, ReturnAhead, depth, pushed, returns_ahead}
 use Rattle.roff_ahead.specs.Input.Calls.{argument_live, called_text, calling_body, springing}
-use Rattle.roff_scan.specs.Unread.{Unread, IsWithin, changing}
+use Rattle.roff_ahead.specs.Unread.{Unread, IsWithin, changing}
 use Rattle.roff_scan.specs.Unread.Kept.{NoneBegun}
 use Rattle.roff_arguments.specs.declared.arguments.ArgumentList.{ArgumentList}
 use Rattle.roff_arguments.specs.declared.arguments.Place.{Place}

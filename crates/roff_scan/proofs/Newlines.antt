@@ -3,7 +3,7 @@ use Rattle.std.proofs.Common.{◌≡◌, ◌<◌, List, [], ◌∷◌, refl, sub
 use Rattle.roff_source.specs.Bytes.{newline}
 use Rattle.roff_ahead.specs.Input.{Ahead, ByteAhead}
 use Rattle.roff_source.specs.Tape.{Tape}
-use Rattle.roff_scan.specs.Unread.{Unread}
+use Rattle.roff_ahead.specs.Unread.{Unread}
 use Rattle.roff_scan.specs.Unread.Calls.{OfTexts, PassesFront, PassesNewline}
 use Rattle.roff_scan.proofs.PassingAhead.{behind_bytes}
 

@@ -4,7 +4,7 @@ use Rattle.roff_escape.specs.ConditionFronts.{HalvesTaken}
 use Rattle.roff_escape.specs.OpenEscape.{OpenEscape}
 use Rattle.roff_ahead.specs.Input.{Ahead, ByteAhead, Input, bytes_ahead, ends_ahead}
 use Rattle.roff_source.specs.Tape.{Tape}
-use Rattle.roff_scan.specs.Unread.{Unread, IsWithin}
+use Rattle.roff_ahead.specs.Unread.{Unread, IsWithin}
 use Rattle.roff_scan.specs.Unread.Calls.{OfTexts, TakesPushed}
 use Rattle.roff_scan.specs.Unread.Runs.{TakesRun, with_stage_of}
 use Rattle.roff_scan.specs.declared.run_kind.RunKind.TheVariants.{Condition}

@@ -1,3 +1,2 @@
-pub mod Looking
 pub mod RunKinds
 pub mod Unread

@@ -2,12 +2,10 @@
 //! of a line. It passes on the public names of the crates below it.
 #![tactic(auto)]
 
-mod looked;
 mod run_kind;
 mod unread;
 
-pub use looked::Looked;
-pub use roff_ahead::{Item, Sight};
+pub use roff_ahead::{Item, Looked, Sight};
 pub use roff_arguments::{ArgumentList, Place};
 pub use roff_escape::{
     ConditionPart, CopyUnit, Decision, Escape, Found, NamePart, NameUse, Remark, SizePart,

@@ -14,8 +14,7 @@ mod runs;
 mod skipped;
 mod taken;
 
-use crate::looked::Looked;
-use roff_ahead::InputAhead;
+use roff_ahead::{InputAhead, Looked};
 use roff_arguments::{ArgumentTexts, Calls};
 use roff_escape::OpenEscapes;
 use roff_num::Limits;
@@ -45,7 +44,7 @@ pub struct Unread<E> {
 }
 
 impl<E> Model for Unread<E> {
-    ghost use Rattle.roff_scan.specs.Unread.{Unread};
+    ghost use Rattle.roff_ahead.specs.Unread.{Unread};
 
     ghost Value = { Unread E };
 
@@ -57,7 +56,7 @@ impl<E> Model for Unread<E> {
 }
 
 impl<E: Copy> Unread<E> {
-    ghost use Rattle.roff_scan.specs.Unread.{initial_unread, IsWithin};
+    ghost use Rattle.roff_ahead.specs.Unread.{initial_unread, IsWithin};
 
     /// The input before anything is read. So many names stand for something then: they are to be
     /// set before anything is taken, and the limit on names doesn't count them.

@@ -1,7 +1,7 @@
 //! Items that are taken from the front one at a time, and what is seen there.
 
 ghost use Rattle.std.specs.Prelude.{false, ◌≡◌, [], ◌∷◌, option_map, IfSome, None, Some};
-ghost use Rattle.roff_ahead.specs.Input.{is_none_ahead, front_cost, ByteAhead};
+ghost use Rattle.roff_ahead.specs.Input.{is_none_ahead, front_cost, outermost_back, ByteAhead};
 ghost use Rattle.roff_escape.specs.Waiting.{is_ended_by};
 
 use super::{EventOrBody, InputAhead};
@@ -172,12 +172,18 @@ impl<E: Copy> InputAhead<E> {
         }
     }
 
-    /// Drops all that stands ahead.
-    pub fn clear(&mut self)
-        ensures { self.new ≡ record self.old { ahead = [] } }
+    /// Drops all that stands ahead. Returns what is gone back to behind the outermost end of a body,
+    /// by its code; 0 is a line's beginning.
+    pub fn clear(&mut self) -> u8
+        ensures back { result ≡ outermost_back 0 self.old.ahead }
+        ensures change { self.new ≡ record self.old { ahead = [] } }
     {
+        let mut outermost = 0;
         while !self.is_empty() {
-            let _ = self.take();
+            if let Item::Return(back) = self.take() {
+                outermost = back;
+            }
         }
+        outermost
     }
 }

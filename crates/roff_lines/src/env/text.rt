@@ -27,7 +27,6 @@ impl Env {
     /// Adds bytes of a text line, which are blanks and bytes above the blank: as many of those in
     /// front as finish no line and keep the pending line within its limit. Says how many that are.
     /// A blank ends the open word, and a gap of one blank follows; each other byte is a glyph.
-    #[inline(always)]
     pub fn text(&mut self, bytes: &[u8]) -> usize
         requires { AllByRecursion (λ b. 31 < b) bytes.now }
         ensures within { result ≤ length bytes.now }

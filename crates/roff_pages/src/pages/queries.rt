@@ -1,6 +1,6 @@
 //! What may be asked of pages (manual, section 8). Lengths are in lines, widths in columns.
 
-ghost use Rattle.std.specs.Prelude.{◌≡◌, ◌<◌, [], true, false, length, option_map};
+ghost use Rattle.std.specs.Prelude.{◌≡◌, ◌<◌, ◌^◌, [], true, false, length, min, option_map};
 ghost use Rattle.roff_pages.specs.Layout.{Layout};
 ghost use Rattle.roff_pages.specs.Queries.{nl, place_now, way_to_trap, diversion_name};
 ghost use Rattle.roff_pages.specs.Queries.{is_diverting, takes_text};
@@ -22,6 +22,13 @@ impl Pages {
             return None;
         }
         Some(self.place)
+    }
+
+    /// How many pages were begun. No more than 2^32 are counted.
+    pub fn begun(&self) -> u64
+        ensures { (L : Layout) → StandsAs L self.now → result ≡ min L.begun (2 ^ 32) }
+    {
+        self.begun
     }
 
     /// The place where text goes: in the innermost open diversion, or on the page. No more than

@@ -7,7 +7,7 @@ use Rattle.roff_escape.specs.declared.open_escape.Remark.{Remark}
 use Rattle.roff_run.specs.Messages.{remark_message}
 use Rattle.roff_run.specs.declared.line_state.LineState.{LineState}
 use Rattle.roff_run.specs.Requests.{PageEvent, Effect, doing, saying}
-use Rattle.roff_scan.specs.Unread.{Unread}
+use Rattle.roff_ahead.specs.Unread.{Unread}
 
 -- the input, as a run of the formatter has it
 abbrev pub PageInput : Type 0

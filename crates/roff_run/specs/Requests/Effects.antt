@@ -33,6 +33,8 @@ pub data Response : Type 0 where
   Ignored : (messages : List Message) → Response
   -- it says this, the registers change so, and what names stand for, and this happens behind its break
   Obeyed : (messages : List Message) (changes : List Change) (calls : List Call) (events : List PageEvent) → Response
+  -- one event happens in front of its break, and one behind it
+  Around : (before behind : PageEvent) → Response
 
 -- these events happen behind its break, and it says this
 abbrev pub happens : List Message → List PageEvent → Response
@@ -84,3 +86,4 @@ abbrev pub meant_by : Bool → Response → Effect
 meant_by breaks (Ignored messages) = saying messages []
 meant_by breaks (Obeyed messages changes calls events) =
     record { messages = messages; changes = changes; calls = calls; events = behind_break breaks events }
+meant_by breaks (Around before behind) = doing (before ∷ behind_break breaks (behind ∷ []))

@@ -1,14 +1,17 @@
--- The page length, the page offset, and the number of the next page (manual, section 3).
-use Rattle.std.specs.Prelude.{ℕ, ℤ, ◌/◌, ◌==◌, pos, List, [], ◌∷◌, Result, Ok, Err, if◌then◌else◌}
+-- The page length, the page offset, the number of the next page, and ejecting a page (manual, section 3).
+use Rattle.std.specs.Prelude.{ℕ, ℤ, ◌/◌, ◌==◌, max, min, pos, List, [], ◌∷◌, Result, Ok, Err, if◌then◌else◌}
 use Rattle.roff_num.specs.Steps.{followed}
+use Rattle.roff_num.specs.declared.num.Num.{Num}
 use Rattle.roff_num.specs.declared.num.NumFault.{NumFault}
 use Rattle.roff_num.specs.declared.num.Scale.TheVariants.{Units}
-use Rattle.roff_pages.specs.declared.layout_event.LayoutEvent.TheVariants.{Length, Next, Offset}
+use Rattle.roff_pages.specs.Layout.{Layout}
+use Rattle.roff_pages.specs.Queries.{is_diverting}
+use Rattle.roff_pages.specs.declared.layout_event.LayoutEvent.TheVariants.{Eject, EjectTo, Length, Next, Offset}
 use Rattle.roff_run.specs.Numbers.{at_least_zero, height_beside, rounded_in_range, value_beside}
 use Rattle.roff_run.specs.Registers.{Known, in_heights, place_down}
 use Rattle.roff_run.specs.declared.event.PageEvent.TheVariants.{Page}
 use Rattle.roff_run.specs.declared.message.Message.TheVariants.{PageTooShort}
-use Rattle.roff_run.specs.Requests.Effects.{Response, Ignored, happens, bad_number}
+use Rattle.roff_run.specs.Requests.Effects.{Response, Around, Ignored, happens, nothing, bad_number}
 use Rattle.roff_run.specs.Requests.Lengths.{length_wanted}
 use Rattle.roff_run.specs.Requests.Numbering.{number}
 
@@ -54,3 +57,33 @@ next_numbered (Err fault) = bad_number
 abbrev pub page_number : Known → List (List ℕ) → Response
 page_number known [] = Ignored []
 page_number known (text ∷ others) = next_numbered (page_asked known text)
+
+-- the greatest count by which a page is asked for
+abbrev pub greatest_page : ℕ
+greatest_page = 4294967295
+
+-- the page that is ejected: the one that was begun last, or else the first
+abbrev pub page_ejected : Layout → ℕ
+page_ejected L = max 1 (min L.begun greatest_page)
+
+-- the page is ejected
+abbrev pub ejected : Layout → Response
+ejected L = if is_diverting L then nothing else happens [] (Page (Eject (page_ejected L)) ∷ [])
+
+-- The same, and the next page gets this number. On a page that was begun it is set in front of the break, as the page that a macro
+-- begins there, which the break springs, is the next one.
+abbrev pub ejected_to : Num → Layout → Response
+ejected_to n L =
+    if is_diverting L then nothing
+    else if L.begun == 0 then happens [] (Page (EjectTo (page_ejected L) n) ∷ [])
+    else Around (Page (Next n)) (Page (EjectTo (page_ejected L) n))
+
+-- the page is ejected for one of this number
+abbrev pub ejected_by : Layout → Result ℤ NumFault → Response
+ejected_by L (Ok n) = ejected_to (number n) L
+ejected_by L (Err fault) = bad_number
+
+-- `bp`: the page is ejected, where no diversion is open; the next one gets the number that is given
+abbrev pub begin_page : Known → List (List ℕ) → Response
+begin_page known [] = ejected known.layout
+begin_page known (text ∷ others) = ejected_by known.layout (page_asked known text)

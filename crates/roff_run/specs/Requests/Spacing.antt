@@ -1,12 +1,12 @@
--- Blank lines, and the spacing of lines (manual, section 5).
-use Rattle.std.specs.Prelude.{ℕ, ◌/◌, ℤ, pos, negsuc, List, [], ◌∷◌, max, Result, Ok, Err}
+-- Blank lines, lines that are needed, no-space mode, and the spacing of lines (manual, sections 3 and 5).
+use Rattle.std.specs.Prelude.{ℕ, ◌/◌, Bool, ℤ, pos, negsuc, List, [], ◌∷◌, max, Result, Ok, Err}
 use Rattle.roff_lines.specs.declared.settings.Param.TheVariants.{Spacing}
 use Rattle.roff_num.specs.Steps.{followed}
 use Rattle.roff_num.specs.declared.num.NumFault.{NumFault}
 use Rattle.roff_num.specs.declared.num.Scale.TheVariants.{Units}
 use Rattle.roff_run.specs.Numbers.{height_in, value_in, rounded_in_range, at_least_zero}
 use Rattle.roff_run.specs.Registers.{Known, place_down}
-use Rattle.roff_pages.specs.declared.layout_event.LayoutEvent.TheVariants.{Space}
+use Rattle.roff_pages.specs.declared.layout_event.LayoutEvent.TheVariants.{Need, NoSpace, Space}
 use Rattle.roff_run.specs.declared.event.PageEvent.TheVariants.{Page}
 use Rattle.roff_run.specs.declared.message.Message.TheVariants.{BackwardMotion}
 use Rattle.roff_run.specs.Requests.Effects.{Response, happens, setting, bad_number}
@@ -21,6 +21,20 @@ spaced (Err fault) = bad_number
 abbrev pub space_down : Known → List (List ℕ) → Response
 space_down known [] = happens [] (Page (Space 1) ∷ [])
 space_down known (text ∷ others) = spaced (followed (height_in (place_down known) text) (rounded_in_range 40))
+
+-- so many lines are to stand together, none where the height is below 0
+abbrev pub needed : Result ℤ NumFault → Response
+needed (Ok height) = happens [] (Page (Need (at_least_zero height / 40)) ∷ [])
+needed (Err fault) = bad_number
+
+-- `ne`: so many lines are needed, and one where no height is given
+abbrev pub need : Known → List (List ℕ) → Response
+need known [] = happens [] (Page (Need 1) ∷ [])
+need known (text ∷ others) = needed (followed (height_in (place_down known) text) (rounded_in_range 40))
+
+-- `ns`, `rs`: no-space mode goes on, or off
+abbrev pub spaceless : Bool → Response
+spaceless on = happens [] (Page (NoSpace on) ∷ [])
 
 -- lines stand so far from each other, and at least one apart
 abbrev pub spacing : Result ℤ NumFault → Response

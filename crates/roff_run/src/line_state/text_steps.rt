@@ -23,9 +23,10 @@ use super::{LineState, TextLine, TextStep};
 use crate::event::LineEvents;
 use crate::message::{CharacterName, Message};
 use crate::step::Step;
+use roff_escape::{Escape, Remark, TextUse, character, escape_of};
 use roff_lines::Glyph;
 use roff_num::Name;
-use roff_scan::{Escape, Remark, TextUse, character, escape_of, is_silent};
+use roff_source::is_silent;
 
 impl TextLine {
     /// The events of the line's end: a line of blanks alone is a break and a blank line, and one of

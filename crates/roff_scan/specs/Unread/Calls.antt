@@ -5,8 +5,9 @@ use Rattle.roff_source.specs.Bytes.{newline}
 use Rattle.roff_escape.specs.ConditionFronts.{HalvesTaken}
 use Rattle.roff_ahead.specs.Input.{Ahead, ByteAhead, EndAhead, ReturnAhead, bytes_taken, item_taken, leading, lines_taken}
 use Rattle.roff_source.specs.Tape.{Tape, Answer, OneByte, items_then}
-use Rattle.roff_scan.specs.Looking.{Looked, Nothing, Byte, Closed}
-use Rattle.roff_scan.specs.Unread.{Unread, Asked, Stays, asks_to_take, asks_to_look, taking, looking}
+use Rattle.roff_ahead.specs.declared.looked.Looked.{Looked}
+use Rattle.roff_ahead.specs.declared.looked.Looked.TheVariants.{Nothing, Byte, Closed}
+use Rattle.roff_ahead.specs.Unread.{Unread, Asked, Stays, asks_to_take, asks_to_look, taking, looking}
 use Rattle.roff_ahead.specs.Shown.{Shown, Sighted}
 
 -- the front item was taken and shown, by the source's answer if it was asked

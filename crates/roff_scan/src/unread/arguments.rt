@@ -12,7 +12,7 @@ use roff_escape::CopyUnit;
 use roff_num::Limit;
 
 impl<E: Copy> Unread<E> {
-    ghost use Rattle.roff_scan.specs.Unread.{changing};
+    ghost use Rattle.roff_ahead.specs.Unread.{changing};
 
     /// A line is read of which nothing was read.
     pub fn begin_line(&mut self)

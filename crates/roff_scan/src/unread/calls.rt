@@ -13,7 +13,7 @@ use roff_arguments::{ArgumentList, Calls};
 use roff_num::{Limit, Name};
 
 impl<E: Copy> Unread<E> {
-    ghost use Rattle.roff_scan.specs.Unread.{changing};
+    ghost use Rattle.roff_ahead.specs.Unread.{changing};
 
     /// A line calls the body of a name: it is put in front, as it is now, with a newline behind it
     /// if it has bytes and none at its end, and the end of the call. The arguments of the line are

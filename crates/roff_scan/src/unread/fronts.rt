@@ -1,13 +1,12 @@
 //! Bytes that stand in front, as they lie together.
 
 ghost use Rattle.std.specs.Prelude.{true, false, ◌≡◌, ◌≤◌, length, take};
-ghost use Rattle.roff_scan.specs.Looking.{Nothing};
+ghost use Rattle.roff_ahead.specs.declared.looked.Looked.TheVariants.{Nothing};
 ghost use Rattle.roff_scan.specs.Unread.Calls.{next_bytes};
 ghost use Rattle.roff_ahead.specs.Input.{is_none_ahead};
 
 use super::Unread;
-use crate::looked::Looked;
-use roff_ahead::InputAhead;
+use roff_ahead::{InputAhead, Looked};
 use roff_source::{ByteSource, at_most, newlines_among};
 
 impl<E: Copy> Unread<E> {

@@ -10,8 +10,8 @@ use roff_num::{Limit, Name};
 use roff_store::{Entry, Kind};
 
 impl<E: Copy> Unread<E> {
-    ghost use Rattle.roff_scan.specs.Looking.{Nothing};
-    ghost use Rattle.roff_scan.specs.Unread.{changing};
+    ghost use Rattle.roff_ahead.specs.declared.looked.Looked.TheVariants.{Nothing};
+    ghost use Rattle.roff_ahead.specs.Unread.{changing};
     ghost use Rattle.roff_store.specs.TextCalls.{Open, Remove, Rename, Set};
 
     /// What a name stands for: a request, or a body with so many bytes.

@@ -10,7 +10,7 @@ use roff_escape::{CopyUnit, Found, Surroundings, Waiting};
 use roff_num::Limit;
 
 impl<E: Copy> Unread<E> {
-    ghost use Rattle.roff_scan.specs.Unread.{changing, reading, EndsDecided};
+    ghost use Rattle.roff_ahead.specs.Unread.{changing, reading, EndsDecided};
     ghost use Rattle.roff_scan.specs.Unread.Calls.{TakesPushed};
 
     /// Whether something is half read.

@@ -1,8 +1,8 @@
 //! Texts, bodies and events that are put in front.
 
 ghost use Rattle.std.specs.Prelude.{true, false, ◌≡◌, ◌+◌, ◌<◌, ◌≤◌, length};
-ghost use Rattle.roff_ahead.specs.Input.{leaving, events_ahead, frees_ahead, most_events};
-ghost use Rattle.roff_ahead.specs.Input.{most_frees, depth, pushing, putting_back, freeing};
+ghost use Rattle.roff_ahead.specs.Input.{leaving, outermost_back, events_ahead, frees_ahead};
+ghost use Rattle.roff_ahead.specs.Input.{most_events, most_frees, depth, pushing, putting_back, freeing};
 ghost use Rattle.roff_ahead.specs.Input.Names.{body_named};
 
 use super::Unread;
@@ -10,8 +10,8 @@ use super::results::drop_results;
 use roff_num::{Limit, Name};
 
 impl<E: Copy> Unread<E> {
-    ghost use Rattle.roff_scan.specs.Looking.{closing};
-    ghost use Rattle.roff_scan.specs.Unread.{changing};
+    ghost use Rattle.roff_ahead.specs.Looking.{closing};
+    ghost use Rattle.roff_ahead.specs.Unread.{changing};
 
     /// Whether as many pushed texts haven't ended as may be.
     pub(super) fn is_deep(&self) -> bool
@@ -81,15 +81,19 @@ impl<E: Copy> Unread<E> {
     }
 
     /// Drops all that stands ahead of the source, of which nothing more is taken. That costs nothing.
-    pub fn leave(&mut self)
+    /// Returns what is gone back to behind the outermost end of a body, by its code; 0 is a line's
+    /// beginning.
+    pub fn leave(&mut self) -> u8
+        ensures back { result ≡ outermost_back 0 self.old.input.ahead }
         ensures change { self.new ≡ record self.old {
           input = leaving self.old.input;
           looked = closing self.old.looked;
         } }
     {
         self.looked = self.looked.closing();
-        self.input_ahead.clear();
+        let back = self.input_ahead.clear();
         self.calls.clear();
         drop_results(&mut self.results, 1);
+        back
     }
 }

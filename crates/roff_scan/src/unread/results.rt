@@ -8,7 +8,7 @@ use super::Unread;
 use roff_num::Limit;
 
 impl<E: Copy> Unread<E> {
-    ghost use Rattle.roff_scan.specs.Unread.{changing};
+    ghost use Rattle.roff_ahead.specs.Unread.{changing};
 
     /// Keeps the result of a condition for its other branch.
     ///

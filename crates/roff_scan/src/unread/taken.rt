@@ -8,15 +8,15 @@ ghost use Rattle.roff_ahead.specs.Input.{is_none_ahead, counting};
 
 use super::Unread;
 use super::calls::end_call;
-use crate::looked::Looked;
-use roff_ahead::{Item, Sight};
+use roff_ahead::{Item, Looked, Sight};
 use roff_num::Limit;
 use roff_source::{ByteSource, Taken};
 
 impl<E: Copy> Unread<E> {
     ghost use Rattle.roff_ahead.specs.Shown.{shown, ShowsByte, ShowsNote, ShowsEnding};
-    ghost use Rattle.roff_scan.specs.Looking.{Nothing, is_closed};
-    ghost use Rattle.roff_scan.specs.Unread.{taking, taking_answer};
+    ghost use Rattle.roff_ahead.specs.Looking.{is_closed};
+    ghost use Rattle.roff_ahead.specs.declared.looked.Looked.TheVariants.{Nothing};
+    ghost use Rattle.roff_ahead.specs.Unread.{taking, taking_answer};
     ghost use Rattle.roff_ahead.specs.Shown.{sighted, SeesNote, SeesEnding};
     ghost use Rattle.roff_scan.specs.Unread.Calls.{Takes, Looks};
 

@@ -2,7 +2,7 @@ use Rattle.std.proofs.Common.{◌≡◌, ◌+◌, ◌≤◌, [], true, ap, rules
 use Rattle.roff_ahead.specs.Input.{is_none_ahead}
 use Rattle.roff_ahead.specs.Input.Names.{stored}
 use Rattle.roff_source.specs.Bytes.{is_text_byte}
-use Rattle.roff_scan.specs.Looking.{Nothing}
+use Rattle.roff_ahead.specs.declared.looked.Looked.TheVariants.{Nothing}
 use Rattle.roff_scan.specs.Unread.Kept.{kept_by}
 use Rattle.roff_scan.specs.Unread.Runs.{room_for}
 use Rattle.roff_scan.specs.declared.run_kind.RunKind.TheVariants.{Definition}

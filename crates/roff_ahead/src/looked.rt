@@ -1,7 +1,7 @@
 //! What was looked at of the source.
 
 ghost use Rattle.std.specs.Prelude.{◌≡◌};
-ghost use Rattle.roff_scan.specs.Looking.{closing, is_closed, is_nothing};
+ghost use Rattle.roff_ahead.specs.Looking.{closing, is_closed, is_nothing};
 
 /// What was looked at of the source, and whether anything more is taken of it.
 #[derive(Clone, Copy, Debug, PartialEq, Eq)]
@@ -17,7 +17,7 @@ pub enum Looked {
 impl Looked {
     /// Whether the source's next byte is the next one.
     #[inline(always)]
-    pub(crate) fn is_nothing(self) -> bool
+    pub fn is_nothing(self) -> bool
         ensures { result ≡ is_nothing self }
     {
         match self {
@@ -28,7 +28,7 @@ impl Looked {
     }
 
     /// Whether nothing more is taken of the source.
-    pub(crate) fn is_closed(self) -> bool
+    pub fn is_closed(self) -> bool
         ensures { result ≡ is_closed self }
     {
         match self {
@@ -39,7 +39,7 @@ impl Looked {
     }
 
     /// The same once nothing more is taken of it.
-    pub(crate) fn closing(self) -> Looked
+    pub fn closing(self) -> Looked
         ensures { result ≡ closing self }
     {
         match self {
