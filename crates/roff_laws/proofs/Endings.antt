@@ -1,6 +1,6 @@
 -- Every run comes to an end, and to one alone.
-use Rattle.std.proofs.Common.{◌≡◌, ◌⊎◌, inl, inr, ◌≤◌, ◌+◌, ◌*◌, ℕ, zero, suc, List, [], ◌∷◌, ◌++◌, length, Option, Some, None, refl, sym, ◌∙◌, ap, subst, add_comm, arith}
-use Rattle.std.specs.Prelude.{IsSome, map}
+use Rattle.std.proofs.Common.{◌≡◌, ◌⊎◌, inl, inr, ◌≤◌, ◌+◌, ◌*◌, ℕ, zero, suc, Bool, true, false, not, List, [], ◌∷◌, ◌++◌, length, Option, Some, None, refl, sym, ◌∙◌, ap, subst, add_comm, arith}
+use Rattle.std.specs.Prelude.{IsSome, map, ◌&&◌}
 use Rattle.roff_num.specs.declared.limits.Limits.{Limits}
 use Rattle.roff_run.specs.declared.status.Status.{Status}
 use Rattle.roff_run.specs.PageEvents.{PageEvent}
@@ -9,17 +9,19 @@ use Rattle.roff_laws.specs.ResultLaws.{EveryRunEnds, StepsLeadToTheLastState, No
 use Rattle.roff_run.specs.Run.{State, Leads, grown, initial, paged_state, performing, sprung_read, unless_refused, with_registers, with_sprung, step_with, step, after}
 use Rattle.roff_source.specs.Tape.{Tape}
 use Rattle.roff_run.specs.TurnsToCome.{left_by, lines_left, most_left, phases_left, unended}
-use Rattle.roff_lines.specs.declared.event.Event.TheVariants.{WordEnd}
+use Rattle.roff_lines.specs.declared.event.Event.TheVariants.{Print, Tab, WordEnd, Gap, LineEnd, Count, Break as PageBreak, Interrupt as Interrupted, Resume, Set}
 use Rattle.roff_pages.specs.declared.layout_event.LayoutEvent.TheVariants.{Begin}
 use Rattle.roff_num.specs.declared.limit.Limit.{Limit}
 use Rattle.roff_num.specs.declared.num.Num.{Num}
 use Rattle.roff_run.specs.Environments.{Environments, PageHistory, interrupted_line, line_to_go_on}
-use Rattle.roff_run.specs.declared.event.PageEvent.TheVariants.{Text, Page}
+use Rattle.roff_run.specs.declared.event.PageEvent.TheVariants.{Text, Page, Interrupt, Environment, Back, InputTrap as SetsTrap, Title}
 use Rattle.roff_run.specs.Requests.Effects.{page_numbered}
 use Rattle.roff_run.specs.Requests.Numbering.{number_of_page}
 use Rattle.roff_run.specs.Reading.Returns.{back_of, in_sprung}
 use Rattle.roff_run.specs.Requests.{called_by}
-use Rattle.roff_run.specs.Springs.{next, springs}
+use Rattle.roff_run.specs.Springs.{left_of, next, page_begin_or, springs}
+use Rattle.roff_run.specs.Layouts.{layout_of}
+use Rattle.roff_pages.specs.Queries.{takes_text}
 use Rattle.roff_run.specs.Titles.{put_back, told}
 use Rattle.roff_run.specs.declared.request.Called.{Called}
 use Rattle.roff_run.specs.declared.request.Called.TheVariants.{Request as ARequest, Body as ABody, Nothing as Unknown}
@@ -36,12 +38,12 @@ use Rattle.roff_run.specs.declared.phase.Phase.TheVariants.{Reading, LastMacro, 
 use Rattle.roff_run.specs.declared.start.Start.{Start}
 use Rattle.roff_run.proofs.GivenPages.{environments-given_pages}
 use Rattle.roff_run.proofs.KeepingText.{free_ahead-called}
-use Rattle.roff_run.proofs.Leads.{Leads-refl, Leads-trans, Leads-step, after-add}
-use Rattle.roff_run.proofs.LinesLeft.{most_left-fewer, lines_left-event}
-use Rattle.roff_run.proofs.PutBack.{free_ahead-back}
-use Rattle.roff_laws.proofs.PerformedOrStopped.{PerformedOrStopped, Performed, Sprang, EndsOver, StoppedAt, performed_or_stopped}
-use Rattle.roff_run.proofs.Readings.{ReadsOn-reading_on}
 use Rattle.roff_run.proofs.Behind.{begun-behind_return}
+use Rattle.roff_run.proofs.Leads.{Leads-refl, Leads-trans, Leads-step, after-add}
+use Rattle.roff_run.proofs.LinesLeft.{lines_left-event, lines_left-few, most_left-fewer}
+use Rattle.roff_run.proofs.PutBack.{free_ahead-back}
+use Rattle.roff_laws.proofs.PerformedOrStopped.{left_of-none, PerformedOrStopped, Performed, Sprang, EndsOver, StoppedAt, performed_or_stopped}
+use Rattle.roff_run.proofs.Readings.{ReadsOn-reading_on}
 use Rattle.roff_laws.proofs.ComesBefore.{ComesBefore, NothingComes, PageComes, WordEndComes, comes_before, steps_in_front, steps_in_front-few}
 use Rattle.roff_laws.proofs.TurnsNeeded.{EndsWithin, EndsWithin-read, turns_needed}
 
@@ -49,6 +51,11 @@ use Rattle.roff_laws.proofs.TurnsNeeded.{EndsWithin, EndsWithin-read, turns_need
 pub ended_or_not : (o : Option Status) → IsSome o ⊎ (o ≡ None)
 ended_or_not None = inr refl
 ended_or_not (Some status) = inl refl
+
+-- not both
+pub not-ended : (o : Option Status) → o ≡ None → IsSome o → ⊥
+not-ended None none some = cc
+not-ended (Some status) none some = cc
 
 -- a run that has ended stays as it is
 pub step-ended : (l : Limits) (s : State) → IsSome s.ended → step l s ≡ s
@@ -100,51 +107,85 @@ data Stepped (l : Limits) (n : ℕ) (s t : State) : Type 0 where
   HasNeared : IsNearer l s t → Stepped l n s t
 
 -- an event is performed, and nothing comes before it
-event-nearer : (l : Limits) (n : ℕ) (e : PageEvent) (es : List PageEvent) (s t : State) → s.to_do ≡ e ∷ es → PerformedOrStopped l e es s t → Stepped l n s t
-event-nearer l n e es s t to_do (Performed allowed on none) =
+event-nearer : (l : Limits) (n : ℕ) (e : PageEvent) (es left : List PageEvent) (s t : State) → s.to_do ≡ e ∷ es
+    → (springs s.history (told s.registers e) ≡ None → left ≡ es) → PerformedOrStopped l e left s t → Stepped l n s t
+event-nearer l n e es left s t to_do same (Performed allowed on none) =
+    let others : left ≡ es = same none in
     let h : PageHistory = told s.registers e ∷ s.history in
     let lines = lines_left-event s.registers e s.history in
     let before : ℕ = lines_left (interrupted_line s.history) in
     let fewer = most_left-fewer es (lines_left (interrupted_line h)) (left_by e before) lines in
     HasNeared (record {
-      steps = rw to_do (omega (arith, steps_before-few es s.sprung h));
-      turns = rw to_do (omega (arith, fewer));
+      steps = rw (to_do, others) (omega (arith, steps_before-few es s.sprung h));
+      turns = rw (to_do, others) (omega (arith, fewer));
     })
-event-nearer l n e es s t to_do (Sprang name allowed on some) =
+event-nearer l n e es left s t to_do same (Sprang name allowed on some) =
     let lines = lines_left-event s.registers e s.history in
     HasNeared (record {
       steps = rw to_do (omega arith);
-      turns = rw to_do (omega (arith, lines, free_ahead-back (map put_back es) s.input.ahead));
+      turns = rw to_do (omega (arith, lines, free_ahead-back (map put_back left) s.input.ahead));
     })
-event-nearer l n e es s t to_do (EndsOver allowed over) = HasEnded refl
-event-nearer l n e es s t to_do (StoppedAt limit) = HasEnded refl
+event-nearer l n e es left s t to_do same (EndsOver allowed over) = HasEnded refl
+event-nearer l n e es left s t to_do same (StoppedAt limit) = HasEnded refl
+
+-- nothing comes before the event with which a line goes on
+none-resumes : (takes : Bool) (own : PageEvent) → page_begin_or (not takes && false) None ≡ Some own → ⊥
+none-resumes true own is = absurd (cc)
+none-resumes false own is = absurd (cc)
+
+-- so no event before which something comes ends an interrupted line
+lines-stay : (h : PageHistory) (e own : PageEvent) (lines : ℕ) → next h e ≡ Some own → lines ≤ 1 → lines ≤ left_by e lines
+lines-stay h (Text Resume) own lines is few = absurd (none-resumes (takes_text (layout_of h)) own is)
+lines-stay h (Text (Print glyph)) own lines is few = omega arith
+lines-stay h (Text Tab) own lines is few = omega arith
+lines-stay h (Text WordEnd) own lines is few = omega arith
+lines-stay h (Text (Gap columns)) own lines is few = omega arith
+lines-stay h (Text LineEnd) own lines is few = omega arith
+lines-stay h (Text Count) own lines is few = omega arith
+lines-stay h (Text PageBreak) own lines is few = omega arith
+lines-stay h (Text Interrupted) own lines is few = few
+lines-stay h (Text (Set param)) own lines is few = omega arith
+lines-stay h (Page e) own lines is few = omega arith
+lines-stay h (Interrupt untold) own lines is few = few
+lines-stay h (Environment number) own lines is few = few
+lines-stay h Back own lines is few = few
+lines-stay h (SetsTrap trap) own lines is few = omega arith
+lines-stay h (Title which) own lines is few = omega arith
 
 -- something is performed that comes before it
 own-nearer : (l : Limits) (n : ℕ) (own e : PageEvent) (es : List PageEvent) (s t : State) → s.to_do ≡ e ∷ es
     → lines_left (interrupted_line (told s.registers own ∷ s.history)) ≤ lines_left (interrupted_line s.history)
-    → springs s.history (told s.registers own) ≡ None
+    → lines_left (interrupted_line s.history) ≤ left_by e (lines_left (interrupted_line s.history))
     → steps_in_front (told s.registers own ∷ s.history) e + 1 ≤ steps_in_front s.history e
     → PerformedOrStopped l own (e ∷ es) s t → Stepped l n s t
-own-nearer l n own e es s t to_do lines none near (Performed allowed on unsprung) =
+own-nearer l n own e es s t to_do lines stay near (Performed allowed on unsprung) =
     let h : PageHistory = told s.registers own ∷ s.history in
     let fewer = most_left-fewer (e ∷ es) (lines_left (interrupted_line h)) (lines_left (interrupted_line s.history)) lines in
     HasNeared (record {
       steps = rw to_do (omega (arith, near));
       turns = rw to_do (omega (arith, fewer));
     })
-own-nearer l n own e es s t to_do lines none near (Sprang name allowed on some) = absurd (cc)
-own-nearer l n own e es s t to_do lines none near (EndsOver allowed over) = HasEnded refl
-own-nearer l n own e es s t to_do lines none near (StoppedAt limit) = HasEnded refl
+own-nearer l n own e es s t to_do lines stay near (Sprang name allowed on some) =
+    HasNeared (record {
+      steps = rw to_do (omega arith);
+      turns = rw to_do (omega (arith, lines, stay, free_ahead-back (map put_back (e ∷ es)) s.input.ahead));
+    })
+own-nearer l n own e es s t to_do lines stay near (EndsOver allowed over) = HasEnded refl
+own-nearer l n own e es s t to_do lines stay near (StoppedAt limit) = HasEnded refl
 
 -- by what comes before it
 performing-nearer : (l : Limits) (n : ℕ) (e : PageEvent) (es : List PageEvent) (s : State) (own : Option PageEvent) → s.to_do ≡ e ∷ es
-    → ComesBefore s.history e own → Stepped l n s (performing l own e es s)
-performing-nearer l n e es s own to_do (NothingComes none_begins) = event-nearer l n e es s _ to_do (performed_or_stopped l None e es s)
-performing-nearer l n e es s own to_do (WordEndComes none_begins near) =
-    own-nearer l n (Text WordEnd) e es s _ to_do (lines_left-event s.registers (Text WordEnd) s.history) refl near
+    → next s.history e ≡ own → ComesBefore s.history e own → Stepped l n s (performing l own e es s)
+performing-nearer l n e es s own to_do is (NothingComes none_begins) =
+    event-nearer l n e es (left_of s.history (told s.registers e) ++ es) s _ to_do
+    (λ none. ap (λ (front : List PageEvent). front ++ es) (left_of-none s.registers e s.history none)) (performed_or_stopped l None e es s)
+performing-nearer l n e es s own to_do is (WordEndComes none_begins near) =
+    own-nearer l n (Text WordEnd) e es s _ to_do (lines_left-event s.registers (Text WordEnd) s.history)
+    (lines-stay s.history e (Text WordEnd) (lines_left (interrupted_line s.history)) is (lines_left-few (interrupted_line s.history))) near
     (performed_or_stopped l (Some (Text WordEnd)) e es s)
-performing-nearer l n e es s own to_do (PageComes none_begun near) =
-    own-nearer l n (Page Begin) e es s _ to_do (lines_left-event s.registers (Page Begin) s.history) refl near
+performing-nearer l n e es s own to_do is (PageComes none_begun near) =
+    own-nearer l n (Page Begin) e es s _ to_do (lines_left-event s.registers (Page Begin) s.history)
+    (lines-stay s.history e (Page Begin) (lines_left (interrupted_line s.history)) is (lines_left-few (interrupted_line s.history))) near
     (performed_or_stopped l (Some (Page Begin)) e es s)
 
 -- what is read of a macro is no line yet
@@ -201,7 +242,7 @@ Stepped-with_sprung l n s (Some name) to_do is enough =
 Stepped-step_with : (l : Limits) (n : ℕ) (s : State) (es : List PageEvent) → s.to_do ≡ es → turns_needed l s ≤ suc n → Stepped l n s (step_with l es s)
 Stepped-step_with l n s [] to_do enough = Stepped-with_sprung l n s s.sprung to_do refl enough
 Stepped-step_with l n s (e ∷ es) to_do enough =
-    performing-nearer l n e es s (next s.history e) to_do (comes_before s.history e)
+    performing-nearer l n e es s (next s.history e) to_do refl (comes_before s.history e)
 
 -- a step
 Stepped-step : (l : Limits) (n : ℕ) (s : State) → turns_needed l s ≤ suc n → Stepped l n s (step l s)

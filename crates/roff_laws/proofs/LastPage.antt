@@ -1,16 +1,15 @@
--- The last page: as it is ejected it ends, where no traps are planted, and then the pages are whole.
-use Rattle.std.proofs.Common.{◌≡◌, ◌⊎◌, inl, inr, ◌+◌, ℕ, Bool, true, false, not, ◌&&◌, ◌||◌, List, [], ◌∷◌, ◌++◌, length, replicate, min, ◌-◌, Option, refl, ◌∙◌, ap, subst, arith, append-nil, length-append}
-use Rattle.std.specs.Prelude.{nat_le, if◌then◌else◌, ◌==◌}
-use Rattle.std.proofs.lemmas.Bool.{eqb-true, le-leb}
-use Rattle.std.proofs.lemmas.List.{length-replicate}
+-- The last page: as it is ejected it ends, unless that goes on behind a macro, and then the pages are whole.
+use Rattle.std.proofs.Common.{◌≡◌, ◌⊎◌, inl, inr, ◌+◌, ℕ, Bool, true, false, not, ◌&&◌, ◌||◌, List, [], ◌∷◌, ◌++◌, length, ◌-◌, Option, refl, sym, ◌∙◌, ap, subst, arith, append-nil}
+use Rattle.std.specs.Prelude.{is_some, nat_le, if◌then◌else◌, ◌==◌}
+use Rattle.std.proofs.lemmas.Bool.{eq-eqb, eqb-true}
 use Rattle.roff_pages.specs.DeviceText.{device_lines}
 use Rattle.roff_pages.specs.Happenings.{Happening, Does}
-use Rattle.roff_pages.specs.Layout.{Box, Empty, Layout, page_place}
+use Rattle.roff_pages.specs.Layout.{Box, Layout, page_place}
 use Rattle.roff_pages.specs.Puts.{Put, boxes_put, ejected_if, puts}
-use Rattle.roff_pages.specs.Stops.{is_diverted, next_stop, page_target}
-use Rattle.roff_pages.specs.Turning.{behind_put, next_behind, page_begun, with_boxes}
+use Rattle.roff_pages.specs.Stops.{is_diverted, page_target}
+use Rattle.roff_pages.specs.Turning.{behind_put, next_behind, page_begun, with_boxes, with_event}
+use Rattle.roff_pages.specs.Springs.{goes_on}
 use Rattle.roff_pages.specs.declared.layout_event.LayoutEvent.TheVariants.{EjectLast}
-use Rattle.roff_pages.specs.declared.trap.Trap.{Trap}
 use Rattle.roff_run.specs.Environments.{PageHistory}
 use Rattle.roff_run.specs.Layouts.{layout_of}
 use Rattle.roff_run.specs.Output.{written}
@@ -63,33 +62,42 @@ so_far-eject_by h false is so_far writes goes =
       unended = λ goes. absurd (cc);
       ended = λ over. inl none;
       unbegun = so_far.unbegun;
-      traps = so_far.traps;
       diversions = so_far.diversions;
     }
 
-pub so_far-eject : (h : PageHistory) → (layout_of h).is_over ≡ false → IsSoFar h → IsSoFar (Page EjectLast ∷ h)
-so_far-eject h goes so_far keeps writes =
+pub so_far-eject_last : (h : PageHistory) → (layout_of h).is_over ≡ false → IsSoFar h → IsSoFar (Page EjectLast ∷ h)
+so_far-eject_last h goes so_far keeps writes =
     so_far-eject_by h (not ((layout_of h).begun == 0) && not (page_place (layout_of h) == 0)) refl (so_far keeps.1 writes.1) writes.1 goes
 
--- in the closing phase it ends, where no traps are planted
-over-turned : (full closing : Bool) (N : Layout) → full ≡ true → closing ≡ true
-    → (if full then (if closing then record N { is_over = true } else page_begun N) else N).is_over ≡ true
-over-turned true true N is closes = refl
-over-turned true false N is closes = absurd (cc)
-over-turned false closing N is closes = absurd (cc)
+-- in the closing phase no page begins by itself
+over-turned : (full closing : Bool) (N : Layout) → closing ≡ true
+    → (if full then (if closing then record N { is_over = true } else page_begun N) else N).begun ≡ N.begun
+over-turned true true N closes = refl
+over-turned true false N closes = absurd (cc)
+over-turned false closing N closes = refl
 
-pub eject-over : (some : Bool) (L : Layout) → L.traps ≡ [] → L.is_closing ≡ true
-    → let p : Option Put = ejected_if some (page_target L) in (behind_put (Does EjectLast) p (boxes_put (page_target L) p) L).is_over ≡ true
-eject-over false L none closes = refl
-eject-over true L none closes =
+-- so what doesn't go on there is over
+goes_by : (begun behind : ℕ) (over : Bool) → behind ≡ begun → ((behind == begun) && not over) ≡ false → over ≡ true
+goes_by begun behind over same stops = by_test over (ap (λ (c : Bool). c && not over) (sym (eq-eqb behind begun same)) ∙ stops)
+  where
+    by_test : (over : Bool) → (true && not over) ≡ false → over ≡ true
+    by_test true stops = refl
+    by_test false stops = absurd (cc)
+
+eject-over_by : (some : Bool) (L : Layout) → L.is_closing ≡ true
+    → let p : Option Put = ejected_if some (page_target L) in
+    let M : Layout = behind_put (Does EjectLast) p (boxes_put (page_target L) p) L in
+    (is_some p && ((M.begun == L.begun) && not M.is_over)) ≡ false → M.is_over ≡ true
+eject-over_by false L closes stops = refl
+eject-over_by true L closes stops =
     let x : Happening = Does EjectLast in
-    let place : ℕ = page_place L in
-    let stop : next_stop L.length place L.traps ≡ L.length = ap (λ (traps : List Trap). next_stop L.length place traps) none in
-    let way : ℕ = next_stop L.length place L.traps - place in
-    let boxes : List Box = replicate (min way way) Empty in
-    let N : Layout = with_boxes x boxes (record L { next = next_behind x L.next }) in
-    let size : length (boxes ++ L.boxes) ≡ min way way + place = length-append boxes L.boxes ∙ ap (λ n. n + place) (length-replicate {A = Box} (min way way) Empty) in
-    over-turned (nat_le N.length (page_place N)) N.is_closing N (le-leb N.length (page_place N) (omega (arith, size, stop))) closes
+    let p : Option Put = ejected_if true (page_target L) in
+    let N : Layout = with_boxes x (boxes_put (page_target L) p) (record L { next = next_behind x L.next }) in
+    let M : Layout = behind_put x p (boxes_put (page_target L) p) L in
+    goes_by L.begun M.begun M.is_over (over-turned (nat_le N.length (page_place N)) N.is_closing N closes) stops
+
+pub eject-over : (L : Layout) → L.is_closing ≡ true → goes_on (Does EjectLast) L ≡ false → (with_event (Does EjectLast) L).is_over ≡ true
+eject-over L closes stops = eject-over_by (not (L.begun == 0) && not (page_place L == 0)) L closes stops
 
 -- where the last page has ended the pages are whole
 lines-none : (lines : List PageLine) → length lines ≡ 0 → lines_text lines ≡ []
@@ -113,17 +121,3 @@ IsWhole h = KeepsLength h → WritesEachPage h → IsWholePages (layout_of h).le
 
 pub is_whole : (h : PageHistory) → (layout_of h).is_over ≡ true → IsSoFar h → IsWhole h
 is_whole h over so_far keeps writes = whole (layout_of h) (written h) (so_far keeps writes) over
-
--- where a page ends no trap is planted
-pub traps-turned : (full closing : Bool) (N : Layout) → (if full then (if closing then record N { is_over = true } else page_begun N) else N).traps ≡ N.traps
-traps-turned true true N = refl
-traps-turned true false N = refl
-traps-turned false closing N = refl
-
--- nor with the last page's eject
-pub traps-ejected : (some : Bool) (L : Layout)
-    → let p : Option Put = ejected_if some (page_target L) in (behind_put (Does EjectLast) p (boxes_put (page_target L) p) L).traps ≡ L.traps
-traps-ejected false L = refl
-traps-ejected true L =
-    let N : Layout = with_boxes (Does EjectLast) _ (record L { next = next_behind (Does EjectLast) L.next }) in
-    traps-turned (nat_le N.length (page_place N)) N.is_closing N

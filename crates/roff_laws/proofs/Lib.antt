@@ -1,8 +1,11 @@
 pub mod Beginnings
 pub mod PerformedOrStopped
+pub mod InputLeaving
+pub mod TrapsPlanted
 pub mod StepsAppend
 pub mod StepsOnlyCut
 pub mod RunsOnlyCut
+pub mod CountsWithin
 pub mod RunsStayWithin
 pub mod TitlesStayWithin
 pub mod TurnsNeeded
@@ -13,6 +16,7 @@ pub mod TextEvents
 pub mod MeantTitles
 pub mod ReadEvents
 pub mod Stages
+pub mod WaitingEvents
 pub mod Endings
 pub mod ResultsOnlyCut
 pub mod Taking
@@ -22,7 +26,12 @@ pub mod RunsAppend
 pub mod RegisterLaws
 pub mod RequestNames
 pub mod PagesSoFar
+pub mod PagesByRequests
+pub mod ClosingPhase
 pub mod LastPage
 pub mod PageRuns
 pub mod EnvironmentTurns
 pub mod SpringLaws
+pub mod TrapLaws
+pub mod PagesBegun
+pub mod EjectLaws

@@ -24,7 +24,7 @@ use Rattle.roff_run.specs.declared.title.TitlePart.TheVariants.{Left, Centre, Ri
 use Rattle.roff_arguments.specs.Arguments.{no_arguments}
 use Rattle.roff_run.specs.Requests.{request_effect}
 use Rattle.roff_run.specs.Requests.Effects.{Effect}
-use Rattle.roff_laws.proofs.MeantEvents.{Means, Means-if, ahead-calling_all, ahead-same}
+use Rattle.roff_laws.proofs.MeantEvents.{Stays, Means, Means-if, ahead-calling_all, ahead-same}
 use Rattle.roff_laws.proofs.RequestEvents.{meant-request_effect}
 use Rattle.roff_laws.proofs.TextEvents.{Means-asking, Means-no_unit_found}
 
@@ -36,55 +36,55 @@ Means-title_ended k i =
 
 -- an escape without a name
 Means-escape_in_title : (i : PageInput) (delimiter b : ℕ) (kind : Kind) → Means i.ahead (escape_in_title i delimiter b kind)
-Means-escape_in_title i delimiter b (Prints byte) = (tt, λ a. a)
-Means-escape_in_title i delimiter b Blank = (tt, λ a. a)
-Means-escape_in_title i delimiter b NoWidth = (tt, λ a. a)
-Means-escape_in_title i delimiter b GivesTab = (tt, λ a. a)
-Means-escape_in_title i delimiter b Interrupts = (tt, λ a. a)
-Means-escape_in_title i delimiter b Brace = (tt, λ a. a)
-Means-escape_in_title i delimiter b IsLeftOut = (tt, λ a. a)
-Means-escape_in_title i delimiter b GivesNothing = (tt, λ a. a)
-Means-escape_in_title i delimiter b BeginsComment = (tt, λ a. a)
-Means-escape_in_title i delimiter b BeginsSize = (tt, λ a. a)
-Means-escape_in_title i delimiter b (BeginsName purpose) = (tt, λ a. a)
-Means-escape_in_title i delimiter b (BeginsText OfMotion) = (tt, λ a. a)
-Means-escape_in_title i delimiter b (BeginsText (LeftOutText byte)) = (tt, λ a. a)
-Means-escape_in_title i delimiter b BeginsWidth = (tt, λ a. a)
+Means-escape_in_title i delimiter b (Prints byte) = (tt, Stays)
+Means-escape_in_title i delimiter b Blank = (tt, Stays)
+Means-escape_in_title i delimiter b NoWidth = (tt, Stays)
+Means-escape_in_title i delimiter b GivesTab = (tt, Stays)
+Means-escape_in_title i delimiter b Interrupts = (tt, Stays)
+Means-escape_in_title i delimiter b Brace = (tt, Stays)
+Means-escape_in_title i delimiter b IsLeftOut = (tt, Stays)
+Means-escape_in_title i delimiter b GivesNothing = (tt, Stays)
+Means-escape_in_title i delimiter b BeginsComment = (tt, Stays)
+Means-escape_in_title i delimiter b BeginsSize = (tt, Stays)
+Means-escape_in_title i delimiter b (BeginsName purpose) = (tt, Stays)
+Means-escape_in_title i delimiter b (BeginsText OfMotion) = (tt, Stays)
+Means-escape_in_title i delimiter b (BeginsText (LeftOutText byte)) = (tt, Stays)
+Means-escape_in_title i delimiter b BeginsWidth = (tt, Stays)
 
 -- a character, and a name
 Means-character_put : (i : PageInput) (delimiter : ℕ) (name text : Option (List ℕ)) → Means i.ahead (character_put i delimiter name text)
-Means-character_put i delimiter name (Some text) = (tt, λ a. a)
-Means-character_put i delimiter name None = (tt, λ a. a)
+Means-character_put i delimiter name (Some text) = (tt, Stays)
+Means-character_put i delimiter name None = (tt, Stays)
 
 Means-title_character : (i : PageInput) (delimiter : ℕ) (name : Option (List ℕ)) → Means i.ahead (title_character i delimiter name)
 Means-title_character i delimiter (Some name) = Means-character_put i delimiter (Some name) (character name)
-Means-title_character i delimiter None = (tt, λ a. a)
+Means-title_character i delimiter None = (tt, Stays)
 
 Means-title_name : (k : Known) (i : PageInput) (delimiter : ℕ) (purpose : NameUse) (name : Option (List ℕ)) → Means i.ahead (title_name k i delimiter purpose name)
 Means-title_name k i delimiter Character name = Means-title_character i delimiter name
-Means-title_name k i delimiter Font name = (tt, λ a. a)
-Means-title_name k i delimiter (NameLeftOut b) name = (tt, λ a. a)
+Means-title_name k i delimiter Font name = (tt, Stays)
+Means-title_name k i delimiter (NameLeftOut b) name = (tt, Stays)
 Means-title_name k i delimiter (Register step) name = Means-asking k i (InTitle delimiter) (Register step) name
 Means-title_name k i delimiter OfText name = Means-asking k i (InTitle delimiter) OfText name
 Means-title_name k i delimiter Argument name = Means-asking k i (InTitle delimiter) Argument name
 
 -- what was found of a part
 pub Means-title_found : (k : Known) (i : PageInput) (delimiter : ℕ) (found : Found) → Means i.ahead (title_found k i delimiter found)
-Means-title_found k i delimiter GoesOn = (tt, λ a. a)
-Means-title_found k i delimiter (GivesUnit (Byte b)) = Means-if i.ahead (b == newline) _ _ (Means-title_ended k i) (tt, λ a. a)
+Means-title_found k i delimiter GoesOn = (tt, Stays)
+Means-title_found k i delimiter (GivesUnit (Byte b)) = Means-if i.ahead (b == newline) _ _ (Means-title_ended k i) (tt, Stays)
 Means-title_found k i delimiter (GivesUnit (Kept b)) = Means-escape_in_title i delimiter b (escape_of b)
 Means-title_found k i delimiter (Escape b) = Means-escape_in_title i delimiter b (escape_of b)
-Means-title_found k i delimiter (Holds unit) = (tt, λ a. a)
+Means-title_found k i delimiter (Holds unit) = (tt, Stays)
 Means-title_found k i delimiter (Asks purpose name) = Means-title_name k i delimiter purpose name
-Means-title_found k i delimiter (Motion columns remark) = (tt, λ a. a)
+Means-title_found k i delimiter (Motion columns remark) = (tt, Stays)
 Means-title_found k i delimiter (Measures width) = Means-no_unit_found k i (InTitle delimiter) (Measures width)
-Means-title_found k i delimiter (Tells remark) = (tt, λ a. a)
-Means-title_found k i delimiter (Decides decision freed) = (tt, λ a. a)
+Means-title_found k i delimiter (Tells remark) = (tt, Stays)
+Means-title_found k i delimiter (Decides decision freed) = (tt, Stays)
 
 -- what was found in front of the parts
 Means-title_front_unit : (k : Known) (i : PageInput) (unit : CopyUnit) → Means i.ahead (title_front_unit k i unit)
-Means-title_front_unit k i (Byte b) = Means-if i.ahead (b == newline) _ _ (Means-title_ended k i) (Means-if i.ahead (b == blank) _ _ (tt, λ a. a) (tt, λ a. a))
-Means-title_front_unit k i (Kept b) = (tt, λ a. a)
+Means-title_front_unit k i (Byte b) = Means-if i.ahead (b == newline) _ _ (Means-title_ended k i) (Means-if i.ahead (b == blank) _ _ (tt, Stays) (tt, Stays))
+Means-title_front_unit k i (Kept b) = (tt, Stays)
 
 pub Means-title_front_found : (k : Known) (i : PageInput) (found : Found) → Means i.ahead (title_front_found k i found)
 Means-title_front_found k i (GivesUnit unit) = Means-title_front_unit k i unit
@@ -99,6 +99,6 @@ Means-title_front_found k i (Decides decision freed) = Means-no_unit_found k i T
 
 -- a delimiter
 pub Means-behind_part : (i : PageInput) (delimiter : ℕ) (part : TitlePart) → Means i.ahead (behind_part i delimiter part)
-Means-behind_part i delimiter Left = (tt, λ a. a)
-Means-behind_part i delimiter Centre = (tt, λ a. a)
-Means-behind_part i delimiter Right = (tt, λ a. a)
+Means-behind_part i delimiter Left = (tt, Stays)
+Means-behind_part i delimiter Centre = (tt, Stays)
+Means-behind_part i delimiter Right = (tt, Stays)

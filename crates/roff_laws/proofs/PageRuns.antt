@@ -1,34 +1,36 @@
 -- A run that is done wrote whole pages.
 --
 -- Each function f of the run has its lemma Writes-f here, with a line for each of its cases.
-use Rattle.std.proofs.Common.{◌≡◌, inl, ℕ, zero, suc, Bool, true, false, not, ◌&&◌, ◌||◌, List, [], ◌∷◌, ◌++◌, Option, Some, None, refl, sym, ◌∙◌, ap, subst, arith}
+use Rattle.std.proofs.Common.{◌≡◌, ◌⊎◌, inl, inr, ℕ, zero, suc, Bool, true, false, not, ◌&&◌, ◌||◌, List, [], ◌∷◌, ◌++◌, map, Option, Some, None, refl, sym, ◌∙◌, ap, subst, arith}
 use Rattle.roff_run.specs.Results.{last_state}
-use Rattle.std.specs.Prelude.{is_some, nat_le, if◌then◌else◌, ◌==◌}
+use Rattle.std.specs.Prelude.{is_some, if◌then◌else◌, ◌==◌}
 use Rattle.std.proofs.lemmas.Bool.{eqb-true}
-use Rattle.roff_lines.specs.Lines.{Finished, finished}
 use Rattle.roff_lines.specs.declared.event.Event.TheVariants.{WordEnd, Break}
 use Rattle.roff_num.specs.declared.limit.Limit.{Limit}
 use Rattle.roff_num.specs.declared.limits.Limits.{Limits}
 use Rattle.roff_num.specs.declared.num.Num.{Num}
-use Rattle.roff_ahead.specs.Input.{item_taken}
-use Rattle.roff_pages.specs.Happenings.{Places}
-use Rattle.roff_pages.specs.Layout.{Layout, page_place}
-use Rattle.roff_pages.specs.Turning.{page_begun, with_boxes}
+use Rattle.roff_ahead.specs.Input.{Ahead, DoAhead, item_taken}
+use Rattle.roff_pages.specs.Happenings.{Does}
+use Rattle.roff_pages.specs.Layout.{Layout}
+use Rattle.roff_pages.specs.Queries.{takes_text}
+use Rattle.roff_pages.specs.Springs.{goes_on}
+use Rattle.roff_pages.specs.Turning.{with_event}
+use Rattle.roff_pages.specs.declared.layout_event.LayoutEvent.{LayoutEvent}
 use Rattle.roff_pages.specs.declared.layout_event.LayoutEvent.TheVariants.{ListPages, Begin, Close, Space, Need, Eject, EjectTo, EjectOn, EjectLast, Length, Offset, Next, Number, NoSpace, Plant, Uproot, MoveTrap, RemoveTrap, DiversionTrap, NoDiversionTrap, Divert, EndDivert}
-use Rattle.roff_run.specs.Environments.{PageHistory, text_of}
+use Rattle.roff_run.specs.Environments.{PageHistory}
 use Rattle.roff_run.specs.Events.Lines.{closing_events}
-use Rattle.roff_run.specs.Layouts.{laid_out, layout_of}
+use Rattle.roff_run.specs.Layouts.{layout_of}
 use Rattle.roff_run.specs.Output.{written}
 use Rattle.roff_run.specs.Requests.{called_by}
 use Rattle.roff_run.specs.Requests.Effects.{page_numbered}
 use Rattle.roff_run.specs.Requests.Numbering.{number_of_page}
-use Rattle.roff_run.specs.Run.{State, after, initial, paged_state, phase_ended, step, step_with, unless_refused, with_registers}
+use Rattle.roff_run.specs.Run.{State, after, initial, paged_state, performing, phase_ended, step, step_with, unless_refused, with_registers}
 use Rattle.roff_run.specs.Run.Counts.{first_passed, names_counted}
-use Rattle.roff_run.specs.Springs.{begins, next, springs}
+use Rattle.roff_run.specs.Springs.{begins, left_if, left_of, next, page_begin_or}
 use Rattle.roff_run.specs.Starts.{history_given, pages_given, with_given}
 use Rattle.roff_run.specs.PageEvents.{PageEvent}
 use Rattle.roff_run.specs.Registers.{AllRegisters}
-use Rattle.roff_run.specs.Titles.{title_told, told}
+use Rattle.roff_run.specs.Titles.{put_back, title_told, told}
 use Rattle.roff_run.specs.declared.event.PageEvent.TheVariants.{Text, Page, Interrupt, Environment, Back, InputTrap as SetsTrap, Title}
 use Rattle.roff_run.specs.declared.phase.Phase.{Phase}
 use Rattle.roff_run.specs.declared.phase.Phase.TheVariants.{Reading, LastMacro, Closing}
@@ -39,45 +41,50 @@ use Rattle.roff_run.proofs.GivenPages.{keeps-given}
 use Rattle.roff_run.proofs.Readings.{ReadsOn, LimitStops, AheadTaken, ByteTaken, NoteTaken, HalfEnds, InputLeft, LineEnds, PhaseEnds, MessageTold, RunAborts, SourceFails, SourceStops, SprungRead, ReadsOn-with_sprung}
 use Rattle.roff_run.proofs.Behind.{Behind-ahead_taken, Behind-sprung_read}
 use Rattle.roff_laws.specs.PageLaws.{WritesWholePages}
+use Rattle.roff_laws.specs.TrapLaws.{IsAmong, IsPutBack, Waits}
+use Rattle.roff_laws.proofs.ClosingPhase.{closing-event}
 use Rattle.roff_laws.proofs.ComesBefore.{ComesBefore, NothingComes, PageComes, WordEndComes, comes_before}
-use Rattle.roff_laws.proofs.Endings.{at_last_state, step-ended, step-going}
-use Rattle.roff_laws.proofs.MeantEvents.{AreMeant, meant-first}
-use Rattle.roff_laws.proofs.LastPage.{IsWhole, eject-over, is_whole, so_far-eject, traps-ejected, traps-turned}
-use Rattle.roff_laws.proofs.PagesSoFar.{IsSoFar, so_far-begin, so_far-close, so_far-length, so_far-listed, so_far-next, so_far-nothing, so_far-number, so_far-offset, so_far-space, so_far-text, so_far-title}
-use Rattle.roff_laws.proofs.PerformedOrStopped.{PerformedOrStopped, Performed, Sprang, EndsOver, StoppedAt, first_of, left_of, performed_or_stopped}
-use Rattle.roff_laws.proofs.Stages.{Goes, IsOpen, Stage, Closes, Stage-event, Stage-given, Stage-paged, Stage-read, open-first}
+use Rattle.roff_laws.proofs.Endings.{at_last_state, not-ended, step-ended, step-going}
+use Rattle.roff_laws.proofs.InputLeaving.{IsLeft-left_in}
+use Rattle.roff_laws.proofs.MeantEvents.{AllMeant, AllMeantAhead, AreMeant, ahead-back, meant-back, meant-first}
+use Rattle.roff_laws.proofs.LastPage.{IsWhole, eject-over, is_whole, so_far-eject_last}
+use Rattle.roff_laws.proofs.PagesByRequests.{so_far-eject, so_far-eject_on, so_far-eject_to, so_far-move, so_far-need, so_far-no_space, so_far-plant, so_far-remove, so_far-space, so_far-uproot}
+use Rattle.roff_laws.proofs.PagesSoFar.{IsSoFar, so_far-begin, so_far-close, so_far-length, so_far-listed, so_far-next, so_far-nothing, so_far-number, so_far-offset, so_far-text, so_far-title}
+use Rattle.roff_laws.proofs.PerformedOrStopped.{PerformedOrStopped, Performed, Sprang, EndsOver, StoppedAt, first_of, left_behind, performed_or_stopped}
+use Rattle.roff_laws.proofs.Stages.{Goes, HasMeant, LaidOpen, Stage, Closes as StageCloses, Stage-given, Stage-paged, history-read, meant-last_called, meant-left, meant-performed, meant-read, open-first}
+use Rattle.roff_laws.proofs.WaitingEvents.{IsLost, RunEnds, StillWaits, WaitsStill, among-behind, among-front, back-among, back-behind, none_back, put_back_where_idle, waits-read}
 
--- behind an event that reading means, with nothing before it
-so_far-event : (rs : AllRegisters) (h : PageHistory) (e : PageEvent) → AreMeant (e ∷ []) → begins h e ≡ false
+-- behind an event that requests mean, with nothing before it
+so_far-event : (closing : Bool) (rs : AllRegisters) (h : PageHistory) (e : PageEvent) → AllMeant closing (e ∷ []) → begins h e ≡ false
     → (layout_of h).is_over ≡ false → IsSoFar h → IsSoFar (told rs e ∷ h)
-so_far-event rs h (Text e) meant none goes so_far = so_far-text h e none goes so_far
-so_far-event rs h (Interrupt untold) meant none goes so_far = λ keeps writes. so_far-nothing h (so_far keeps.1 writes.1)
-so_far-event rs h (Environment number) meant none goes so_far = λ keeps writes. so_far-nothing h (so_far keeps.1 writes.1)
-so_far-event rs h Back meant none goes so_far = λ keeps writes. so_far-nothing h (so_far keeps.1 writes.1)
-so_far-event rs h (SetsTrap trap) meant none goes so_far = λ keeps writes. so_far-nothing h (so_far keeps.1 writes.1)
-so_far-event rs h (Title which) meant none goes so_far = so_far-title h (title_told rs which) none goes so_far
-so_far-event rs h (Page (Space k)) meant none goes so_far = so_far-space h k none goes so_far
-so_far-event rs h (Page (Length k)) meant none goes so_far = so_far-length h k meant.0 goes so_far
-so_far-event rs h (Page (Number n)) meant none goes so_far = so_far-number h n so_far
-so_far-event rs h (Page (ListPages first last)) meant none goes so_far = absurd meant.0
-so_far-event rs h (Page Begin) meant none goes so_far = absurd meant.0
-so_far-event rs h (Page Close) meant none goes so_far = absurd meant.0
-so_far-event rs h (Page (Need k)) meant none goes so_far = absurd meant.0
-so_far-event rs h (Page (Eject asked)) meant none goes so_far = absurd meant.0
-so_far-event rs h (Page (EjectTo asked number)) meant none goes so_far = absurd meant.0
-so_far-event rs h (Page (EjectOn asked)) meant none goes so_far = absurd meant.0
-so_far-event rs h (Page EjectLast) meant none goes so_far = absurd meant.0
-so_far-event rs h (Page (Offset k)) meant none goes so_far = so_far-offset h k so_far
-so_far-event rs h (Page (Next n)) meant none goes so_far = so_far-next h n so_far
-so_far-event rs h (Page (NoSpace on)) meant none goes so_far = absurd meant.0
-so_far-event rs h (Page (Plant trap)) meant none goes so_far = absurd meant.0
-so_far-event rs h (Page (Uproot place)) meant none goes so_far = absurd meant.0
-so_far-event rs h (Page (MoveTrap name place)) meant none goes so_far = absurd meant.0
-so_far-event rs h (Page (RemoveTrap name)) meant none goes so_far = absurd meant.0
-so_far-event rs h (Page (DiversionTrap trap)) meant none goes so_far = absurd meant.0
-so_far-event rs h (Page NoDiversionTrap) meant none goes so_far = absurd meant.0
-so_far-event rs h (Page (Divert name appends)) meant none goes so_far = absurd meant.0
-so_far-event rs h (Page EndDivert) meant none goes so_far = absurd meant.0
+so_far-event closing rs h (Text e) meant none goes so_far = so_far-text h e none goes so_far
+so_far-event closing rs h (Interrupt untold) meant none goes so_far = λ keeps writes. so_far-nothing h (so_far keeps.1 writes.1)
+so_far-event closing rs h (Environment number) meant none goes so_far = λ keeps writes. so_far-nothing h (so_far keeps.1 writes.1)
+so_far-event closing rs h Back meant none goes so_far = λ keeps writes. so_far-nothing h (so_far keeps.1 writes.1)
+so_far-event closing rs h (SetsTrap trap) meant none goes so_far = λ keeps writes. so_far-nothing h (so_far keeps.1 writes.1)
+so_far-event closing rs h (Title which) meant none goes so_far = so_far-title h (title_told rs which) none goes so_far
+so_far-event closing rs h (Page (Space k)) meant none goes so_far = so_far-space h k none goes so_far
+so_far-event closing rs h (Page (Need k)) meant none goes so_far = so_far-need h k none goes so_far
+so_far-event closing rs h (Page (Eject asked)) meant none goes so_far = so_far-eject h asked meant.0 goes so_far
+so_far-event closing rs h (Page (EjectTo asked number)) meant none goes so_far = so_far-eject_to h asked number meant.0 goes so_far
+so_far-event closing rs h (Page (EjectOn asked)) meant none goes so_far = so_far-eject_on h asked meant.0 goes so_far
+so_far-event closing rs h (Page EjectLast) meant none goes so_far = so_far-eject_last h goes so_far
+so_far-event closing rs h (Page (Length k)) meant none goes so_far = so_far-length h k meant.0 goes so_far
+so_far-event closing rs h (Page (Number n)) meant none goes so_far = so_far-number h n so_far
+so_far-event closing rs h (Page (Offset k)) meant none goes so_far = so_far-offset h k so_far
+so_far-event closing rs h (Page (Next n)) meant none goes so_far = so_far-next h n so_far
+so_far-event closing rs h (Page (NoSpace on)) meant none goes so_far = so_far-no_space h on so_far
+so_far-event closing rs h (Page (Plant trap)) meant none goes so_far = so_far-plant h trap so_far
+so_far-event closing rs h (Page (Uproot place)) meant none goes so_far = so_far-uproot h place so_far
+so_far-event closing rs h (Page (MoveTrap name place)) meant none goes so_far = so_far-move h name place so_far
+so_far-event closing rs h (Page (RemoveTrap name)) meant none goes so_far = so_far-remove h name so_far
+so_far-event closing rs h (Page (ListPages first last)) meant none goes so_far = absurd meant.0
+so_far-event closing rs h (Page Begin) meant none goes so_far = absurd meant.0
+so_far-event closing rs h (Page Close) meant none goes so_far = absurd meant.0
+so_far-event closing rs h (Page (DiversionTrap trap)) meant none goes so_far = absurd meant.0
+so_far-event closing rs h (Page NoDiversionTrap) meant none goes so_far = absurd meant.0
+so_far-event closing rs h (Page (Divert name appends)) meant none goes so_far = absurd meant.0
+so_far-event closing rs h (Page EndDivert) meant none goes so_far = absurd meant.0
 
 -- where no text is taken no page was begun
 unbegun : (begun : ℕ) (diverting : Bool) → (not (begun == 0) || diverting) ≡ false → begun ≡ 0
@@ -95,193 +102,242 @@ so_far-first rs h e own (NothingComes none_begins) itself goes so_far = itself n
 so_far-first rs h e own (WordEndComes none_begins fewer) itself goes so_far = so_far-text h WordEnd none_begins goes so_far
 so_far-first rs h e own (PageComes none_begun fewer) itself goes so_far = so_far-begin h (unbegun (layout_of h).begun _ none_begun) goes so_far
 
--- the events that close a run, or the last of them: behind the first the layout is closing
-data Closing_events (L : Layout) : List PageEvent → Type 0 where
-  AtClose : Closing_events L closing_events
-  AtWordEnd : L.is_closing ≡ true → Closing_events L (Text WordEnd ∷ Text Break ∷ Page EjectLast ∷ [])
-  AtBreak : L.is_closing ≡ true → Closing_events L (Text Break ∷ Page EjectLast ∷ [])
-  AtEject : L.is_closing ≡ true → Closing_events L (Page EjectLast ∷ [])
+-- a run closes: the last page's eject is to come yet
+record IsClosing (s : State) : Type 0 where
+  going : s.ended ≡ None
+  phase : s.phase ≡ Closing
+  meant : HasMeant true s
+  waits : Waits (Page EjectLast) s
+  closing : (layout_of s.history).is_closing ≡ true
+  over : (layout_of s.history).is_over ≡ false
 
--- a line that is placed leaves it so, and so does the first page's beginning
-closing-turned : (full closing : Bool) (N : Layout) → (if full then (if closing then record N { is_over = true } else page_begun N) else N).is_closing ≡ N.is_closing
-closing-turned true true N = refl
-closing-turned true false N = refl
-closing-turned false closing N = refl
-
-closing-text : (x : Option Finished) (L : Layout) → (laid_out (elim x [ None ↦ None | Some line ↦ Some (Places line) ]) L).is_closing ≡ L.is_closing
-closing-text None L = refl
-closing-text (Some line) L =
-    let N : Layout = with_boxes (Places line) _ L in closing-turned (nat_le N.length (page_place N)) N.is_closing N
-
--- and plants no trap
-traps-text : (x : Option Finished) (L : Layout) → (laid_out (elim x [ None ↦ None | Some line ↦ Some (Places line) ]) L).traps ≡ L.traps
-traps-text None L = refl
-traps-text (Some line) L =
-    let N : Layout = with_boxes (Places line) _ L in traps-turned (nat_le N.length (page_place N)) N.is_closing N
-
-closing-same : (L M : Layout) (es : List PageEvent) → M.is_closing ≡ L.is_closing → Closing_events L es → Closing_events M es
-closing-same L M _ same AtClose = AtClose
-closing-same L M _ same (AtWordEnd is) = AtWordEnd (same ∙ is)
-closing-same L M _ same (AtBreak is) = AtBreak (same ∙ is)
-closing-same L M _ same (AtEject is) = AtEject (same ∙ is)
-
--- where a run stands: it reads, or it closes, or it has ended; where it is done its pages are whole
+-- where a run stands: it reads, or its closing begins, or it closes, or it has ended; where it is done its pages are whole
 data Written (s : State) : Type 0 where
-  Reads : s.ended ≡ None → (s.phase ≡ Closing → ⊥) → IsOpen s → IsSoFar s.history → Written s
-  ClosesAt : s.ended ≡ None → Closing_events (layout_of s.history) s.to_do → (layout_of s.history).is_over ≡ false → (layout_of s.history).traps ≡ []
+  Reads : s.ended ≡ None → (s.phase ≡ Closing → ⊥) → HasMeant false s → LaidOpen (layout_of s.history) → IsSoFar s.history → Written s
+  ClosesAt : s.ended ≡ None → s.phase ≡ Closing → s.to_do ≡ closing_events → s.input.ahead ≡ [] → (layout_of s.history).is_over ≡ false
       → IsSoFar s.history → Written s
+  Closes : IsClosing s → IsSoFar s.history → Written s
   Over : (status : Status) → s.ended ≡ Some status → (status ≡ Done → IsWhole s.history) → Written s
 
 -- an event is performed as a run reads
 reads-performed : (l : Limits) (e : PageEvent) (left : List PageEvent) (s t : State) → PerformedOrStopped l e left s t → s.ended ≡ None
-    → (s.phase ≡ Closing → ⊥) → Stage t → IsSoFar (told s.registers e ∷ s.history)
-    → ((layout_of (told s.registers e ∷ s.history)).is_over ≡ true → ⊥) → Written t
-reads-performed l e left s t (Performed allowed on none) going reads (Goes is) so_far goes = Reads going reads is so_far
-reads-performed l e left s t (Performed allowed on none) going reads (Closes phase ended) so_far goes = absurd (reads phase)
-reads-performed l e left s t (Sprang name allowed on some) going reads (Goes is) so_far goes = Reads going reads is so_far
-reads-performed l e left s t (Sprang name allowed on some) going reads (Closes phase ended) so_far goes = absurd (reads phase)
-reads-performed l e left s t (EndsOver allowed over) going reads stage so_far goes = absurd (goes over)
-reads-performed l e left s t (StoppedAt limit) going reads stage so_far goes = Over (Limited limit) refl (λ done. absurd (cc))
+    → (s.phase ≡ Closing → ⊥) → HasMeant false t → LaidOpen (layout_of (told s.registers e ∷ s.history)) → IsSoFar (told s.registers e ∷ s.history) → Written t
+reads-performed l e left s t (Performed allowed on none) going reads meant laid so_far = Reads going reads meant laid so_far
+reads-performed l e left s t (Sprang name allowed on some) going reads meant laid so_far = Reads going reads meant laid so_far
+reads-performed l e left s t (EndsOver allowed over) going reads meant laid so_far = let wrong : true ≡ false = sym over ∙ laid.over in absurd (cc)
+reads-performed l e left s t (StoppedAt limit) going reads meant laid so_far = Over (Limited limit) refl (λ done. absurd (cc))
 
--- what comes before one of those that close it
-own-closes : (l : Limits) (own e : PageEvent) (es : List PageEvent) (s t : State) → PerformedOrStopped l own (e ∷ es) s t → s.ended ≡ None
-    → let h : PageHistory = told s.registers own ∷ s.history in
-    Closing_events (layout_of h) (e ∷ es) → (layout_of h).traps ≡ [] → springs s.history (told s.registers own) ≡ None
-    → IsSoFar h → Written t
-own-closes l own e es s t (Performed allowed on none) going closing traps unsprung so_far = ClosesAt going closing on traps so_far
-own-closes l own e es s t (Sprang name allowed on some) going closing traps unsprung so_far = absurd (cc)
-own-closes l own e es s t (EndsOver allowed over) going closing traps unsprung so_far =
-    Over Done refl (λ done. is_whole (told s.registers own ∷ s.history) over so_far)
-own-closes l own e es s t (StoppedAt limit) going closing traps unsprung so_far = Over (Limited limit) refl (λ done. absurd (cc))
+-- the last page's eject is put back
+last_back : (left : List PageEvent) (items : List (Ahead PageEvent)) → IsAmong (Page EjectLast) left ⊎ IsPutBack (Page EjectLast) items
+    → IsPutBack (Page EjectLast) (map DoAhead (map put_back left) ++ items)
+last_back left items (inl among) = back-among (Page EjectLast) left items refl among
+last_back left items (inr back) = back-behind (Page EjectLast) (map put_back left) items back
 
--- one of them
-itself-closes : (l : Limits) (e : PageEvent) (es : List PageEvent) (s t : State) → PerformedOrStopped l e es s t → s.ended ≡ None
+-- an event is performed as a run closes: behind it the eject waits, unless the last page has ended
+closes-performed : (l : Limits) (e : PageEvent) (left : List PageEvent) (s t : State) → PerformedOrStopped l e left s t → s.ended ≡ None
+    → s.phase ≡ Closing → AllMeant true left → AllMeantAhead true s.input.ahead
     → let h : PageHistory = told s.registers e ∷ s.history in
-    ((layout_of h).is_over ≡ false → Closing_events (layout_of h) es) → (layout_of h).traps ≡ []
-    → springs s.history (told s.registers e) ≡ None → IsSoFar h → Written t
-itself-closes l e es s t (Performed allowed on none) going closing traps unsprung so_far = ClosesAt going (closing on) on traps so_far
-itself-closes l e es s t (Sprang name allowed on some) going closing traps unsprung so_far = absurd (cc)
-itself-closes l e es s t (EndsOver allowed over) going closing traps unsprung so_far =
+    ((layout_of h).is_over ≡ false → IsAmong (Page EjectLast) left ⊎ IsPutBack (Page EjectLast) s.input.ahead)
+    → (layout_of h).is_closing ≡ true → IsSoFar h → Written t
+closes-performed l e left s t (Performed allowed on none) going phase meant ahead waits closing so_far =
+    Closes (record { going = going; phase = phase; meant = record { to_do = meant; ahead = ahead }; waits = waits on; closing = closing; over = on }) so_far
+closes-performed l e left s t (Sprang name allowed on some) going phase meant ahead waits closing so_far =
+    Closes (record {
+      going = going;
+      phase = phase;
+      meant = record { to_do = tt; ahead = ahead-back true (map put_back left) s.input.ahead (meant-back true left meant) ahead };
+      waits = inr (last_back left s.input.ahead (waits on));
+      closing = closing;
+      over = on;
+    }) so_far
+closes-performed l e left s t (EndsOver allowed over) going phase meant ahead waits closing so_far =
     Over Done refl (λ done. is_whole (told s.registers e ∷ s.history) over so_far)
-itself-closes l e es s t (StoppedAt limit) going closing traps unsprung so_far = Over (Limited limit) refl (λ done. absurd (cc))
+closes-performed l e left s t (StoppedAt limit) going phase meant ahead waits closing so_far = Over (Limited limit) refl (λ done. absurd (cc))
 
--- no last page ends as a run reads
-no_end : (s : State) (e : PageEvent) (es : List PageEvent) → s.to_do ≡ e ∷ es → IsOpen s
-    → (layout_of (told s.registers (first_of (next s.history e) e) ∷ s.history)).is_over ≡ true → ⊥
-no_end s e es to_do is over =
-    let meant : AreMeant (e ∷ es) = subst AreMeant to_do is.to_do in
-    let laid = open-first s.registers s.history e (next s.history e) (comes_before s.history e) (meant-first e es meant) is.layout in
-    let wrong : true ≡ false = sym over ∙ laid.over in absurd (cc)
+-- the first of the events that close it
+none-closes : (takes : Bool) → page_begin_or (not takes && false) None ≡ None
+none-closes true = refl
+none-closes false = refl
 
--- something is to do as it closes
-none_closing : (L : Layout) (es : List PageEvent) → Closing_events L es → es ≡ [] → ⊥
-none_closing L _ AtClose none = absurd (cc)
-none_closing L _ (AtWordEnd is) none = absurd (cc)
-none_closing L _ (AtBreak is) none = absurd (cc)
-none_closing L _ (AtEject is) none = absurd (cc)
+begins-closing : (l : Limits) (s : State) → s.ended ≡ None → s.phase ≡ Closing → s.input.ahead ≡ [] → IsSoFar s.history
+    → Written (step_with l closing_events s)
+begins-closing l s going phase none so_far =
+    let rest : List PageEvent = Text WordEnd ∷ Text Break ∷ Page EjectLast ∷ [] in
+    let h : PageHistory = Page Close ∷ s.history in
+    subst (λ (own : Option PageEvent). Written (performing l own (Page Close) rest s)) (sym (none-closes (takes_text (layout_of s.history))))
+    (closes-performed l (Page Close) rest s _ (performed_or_stopped l None (Page Close) rest s) going phase (refl, tt)
+    (subst (AllMeantAhead true) (sym none) tt) (λ goes. inl (inr (inr (inl refl)))) refl (so_far-close s.history so_far))
 
--- by which of them it is
-itself-by : (l : Limits) (e : PageEvent) (es : List PageEvent) (s t : State) → begins s.history e ≡ false → Closing_events (layout_of s.history) (e ∷ es)
-    → PerformedOrStopped l e es s t → s.ended ≡ None → (layout_of s.history).is_over ≡ false → (layout_of s.history).traps ≡ [] → IsSoFar s.history → Written t
-itself-by l _ _ s t none AtClose done going goes traps so_far =
-    itself-closes l (Page Close) _ s t done going (λ on. AtWordEnd refl) traps refl (so_far-close s.history so_far)
-itself-by l _ _ s t none (AtWordEnd is) done going goes traps so_far =
-    let laid : Option Finished = finished (text_of s.history) WordEnd in
-    itself-closes l (Text WordEnd) _ s t done going (λ on. AtBreak (closing-text laid (layout_of s.history) ∙ is)) (traps-text laid (layout_of s.history) ∙ traps) refl
-    (so_far-text s.history WordEnd none goes so_far)
-itself-by l _ _ s t none (AtBreak is) done going goes traps so_far =
-    let laid : Option Finished = finished (text_of s.history) Break in
-    itself-closes l (Text Break) _ s t done going (λ on. AtEject (closing-text laid (layout_of s.history) ∙ is)) (traps-text laid (layout_of s.history) ∙ traps) refl
-    (so_far-text s.history Break none goes so_far)
-itself-by l _ _ s t none (AtEject is) done going goes traps so_far =
-    let L : Layout = layout_of s.history in
-    let over : (layout_of (Page EjectLast ∷ s.history)).is_over ≡ true = eject-over (not (L.begun == 0) && not (page_place L == 0)) L traps is in
-    itself-closes l (Page EjectLast) [] s t done going (λ on. let wrong : true ≡ false = sym over ∙ on in absurd (cc))
-    (traps-ejected (not (L.begun == 0) && not (page_place L == 0)) L ∙ traps) refl (so_far-eject s.history goes so_far)
+-- the last page's eject goes on, or the page has ended with it
+last_left : (goes over : Bool) → (goes ≡ false → over ≡ true) → over ≡ false → IsAmong (Page EjectLast) (left_if goes EjectLast)
+last_left true over ends on = inl refl
+last_left false over ends on = let wrong : true ≡ false = sym (ends refl) ∙ on in absurd (cc)
 
--- and by what comes before it
-closes-by : (l : Limits) (own : Option PageEvent) (e : PageEvent) (es : List PageEvent) (s t : State) → ComesBefore s.history e own
-    → Closing_events (layout_of s.history) (e ∷ es) → PerformedOrStopped l (first_of own e) (left_of own e es) s t → s.ended ≡ None
-    → (layout_of s.history).is_over ≡ false → (layout_of s.history).traps ≡ [] → IsSoFar s.history → Written t
-closes-by l own e es s t (NothingComes none_begins) closing done going goes traps so_far = itself-by l e es s t none_begins closing done going goes traps so_far
-closes-by l own e es s t (WordEndComes none_begins fewer) closing done going goes traps so_far =
+eject_left : (rs : AllRegisters) (h : PageHistory) (e : PageEvent) (es : List PageEvent) (items : List (Ahead PageEvent)) → (layout_of h).is_closing ≡ true
+    → (layout_of (told rs e ∷ h)).is_over ≡ false → IsAmong (Page EjectLast) (e ∷ es) ⊎ IsPutBack (Page EjectLast) items
+    → IsAmong (Page EjectLast) (left_of h (told rs e) ++ es) ⊎ IsPutBack (Page EjectLast) items
+eject_left rs h e es items closing on (inl (inl is)) =
+    let x : LayoutEvent = EjectLast in
+    let L : Layout = layout_of h in
+    let over : (layout_of (Page x ∷ h)).is_over ≡ false = subst (λ (first : PageEvent). (layout_of (told rs first ∷ h)).is_over ≡ false) is on in
+    let among : IsAmong (Page x) (left_of h (told rs (Page x))) =
+    last_left (goes_on (Does x) L) (with_event (Does x) L).is_over (λ stops. eject-over L closing stops) over in
+    inl (among-front (Page x) (left_of h (told rs e)) es (subst (λ (first : PageEvent). IsAmong (Page x) (left_of h (told rs first))) (sym is) among))
+eject_left rs h e es items closing on (inl (inr among)) = inl (among-behind (Page EjectLast) (left_of h (told rs e)) es among)
+eject_left rs h e es items closing on (inr back) = inr back
+
+-- the event is still to be done behind what comes before it
+still_to_do : (s : State) (e : PageEvent) (es : List PageEvent) → s.to_do ≡ e ∷ es → Waits (Page EjectLast) s
+    → IsAmong (Page EjectLast) (e ∷ es) ⊎ IsPutBack (Page EjectLast) s.input.ahead
+still_to_do s e es to_do (inl among) = inl (subst (IsAmong (Page EjectLast)) to_do among)
+still_to_do s e es to_do (inr back) = inr back
+
+own-closes : (l : Limits) (own e : PageEvent) (es : List PageEvent) (s t : State) → s.to_do ≡ e ∷ es → PerformedOrStopped l own (e ∷ es) s t → IsClosing s
+    → IsSoFar (told s.registers own ∷ s.history) → Written t
+own-closes l own e es s t to_do done is so_far =
+    closes-performed l own (e ∷ es) s t done is.going is.phase (subst (AllMeant true) to_do is.meant.to_do) is.meant.ahead
+    (λ on. still_to_do s e es to_do is.waits) (closing-event s.registers s.history own is.closing) so_far
+
+-- one of them, or of what macros mean, by what comes before it
+closes-by : (l : Limits) (own : Option PageEvent) (e : PageEvent) (es : List PageEvent) (s t : State) → s.to_do ≡ e ∷ es → ComesBefore s.history e own
+    → PerformedOrStopped l (first_of own e) (left_behind own e es s) s t → IsClosing s → IsSoFar s.history → Written t
+closes-by l own e es s t to_do (NothingComes none_begins) done is so_far =
+    let meant : AllMeant true (e ∷ es) = subst (AllMeant true) to_do is.meant.to_do in
+    closes-performed l e (left_behind None e es s) s t done is.going is.phase (meant-left true None e es s meant) is.meant.ahead
+    (λ on. eject_left s.registers s.history e es s.input.ahead is.closing on (still_to_do s e es to_do is.waits))
+    (closing-event s.registers s.history e is.closing)
+    (so_far-event true s.registers s.history e (meant-first true e es meant) none_begins is.over so_far)
+closes-by l own e es s t to_do (WordEndComes none_begins fewer) done is so_far =
     let h : PageHistory = s.history in
-    let laid : Option Finished = finished (text_of h) WordEnd in
-    own-closes l (Text WordEnd) e es s t done going (closing-same (layout_of h) (layout_of (Text WordEnd ∷ h)) (e ∷ es) (closing-text laid (layout_of h)) closing)
-    (traps-text laid (layout_of h) ∙ traps) refl (so_far-text h WordEnd none_begins goes so_far)
-closes-by l own e es s t (PageComes none_begun fewer) closing done going goes traps so_far =
+    own-closes l (Text WordEnd) e es s t to_do done is (so_far-text h WordEnd none_begins is.over so_far)
+closes-by l own e es s t to_do (PageComes none_begun fewer) done is so_far =
     let h : PageHistory = s.history in
-    own-closes l (Page Begin) e es s t done going (closing-same (layout_of h) (layout_of (Page Begin ∷ h)) (e ∷ es) refl closing) traps refl
-    (so_far-begin h (unbegun (layout_of h).begun _ none_begun) goes so_far)
+    own-closes l (Page Begin) e es s t to_do done is (so_far-begin h (unbegun (layout_of h).begun _ none_begun) is.over so_far)
 
 -- what was read of a run that goes on reading
-reads-on : (s t : State) → Stage t → t.history ≡ s.history → t.phase ≡ s.phase → t.ended ≡ s.ended → s.ended ≡ None → (s.phase ≡ Closing → ⊥)
-    → IsSoFar s.history → Written t
-reads-on s t (Goes is) history phase ended going reads so_far =
-    Reads (ended ∙ going) (λ closing. reads (sym phase ∙ closing)) is (subst IsSoFar (sym history) so_far)
-reads-on s t (Closes closing over) history phase ended going reads so_far = absurd (reads (sym phase ∙ closing))
+reads-phase : (phase : Phase) (s : State) → s.phase ≡ phase → s.to_do ≡ [] → s.input.ahead ≡ [] → s.ended ≡ None → (s.phase ≡ Closing → ⊥)
+    → HasMeant false s → LaidOpen (layout_of s.history) → IsSoFar s.history → Written (phase_ended phase s)
+reads-phase Reading s is idle none going reads meant laid so_far =
+    Reads going (λ closing. absurd (cc)) (record { to_do = meant.to_do; ahead = meant-last_called false s meant }) laid so_far
+reads-phase LastMacro s is idle none going reads meant laid so_far =
+    ClosesAt going refl (ap (λ (es : List PageEvent). closing_events ++ es) idle) none laid.over so_far
+reads-phase Closing s is idle none going reads meant laid so_far = absurd (reads is)
 
--- a phase ends: behind the last macro the run closes
-reads-phase : (phase : Phase) (s : State) → s.phase ≡ phase → s.to_do ≡ [] → s.ended ≡ None → (s.phase ≡ Closing → ⊥) → IsOpen s → Stage (phase_ended phase s)
-    → IsSoFar s.history → Written (phase_ended phase s)
-reads-phase Reading s is idle going reads opens (Goes there) so_far = Reads going (λ closing. absurd (cc)) there so_far
-reads-phase Reading s is idle going reads opens (Closes closing over) so_far = absurd (cc)
-reads-phase LastMacro s is idle going reads opens stage so_far =
-    ClosesAt going (subst (λ (es : List PageEvent). Closing_events (layout_of s.history) (closing_events ++ es)) (sym idle) AtClose)
-    opens.layout.over opens.layout.traps so_far
-reads-phase Closing s is idle going reads opens stage so_far = absurd (reads is)
+reads-on : (l : Limits) (s t : State) → ReadsOn l s t → t.phase ≡ s.phase → t.ended ≡ s.ended → s.to_do ≡ [] → s.ended ≡ None → (s.phase ≡ Closing → ⊥)
+    → HasMeant false s → LaidOpen (layout_of s.history) → IsSoFar s.history → Written t
+reads-on l s t read phase ended idle going reads meant laid so_far =
+    let same : t.history ≡ s.history = history-read l s t read in
+    elim (meant-read false l s t read meant) [
+      | inl behind ↦ Reads (ended ∙ going) (λ closing. reads (sym phase ∙ closing)) behind (subst (λ (h : PageHistory). LaidOpen (layout_of h)) (sym same) laid)
+          (subst IsSoFar (sym same) so_far)
+      | inr passed ↦ subst Written (sym passed.is) (reads-phase s.phase s refl idle passed.none going reads meant laid so_far)
+    ]
 
 -- what was read, or how the run ended
-Writes-read : (l : Limits) (s t : State) → ReadsOn l s t → s.to_do ≡ [] → s.ended ≡ None → (s.phase ≡ Closing → ⊥) → IsOpen s → Stage t → IsSoFar s.history
-    → Written t
-Writes-read l s t (LimitStops limit) idle going reads is stage so_far = Over (Limited limit) refl (λ done. absurd (cc))
-Writes-read l s t (AheadTaken item behind ahead charge is_made) idle going reads is stage so_far =
+Writes-read : (l : Limits) (s t : State) → ReadsOn l s t → s.to_do ≡ [] → s.ended ≡ None → (s.phase ≡ Closing → ⊥) → HasMeant false s
+    → LaidOpen (layout_of s.history) → IsSoFar s.history → Written t
+Writes-read l s t (LimitStops limit) idle going reads meant laid so_far = Over (Limited limit) refl (λ done. absurd (cc))
+Writes-read l s t (AheadTaken item behind ahead charge is_made) idle going reads meant laid so_far =
     let read = Behind-ahead_taken item (record s { input = item_taken item behind s.input }) in
-    reads-on s t stage read.history read.phase read.ended going reads so_far
-Writes-read l s t (ByteTaken b none is_open gives charge is_made) idle going reads is stage so_far = reads-on s t stage refl refl refl going reads so_far
-Writes-read l s t (NoteTaken message is_open gives) idle going reads is stage so_far = reads-on s t stage refl refl refl going reads so_far
-Writes-read l s t (HalfEnds first others half is_made) idle going reads is stage so_far = reads-on s t stage refl refl refl going reads so_far
-Writes-read l s t (PhaseEnds none half ends unfinished is_made) idle going reads is stage so_far = reads-phase s.phase s refl idle going reads is stage so_far
-Writes-read l s t (LineEnds unfinished none ends is_made) idle going reads is stage so_far = reads-on s t stage refl refl refl going reads so_far
-Writes-read l s t (MessageTold told is_made) idle going reads is stage so_far = reads-on s t stage refl refl refl going reads so_far
-Writes-read l s t (RunAborts told) idle going reads is stage so_far = Over Aborted refl (λ done. absurd (cc))
-Writes-read l s t (InputLeft leaves is_made) idle going reads is stage so_far = reads-on s t stage refl refl refl going reads so_far
-Writes-read l s t (SprungRead name sprung is_made) idle going reads is stage so_far =
-    let read = Behind-sprung_read (called_by name s.input.names) s in reads-on s t stage read.history read.phase read.ended going reads so_far
-Writes-read l s t (SourceFails is_open fails) idle going reads is stage so_far = Over Device refl (λ done. absurd (cc))
-Writes-read l s t (SourceStops limit is_open stops) idle going reads is stage so_far = Over (Limited limit) refl (λ done. absurd (cc))
+    reads-on l s t (AheadTaken item behind ahead charge is_made) read.phase read.ended idle going reads meant laid so_far
+Writes-read l s t (ByteTaken b none is_open gives charge is_made) idle going reads meant laid so_far =
+    reads-on l s t (ByteTaken b none is_open gives charge is_made) refl refl idle going reads meant laid so_far
+Writes-read l s t (NoteTaken message is_open gives) idle going reads meant laid so_far =
+    reads-on l s t (NoteTaken message is_open gives) refl refl idle going reads meant laid so_far
+Writes-read l s t (HalfEnds first others half is_made) idle going reads meant laid so_far =
+    reads-on l s t (HalfEnds first others half is_made) refl refl idle going reads meant laid so_far
+Writes-read l s t (PhaseEnds none half ends unfinished is_made) idle going reads meant laid so_far =
+    reads-phase s.phase s refl idle none going reads meant laid so_far
+Writes-read l s t (LineEnds unfinished none ends is_made) idle going reads meant laid so_far =
+    reads-on l s t (LineEnds unfinished none ends is_made) refl refl idle going reads meant laid so_far
+Writes-read l s t (MessageTold told is_made) idle going reads meant laid so_far = reads-on l s t (MessageTold told is_made) refl refl idle going reads meant laid so_far
+Writes-read l s t (RunAborts told) idle going reads meant laid so_far = Over Aborted refl (λ done. absurd (cc))
+Writes-read l s t (InputLeft leaves is_made) idle going reads meant laid so_far =
+    let left = IsLeft-left_in s.phase s in reads-on l s t (InputLeft leaves is_made) left.phase left.ended idle going reads meant laid so_far
+Writes-read l s t (SprungRead name sprung is_made) idle going reads meant laid so_far =
+    let read = Behind-sprung_read (called_by name s.input.names) s in
+    reads-on l s t (SprungRead name sprung is_made) read.phase read.ended idle going reads meant laid so_far
+Writes-read l s t (SourceFails is_open fails) idle going reads meant laid so_far = Over Device refl (λ done. absurd (cc))
+Writes-read l s t (SourceStops limit is_open stops) idle going reads meant laid so_far = Over (Limited limit) refl (λ done. absurd (cc))
+
+-- what was read as a run closes
+closes-still : (s t : State) → StillWaits (Page EjectLast) s t → t.history ≡ s.history → t.phase ≡ s.phase → t.ended ≡ s.ended → HasMeant true t → IsClosing s
+    → IsSoFar s.history → Written t
+closes-still s t (WaitsStill waits) same phase ended meant is so_far =
+    Closes (record {
+      going = ended ∙ is.going;
+      phase = phase ∙ is.phase;
+      meant = meant;
+      waits = waits;
+      closing = ap (λ (h : PageHistory). (layout_of h).is_closing) same ∙ is.closing;
+      over = ap (λ (h : PageHistory). (layout_of h).is_over) same ∙ is.over;
+    }) (subst IsSoFar (sym same) so_far)
+closes-still s t (RunEnds some) same phase ended meant is so_far = absurd (not-ended t.ended (ended ∙ is.going) some)
+closes-still s t (IsLost leaves reads) same phase ended meant is so_far = absurd (reads is.phase)
+
+closes-on : (l : Limits) (s t : State) → ReadsOn l s t → t.phase ≡ s.phase → t.ended ≡ s.ended → s.to_do ≡ [] → IsClosing s → IsSoFar s.history → Written t
+closes-on l s t read phase ended idle is so_far =
+    elim (meant-read true l s t read is.meant) [
+      | inl meant ↦
+          closes-still s t (waits-read (Page EjectLast) l s t read idle is.waits) (history-read l s t read) phase ended meant is so_far
+      | inr passed ↦ absurd (none_back (Page EjectLast) s.input.ahead passed.none (put_back_where_idle (Page EjectLast) s idle is.waits))
+    ]
+
+Closes-read : (l : Limits) (s t : State) → ReadsOn l s t → s.to_do ≡ [] → IsClosing s → IsSoFar s.history → Written t
+Closes-read l s t (LimitStops limit) idle is so_far = Over (Limited limit) refl (λ done. absurd (cc))
+Closes-read l s t (AheadTaken item behind ahead charge is_made) idle is so_far =
+    let read = Behind-ahead_taken item (record s { input = item_taken item behind s.input }) in
+    closes-on l s t (AheadTaken item behind ahead charge is_made) read.phase read.ended idle is so_far
+Closes-read l s t (ByteTaken b none is_open gives charge is_made) idle is so_far =
+    closes-on l s t (ByteTaken b none is_open gives charge is_made) refl refl idle is so_far
+Closes-read l s t (NoteTaken message is_open gives) idle is so_far = closes-on l s t (NoteTaken message is_open gives) refl refl idle is so_far
+Closes-read l s t (HalfEnds first others half is_made) idle is so_far = closes-on l s t (HalfEnds first others half is_made) refl refl idle is so_far
+Closes-read l s t (PhaseEnds none half ends unfinished is_made) idle is so_far =
+    absurd (none_back (Page EjectLast) s.input.ahead none (put_back_where_idle (Page EjectLast) s idle is.waits))
+Closes-read l s t (LineEnds unfinished none ends is_made) idle is so_far = closes-on l s t (LineEnds unfinished none ends is_made) refl refl idle is so_far
+Closes-read l s t (MessageTold told is_made) idle is so_far = closes-on l s t (MessageTold told is_made) refl refl idle is so_far
+Closes-read l s t (RunAborts told) idle is so_far = Over Aborted refl (λ done. absurd (cc))
+Closes-read l s t (InputLeft leaves is_made) idle is so_far =
+    let left = IsLeft-left_in s.phase s in closes-on l s t (InputLeft leaves is_made) left.phase left.ended idle is so_far
+Closes-read l s t (SprungRead name sprung is_made) idle is so_far =
+    let read = Behind-sprung_read (called_by name s.input.names) s in
+    closes-on l s t (SprungRead name sprung is_made) read.phase read.ended idle is so_far
+Closes-read l s t (SourceFails is_open fails) idle is so_far = Over Device refl (λ done. absurd (cc))
+Closes-read l s t (SourceStops limit is_open stops) idle is so_far = Over (Limited limit) refl (λ done. absurd (cc))
 
 -- a step of a run that reads
-Writes-reading : (l : Limits) (es : List PageEvent) (s : State) → s.to_do ≡ es → s.ended ≡ None → (s.phase ≡ Closing → ⊥) → IsOpen s → IsSoFar s.history
-    → Written (step_with l es s)
-Writes-reading l (e ∷ es) s to_do going reads is so_far =
+Writes-reading : (l : Limits) (es : List PageEvent) (s : State) → s.to_do ≡ es → s.ended ≡ None → (s.phase ≡ Closing → ⊥) → HasMeant false s
+    → LaidOpen (layout_of s.history) → IsSoFar s.history → Written (step_with l es s)
+Writes-reading l (e ∷ es) s to_do going reads is laid so_far =
     let own : Option PageEvent = next s.history e in
     let h : PageHistory = s.history in
     let done = performed_or_stopped l own e es s in
-    let meant : AreMeant (e ∷ es) = subst AreMeant to_do is.to_do in
+    let meant : AreMeant (e ∷ es) = subst (AllMeant false) to_do is.to_do in
+    let first : AreMeant (e ∷ []) = meant-first false e es meant in
     let written_on : IsSoFar (told s.registers (first_of own e) ∷ h) =
-    so_far-first s.registers h e own (comes_before h e)
-    (λ none. so_far-event s.registers h e (meant-first e es meant) none is.layout.over so_far) is.layout.over so_far in
-    reads-performed l (first_of own e) (left_of own e es) s _ done going reads (Stage-event l e es s _ to_do done (Goes is)) written_on
-    (λ over. no_end s e es to_do is over)
-Writes-reading l [] s to_do going reads is so_far =
-    let read = ReadsOn-with_sprung l s.sprung s refl in
-    Writes-read l s _ read to_do going reads is (Stage-read l s _ read (Goes is)) so_far
+    so_far-first s.registers h e own (comes_before h e) (λ none. so_far-event false s.registers h e first none laid.over so_far) laid.over so_far in
+    reads-performed l (first_of own e) (left_behind own e es s) s _ done going reads
+    (meant-performed false l (first_of own e) (left_behind own e es s) s _ done (meant-left false own e es s meant) is)
+    (open-first s.registers h e own (comes_before h e) first laid) written_on
+Writes-reading l [] s to_do going reads is laid so_far =
+    Writes-read l s _ (ReadsOn-with_sprung l s.sprung s refl) to_do going reads is laid so_far
 
--- one of a run that closes: something is to do
-Writes-closing : (l : Limits) (es : List PageEvent) (s : State) → s.to_do ≡ es → s.ended ≡ None → Closing_events (layout_of s.history) es
-    → (layout_of s.history).is_over ≡ false → (layout_of s.history).traps ≡ [] → IsSoFar s.history → Written (step_with l es s)
-Writes-closing l (e ∷ es) s to_do going closing goes traps so_far =
+-- one of a run that closes
+Writes-closing : (l : Limits) (es : List PageEvent) (s : State) → s.to_do ≡ es → IsClosing s → IsSoFar s.history → Written (step_with l es s)
+Writes-closing l (e ∷ es) s to_do is so_far =
     let own : Option PageEvent = next s.history e in
-    closes-by l own e es s _ (comes_before s.history e) closing (performed_or_stopped l own e es s) going goes traps so_far
-Writes-closing l [] s to_do going closing goes traps so_far = absurd (none_closing (layout_of s.history) [] closing refl)
+    closes-by l own e es s _ to_do (comes_before s.history e) (performed_or_stopped l own e es s) is so_far
+Writes-closing l [] s to_do is so_far = Closes-read l s _ (ReadsOn-with_sprung l s.sprung s refl) to_do is so_far
 
 -- a step
 Writes-step : (l : Limits) (s : State) → Written s → Written (step l s)
-Writes-step l s (Reads going reads is so_far) =
-    subst Written (sym (step-going l s going)) (Writes-reading l s.to_do s refl going reads is so_far)
-Writes-step l s (ClosesAt going closing goes traps so_far) =
-    subst Written (sym (step-going l s going)) (Writes-closing l s.to_do s refl going closing goes traps so_far)
+Writes-step l s (Reads going reads is laid so_far) =
+    subst Written (sym (step-going l s going)) (Writes-reading l s.to_do s refl going reads is laid so_far)
+Writes-step l s (ClosesAt going phase to_do none goes so_far) =
+    let first : Written (step_with l closing_events s) = begins-closing l s going phase none so_far in
+    subst Written (sym (step-going l s going)) (subst (λ (es : List PageEvent). Written (step_with l es s)) (sym to_do) first)
+Writes-step l s (Closes is so_far) =
+    subst Written (sym (step-going l s is.going)) (Writes-closing l s.to_do s refl is so_far)
 Writes-step l s (Over status ended whole) =
     subst Written (sym (step-ended l s (ap is_some ended))) (Over status ended whole)
 
@@ -298,9 +354,13 @@ Writes-unless_refused : (l : Limits) (r : Option Limit) (s done : State) → Wri
 Writes-unless_refused l None s done written = written
 Writes-unless_refused l (Some limit) s done written = Over (Limited limit) refl (λ done. absurd (cc))
 
+written-stage : (s : State) → Stage s → s.ended ≡ None → s.phase ≡ Reading → IsSoFar s.history → Written s
+written-stage s (Goes is laid) going reads so_far = Reads going (λ closing. let wrong : Reading ≡ Closing = sym reads ∙ closing in absurd (cc)) is laid so_far
+written-stage s (StageCloses phase ended) going reads so_far = let wrong : Reading ≡ Closing = sym reads ∙ phase in absurd (cc)
+
 Writes-with_registers : (l : Limits) (given : List (ℕ × Num)) (s : State) → s.ended ≡ None → s.phase ≡ Reading → Stage s → IsSoFar s.history
     → Written (with_registers l given s)
-Writes-with_registers l [] s going reads stage so_far = reads-on s s stage refl refl refl going (λ closing. let wrong : Reading ≡ Closing = sym reads ∙ closing in absurd (cc)) so_far
+Writes-with_registers l [] s going reads stage so_far = written-stage s stage going reads so_far
 Writes-with_registers l (first ∷ others) s going reads stage so_far =
     let behind : State = record s { registers = with_given first s.registers; history = history_given first s.history } in
     Writes-unless_refused l (first_passed l (names_counted behind.registers)) s _
@@ -318,7 +378,6 @@ so_far-blank keeps writes = record {
   unended = λ goes. omega arith;
   ended = λ over. inl refl;
   unbegun = λ none. (refl, refl);
-  traps = refl;
   diversions = refl;
 }
 
@@ -328,8 +387,9 @@ so_far-paged start = keeps-given IsSoFar so_far-listed (λ n h so_far. so_far-ne
 
 -- of one that is done the pages are whole
 done-whole : (s : State) → Written s → s.ended ≡ Some Done → IsWhole s.history
-done-whole s (Reads going reads is so_far) done = let wrong : None ≡ Some Done = sym going ∙ done in absurd (cc)
-done-whole s (ClosesAt going closing goes traps so_far) done = let wrong : None ≡ Some Done = sym going ∙ done in absurd (cc)
+done-whole s (Reads going reads is laid so_far) done = let wrong : None ≡ Some Done = sym going ∙ done in absurd (cc)
+done-whole s (ClosesAt going phase to_do none goes so_far) done = let wrong : None ≡ Some Done = sym going ∙ done in absurd (cc)
+done-whole s (Closes is so_far) done = let wrong : None ≡ Some Done = sym is.going ∙ done in absurd (cc)
 done-whole s (Over status ended whole) done = let same : Some status ≡ Some Done = sym ended ∙ done in whole (cc)
 
 pub writes_whole_pages : WritesWholePages

@@ -11,12 +11,12 @@ use Rattle.roff_num.specs.declared.num.Num.{Num}
 use Rattle.roff_pages.specs.DeviceText.{box_line, device_lines, device_text}
 use Rattle.roff_pages.specs.Happenings.{Happening, Does, Places, Titles}
 use Rattle.roff_pages.specs.Layout.{Box, Diversion, Layout, page_place}
-use Rattle.roff_pages.specs.Puts.{Put, appended, boxes_put, puts}
+use Rattle.roff_pages.specs.Puts.{Put, appended, puts}
 use Rattle.roff_pages.specs.Queries.{takes_text}
-use Rattle.roff_pages.specs.Stops.{is_diverted, target}
+use Rattle.roff_pages.specs.Stops.{is_diverted}
 use Rattle.roff_pages.specs.Turning.{behind_put, in_innermost, next_behind, page_begun, turned_if_full, with_boxes, with_event, with_range}
 use Rattle.roff_pages.specs.WholePages.{ends_page, keeps_length, page_boxes, sizes_behind}
-use Rattle.roff_pages.specs.declared.layout_event.LayoutEvent.TheVariants.{Begin, Close, Length, ListPages, Next, Number, Offset, Space}
+use Rattle.roff_pages.specs.declared.layout_event.LayoutEvent.TheVariants.{Begin, Close, Length, ListPages, Next, Number, Offset}
 use Rattle.roff_pages.proofs.WholePages.{all_full}
 use Rattle.roff_run.specs.Environments.{PageHistory, text_of}
 use Rattle.roff_run.specs.Layouts.{laid_out, layout_of, placed}
@@ -28,8 +28,7 @@ use Rattle.roff_run.specs.declared.title.WhichTitle.TheVariants.{Read}
 use Rattle.roff_laws.specs.PageLaws.{KeepsLength, PageLine, WritesEachPage, lines_text, pages_text}
 use Rattle.roff_laws.proofs.RunsStayWithin.{nothing_by_test}
 
--- whole pages, and the page in force: its lines, and that it is full where it was the last. No traps are planted, and no diversion is
--- goes.
+-- whole pages, and the page in force: its lines, and that it is full where it was the last; no diversion is open
 pub record SoFar (L : Layout) (text : List ℕ) : Type 0 where
   pub pages : List (List PageLine)
   pub page : List PageLine
@@ -40,7 +39,6 @@ pub record SoFar (L : Layout) (text : List ℕ) : Type 0 where
   pub unended : L.is_over ≡ false → page_place L < L.length
   pub ended : L.is_over ≡ true → (length page ≡ 0) ⊎ (length page ≡ L.length)
   pub unbegun : L.begun ≡ 0 → (pages ≡ []) × (L.boxes ≡ [])
-  pub traps : L.traps ≡ []
   pub diversions : L.diversions ≡ []
 
 -- lines of these boxes, behind this offset
@@ -63,7 +61,6 @@ record HasPut (L N : Layout) (more : List Box) : Type 0 where
   length : N.length ≡ L.length
   begun : N.begun ≡ L.begun
   over : N.is_over ≡ false
-  traps : N.traps ≡ []
   diversions : N.diversions ≡ []
   full : nat_le N.length (page_place N) ≡ true → page_place N ≡ N.length
 
@@ -82,7 +79,6 @@ so_far-turned true true L N text boxes pages page put some begun full written si
   unended = λ goes. absurd (cc);
   ended = λ over. inr (size ∙ put.full is);
   unbegun = λ at_first. absurd (begun at_first);
-  traps = put.traps;
   diversions = put.diversions;
 }
 so_far-turned true false L N text boxes pages page put some begun full written size is = record {
@@ -95,7 +91,6 @@ so_far-turned true false L N text boxes pages page put some begun full written s
   unended = λ goes. some;
   ended = λ over. let wrong : true ≡ false = sym over ∙ put.over in absurd (cc);
   unbegun = λ at_first. absurd (omega (arith, at_first));
-  traps = put.traps;
   diversions = put.diversions;
 }
 so_far-turned false closing L N text boxes pages page put some begun full written size is = record {
@@ -108,7 +103,6 @@ so_far-turned false closing L N text boxes pages page put some begun full writte
   unended = λ goes. leb-false N.length (page_place N) is;
   ended = λ over. let wrong : true ≡ false = sym over ∙ put.over in absurd (cc);
   unbegun = λ at_first. absurd (begun at_first);
-  traps = put.traps;
   diversions = put.diversions;
 }
 
@@ -181,7 +175,6 @@ so_far-happening x (Some p) L text is some so_far on =
       length = refl;
       begun = refl;
       over = on.goes;
-      traps = so_far.traps;
       diversions = ap (λ (diverted : Bool). if diverted then in_innermost boxes L.diversions else L.diversions) on.on_page ∙ so_far.diversions;
       full = fills_page;
     } in
@@ -206,7 +199,7 @@ some_begun L none takes at_first =
     let wrong : true ≡ false = sym takes ∙ first ∙ second in absurd (cc)
 
 -- an event that needs a page finds one
-finds_page : (takes needs : Bool) → (not takes && needs) ≡ false → needs ≡ true → takes ≡ true
+pub finds_page : (takes needs : Bool) → (not takes && needs) ≡ false → needs ≡ true → takes ≡ true
 finds_page true needs none is = refl
 finds_page false needs none is = let wrong : true ≡ false = sym is ∙ none in absurd (cc)
 
@@ -228,14 +221,14 @@ needs-finished h Resume is = is
 needs-finished h (Set param) is = is
 
 -- a happening on the page in force
-on_page : (x : Happening) (h : PageHistory) → SoFar (layout_of h) (written h) → WritesEachPage h → (layout_of h).is_over ≡ false
+pub on_page : (x : Happening) (h : PageHistory) → SoFar (layout_of h) (written h) → WritesEachPage h → (layout_of h).is_over ≡ false
     → takes_text (layout_of h) ≡ true → is_diverted x (layout_of h) ≡ false → keeps_length x ≡ true → OnPage x (layout_of h)
 on_page x h so_far writes goes takes there keeps =
     let begun : (layout_of h).begun ≡ 0 → ⊥ = some_begun (layout_of h) so_far.diversions takes in
     record { goes = goes; begun = begun; listed = listed h writes begun; on_page = there; keeps = keeps }
 
 -- nothing is diverted
-not_diverted : (x : Bool) (L : Layout) → L.diversions ≡ [] → not (x || is_empty L.diversions) ≡ false
+pub not_diverted : (x : Bool) (L : Layout) → L.diversions ≡ [] → not (x || is_empty L.diversions) ≡ false
 not_diverted true L none = refl
 not_diverted false L none = ap (λ (ds : List Diversion). not (is_empty ds)) none
 
@@ -263,15 +256,14 @@ so_far-title h t none goes so_far keeps writes =
     (on_page x h before writes.1 goes (finds_page (takes_text (layout_of h)) true none refl) (not_diverted false (layout_of h) before.diversions) refl)
 
 -- a layout that changed nothing of its page
-record IsAlike (L M : Layout) : Type 0 where
-  boxes : M.boxes ≡ L.boxes
-  length : M.length ≡ L.length
-  over : M.is_over ≡ L.is_over
-  begun : M.begun ≡ L.begun
-  traps : M.traps ≡ L.traps
-  diversions : M.diversions ≡ []
+pub record IsAlike (L M : Layout) : Type 0 where
+  pub boxes : M.boxes ≡ L.boxes
+  pub length : M.length ≡ L.length
+  pub over : M.is_over ≡ L.is_over
+  pub begun : M.begun ≡ L.begun
+  pub diversions : M.diversions ≡ []
 
-so_far-alike : (L M : Layout) (text more : List ℕ) → more ≡ [] → IsAlike L M → SoFar L text → SoFar M (text ++ more)
+pub so_far-alike : (L M : Layout) (text more : List ℕ) → more ≡ [] → IsAlike L M → SoFar L text → SoFar M (text ++ more)
 so_far-alike L M text more silent alike so_far = record {
   pages = so_far.pages;
   page = so_far.page;
@@ -286,7 +278,6 @@ so_far-alike L M text more silent alike so_far = record {
       omega (arith, before, place, alike.length);
   ended = λ over. subst (λ (n : ℕ). (length so_far.page ≡ 0) ⊎ (length so_far.page ≡ n)) (sym alike.length) (so_far.ended (sym alike.over ∙ over));
   unbegun = λ at_first. let none = so_far.unbegun (sym alike.begun ∙ at_first) in (none.0, alike.boxes ∙ none.1);
-  traps = alike.traps ∙ so_far.traps;
   diversions = alike.diversions;
 }
 
@@ -300,7 +291,7 @@ so_far-number h n so_far keeps writes =
     let L : Layout = layout_of h in
     let before : SoFar L (written h) = so_far keeps.1 writes.1 in
     so_far-alike L (record L { number = n }) (written h) _ (nothing_by_test (is_diverted (Does (Number n)) L || not L.is_listed) L.offset)
-    (record { boxes = refl; length = refl; over = refl; begun = refl; traps = refl; diversions = before.diversions }) before
+    (record { boxes = refl; length = refl; over = refl; begun = refl; diversions = before.diversions }) before
 
 -- the next page's, the page offset, and the pages that are written
 pub so_far-next : (h : PageHistory) (n : Num) → IsSoFar h → IsSoFar (Page (Next n) ∷ h)
@@ -308,7 +299,7 @@ so_far-next h n so_far keeps writes =
     let L : Layout = layout_of h in
     let before : SoFar L (written h) = so_far keeps.1 writes.1 in
     so_far-alike L (record L { next = Some n }) (written h) _ (nothing_by_test (is_diverted (Does (Next n)) L || not L.is_listed) L.offset)
-    (record { boxes = refl; length = refl; over = refl; begun = refl; traps = refl; diversions = before.diversions }) before
+    (record { boxes = refl; length = refl; over = refl; begun = refl; diversions = before.diversions }) before
 
 pub so_far-offset : (h : PageHistory) (columns : ℕ) → IsSoFar h → IsSoFar (Page (Offset columns) ∷ h)
 so_far-offset h columns so_far keeps writes =
@@ -316,7 +307,7 @@ so_far-offset h columns so_far keeps writes =
     let before : SoFar L (written h) = so_far keeps.1 writes.1 in
     so_far-alike L (record L { offset = columns; previous_offset = L.offset }) (written h) _
     (nothing_by_test (is_diverted (Does (Offset columns)) L || not L.is_listed) L.offset)
-    (record { boxes = refl; length = refl; over = refl; begun = refl; traps = refl; diversions = before.diversions }) before
+    (record { boxes = refl; length = refl; over = refl; begun = refl; diversions = before.diversions }) before
 
 pub so_far-listed : (first last : Num) (h : PageHistory) → IsSoFar h → IsSoFar (Page (ListPages first last) ∷ h)
 so_far-listed first last h so_far keeps writes =
@@ -324,14 +315,14 @@ so_far-listed first last h so_far keeps writes =
     let before : SoFar L (written h) = so_far keeps.1 writes.1 in
     so_far-alike L (record L { ranges = with_range (first, last) L.ranges }) (written h) _
     (nothing_by_test (is_diverted (Does (ListPages first last)) L || not L.is_listed) L.offset)
-    (record { boxes = refl; length = refl; over = refl; begun = refl; traps = refl; diversions = before.diversions }) before
+    (record { boxes = refl; length = refl; over = refl; begun = refl; diversions = before.diversions }) before
 
 -- the beginning of the closing phase
 pub so_far-close : (h : PageHistory) → IsSoFar h → IsSoFar (Page Close ∷ h)
 so_far-close h so_far keeps writes =
     let L : Layout = layout_of h in
     so_far-alike L (record L { diversions = []; is_closing = true }) (written h) _ (nothing_by_test (is_diverted (Does Close) L || not L.is_listed) L.offset)
-    (record { boxes = refl; length = refl; over = refl; begun = refl; traps = refl; diversions = refl }) (so_far keeps.1 writes.1)
+    (record { boxes = refl; length = refl; over = refl; begun = refl; diversions = refl }) (so_far keeps.1 writes.1)
 
 -- the page length, which is set before the first page
 pub so_far-length : (h : PageHistory) (k : ℕ) → 0 < k → (layout_of h).is_over ≡ false → IsSoFar h → IsSoFar (Page (Length k) ∷ h)
@@ -351,7 +342,6 @@ so_far-length h k some goes so_far keeps writes =
       unended = λ goes. omega (arith, place, some);
       ended = λ over. inl (before.size ∙ place);
       unbegun = λ at_first. (refl, none.1);
-      traps = before.traps;
       diversions = before.diversions;
     }
 
@@ -372,27 +362,5 @@ so_far-begin h at_first goes so_far keeps writes =
       unended = λ goes. before.some;
       ended = λ over. inl (before.size ∙ place);
       unbegun = λ none. absurd (omega (arith, none));
-      traps = before.traps;
       diversions = before.diversions;
     }
-
--- space that is asked for
-so_far-space_by : (h : PageHistory) (k : ℕ) (p : Option Put) → puts (Does (Space k)) (layout_of h) ≡ p → SoFar (layout_of h) (written h) → WritesEachPage h
-    → (layout_of h).is_over ≡ false → takes_text (layout_of h) ≡ true
-    → SoFar (behind_put (Does (Space k)) p (boxes_put (target (Does (Space k)) (layout_of h)) p) (layout_of h))
-    (written h ++ (if is_diverted (Does (Space k)) (layout_of h) || not (layout_of h).is_listed then [] else device_lines (layout_of h).offset (boxes_put (target (Does (Space k)) (layout_of h)) p)))
-so_far-space_by h k None is so_far writes goes takes =
-    let L : Layout = layout_of h in
-    so_far-alike L L (written h) _ (nothing_by_test (is_diverted (Does (Space k)) L || not L.is_listed) L.offset)
-    (record { boxes = refl; length = refl; over = refl; begun = refl; traps = refl; diversions = so_far.diversions }) so_far
-so_far-space_by h k (Some p) is so_far writes goes takes =
-    let x : Happening = Does (Space k) in
-    let L : Layout = layout_of h in
-    let done = so_far-happening x (Some p) L (written h) is refl so_far
-    (on_page x h so_far writes goes takes (not_diverted false L so_far.diversions) refl) in
-    subst (λ (q : Option Put). SoFar (behind_put x (Some p) (boxes_put (target x L) q) L)
-    (written h ++ (if is_diverted x L || not L.is_listed then [] else device_lines L.offset (boxes_put (target x L) q)))) is done
-
-pub so_far-space : (h : PageHistory) (k : ℕ) → begins h (Page (Space k)) ≡ false → (layout_of h).is_over ≡ false → IsSoFar h → IsSoFar (Page (Space k) ∷ h)
-so_far-space h k none goes so_far keeps writes =
-    so_far-space_by h k (puts (Does (Space k)) (layout_of h)) refl (so_far keeps.1 writes.1) writes.1 goes (finds_page (takes_text (layout_of h)) true none refl)

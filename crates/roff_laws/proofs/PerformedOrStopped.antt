@@ -1,26 +1,24 @@
 -- The step at an event has few outcomes. What is proved of each of them holds of it, however events are counted.
-use Rattle.std.proofs.Common.{◌≡◌, Bool, true, false, List, [], ◌∷◌, map, Option, Some, None, refl}
+use Rattle.std.proofs.Common.{◌≡◌, Bool, true, false, List, [], ◌∷◌, map, Option, Some, None, refl, sym, ◌∙◌, ap}
+use Rattle.std.specs.Prelude.{is_some}
+use Rattle.roff_pages.specs.Happenings.{Does}
+use Rattle.roff_pages.specs.Springs.{goes_on}
+use Rattle.roff_pages.specs.declared.layout_event.LayoutEvent.{LayoutEvent}
+use Rattle.roff_pages.proofs.WholePages.{waits}
+use Rattle.roff_run.specs.Registers.{AllRegisters}
+use Rattle.roff_run.specs.declared.event.PageEvent.TheVariants.{Text, Page, Interrupt, Environment, Back, InputTrap as SetsTrap, Title}
 use Rattle.roff_num.specs.declared.limit.Limit.{Limit}
 use Rattle.roff_num.specs.declared.limits.Limits.{Limits}
 use Rattle.roff_num.specs.declared.short_name.ShortName.{ShortName}
 use Rattle.roff_ahead.specs.Input.{putting_all_back}
-use Rattle.roff_run.specs.PageEvents.{PageEvent}
+use Rattle.roff_run.specs.PageEvents.{PageEvent, PageHistory}
 use Rattle.roff_run.specs.Output.{layout_of}
 use Rattle.roff_run.specs.Run.{State, done_if, ending_as, stopped_by, unless_refused, performed, performing, sprung_at}
 use Rattle.roff_run.specs.Run.Counts.{refusal}
-use Rattle.roff_run.specs.Springs.{springs}
+use Rattle.roff_run.specs.Springs.{left_if, left_of, springs}
 use Rattle.roff_run.specs.Titles.{keeping, put_back, told}
 use Rattle.roff_run.specs.declared.status.Status.TheVariants.{Done}
-
--- the event that is performed: what comes before one, or that one
-abbrev pub first_of : Option PageEvent → PageEvent → PageEvent
-first_of None e = e
-first_of (Some own) e = own
-
--- those that are left behind it
-abbrev pub left_of : Option PageEvent → PageEvent → List PageEvent → List PageEvent
-left_of None e rest = rest
-left_of (Some own) e rest = e ∷ rest
+pub use Rattle.roff_laws.specs.SpringLaws.{first_of, left_behind}
 
 -- An event was performed, which no limit refuses, and these are left; or it sprang a macro, and they are put back; or the last page
 -- ended with it, and so did the run; or a limit stopped the run at it.
@@ -67,6 +65,26 @@ by_refusal l e left s (Some limit) refused = StoppedAt limit
 
 -- what comes before an event that is to be performed, or that one, is performed, or a limit stops the run
 pub performed_or_stopped : (l : Limits) (own : Option PageEvent) (e : PageEvent) (rest : List PageEvent) (s : State)
-    → PerformedOrStopped l (first_of own e) (left_of own e rest) s (performing l own e rest s)
-performed_or_stopped l None e rest s = by_refusal l e rest s (refusal l s.history (told s.registers e)) refl
+    → PerformedOrStopped l (first_of own e) (left_behind own e rest s) s (performing l own e rest s)
+performed_or_stopped l None e rest s = by_refusal l e (left_behind None e rest s) s (refusal l s.history (told s.registers e)) refl
 performed_or_stopped l (Some own) e rest s = by_refusal l own (e ∷ rest) s (refusal l s.history (told s.registers own)) refl
+
+-- what isn't one of an eject that goes on leaves nothing of itself where it springs nothing
+left_if-none : (goes : Bool) (e : LayoutEvent) → (goes ≡ true → ⊥) → left_if goes e ≡ []
+left_if-none true e stops = absurd (stops refl)
+left_if-none false e stops = refl
+
+unsprung-waits : (e : LayoutEvent) (h : PageHistory) → springs h (Page e) ≡ None → goes_on (Does e) (layout_of h) ≡ true → ⊥
+unsprung-waits e h none goes =
+    let some : is_some (springs h (Page e)) ≡ true = waits (Does e) (layout_of h) goes in
+    let wrong : true ≡ false = sym some ∙ ap (λ (name : Option ShortName). is_some name) none in
+    absurd (cc)
+
+pub left_of-none : (rs : AllRegisters) (e : PageEvent) (h : PageHistory) → springs h (told rs e) ≡ None → left_of h (told rs e) ≡ []
+left_of-none rs (Page e) h none = left_if-none (goes_on (Does e) (layout_of h)) e (unsprung-waits e h none)
+left_of-none rs (Text e) h none = refl
+left_of-none rs (Interrupt untold) h none = refl
+left_of-none rs (Environment number) h none = refl
+left_of-none rs Back h none = refl
+left_of-none rs (SetsTrap trap) h none = refl
+left_of-none rs (Title which) h none = refl

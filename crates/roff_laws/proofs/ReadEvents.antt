@@ -48,7 +48,7 @@ use Rattle.roff_run.specs.declared.request.LineReading.TheVariants.{ByArguments,
 use Rattle.roff_run.specs.declared.request.LinesFor.{LinesFor}
 use Rattle.roff_run.specs.declared.request.LinesFor.TheVariants.{Macro, Nobody}
 use Rattle.roff_run.specs.declared.request.Request.{Request}
-use Rattle.roff_laws.proofs.MeantEvents.{AreMeant, AreMeantAhead, Means, Means-if, Means-same, ahead-called, ahead-calling_all, ahead-definition_dropped, ahead-definition_grown, ahead-holding_call, ahead-interrupted, ahead-result, ahead-same, ahead-string_begun, ahead-string_emptied, ahead-string_entered, ahead-string_grown}
+use Rattle.roff_laws.proofs.MeantEvents.{Stays, AreMeant, Grows, Means, Means-if, Means-same, ahead-called, ahead-calling_all, ahead-definition_dropped, ahead-definition_grown, ahead-holding_call, ahead-interrupted, ahead-result, ahead-same, ahead-string_begun, ahead-string_emptied, ahead-string_entered, ahead-string_grown}
 use Rattle.roff_lines.specs.Words.{is_empty}
 use Rattle.roff_laws.proofs.MeantTitles.{Means-behind_part, Means-title_ended, Means-title_found, Means-title_front_found}
 use Rattle.roff_laws.proofs.TextEvents.{meant-line_end, Means-text_found, Means-beginning_found, Means-no_unit_found}
@@ -56,13 +56,13 @@ use Rattle.roff_laws.proofs.RequestEvents.{meant-request_effect}
 
 -- the end of a request's line
 Means-definition_named : (i : PageInput) (appends : Bool) (name : Option (Option ShortName)) (end : Option ShortName) → Means i.ahead (definition_named i appends name end)
-Means-definition_named i appends None end = (tt, λ a. a)
-Means-definition_named i appends (Some None) end = (tt, λ a. a)
-Means-definition_named i appends (Some (Some name)) end = (tt, λ a. a)
+Means-definition_named i appends None end = (tt, Stays)
+Means-definition_named i appends (Some None) end = (tt, Stays)
+Means-definition_named i appends (Some (Some name)) end = (tt, Stays)
 
 Means-lines_begun : (i : PageInput) (lines : LinesFor) (as_given : List (List ℕ)) → Means i.ahead (lines_begun i lines as_given)
 Means-lines_begun i (Macro appends) as_given = Means-definition_named i appends (name_at 0 as_given) (name_or_none (name_at 1 as_given))
-Means-lines_begun i Nobody as_given = (tt, λ a. a)
+Means-lines_begun i Nobody as_given = (tt, Stays)
 
 Means-line_ended : (k : Known) (i : PageInput) (breaks : Bool) (request : Request) → Means i.ahead (line_ended k i breaks request)
 Means-line_ended k i breaks request =
@@ -81,8 +81,8 @@ Means-arguments_ended k i breaks request (ByString appends) = Means-line_ended k
 
 Means-unit_found : (k : Known) (i : PageInput) (breaks : Bool) (request : Request) (unit : CopyUnit) → Means i.ahead (unit_found k i breaks request unit)
 Means-unit_found k i breaks request (Byte b) =
-    Means-if i.ahead (b == newline) _ _ (Means-arguments_ended k i breaks request (row_of request).line) (tt, λ a. a)
-Means-unit_found k i breaks request (Kept b) = (tt, λ a. a)
+    Means-if i.ahead (b == newline) _ _ (Means-arguments_ended k i breaks request (row_of request).line) (tt, Stays)
+Means-unit_found k i breaks request (Kept b) = (tt, Stays)
 
 Means-arguments_found : (k : Known) (i : PageInput) (breaks : Bool) (request : Request) (found : Found) → Means i.ahead (arguments_found k i breaks request found)
 Means-arguments_found k i breaks request (GivesUnit unit) = Means-unit_found k i breaks request unit
@@ -97,8 +97,8 @@ Means-arguments_found k i breaks request (Decides decision freed) = Means-no_uni
 
 -- a branch
 Means-skipping_taking : (i : PageInput) (opened closed : ℕ) (behind : Bool) (b : ℕ) → Means i.ahead (skipping_taking i opened closed behind b)
-Means-skipping_taking i opened closed true b = (tt, λ a. a)
-Means-skipping_taking i opened closed false b = Means-if i.ahead (b == backslash) _ _ (tt, λ a. a) (Means-if i.ahead (b == newline && nat_le opened closed) _ _ (tt, λ a. a) (tt, λ a. a))
+Means-skipping_taking i opened closed true b = (tt, Stays)
+Means-skipping_taking i opened closed false b = Means-if i.ahead (b == backslash) _ _ (tt, Stays) (Means-if i.ahead (b == newline && nat_le opened closed) _ _ (tt, Stays) (tt, Stays))
 
 Means-branch_taking : (k : Known) (i : PageInput) (so : Bool) (b : ℕ) → Means i.ahead (branch_taking k i so b)
 Means-branch_taking k i true b =
@@ -106,7 +106,7 @@ Means-branch_taking k i true b =
 Means-branch_taking k i false b = Means-skipping_taking i 0 0 false b
 
 Means-decided : (k : Known) (i : PageInput) (so : Bool) (freed : Option ℕ) → Means i.ahead (decided k i so freed)
-Means-decided k i so None = (tt, λ a. a)
+Means-decided k i so None = (tt, Stays)
 Means-decided k i so (Some b) = Means-branch_taking k i so b
 
 Means-condition_found : (k : Known) (i : PageInput) (keeps : Bool) (found : Found) → Means i.ahead (condition_found k i keeps found)
@@ -132,16 +132,16 @@ Means-condition_begun k i keeps b =
 Means-string_unit : (i : PageInput) (name : Option ShortName) (appends is_front : Bool) (unit : CopyUnit) → Means i.ahead (string_unit i name appends is_front unit)
 Means-string_unit i name appends is_front (Byte b) =
     Means-if i.ahead (b == newline) _ _ (tt, ahead-same (ahead-string_entered name appends i))
-    (Means-if i.ahead (is_front && b == blank) _ _ (tt, λ a. a)
-    (Means-if i.ahead (is_front && b == quote) _ _ (tt, λ a. a) (tt, ahead-same (ahead-string_grown name (Byte b) i))))
+    (Means-if i.ahead (is_front && b == blank) _ _ (tt, Stays)
+    (Means-if i.ahead (is_front && b == quote) _ _ (tt, Stays) (tt, ahead-same (ahead-string_grown name (Byte b) i))))
 Means-string_unit i name appends is_front (Kept b) = (tt, ahead-same (ahead-string_grown name (Kept b) i))
 
 Means-string_line_ended : (i : PageInput) (appends : Bool) (name : Option (Option ShortName)) → Means i.ahead (string_line_ended i appends name)
-Means-string_line_ended i appends None = (tt, λ a. a)
+Means-string_line_ended i appends None = (tt, Stays)
 Means-string_line_ended i appends (Some name) = (tt, ahead-same (ahead-string_emptied name appends (record i { arguments = no_arguments })))
 
 Means-string_name_behind : (i : PageInput) (appends : Bool) (name : Option (Option ShortName)) → Means i.ahead (string_name_behind i appends name)
-Means-string_name_behind i appends None = (tt, λ a. a)
+Means-string_name_behind i appends None = (tt, Stays)
 Means-string_name_behind i appends (Some name) = (tt, ahead-same (ahead-string_begun name i))
 
 Means-string_name_or_text : (i : PageInput) (appends : Bool) (unit : CopyUnit) (name : Option (Option ShortName)) → Means i.ahead (string_name_or_text i appends unit name)
@@ -181,8 +181,8 @@ Means-string_text_found k i name appends is_front (Decides decision freed) = Mea
 
 -- a message
 Means-message_unit : (i : PageInput) (aborts is_front : Bool) (unit : CopyUnit) → Means i.ahead (message_unit i aborts is_front unit)
-Means-message_unit i aborts is_front (Byte b) = Means-if i.ahead (b == newline) _ _ (tt, λ a. a) (Means-if i.ahead (is_front && b == blank) _ _ (tt, λ a. a) (tt, λ a. a))
-Means-message_unit i aborts is_front (Kept b) = (tt, λ a. a)
+Means-message_unit i aborts is_front (Byte b) = Means-if i.ahead (b == newline) _ _ (tt, Stays) (Means-if i.ahead (is_front && b == blank) _ _ (tt, Stays) (tt, Stays))
+Means-message_unit i aborts is_front (Kept b) = (tt, Stays)
 
 Means-message_found : (k : Known) (i : PageInput) (aborts is_front : Bool) (found : Found) → Means i.ahead (message_found k i aborts is_front found)
 Means-message_found k i aborts is_front (GivesUnit unit) = Means-message_unit i aborts is_front unit
@@ -234,35 +234,35 @@ Means-called_taking : (k : Known) (i : PageInput) (breaks : Bool) (called : Call
 Means-called_taking k i breaks (ARequest request) b = Means-line_taking k i breaks request (row_of request).line b
 Means-called_taking k i breaks (ABody name) b =
     let read = byte_read AboveArguments i.escapes b in Means-call_found k (record i { escapes = read.1 }) name read.0
-Means-called_taking k i breaks Unknown b = (tt, λ a. a)
+Means-called_taking k i breaks Unknown b = (tt, Stays)
 
 Means-name_ended_taking : (k : Known) (i : PageInput) (breaks : Bool) (name : ShortName) (b : ℕ) → Means i.ahead (name_ended_taking k i breaks name b)
 Means-name_ended_taking k i breaks name b = Means-called_taking k i breaks (called_by name i.names) b
 
 -- the last byte of a name of two bytes
 Means-behind_name : (i : PageInput) (breaks : Bool) (request : Request) (line : LineReading) → Means i.ahead (behind_name i breaks request line)
-Means-behind_name i breaks request ByArguments = (tt, λ a. a)
-Means-behind_name i breaks request (ByCondition keeps) = (tt, λ a. a)
-Means-behind_name i breaks request (ByString appends) = (tt, λ a. a)
-Means-behind_name i breaks request ByLastLine = (tt, λ a. a)
-Means-behind_name i breaks request (ByMessage aborts) = (tt, λ a. a)
-Means-behind_name i breaks request (ByLines lines) = (tt, λ a. a)
-Means-behind_name i breaks request ByElse = (tt, λ a. a)
-Means-behind_name i breaks request ByTitle = (tt, λ a. a)
+Means-behind_name i breaks request ByArguments = (tt, Stays)
+Means-behind_name i breaks request (ByCondition keeps) = (tt, Stays)
+Means-behind_name i breaks request (ByString appends) = (tt, Stays)
+Means-behind_name i breaks request ByLastLine = (tt, Stays)
+Means-behind_name i breaks request (ByMessage aborts) = (tt, Stays)
+Means-behind_name i breaks request (ByLines lines) = (tt, Stays)
+Means-behind_name i breaks request ByElse = (tt, Stays)
+Means-behind_name i breaks request ByTitle = (tt, Stays)
 
 Means-behind_called : (i : PageInput) (breaks : Bool) (called : Called) → Means i.ahead (behind_called i breaks called)
 Means-behind_called i breaks (ARequest request) = Means-behind_name i breaks request (row_of request).line
-Means-behind_called i breaks (ABody name) = (tt, λ a. a)
-Means-behind_called i breaks Unknown = (tt, λ a. a)
+Means-behind_called i breaks (ABody name) = (tt, Stays)
+Means-behind_called i breaks Unknown = (tt, Stays)
 
 -- a definition
 Means-behind_definition : (k : Known) (i : PageInput) (end : Option ShortName) (b : ℕ) → Means i.ahead (behind_definition k i end b)
-Means-behind_definition k i None b = (tt, λ a. a)
+Means-behind_definition k i None b = (tt, Stays)
 Means-behind_definition k i (Some name) b = Means-name_ended_taking k (beginning_line i) true name b
 
 Means-definition_unit : (k : Known) (i : PageInput) (name : Option ShortName) (appends : Bool) (end : Option ShortName) (front : List ℕ) (unit : CopyUnit) (line : DefinitionLine)
     → Means i.ahead (definition_unit k i name appends end front unit line)
-Means-definition_unit k i name appends end front unit (MayBeLast matched) = (tt, λ a. a)
+Means-definition_unit k i name appends end front unit (MayBeLast matched) = (tt, Stays)
 Means-definition_unit k i name appends end front unit (IsLast b) =
     Means-same (behind_definition k (string_entered name appends i) end b) (ahead-string_entered name appends i)
     (Means-behind_definition k (string_entered name appends i) end b)
@@ -295,12 +295,12 @@ Means-found_in k i (StringText name appends is_front) found = Means-string_text_
 Means-found_in k i (Telling aborts is_front) found = Means-message_found k i aborts is_front found
 Means-found_in k i (Calling name) found = Means-call_found k i name found
 Means-found_in k i (Defining name appends end matched) found = Means-definition_found k i name appends end matched found
-Means-found_in k i (Control breaks) found = (tt, λ a. a)
-Means-found_in k i (Name breaks first) found = (tt, λ a. a)
-Means-found_in k i (Skipping opened closed behind) found = (tt, λ a. a)
-Means-found_in k i Dropped found = (tt, λ a. a)
-Means-found_in k i (Told aborts) found = (tt, λ a. a)
-Means-found_in k i Exiting found = (tt, λ a. a)
+Means-found_in k i (Control breaks) found = (tt, Stays)
+Means-found_in k i (Name breaks first) found = (tt, Stays)
+Means-found_in k i (Skipping opened closed behind) found = (tt, Stays)
+Means-found_in k i Dropped found = (tt, Stays)
+Means-found_in k i (Told aborts) found = (tt, Stays)
+Means-found_in k i Exiting found = (tt, Stays)
 Means-found_in k i TitleFront found = Means-title_front_found k i found
 Means-found_in k i (InTitle delimiter) found = Means-title_found k i delimiter found
 
@@ -316,14 +316,14 @@ Means-title_read k i delimiter b true = Means-behind_part i delimiter k.register
 Means-title_read k i delimiter b false = Means-read k (InTitle delimiter) i b
 
 Means-undropped_taking : (k : Known) (reading : LineState) (i : PageInput) (b : ℕ) → Means i.ahead (undropped_taking k reading i b)
-Means-undropped_taking k (Control breaks) i b = Means-if i.ahead (b == blank || b == tab) _ _ (tt, λ a. a) (Means-if i.ahead (ends_name b) _ _ (tt, λ a. a) (tt, λ a. a))
+Means-undropped_taking k (Control breaks) i b = Means-if i.ahead (b == blank || b == tab) _ _ (tt, Stays) (Means-if i.ahead (ends_name b) _ _ (tt, Stays) (tt, Stays))
 Means-undropped_taking k (Name breaks first) i b =
     Means-if i.ahead (ends_name b) _ _ (Means-name_ended_taking k i breaks (record { first = first; second = None }) b)
     (Means-behind_called i breaks (called_by (record { first = first; second = Some b }) i.names))
 Means-undropped_taking k (Skipping opened closed behind) i b = Means-skipping_taking i opened closed behind b
-Means-undropped_taking k Dropped i b = (tt, λ a. a)
-Means-undropped_taking k (Told aborts) i b = (tt, λ a. a)
-Means-undropped_taking k Exiting i b = (tt, λ a. a)
+Means-undropped_taking k Dropped i b = (tt, Stays)
+Means-undropped_taking k (Told aborts) i b = (tt, Stays)
+Means-undropped_taking k Exiting i b = (tt, Stays)
 Means-undropped_taking k TitleFront i b = Means-read k TitleFront i b
 Means-undropped_taking k (InTitle delimiter) i b = Means-title_read k i delimiter b (is_empty i.escapes && b == delimiter)
 Means-undropped_taking k LineStart i b = Means-read k LineStart i b
@@ -354,19 +354,19 @@ meant-interrupted_end (Some line) = meant-line_end line
 
 -- an unfinished line that does
 pub Means-end_taking : (k : Known) (reading : LineState) (i : PageInput) → Means i.ahead (end_taking k reading i)
-Means-end_taking k LineStart i = (meant-interrupted_end k.interrupted, λ a. a)
-Means-end_taking k Braced i = (meant-interrupted_end k.interrupted, λ a. a)
-Means-end_taking k (Control breaks) i = (meant-interrupted_end k.interrupted, λ a. a)
-Means-end_taking k (Deciding keeps) i = (meant-interrupted_end k.interrupted, λ a. a)
+Means-end_taking k LineStart i = (meant-interrupted_end k.interrupted, Stays)
+Means-end_taking k Braced i = (meant-interrupted_end k.interrupted, Stays)
+Means-end_taking k (Control breaks) i = (meant-interrupted_end k.interrupted, Stays)
+Means-end_taking k (Deciding keeps) i = (meant-interrupted_end k.interrupted, Stays)
 Means-end_taking k (StringName appends) i =
     (meant-interrupted_end k.interrupted, (Means-string_line_ended i appends (name_at 0 (arguments_given i))).1)
 Means-end_taking k (StringText name appends is_front) i = (meant-interrupted_end k.interrupted, ahead-same (ahead-string_entered name appends i))
-Means-end_taking k (Skipping opened closed behind) i = (meant-interrupted_end k.interrupted, λ a. a)
-Means-end_taking k Dropped i = (meant-interrupted_end k.interrupted, λ a. a)
-Means-end_taking k (Told aborts) i = (meant-interrupted_end k.interrupted, λ a. a)
+Means-end_taking k (Skipping opened closed behind) i = (meant-interrupted_end k.interrupted, Stays)
+Means-end_taking k Dropped i = (meant-interrupted_end k.interrupted, Stays)
+Means-end_taking k (Told aborts) i = (meant-interrupted_end k.interrupted, Stays)
 Means-end_taking k TitleFront i = Means-undropped_taking k TitleFront i newline
 Means-end_taking k (InTitle delimiter) i = Means-title_ended k i
-Means-end_taking k Exiting i = (meant-interrupted_end k.interrupted, λ a. a)
+Means-end_taking k Exiting i = (meant-interrupted_end k.interrupted, Stays)
 Means-end_taking k (Defining name appends end matched) i = (tt, ahead-same (ahead-definition_dropped name i))
 Means-end_taking k Branch i = Means-undropped_taking k Branch i newline
 Means-end_taking k (InText line) i = Means-undropped_taking k (InText line) i newline
@@ -376,11 +376,11 @@ Means-end_taking k (Calling name) i = Means-undropped_taking k (Calling name) i 
 Means-end_taking k (Telling aborts is_front) i = Means-undropped_taking k (Telling aborts is_front) i newline
 
 -- the body of the last macro
-ahead-called_last : (called : Called) (i : PageInput) → AreMeantAhead i.ahead → AreMeantAhead (called_last called i).ahead
+ahead-called_last : (called : Called) (i : PageInput) → Grows i.ahead (called_last called i).ahead
 ahead-called_last (ABody name) i = ahead-called (called_text (body_named (name_bytes name) i)) 0 i.ahead
-ahead-called_last (ARequest request) i = λ a. a
-ahead-called_last Unknown i = λ a. a
+ahead-called_last (ARequest request) i = Stays
+ahead-called_last Unknown i = Stays
 
-pub ahead-last_called : (name : Option ShortName) (i : PageInput) → AreMeantAhead i.ahead → AreMeantAhead (last_called name i).ahead
-ahead-last_called None i = λ a. a
+pub ahead-last_called : (name : Option ShortName) (i : PageInput) → Grows i.ahead (last_called name i).ahead
+ahead-last_called None i = Stays
 ahead-last_called (Some name) i = ahead-called_last (called_by name i.names) i

@@ -14,7 +14,8 @@ use Rattle.roff_run.proofs.Readings.{ReadsOn, LimitStops, AheadTaken, ByteTaken,
 use Rattle.roff_run.proofs.Behind.{Behind-ahead_taken, Behind-sprung_read}
 use Rattle.roff_laws.specs.Refusals.{DoesNothing, RefusedStepsDoNothing}
 use Rattle.roff_laws.proofs.Endings.{step-going}
-use Rattle.roff_laws.proofs.PerformedOrStopped.{PerformedOrStopped, Performed, Sprang, EndsOver, StoppedAt, first_of, left_of, performed_or_stopped}
+use Rattle.roff_laws.proofs.InputLeaving.{IsLeft-left_in}
+use Rattle.roff_laws.proofs.PerformedOrStopped.{PerformedOrStopped, Performed, Sprang, EndsOver, StoppedAt, first_of, left_behind, performed_or_stopped}
 
 -- a state in which the run ended by a limit, if it did, is one in which nothing else was done
 abbrev IsRefusal : Limits → State → State → Type 0
@@ -49,7 +50,7 @@ IsRefusal-read l s t (PhaseEnds none half ends unfinished is_made) going = IsRef
 IsRefusal-read l s t (LineEnds unfinished none ends is_made) going = IsRefusal-going l s t going
 IsRefusal-read l s t (MessageTold told is_made) going = IsRefusal-going l s t going
 IsRefusal-read l s t (RunAborts told) going = λ limit ended. absurd (cc)
-IsRefusal-read l s t (InputLeft leaves is_made) going = IsRefusal-going l s t going
+IsRefusal-read l s t (InputLeft leaves is_made) going = IsRefusal-going l s t ((IsLeft-left_in s.phase s).ended ∙ going)
 IsRefusal-read l s t (SprungRead name sprung is_made) going =
     IsRefusal-going l s t ((Behind-sprung_read (called_by name s.input.names) s).ended ∙ going)
 IsRefusal-read l s t (SourceFails is_open fails) going = λ limit ended. absurd (cc)
@@ -68,7 +69,7 @@ IsRefusal-event l e es s t (StoppedAt limit) going = IsRefusal-stopped l limit s
 IsRefusal-step_with : (l : Limits) (es : List PageEvent) (s : State) → s.ended ≡ None → IsRefusal l s (step_with l es s)
 IsRefusal-step_with l (e ∷ es) s going =
     let own : Option PageEvent = next s.history e in
-    IsRefusal-event l (first_of own e) (left_of own e es) s _ (performed_or_stopped l own e es s) going
+    IsRefusal-event l (first_of own e) (left_behind own e es s) s _ (performed_or_stopped l own e es s) going
 IsRefusal-step_with l [] s going =
     IsRefusal-read l s _ (ReadsOn-with_sprung l s.sprung s refl) going
 

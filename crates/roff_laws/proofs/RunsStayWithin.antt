@@ -1,11 +1,9 @@
 -- No step passes a limit.
 --
 -- Each function f of the run has its lemma IsWithin-f here, with a line for each of its cases.
-use Rattle.std.proofs.Common.{◌≡◌, ◌≤◌, ◌+◌, ℕ, zero, suc, Bool, true, false, not, ◌||◌, List, [], ◌∷◌, ◌++◌, Option, Some, None, inl, inr, refl, sym, ap, subst, ◌∙◌, arith, append-nil, length-append, map}
-use Rattle.std.specs.Prelude.{length, nat_lt, if◌then◌else◌}
-use Rattle.std.proofs.lemmas.Bool.{cases_Bool}
+use Rattle.std.proofs.Common.{◌≡◌, ◌≤◌, ◌+◌, ℕ, zero, suc, Bool, true, false, not, ◌||◌, List, [], ◌∷◌, ◌++◌, Option, Some, None, refl, sym, ap, subst, ◌∙◌, arith, append-nil, length-append, map}
+use Rattle.std.specs.Prelude.{length, if◌then◌else◌}
 use Rattle.roff_num.specs.declared.limit.Limit.{Limit}
-use Rattle.roff_num.specs.LimitValues.{value_of}
 use Rattle.roff_num.specs.declared.limits.Limits.{Limits}
 use Rattle.roff_run.specs.Environments.{PageHistory, Environments, environments, first_environments, gone_back, is_same, turned, turned_to, turned_unless}
 use Rattle.roff_run.specs.declared.environment_number.EnvironmentNumber.{EnvironmentNumber}
@@ -18,16 +16,25 @@ use Rattle.roff_run.specs.Titles.{keeping, put_back, told, with_title_kept}
 use Rattle.roff_run.specs.declared.event.PageEvent.TheVariants.{Text, Page, Interrupt, Environment, Back, InputTrap as SetsTrap, Title}
 use Rattle.roff_run.specs.declared.title.WhichTitle.TheVariants.{Read, Kept}
 use Rattle.roff_run.specs.Run.{State, initial, paged_state, grown, moved, stopped_by, unless_refused, with_registers, step_with, step, after}
-use Rattle.roff_run.specs.Output.{happens, layout_of, text_laid, written}
+use Rattle.roff_run.specs.Layouts.{placed}
+use Rattle.roff_run.specs.Output.{happens, layout_of, text_laid, text_of, written}
 use Rattle.roff_run.specs.Run.Counts.{counts, first_passed, names_counted, placed_counted, refusal, written_counted}
-use Rattle.roff_laws.proofs.PerformedOrStopped.{PerformedOrStopped, Performed, Sprang, EndsOver, StoppedAt, first_of, left_of, performed_or_stopped}
+use Rattle.roff_laws.proofs.TrapsPlanted.{length-with_first, length-without_first, traps-placed, traps-put}
+use Rattle.roff_laws.proofs.CountsWithin.{AllWithin, counts_within, last_within}
+use Rattle.roff_laws.proofs.InputLeaving.{IsLeft-left_in}
+use Rattle.roff_laws.proofs.PerformedOrStopped.{PerformedOrStopped, Performed, Sprang, EndsOver, StoppedAt, first_of, left_behind, performed_or_stopped}
 use Rattle.roff_run.proofs.Readings.{IsMade, ReadsOn, LimitStops, AheadTaken, ByteTaken, NoteTaken, HalfEnds, InputLeft, LineEnds, PhaseEnds, MessageTold, RunAborts, SourceFails, SourceStops, SprungRead, ReadsOn-with_sprung, within}
 use Rattle.roff_run.proofs.Behind.{Behind-byte_taken, Behind-sprung_read, Behind-ahead_taken, Behind-escape_ends, Behind-line_ends, Passed-phase_ended}
 use Rattle.roff_ahead.specs.Input.{counting, item_taken}
 use Rattle.roff_num.specs.declared.num.Num.{Num}
 use Rattle.roff_pages.specs.DeviceText.{device_lines}
-use Rattle.roff_pages.specs.Happenings.{Happening, Does}
-use Rattle.roff_pages.specs.declared.layout_event.LayoutEvent.TheVariants.{Number}
+use Rattle.roff_pages.specs.Happenings.{Happening, Does, Titles}
+use Rattle.roff_lines.specs.Lines.{finished}
+use Rattle.roff_pages.specs.Puts.{appended, puts}
+use Rattle.roff_pages.specs.Turning.{is_given, is_named, moved_to, unput}
+use Rattle.roff_pages.specs.declared.layout_event.LayoutEvent.{LayoutEvent}
+use Rattle.roff_pages.specs.declared.trap.Trap.{Trap}
+use Rattle.roff_pages.specs.declared.layout_event.LayoutEvent.TheVariants.{ListPages, Begin, Close, Space, Need, Eject, EjectTo, EjectOn, EjectLast, Length, Offset, Next, Number, NoSpace, Plant, Uproot, MoveTrap, RemoveTrap, DiversionTrap, NoDiversionTrap, Divert, EndDivert}
 use Rattle.roff_pages.specs.Layout.{Layout}
 use Rattle.roff_pages.specs.Stops.{is_diverted}
 use Rattle.roff_run.specs.Requests.{called_by}
@@ -36,7 +43,7 @@ use Rattle.roff_run.specs.Requests.Effects.{page_numbered}
 use Rattle.roff_run.specs.Requests.Numbering.{number_of_page}
 use Rattle.roff_run.specs.Starts.{history_given, pages_given, with_given}
 use Rattle.roff_run.specs.declared.start.Start.{Start}
-use Rattle.roff_run.proofs.GivenPages.{environments-given_pages, written-given_pages}
+use Rattle.roff_run.proofs.GivenPages.{environments-given_pages, keeps-given, written-given_pages}
 use Rattle.roff_run.proofs.PutBack.{bytes_ahead-back, ends_ahead-back}
 use Rattle.roff_source.specs.Tape.{Tape}
 
@@ -54,25 +61,8 @@ IsWithin-same l s t input registers history is = record {
   title = rw registers is.title;
   environments = rw history is.environments;
   output = rw history is.output;
+  traps = rw history is.traps;
 }
-
--- each count is within its own limit
-abbrev AllWithin : Limits → List (Limit × ℕ) → Type 0
-AllWithin l [] = Unit {0}
-AllWithin l (c ∷ cs) = (c.1 ≤ value_of l c.0) × AllWithin l cs
-
--- so it is where no limit is passed
-counts_within : (l : Limits) (cs : List (Limit × ℕ)) → first_passed l cs ≡ None → AllWithin l cs
-counts_within l [] none = tt
-counts_within l (c ∷ cs) none = elim (cases_Bool (nat_lt (value_of l c.0) c.1)) [
-  | inl passes ↦ let wrong : Some c.0 ≡ None = rw passes at none in cc
-  | inr goes ↦ (within (value_of l c.0) c.1 goes, counts_within l cs (rw goes at none))
-]
-
--- so are the last ones
-last_within : (l : Limits) (first last : List (Limit × ℕ)) → AllWithin l (first ++ last) → AllWithin l last
-last_within l [] last all = all
-last_within l (c ∷ first) last all = last_within l first last all.1
 
 -- turning the ring of environments makes no line longer, and leaves none of them
 within-turned : (l : Limits) (es : Environments) → EnvironmentsWithin l es → EnvironmentsWithin l (turned es)
@@ -132,6 +122,50 @@ written_within l h Back is allowed = laid_within l h None is tt
 written_within l h (SetsTrap trap) is allowed = laid_within l h None is tt
 written_within l h (Title t) is allowed = laid_within l h (happens h (Title t)) is (counts_within l (counts h (Title t)) allowed)
 
+-- the traps behind an event of pages
+paged_traps_within : (l : Limits) (h : PageHistory) (e : LayoutEvent) → length (layout_of h).traps ≤ l.traps → refusal l h (Page e) ≡ None
+    → length (unput (Does e) (layout_of h)).traps ≤ l.traps
+paged_traps_within l h (Plant trap) is allowed = (counts_within l (counts h (Page (Plant trap))) allowed).0
+paged_traps_within l h (Uproot place) is allowed = omega (arith, is, length-without_first (is_given place) (layout_of h).traps)
+paged_traps_within l h (MoveTrap name place) is allowed = omega (arith, is, length-with_first (is_named name) (moved_to place) (layout_of h).traps)
+paged_traps_within l h (RemoveTrap name) is allowed = omega (arith, is, length-without_first (is_named name) (layout_of h).traps)
+paged_traps_within l h (ListPages first last) is allowed = is
+paged_traps_within l h Begin is allowed = is
+paged_traps_within l h Close is allowed = is
+paged_traps_within l h (Space k) is allowed = is
+paged_traps_within l h (Need k) is allowed = is
+paged_traps_within l h (Eject asked) is allowed = is
+paged_traps_within l h (EjectTo asked number) is allowed = is
+paged_traps_within l h (EjectOn asked) is allowed = is
+paged_traps_within l h EjectLast is allowed = is
+paged_traps_within l h (Length k) is allowed = is
+paged_traps_within l h (Offset k) is allowed = is
+paged_traps_within l h (Next n) is allowed = is
+paged_traps_within l h (Number n) is allowed = is
+paged_traps_within l h (NoSpace on) is allowed = is
+paged_traps_within l h (DiversionTrap trap) is allowed = is
+paged_traps_within l h NoDiversionTrap is allowed = is
+paged_traps_within l h (Divert name appends) is allowed = is
+paged_traps_within l h EndDivert is allowed = is
+
+-- and any that no limit refuses
+traps_within : (l : Limits) (h : PageHistory) (e : PastEvent) → length (layout_of h).traps ≤ l.traps → refusal l h e ≡ None
+    → length (layout_of (e ∷ h)).traps ≤ l.traps
+traps_within l h (Text e) is allowed =
+    subst (λ (traps : List Trap). length traps ≤ l.traps) (sym (traps-placed (finished (text_of h) e) (layout_of h))) is
+traps_within l h (Page e) is allowed =
+    let L : Layout = layout_of h in
+    let x : Happening = Does e in
+    traps-put l.traps x (puts x L) (appended x L) L is (paged_traps_within l h e is allowed)
+traps_within l h (Title t) is allowed =
+    let L : Layout = layout_of h in
+    let x : Happening = Titles (placed t (text_of h) L) in
+    traps-put l.traps x (puts x L) (appended x L) L is is
+traps_within l h (Interrupt untold) is allowed = is
+traps_within l h (Environment number) is allowed = is
+traps_within l h Back is allowed = is
+traps_within l h (SetsTrap trap) is allowed = is
+
 -- an event happened
 IsWithin-happened : (l : Limits) (e : PastEvent) (s : State) → refusal l s.history e ≡ None → IsWithin l s → IsWithin l (record s { history = e ∷ s.history })
 IsWithin-happened l e s allowed is = record {
@@ -146,6 +180,7 @@ IsWithin-happened l e s allowed is = record {
   title = is.title;
   environments = environments_within l s.history e is.environments allowed;
   output = written_within l s.history e is.output allowed;
+  traps = traps_within l s.history e is.traps allowed;
 }
 
 -- events that are put back leave the names of registers, and a title within its limit
@@ -189,6 +224,7 @@ IsWithin-event l e left s t (Sprang name allowed on some) is = record {
   title = title-keeping l left s.registers is.title;
   environments = environments_within l s.history (told s.registers e) is.environments allowed;
   output = written_within l s.history (told s.registers e) is.output allowed;
+  traps = traps_within l s.history (told s.registers e) is.traps allowed;
 }
 IsWithin-event l e left s t (StoppedAt limit) is = IsWithin-same l s t refl refl refl is
 
@@ -210,6 +246,7 @@ IsWithin-made l s t charge history is_made is =
       title = others.1.0;
       environments = rw history is.environments;
       output = rw history is.output;
+      traps = rw history is.traps;
     }
 
 -- what was read, or how the run ended
@@ -232,7 +269,7 @@ IsWithin-read l s t (LineEnds unfinished none ends is_made) is =
 IsWithin-read l s t (MessageTold told is_made) is = IsWithin-made l s t is.bytes refl is_made is
 IsWithin-read l s t (RunAborts told) is = IsWithin-same l s t refl refl refl is
 IsWithin-read l s t (InputLeft leaves is_made) is =
-    IsWithin-made l s t is.bytes refl is_made is
+    let left = IsLeft-left_in s.phase s in IsWithin-made l s t (rw left.charge is.bytes) left.history is_made is
 IsWithin-read l s t (SprungRead name sprung is_made) is =
     let read = Behind-sprung_read (called_by name s.input.names) s in
     IsWithin-made l s t (rw read.input.charge is.bytes) read.history is_made is
@@ -243,7 +280,7 @@ IsWithin-read l s t (SourceStops limit is_open stops) is = IsWithin-same l s t r
 IsWithin-step_with : (l : Limits) (es : List PageEvent) (s : State) → IsWithin l s → IsWithin l (step_with l es s)
 IsWithin-step_with l (e ∷ rest) s is =
     let own : Option PageEvent = next s.history e in
-    IsWithin-event l (first_of own e) (left_of own e rest) s _ (performed_or_stopped l own e rest s) is
+    IsWithin-event l (first_of own e) (left_behind own e rest s) s _ (performed_or_stopped l own e rest s) is
 IsWithin-step_with l [] s is = IsWithin-read l s _ (ReadsOn-with_sprung l s.sprung s refl) is
 
 -- a step
@@ -263,6 +300,7 @@ IsWithin-after l (suc n) s is = IsWithin-after l n (step l s) (IsWithin-step l s
 IsWithin-paged : (l : Limits) (start : Start) (tape : Tape) → IsWithin l (paged_state start tape)
 IsWithin-paged l start tape =
     let first : EnvironmentsWithin l first_environments = record { in_force = omega arith; next = omega arith; last = omega arith; left = omega arith } in
+    let untrapped : (layout_of (pages_given start)).traps ≡ [] = keeps-given (λ h. (layout_of h).traps ≡ []) (λ first last h is. is) (λ n h is. is) start refl in
     let none : length (written (pages_given start)) ≡ 0 = ap (λ (text : List ℕ). length text) (written-given_pages start) in record {
       bytes = omega arith;
       stack = omega arith;
@@ -275,6 +313,7 @@ IsWithin-paged l start tape =
       title = omega arith;
       environments = subst (λ (es : Environments). EnvironmentsWithin l es) (sym (environments-given_pages start)) first;
       output = omega (arith, none);
+      traps = omega (arith, ap (λ (traps : List Trap). length traps) untrapped);
     }
 
 -- the page's number changes no environment, and nothing is written of it
@@ -293,6 +332,10 @@ written-numbered (Some n) h =
     let L : Layout = layout_of h in
     ap (λ (text : List ℕ). written h ++ text) (nothing_by_test (is_diverted (Does (Number n)) L || not L.is_listed) L.offset)
     ∙ append-nil (written h)
+
+traps-numbered : (n : Option Num) (h : PageHistory) → (layout_of (page_numbered n ++ h)).traps ≡ (layout_of h).traps
+traps-numbered None h = refl
+traps-numbered (Some n) h = refl
 
 -- a register that is set changes no title
 pub title-chosen : (title : AllRegisters → TitleText) (read_only of_page : Bool) (paged others rs : AllRegisters)
@@ -324,6 +367,7 @@ IsWithin-given l given s done None none is others =
       title = rw (title-given given s.registers) is.title;
       environments = within_numbered l n s.history is.environments;
       output = rw (written-numbered n s.history) is.output;
+      traps = rw (traps-numbered n s.history) is.traps;
     })
 IsWithin-given l given s done (Some limit) some is others = IsWithin-same l s (stopped_by l limit s) refl refl refl is
 

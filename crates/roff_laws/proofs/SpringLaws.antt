@@ -14,7 +14,9 @@ use Rattle.roff_run.specs.Environments.{Environments, InEnvironment, counted_dow
 use Rattle.roff_run.specs.Reading.Returns.{back_of, behind_return, gone_back_to}
 use Rattle.roff_run.specs.Reading.Waiting.{waiting_above}
 use Rattle.roff_run.specs.Requests.{called_by}
-use Rattle.roff_run.specs.Springs.{springs}
+use Rattle.roff_run.specs.Layouts.{layout_of}
+use Rattle.roff_run.specs.Run.Counts.{refusal}
+use Rattle.roff_run.specs.Springs.{next, springs}
 use Rattle.roff_run.specs.Titles.{told}
 use Rattle.roff_run.specs.Run.{State, after, ahead_taken, done_if, in_front_taken, made, performed, performing, read_waiting, sprung_at, sprung_read, step, step_with, stopped_by, unless_refused}
 use Rattle.roff_run.specs.declared.environment_number.EnvironmentNumber.{EnvironmentNumber}
@@ -27,20 +29,34 @@ use Rattle.roff_run.specs.declared.request.Called.{Called}
 use Rattle.roff_run.specs.declared.request.Called.TheVariants.{Body as ABody, Nothing as Unknown}
 use Rattle.roff_run.proofs.ItemsTaken.{step-TakesItems}
 use Rattle.roff_laws.proofs.Endings.{step-going}
-use Rattle.roff_laws.specs.SpringLaws.{EachLineCounts, LinesGoOnAsTheyWere, MacrosAreReadFirst, MayBeInterrupted, NamesWithoutABodyReadNothing, OthersKeepTheirTraps, Springs, TheLastLineSprings, with_rest_back}
+use Rattle.roff_laws.specs.SpringLaws.{EachLineCounts, LinesGoOnAsTheyWere, MacrosAreReadFirst, MayBeInterrupted, NamesWithoutABodyReadNothing, OthersKeepTheirTraps, Springs, TheLastLineSprings, first_of, left_behind, with_rest_back}
+
+-- an event that springs a macro, or what comes before one
+performed-springs : (l : Limits) (s : State) (x : PastEvent) (left : List PageEvent) (name : ShortName) → refusal l s.history x ≡ None
+    → (layout_of (x ∷ s.history)).is_over ≡ false → springs s.history x ≡ Some name
+    → unless_refused l (refusal l s.history x) s (performed x left s) ≡ sprung_at (Some name) left (record s { history = x ∷ s.history })
+performed-springs l s x left name allowed goes_on sprung =
+    let happened : State = record s { history = x ∷ s.history } in
+    ap (λ (r : Option Limit). unless_refused l r s (performed x left s)) allowed
+    ∙ ap (λ (over : Bool). done_if over happened (sprung_at (springs s.history x) left happened)) goes_on
+    ∙ ap (λ (sprung : Option ShortName). sprung_at sprung left happened) sprung
+
+performing-springs : (l : Limits) (s : State) (own : Option PageEvent) (e : PageEvent) (rest : List PageEvent) (name : ShortName)
+    → let x : PastEvent = told s.registers (first_of own e) in
+    refusal l s.history x ≡ None → (layout_of (x ∷ s.history)).is_over ≡ false → springs s.history x ≡ Some name
+    → performing l own e rest s ≡ sprung_at (Some name) (left_behind own e rest s) (record s { history = x ∷ s.history })
+performing-springs l s None e rest name allowed goes_on sprung =
+    performed-springs l s (told s.registers e) (left_behind None e rest s) name allowed goes_on sprung
+performing-springs l s (Some own) e rest name allowed goes_on sprung =
+    performed-springs l s (told s.registers own) (e ∷ rest) name allowed goes_on sprung
 
 -- the step at the event
-springing-step : (l : Limits) (s : State) (e : PageEvent) (rest : List PageEvent) (name : ShortName) → Springs l s e rest name
+pub springing-step : (l : Limits) (s : State) (e : PageEvent) (rest : List PageEvent) (name : ShortName) → Springs l s e rest name
     → step l s ≡ record (with_rest_back e rest s) { sprung = Some name }
 springing-step l s e rest name does =
-    let happens : PastEvent = told s.registers e in
-    let happened : State = record s { history = happens ∷ s.history } in
     step-going l s does.going
     ∙ ap (λ (es : List PageEvent). step_with l es s) does.first
-    ∙ ap (λ (own : Option PageEvent). performing l own e rest s) does.none_before
-    ∙ ap (λ (r : Option Limit). unless_refused l r s (performed happens rest s)) does.allowed
-    ∙ ap (λ (over : Bool). done_if over happened (sprung_at (springs s.history happens) rest happened)) does.goes_on
-    ∙ ap (λ (sprung : Option ShortName). sprung_at sprung rest happened) does.sprung
+    ∙ performing-springs l s (next s.history e) e rest name does.allowed does.goes_on does.sprung
 
 -- and the one behind it, by what the name stands for
 sprung-step : (l : Limits) (s : State) (e : PageEvent) (rest : List PageEvent) (name : ShortName) (called : Called) → Springs l s e rest name
@@ -77,7 +93,7 @@ gone_back-text false false false (suc zero) few told = refl
 gone_back-text true other brace (suc leading) few told = let none = told refl in absurd (cc)
 gone_back-text false other brace (suc (suc leading)) few told = absurd (omega (arith, few))
 
-gone_back : (reading : LineState) → MayBeInterrupted reading → gone_back_to (back_of reading) ≡ reading
+pub gone_back : (reading : LineState) → MayBeInterrupted reading → gone_back_to (back_of reading) ≡ reading
 gone_back LineStart may = refl
 gone_back Branch may = refl
 gone_back Braced may = refl

@@ -23,7 +23,8 @@ use Rattle.roff_ahead.specs.Input.{item_taken}
 use Rattle.roff_source.specs.Tape.{Tape, Item, Ending, Ends, Ended, Failed, Stopped, front}
 use Rattle.roff_laws.proofs.Stages.{Stage, Stage-event, Stage-given, Stage-paged, Stage-read, ended-over}
 use Rattle.roff_laws.proofs.Endings.{at_last_state, ended_or_not, step-ended, step-going}
-use Rattle.roff_laws.proofs.PerformedOrStopped.{PerformedOrStopped, Performed, Sprang, EndsOver, StoppedAt, first_of, left_of, performed_or_stopped}
+use Rattle.roff_laws.proofs.InputLeaving.{IsLeft-left_in}
+use Rattle.roff_laws.proofs.PerformedOrStopped.{PerformedOrStopped, Performed, Sprang, EndsOver, StoppedAt, first_of, left_behind, performed_or_stopped}
 use Rattle.roff_run.proofs.Readings.{ReadsOn, LimitStops, AheadTaken, ByteTaken, HasEnded, NoteTaken, HalfEnds, InputLeft, LineEnds, PhaseEnds, MessageTold, RunAborts, SourceFails, SourceStops, SprungRead, ReadsOn-with_sprung}
 use Rattle.roff_run.proofs.Behind.{Behind, Behind-ahead_taken, Behind-sprung_read}
 
@@ -93,7 +94,8 @@ IsTold-read l s t (PhaseEnds none half over unfinished is_made) going quiet stag
 IsTold-read l s t (LineEnds unfinished none over is_made) going quiet stage = IsTold-going l t going (record { quiet = quiet; stage = stage })
 IsTold-read l s t (MessageTold told is_made) going quiet stage = IsTold-going l t going (record { quiet = quiet; stage = stage })
 IsTold-read l s t (RunAborts told) going quiet stage = (told, refl)
-IsTold-read l s t (InputLeft leaves is_made) going quiet stage = IsTold-going l t going (record { quiet = quiet; stage = stage })
+IsTold-read l s t (InputLeft leaves is_made) going quiet stage =
+    let left = IsLeft-left_in s.phase s in IsTold-going l t (left.ended ∙ going) (record { quiet = left.last_message ∙ quiet; stage = stage })
 IsTold-read l s t (SprungRead name sprung is_made) going quiet stage =
     IsTold-behind l _ s t (Behind-sprung_read (called_by name s.input.names) s) going quiet stage
 IsTold-read l s t (SourceFails is_open fails) going quiet stage = (HasMet-front s.tape.items s.tape.ending Failed fails, refl)
@@ -104,7 +106,7 @@ IsTold-step_with : (l : Limits) (es : List PageEvent) (s : State) → s.to_do �
 IsTold-step_with l (e ∷ es) s to_do going goes =
     let own : Option PageEvent = next s.history e in
     let done = performed_or_stopped l own e es s in
-    IsTold-event l (first_of own e) (left_of own e es) s _ going goes.quiet (ended-over s e es to_do goes.stage) (Stage-event l e es s _ to_do done goes.stage) done
+    IsTold-event l (first_of own e) (left_behind own e es s) s _ going goes.quiet (ended-over s e es to_do goes.stage) (Stage-event l e es s _ to_do done goes.stage) done
 IsTold-step_with l [] s to_do going goes =
     let reads = ReadsOn-with_sprung l s.sprung s refl in IsTold-read l s _ reads going goes.quiet (Stage-read l s _ reads goes.stage)
 

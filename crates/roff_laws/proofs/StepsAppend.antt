@@ -22,11 +22,11 @@ use Rattle.roff_run.specs.declared.line_state.Due.{Due}
 use Rattle.roff_run.specs.declared.line_state.Due.TheVariants.{Leaves, Tells as TellsText}
 use Rattle.roff_run.specs.PageEvents.{PageEvent, PastEvent}
 use Rattle.roff_run.specs.Output.{PageHistory, layout_of, written}
-use Rattle.roff_run.specs.Run.{read_waiting, State, done_if, performing, unless_refused, grown, made, moved, byte_taken, escape_ends, ahead_taken, taking_ahead, taking_byte, ending_input, answered, in_front_taken, front_seen, awaited_of_source, awaited, item_read, input_ended, message_told, input_left, reading_by, step_with, step, known, performed, phase_ended, source_answer, sprung_at, sprung_read, with_registers, with_sprung}
+use Rattle.roff_run.specs.Run.{read_waiting, State, done_if, performing, unless_refused, grown, made, moved, byte_taken, escape_ends, ahead_taken, taking_ahead, taking_byte, ending_input, answered, in_front_taken, front_seen, awaited_of_source, awaited, item_read, input_ended, message_told, left_in, reading_by, step_with, step, known, performed, phase_ended, source_answer, sprung_at, sprung_read, with_registers, with_sprung}
 use Rattle.roff_run.specs.Run.Counts.{passes_bytes, refusal, first_passed, names_counted}
 use Rattle.roff_num.specs.declared.num.Num.{Num}
 use Rattle.roff_run.specs.Requests.{called_by}
-use Rattle.roff_run.specs.Springs.{next, springs}
+use Rattle.roff_run.specs.Springs.{left_of, next, springs}
 use Rattle.roff_run.specs.Titles.{told}
 use Rattle.roff_run.specs.Requests.Effects.{page_numbered}
 use Rattle.roff_run.specs.Requests.Numbering.{number_of_page}
@@ -111,7 +111,7 @@ OnlyCuts-performed e left s =
 pub OnlyCuts-performing : (l : Limits) (own : Option PageEvent) (e : PageEvent) (rest : List PageEvent) (s : State) → OnlyCuts s (performing l own e rest s)
 OnlyCuts-performing l None e rest s =
     let happens : PastEvent = told s.registers e in
-    OnlyCuts-unless_refused l (refusal l s.history happens) s (OnlyCuts-performed happens rest s)
+    OnlyCuts-unless_refused l (refusal l s.history happens) s (OnlyCuts-performed happens (left_of s.history happens ++ rest) s)
 OnlyCuts-performing l (Some own) e rest s =
     let happens : PastEvent = told s.registers own in
     OnlyCuts-unless_refused l (refusal l s.history happens) s (OnlyCuts-performed happens (e ∷ rest) s)
@@ -140,8 +140,10 @@ pub OnlyCuts-message_told : (s : State) → OnlyCuts s (message_told s)
 OnlyCuts-message_told s = OnlyCuts-message s _ _ refl refl
 
 -- the input is left
-pub OnlyCuts-input_left : (s : State) → OnlyCuts s (input_left s)
-OnlyCuts-input_left s = OnlyCuts-same s _ refl refl
+pub OnlyCuts-left_in : (phase : Phase) (s : State) → OnlyCuts s (left_in phase s)
+OnlyCuts-left_in Reading s = OnlyCuts-same s _ refl refl
+OnlyCuts-left_in LastMacro s = OnlyCuts-same s _ refl refl
+OnlyCuts-left_in Closing s = OnlyCuts-same s _ refl refl
 
 -- an item ahead was taken
 pub OnlyCuts-ahead_taken : (item : Ahead PageEvent) (s : State) → OnlyCuts s (ahead_taken item s)
@@ -230,7 +232,7 @@ pub OnlyCuts-reading_by : (l : Limits) (what : Option Due) (s : State) → OnlyC
 OnlyCuts-reading_by l None s = OnlyCuts-item_read l s
 OnlyCuts-reading_by l (Some (TellsText false)) s = OnlyCuts-made l s _ (OnlyCuts-message_told s)
 OnlyCuts-reading_by l (Some (TellsText true)) s = OnlyCuts-same s _ refl refl
-OnlyCuts-reading_by l (Some Leaves) s = OnlyCuts-made l s _ (OnlyCuts-input_left s)
+OnlyCuts-reading_by l (Some Leaves) s = OnlyCuts-made l s _ (OnlyCuts-left_in s.phase s)
 
 -- a macro that sprang is read
 pub OnlyCuts-sprung_read : (called : Called) (s : State) → OnlyCuts s (sprung_read called s)

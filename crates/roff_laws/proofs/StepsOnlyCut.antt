@@ -4,7 +4,7 @@
 -- by no limit, the line is `Same tape beside refl`; where the limit on bytes may stop it, a call of `Cut-stopped`,
 -- with a lemma that what passes a larger limit passes a smaller one; where it leads to a state that is made unless
 -- a count passes its limit there, a call of `Cut-made`; and where it calls another function, that one's lemma.
-use Rattle.std.proofs.Common.{◌≡◌, ◌⊎◌, inl, inr, ℕ, ◌+◌, zero, suc, Bool, true, false, List, [], ◌∷◌, Option, Some, None, refl, sym, subst, arith}
+use Rattle.std.proofs.Common.{◌≡◌, ◌⊎◌, inl, inr, ℕ, ◌+◌, zero, suc, Bool, true, false, List, [], ◌∷◌, ◌++◌, Option, Some, None, refl, sym, subst, arith}
 use Rattle.std.specs.Prelude.{nat_lt, if◌then◌else◌}
 use Rattle.std.proofs.lemmas.Bool.{cases_Bool, both_ways, false_from_ne_true}
 use Rattle.std.proofs.lemmas.Bool.Decides.{nat_tests}
@@ -27,10 +27,10 @@ use Rattle.roff_run.specs.declared.line_state.Due.{Due}
 use Rattle.roff_run.specs.declared.line_state.Due.TheVariants.{Leaves, Tells as TellsText}
 use Rattle.roff_run.specs.PageEvents.{PageEvent, PastEvent}
 use Rattle.roff_run.specs.Output.{layout_of}
-use Rattle.roff_run.specs.Run.{read_waiting, State, done_if, ending_with, unless_refused, stopped_by, performing, grown, made, escape_ends, taking_ahead, taking_byte, ending_input, answered, in_front_taken, front_seen, awaited_of_source, awaited, item_read, input_ended, performed, reading_by, sprung_at, sprung_read, step_with, step, after, known, phase_ended, with_registers, with_sprung}
+use Rattle.roff_run.specs.Run.{read_waiting, State, done_if, ending_with, unless_refused, stopped_by, performing, grown, made, escape_ends, taking_ahead, taking_byte, ending_input, answered, in_front_taken, front_seen, awaited_of_source, awaited, item_read, input_ended, left_in, performed, reading_by, sprung_at, sprung_read, step_with, step, after, known, phase_ended, with_registers, with_sprung}
 use Rattle.roff_run.specs.Run.Counts.{counts, first_passed, passes_bytes, names_counted, refusal}
 use Rattle.roff_run.specs.Requests.{called_by}
-use Rattle.roff_run.specs.Springs.{next, springs}
+use Rattle.roff_run.specs.Springs.{left_of, next, springs}
 use Rattle.roff_run.specs.Titles.{told}
 use Rattle.roff_run.specs.declared.request.Called.{Called}
 use Rattle.roff_run.specs.declared.request.Called.TheVariants.{Request as ARequest, Body as ABody, Nothing as Unknown}
@@ -42,7 +42,7 @@ use Rattle.roff_run.specs.declared.phase.Phase.TheVariants.{Reading, LastMacro, 
 use Rattle.roff_run.specs.declared.message.Message.TheVariants.{ReadFailed}
 use Rattle.roff_run.specs.declared.status.Status.{Status}
 use Rattle.roff_run.specs.declared.status.Status.TheVariants.{Device, Limit as Limited}
-use Rattle.roff_laws.proofs.StepsAppend.{OnlyCuts-same, OnlyCuts-given, OnlyCuts-performed, OnlyCuts-sprung_read, OnlyCuts-trans, OnlyCuts-if, OnlyCuts-unless_refused, OnlyCuts-made, OnlyCuts-escape_ends, OnlyCuts-phase_ended, OnlyCuts-with_registers, OnlyCuts-input_ended, OnlyCuts-message_told, OnlyCuts-input_left, ahead_done, OnlyCuts-ahead_done, byte_done, OnlyCuts-byte_done, OnlyCuts-answered, OnlyCuts-awaited_of_source, OnlyCuts-step}
+use Rattle.roff_laws.proofs.StepsAppend.{OnlyCuts-same, OnlyCuts-given, OnlyCuts-performed, OnlyCuts-sprung_read, OnlyCuts-trans, OnlyCuts-if, OnlyCuts-unless_refused, OnlyCuts-made, OnlyCuts-escape_ends, OnlyCuts-phase_ended, OnlyCuts-with_registers, OnlyCuts-input_ended, OnlyCuts-message_told, OnlyCuts-left_in, ahead_done, OnlyCuts-ahead_done, byte_done, OnlyCuts-byte_done, OnlyCuts-answered, OnlyCuts-awaited_of_source, OnlyCuts-step}
 
 -- what passes a larger limit passes a smaller one
 abbrev pub IsMonotone : (Limits → Bool) → Type 0
@@ -181,7 +181,8 @@ module _ (Beside : Tape → Tape → Type 0) (IsCause : Status → Type 0) where
     -- both perform an event, or what comes before it
     pub Cut-performing : (own : Option PageEvent) (e : PageEvent) (rest : List PageEvent) (s : State) (tape : Tape) → Beside s.tape tape
         → Cut (performing small own e rest s) (performing large own e rest (over tape s))
-    Cut-performing None e rest s tape beside = Cut-performed (told s.registers e) rest s tape beside
+    Cut-performing None e rest s tape beside =
+        let happens : PastEvent = told s.registers e in Cut-performed happens (left_of s.history happens ++ rest) s tape beside
     Cut-performing (Some own) e rest s tape beside = Cut-performed (told s.registers own) (e ∷ rest) s tape beside
 
     -- both make a step that leads to this state over two tapes
@@ -309,12 +310,19 @@ module _ (Beside : Tape → Tape → Type 0) (IsCause : Status → Type 0) where
     pub Cut-item_read : (s : State) (tape : Tape) → Beside s.tape tape → Cut (item_read small s) (item_read large (over tape s))
     Cut-item_read s tape beside = Cut-read_waiting (waiting_in s.reading s.input) s tape beside
 
+    -- both leave the input
+    Cut-left_in : (phase : Phase) (s : State) (tape : Tape) → Beside s.tape tape
+        → Cut (made small s (left_in phase s)) (made large (over tape s) (left_in phase (over tape s)))
+    Cut-left_in Reading s tape beside = Cut-made s _ _ tape tape beside beside refl (OnlyCuts-left_in Reading (over tape s))
+    Cut-left_in LastMacro s tape beside = Cut-made s _ _ tape tape beside beside refl (OnlyCuts-left_in LastMacro (over tape s))
+    Cut-left_in Closing s tape beside = Cut-made s _ _ tape tape beside beside refl (OnlyCuts-left_in Closing (over tape s))
+
     -- both do what is due first
     pub Cut-reading_by : (what : Option Due) (s : State) (tape : Tape) → Beside s.tape tape → Cut (reading_by small what s) (reading_by large what (over tape s))
     Cut-reading_by None s tape beside = Cut-item_read s tape beside
     Cut-reading_by (Some (TellsText false)) s tape beside = Cut-made s _ _ tape tape beside beside refl (OnlyCuts-message_told (over tape s))
     Cut-reading_by (Some (TellsText true)) s tape beside = Same tape beside refl
-    Cut-reading_by (Some Leaves) s tape beside = Cut-made s _ _ tape tape beside beside refl (OnlyCuts-input_left (over tape s))
+    Cut-reading_by (Some Leaves) s tape beside = Cut-left_in s.phase s tape beside
 
     -- both read what sprang, if something did
     pub Cut-with_sprung : (name : Option ShortName) (s : State) (tape : Tape) → Beside s.tape tape → Cut (with_sprung small name s) (with_sprung large name (over tape s))

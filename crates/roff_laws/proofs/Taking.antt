@@ -23,7 +23,8 @@ use Rattle.roff_source.specs.Bytes.{newline}
 use Rattle.roff_ahead.specs.Input.{Ahead, counting, item_taken}
 use Rattle.roff_source.specs.Tape.{Tape, Item, Ending, OneByte, OneNote, Gives, front, behind_front}
 use Rattle.roff_laws.proofs.Endings.{at_last_state}
-use Rattle.roff_laws.proofs.PerformedOrStopped.{PerformedOrStopped, Performed, Sprang, EndsOver, StoppedAt, first_of, left_of, performed_or_stopped}
+use Rattle.roff_laws.proofs.InputLeaving.{IsLeft-left_in}
+use Rattle.roff_laws.proofs.PerformedOrStopped.{PerformedOrStopped, Performed, Sprang, EndsOver, StoppedAt, first_of, left_behind, performed_or_stopped}
 use Rattle.roff_run.proofs.Readings.{ReadsOn, LimitStops, AheadTaken, ByteTaken, NoteTaken, HalfEnds, InputLeft, LineEnds, PhaseEnds, MessageTold, RunAborts, SourceFails, SourceStops, SprungRead, ReadsOn-with_sprung, behind_note}
 use Rattle.roff_run.proofs.Behind.{Behind, Behind-sprung_read, Behind-byte_taken, Behind-ahead_taken, Behind-escape_ends, Behind-line_ends, Passed-phase_ended}
 use Rattle.roff_laws.proofs.RunsStayWithin.{no_limit_is_passed}
@@ -142,7 +143,8 @@ Takes-read tape l s t (PhaseEnds none half ends over is_made) takes =
 Takes-read tape l s t (LineEnds unfinished none ends is_made) takes = Takes-behind tape _ s t (Behind-line_ends s) takes
 Takes-read tape l s t (MessageTold told is_made) takes = Takes-same tape s t refl (omega arith) refl refl takes
 Takes-read tape l s t (RunAborts told) takes = Takes-unread tape s t refl refl takes
-Takes-read tape l s t (InputLeft leaves is_made) takes = Takes-same tape s t refl (omega arith) refl refl takes
+Takes-read tape l s t (InputLeft leaves is_made) takes =
+    let left = IsLeft-left_in s.phase s in Takes-same tape s t left.tape (rw left.charge (omega arith)) left.newlines left.line takes
 Takes-read tape l s t (SprungRead name sprung is_made) takes =
     Takes-behind tape _ s t (Behind-sprung_read (called_by name s.input.names) s) takes
 Takes-read tape l s t (SourceFails is_open fails) takes = Takes-unread tape s t refl refl takes
@@ -152,7 +154,7 @@ Takes-read tape l s t (SourceStops limit is_open stops) takes = Takes-unread tap
 Takes-step_with : (tape : Tape) (l : Limits) (es : List PageEvent) (s : State) → Takes tape s → Takes tape (step_with l es s)
 Takes-step_with tape l (e ∷ es) s takes =
     let own : Option PageEvent = next s.history e in
-    Takes-event tape l (first_of own e) (left_of own e es) s _ (performed_or_stopped l own e es s) takes
+    Takes-event tape l (first_of own e) (left_behind own e es s) s _ (performed_or_stopped l own e es s) takes
 Takes-step_with tape l [] s takes = Takes-read tape l s _ (ReadsOn-with_sprung l s.sprung s refl) takes
 
 -- a step

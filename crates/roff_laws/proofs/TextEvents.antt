@@ -26,7 +26,7 @@ use Rattle.roff_run.specs.Reading.Items.{PageInput, Taking}
 use Rattle.roff_run.specs.Reading.TextLines.{blank_line, blank_taking, character_printed, character_taking, escape_meant, escape_taking, glyph_taking, leading_blank_events, leading_glyph, name_taking, text_found, text_line_end, text_taking}
 use Rattle.roff_run.specs.Reading.Units.{no_unit_found}
 use Rattle.roff_run.specs.Registers.{Known, known_stepped, page_stepped, text_of_register}
-use Rattle.roff_laws.proofs.MeantEvents.{AreMeant, Means, Means-if, ahead-text}
+use Rattle.roff_laws.proofs.MeantEvents.{AreMeant, Means, Means-if, Stays, WithEnd, ahead-text}
 use Rattle.roff_laws.proofs.RequestEvents.{meant-numbered}
 use Rattle.roff_run.specs.PageEvents.{PageEvent}
 use Rattle.roff_run.specs.declared.event.PageEvent.TheVariants.{Text}
@@ -64,17 +64,17 @@ meant-leading_blanks before = by_test (before == 0)
     by_test false = tt
 
 Means-blank_taking : (i : PageInput) (line : TextLine) → Means i.ahead (blank_taking i line)
-Means-blank_taking i line = Means-if i.ahead line.has_glyph _ _ (tt, λ a. a) (meant-leading_blanks line.leading, λ a. a)
+Means-blank_taking i line = Means-if i.ahead line.has_glyph _ _ (tt, Stays) (meant-leading_blanks line.leading, Stays)
 
 -- a byte of one
 Means-glyph_taking : (i : PageInput) (line : TextLine) (glyph : Glyph) → Means i.ahead (glyph_taking i line glyph)
-Means-glyph_taking i line glyph = (meant-leading line.leading (Text (Print glyph) ∷ []) tt, λ a. a)
+Means-glyph_taking i line glyph = (meant-leading line.leading (Text (Print glyph) ∷ []) tt, Stays)
 
 Means-text_taking : (i : PageInput) (line : TextLine) (b : ℕ) → Means i.ahead (text_taking i line b)
 Means-text_taking i line b =
-    Means-if i.ahead (b == newline) _ _ (meant-line_end line, λ a. a)
-    (Means-if i.ahead (b == tab) _ _ (meant-leading line.leading (Text Tab ∷ []) tt, λ a. a)
-    (Means-if i.ahead (is_silent b) _ _ (tt, λ a. a)
+    Means-if i.ahead (b == newline) _ _ (meant-line_end line, Stays)
+    (Means-if i.ahead (b == tab) _ _ (meant-leading line.leading (Text Tab ∷ []) tt, Stays)
+    (Means-if i.ahead (is_silent b) _ _ (tt, Stays)
     (Means-if i.ahead (b == blank) (blank_taking i line) (glyph_taking i line (Printed b)) (Means-blank_taking i line) (Means-glyph_taking i line (Printed b)))))
 
 -- an escape without a name
@@ -82,29 +82,29 @@ Means-escape_meant : (i : PageInput) (line : TextLine) (b : ℕ) (kind : Kind) �
 Means-escape_meant i line b (Prints byte) = Means-glyph_taking i line (Printed byte)
 Means-escape_meant i line b Blank = Means-glyph_taking i line (Blanks 1)
 Means-escape_meant i line b NoWidth = Means-glyph_taking i line (Blanks 0)
-Means-escape_meant i line b GivesTab = (meant-leading line.leading (Text Tab ∷ []) tt, λ a. a)
-Means-escape_meant i line b Interrupts = (tt, λ a. a)
-Means-escape_meant i line b Brace = (tt, λ a. a)
-Means-escape_meant i line b IsLeftOut = (tt, λ a. a)
-Means-escape_meant i line b GivesNothing = (tt, λ a. a)
-Means-escape_meant i line b BeginsComment = (tt, λ a. a)
-Means-escape_meant i line b BeginsSize = (tt, λ a. a)
-Means-escape_meant i line b (BeginsName purpose) = (tt, λ a. a)
-Means-escape_meant i line b (BeginsText OfMotion) = (tt, λ a. a)
-Means-escape_meant i line b (BeginsText (LeftOutText byte)) = (tt, λ a. a)
-Means-escape_meant i line b BeginsWidth = (tt, λ a. a)
+Means-escape_meant i line b GivesTab = (meant-leading line.leading (Text Tab ∷ []) tt, Stays)
+Means-escape_meant i line b Interrupts = (tt, Stays)
+Means-escape_meant i line b Brace = (tt, Stays)
+Means-escape_meant i line b IsLeftOut = (tt, Stays)
+Means-escape_meant i line b GivesNothing = (tt, Stays)
+Means-escape_meant i line b BeginsComment = (tt, Stays)
+Means-escape_meant i line b BeginsSize = (tt, Stays)
+Means-escape_meant i line b (BeginsName purpose) = (tt, Stays)
+Means-escape_meant i line b (BeginsText OfMotion) = (tt, Stays)
+Means-escape_meant i line b (BeginsText (LeftOutText byte)) = (tt, Stays)
+Means-escape_meant i line b BeginsWidth = (tt, Stays)
 
 Means-escape_taking : (i : PageInput) (line : TextLine) (b : ℕ) → Means i.ahead (escape_taking i line b)
 Means-escape_taking i line b = Means-escape_meant i line b (escape_of b)
 
 -- a character
 Means-character_printed : (i : PageInput) (line : TextLine) (name text : Option (List ℕ)) → Means i.ahead (character_printed i line name text)
-Means-character_printed i line name (Some text) = (meant-leading line.leading (map (λ glyph. Text (Print glyph)) (map Printed text)) (meant-glyphs (map Printed text)), λ a. a)
-Means-character_printed i line name None = (tt, λ a. a)
+Means-character_printed i line name (Some text) = (meant-leading line.leading (map (λ glyph. Text (Print glyph)) (map Printed text)) (meant-glyphs (map Printed text)), Stays)
+Means-character_printed i line name None = (tt, Stays)
 
 Means-character_taking : (i : PageInput) (line : TextLine) (name : Option (List ℕ)) → Means i.ahead (character_taking i line name)
 Means-character_taking i line (Some name) = Means-character_printed i line (Some name) (character name)
-Means-character_taking i line None = (tt, λ a. a)
+Means-character_taking i line None = (tt, Stays)
 
 -- what a text line does that begins
 meant-told : (left : Option TextLine) (events : List PageEvent) → AreMeant events → AreMeant (going_on_told left ++ events)
@@ -120,12 +120,12 @@ Means-beginning_text ahead k does means =
 -- the first byte of a line, and of a branch
 Means-line_begun : (k : Known) (i : PageInput) (b : ℕ) → Means i.ahead (line_begun k i b)
 Means-line_begun k i b =
-    Means-if i.ahead (b == dot) _ _ (tt, λ a. a)
-    (Means-if i.ahead (b == apostrophe) _ _ (tt, λ a. a) (Means-beginning_text i.ahead k (λ line. text_taking i line b) (λ line. Means-text_taking i line b)))
+    Means-if i.ahead (b == dot) _ _ (tt, Stays)
+    (Means-if i.ahead (b == apostrophe) _ _ (tt, Stays) (Means-beginning_text i.ahead k (λ line. text_taking i line b) (λ line. Means-text_taking i line b)))
 
 Means-first_taking : (k : Known) (i : PageInput) (reading : LineState) (b : ℕ) → Means i.ahead (first_taking k i reading b)
-Means-first_taking k i Branch b = Means-if i.ahead (b == blank) _ _ (tt, λ a. a) (Means-line_begun k i b)
-Means-first_taking k i Braced b = Means-if i.ahead (b == blank) _ _ (tt, λ a. a) (Means-if i.ahead (b == newline) _ _ (tt, λ a. a) (Means-line_begun k i b))
+Means-first_taking k i Branch b = Means-if i.ahead (b == blank) _ _ (tt, Stays) (Means-line_begun k i b)
+Means-first_taking k i Braced b = Means-if i.ahead (b == blank) _ _ (tt, Stays) (Means-if i.ahead (b == newline) _ _ (tt, Stays) (Means-line_begun k i b))
 Means-first_taking k i LineStart b = Means-line_begun k i b
 Means-first_taking k i (InText line) b = Means-line_begun k i b
 Means-first_taking k i (Control breaks) b = Means-line_begun k i b
@@ -149,90 +149,90 @@ Means-escape_begun : (k : Known) (i : PageInput) (b : ℕ) → Means i.ahead (es
 Means-escape_begun k i b = Means-beginning_text i.ahead k (λ line. escape_taking i line b) (λ line. Means-escape_taking i line b)
 
 Means-first_escape : (k : Known) (i : PageInput) (reading : LineState) (b : ℕ) → Means i.ahead (first_escape k i reading b)
-Means-first_escape k i Branch b = Means-if i.ahead (b == 123) _ _ (tt, λ a. a) (Means-if i.ahead (b == newline) _ _ (tt, λ a. a) (Means-escape_begun k i b))
-Means-first_escape k i LineStart b = Means-if i.ahead (b == newline) _ _ (tt, λ a. a) (Means-escape_begun k i b)
-Means-first_escape k i Braced b = Means-if i.ahead (b == newline) _ _ (tt, λ a. a) (Means-escape_begun k i b)
-Means-first_escape k i (InText line) b = Means-if i.ahead (b == newline) _ _ (tt, λ a. a) (Means-escape_begun k i b)
-Means-first_escape k i (Control breaks) b = Means-if i.ahead (b == newline) _ _ (tt, λ a. a) (Means-escape_begun k i b)
-Means-first_escape k i (Name breaks first) b = Means-if i.ahead (b == newline) _ _ (tt, λ a. a) (Means-escape_begun k i b)
-Means-first_escape k i (InArguments breaks request) b = Means-if i.ahead (b == newline) _ _ (tt, λ a. a) (Means-escape_begun k i b)
-Means-first_escape k i (Deciding keeps) b = Means-if i.ahead (b == newline) _ _ (tt, λ a. a) (Means-escape_begun k i b)
-Means-first_escape k i (Skipping opened closed behind) b = Means-if i.ahead (b == newline) _ _ (tt, λ a. a) (Means-escape_begun k i b)
-Means-first_escape k i (StringName appends) b = Means-if i.ahead (b == newline) _ _ (tt, λ a. a) (Means-escape_begun k i b)
-Means-first_escape k i (StringText name appends is_front) b = Means-if i.ahead (b == newline) _ _ (tt, λ a. a) (Means-escape_begun k i b)
-Means-first_escape k i Dropped b = Means-if i.ahead (b == newline) _ _ (tt, λ a. a) (Means-escape_begun k i b)
-Means-first_escape k i (Telling aborts is_front) b = Means-if i.ahead (b == newline) _ _ (tt, λ a. a) (Means-escape_begun k i b)
-Means-first_escape k i (Told aborts) b = Means-if i.ahead (b == newline) _ _ (tt, λ a. a) (Means-escape_begun k i b)
-Means-first_escape k i Exiting b = Means-if i.ahead (b == newline) _ _ (tt, λ a. a) (Means-escape_begun k i b)
-Means-first_escape k i TitleFront b = Means-if i.ahead (b == newline) _ _ (tt, λ a. a) (Means-escape_begun k i b)
-Means-first_escape k i (InTitle delimiter) b = Means-if i.ahead (b == newline) _ _ (tt, λ a. a) (Means-escape_begun k i b)
-Means-first_escape k i (Calling name) b = Means-if i.ahead (b == newline) _ _ (tt, λ a. a) (Means-escape_begun k i b)
-Means-first_escape k i (Defining name appends end matched) b = Means-if i.ahead (b == newline) _ _ (tt, λ a. a) (Means-escape_begun k i b)
+Means-first_escape k i Branch b = Means-if i.ahead (b == 123) _ _ (tt, Stays) (Means-if i.ahead (b == newline) _ _ (tt, Stays) (Means-escape_begun k i b))
+Means-first_escape k i LineStart b = Means-if i.ahead (b == newline) _ _ (tt, Stays) (Means-escape_begun k i b)
+Means-first_escape k i Braced b = Means-if i.ahead (b == newline) _ _ (tt, Stays) (Means-escape_begun k i b)
+Means-first_escape k i (InText line) b = Means-if i.ahead (b == newline) _ _ (tt, Stays) (Means-escape_begun k i b)
+Means-first_escape k i (Control breaks) b = Means-if i.ahead (b == newline) _ _ (tt, Stays) (Means-escape_begun k i b)
+Means-first_escape k i (Name breaks first) b = Means-if i.ahead (b == newline) _ _ (tt, Stays) (Means-escape_begun k i b)
+Means-first_escape k i (InArguments breaks request) b = Means-if i.ahead (b == newline) _ _ (tt, Stays) (Means-escape_begun k i b)
+Means-first_escape k i (Deciding keeps) b = Means-if i.ahead (b == newline) _ _ (tt, Stays) (Means-escape_begun k i b)
+Means-first_escape k i (Skipping opened closed behind) b = Means-if i.ahead (b == newline) _ _ (tt, Stays) (Means-escape_begun k i b)
+Means-first_escape k i (StringName appends) b = Means-if i.ahead (b == newline) _ _ (tt, Stays) (Means-escape_begun k i b)
+Means-first_escape k i (StringText name appends is_front) b = Means-if i.ahead (b == newline) _ _ (tt, Stays) (Means-escape_begun k i b)
+Means-first_escape k i Dropped b = Means-if i.ahead (b == newline) _ _ (tt, Stays) (Means-escape_begun k i b)
+Means-first_escape k i (Telling aborts is_front) b = Means-if i.ahead (b == newline) _ _ (tt, Stays) (Means-escape_begun k i b)
+Means-first_escape k i (Told aborts) b = Means-if i.ahead (b == newline) _ _ (tt, Stays) (Means-escape_begun k i b)
+Means-first_escape k i Exiting b = Means-if i.ahead (b == newline) _ _ (tt, Stays) (Means-escape_begun k i b)
+Means-first_escape k i TitleFront b = Means-if i.ahead (b == newline) _ _ (tt, Stays) (Means-escape_begun k i b)
+Means-first_escape k i (InTitle delimiter) b = Means-if i.ahead (b == newline) _ _ (tt, Stays) (Means-escape_begun k i b)
+Means-first_escape k i (Calling name) b = Means-if i.ahead (b == newline) _ _ (tt, Stays) (Means-escape_begun k i b)
+Means-first_escape k i (Defining name appends end matched) b = Means-if i.ahead (b == newline) _ _ (tt, Stays) (Means-escape_begun k i b)
 
 -- what a name asks for
 pub Means-asking : (k : Known) (i : PageInput) (reading : LineState) (purpose : NameUse) (name : Option (List ℕ)) → Means i.ahead (asking k i reading purpose name)
-Means-asking k i reading purpose None = (tt, λ a. a)
+Means-asking k i reading purpose None = (tt, Stays)
 Means-asking k i reading (Register step) (Some name) =
     (meant-numbered (page_stepped step name k), ahead-text (text_of_register (known_stepped step name k) name) i.ahead)
 Means-asking k i reading OfText (Some name) = (tt, ahead-text (body_named name i) i.ahead)
 Means-asking k i reading Argument (Some name) = (tt, ahead-text (argument_named name (arguments_live i)) i.ahead)
-Means-asking k i reading Character (Some name) = (tt, λ a. a)
-Means-asking k i reading Font (Some name) = (tt, λ a. a)
-Means-asking k i reading (NameLeftOut b) (Some name) = (tt, λ a. a)
+Means-asking k i reading Character (Some name) = (tt, WithEnd i.ahead Stays)
+Means-asking k i reading Font (Some name) = (tt, WithEnd i.ahead Stays)
+Means-asking k i reading (NameLeftOut b) (Some name) = (tt, WithEnd i.ahead Stays)
 
 Means-name_taking : (k : Known) (i : PageInput) (reading : LineState) (line : TextLine) (purpose : NameUse) (name : Option (List ℕ))
     → Means i.ahead (name_taking k i reading line purpose name)
 Means-name_taking k i reading line Character name = Means-character_taking i line name
-Means-name_taking k i reading line Font name = (tt, λ a. a)
-Means-name_taking k i reading line (NameLeftOut b) name = (tt, λ a. a)
+Means-name_taking k i reading line Font name = (tt, Stays)
+Means-name_taking k i reading line (NameLeftOut b) name = (tt, Stays)
 Means-name_taking k i reading line (Register step) name = Means-asking k i reading (Register step) name
 Means-name_taking k i reading line OfText name = Means-asking k i reading OfText name
 Means-name_taking k i reading line Argument name = Means-asking k i reading Argument name
 
 Means-first_name : (k : Known) (i : PageInput) (reading : LineState) (purpose : NameUse) (name : Option (List ℕ)) → Means i.ahead (first_name k i reading purpose name)
 Means-first_name k i reading Character name = Means-beginning_text i.ahead k (λ line. character_taking i line name) (λ line. Means-character_taking i line name)
-Means-first_name k i reading Font name = (meant-told k.interrupted [] tt, λ a. a)
-Means-first_name k i reading (NameLeftOut b) name = (meant-told k.interrupted [] tt, λ a. a)
+Means-first_name k i reading Font name = (meant-told k.interrupted [] tt, Stays)
+Means-first_name k i reading (NameLeftOut b) name = (meant-told k.interrupted [] tt, Stays)
 Means-first_name k i reading (Register step) name = Means-asking k i reading (Register step) name
 Means-first_name k i reading OfText name = Means-asking k i reading OfText name
 Means-first_name k i reading Argument name = Means-asking k i reading Argument name
 
 -- what was found of a text line
 pub Means-text_found : (k : Known) (i : PageInput) (line : TextLine) (found : Found) → Means i.ahead (text_found k i line found)
-Means-text_found k i line GoesOn = (tt, λ a. a)
+Means-text_found k i line GoesOn = (tt, Stays)
 Means-text_found k i line (GivesUnit (Byte b)) = Means-text_taking i line b
 Means-text_found k i line (GivesUnit (Kept b)) = Means-escape_taking i line b
 Means-text_found k i line (Escape b) = Means-escape_taking i line b
 Means-text_found k i line (Asks purpose name) = Means-name_taking k i (InText line) line purpose name
-Means-text_found k i line (Holds unit) = (tt, λ a. a)
-Means-text_found k i line (Motion columns remark) = (meant-leading line.leading (Text (Print (Blanks columns)) ∷ []) tt, λ a. a)
+Means-text_found k i line (Holds unit) = (tt, Stays)
+Means-text_found k i line (Motion columns remark) = (meant-leading line.leading (Text (Print (Blanks columns)) ∷ []) tt, Stays)
 Means-text_found k i line (Measures width) = (tt, ahead-text (decimal width) i.ahead)
-Means-text_found k i line (Tells remark) = (tt, λ a. a)
-Means-text_found k i line (Decides decision freed) = (tt, λ a. a)
+Means-text_found k i line (Tells remark) = (tt, Stays)
+Means-text_found k i line (Decides decision freed) = (tt, Stays)
 
 -- what was found where a line begins, or a branch
 pub Means-beginning_found : (k : Known) (i : PageInput) (reading : LineState) (found : Found) → Means i.ahead (beginning_found k i reading found)
-Means-beginning_found k i reading GoesOn = (tt, λ a. a)
+Means-beginning_found k i reading GoesOn = (tt, Stays)
 Means-beginning_found k i reading (GivesUnit (Byte b)) = Means-first_taking k i reading b
 Means-beginning_found k i reading (GivesUnit (Kept b)) = Means-first_escape k i reading b
 Means-beginning_found k i reading (Escape b) = Means-first_escape k i reading b
 Means-beginning_found k i reading (Asks purpose name) = Means-first_name k i reading purpose name
-Means-beginning_found k i reading (Holds unit) = (tt, λ a. a)
+Means-beginning_found k i reading (Holds unit) = (tt, Stays)
 Means-beginning_found k i reading (Motion columns remark) =
     let line : TextLine = line_begun_as k.interrupted in
-    (meant-told k.interrupted (leading_glyph line.leading ++ Text (Print (Blanks columns)) ∷ []) (meant-leading line.leading (Text (Print (Blanks columns)) ∷ []) tt), λ a. a)
+    (meant-told k.interrupted (leading_glyph line.leading ++ Text (Print (Blanks columns)) ∷ []) (meant-leading line.leading (Text (Print (Blanks columns)) ∷ []) tt), Stays)
 Means-beginning_found k i reading (Measures width) = (tt, ahead-text (decimal width) i.ahead)
-Means-beginning_found k i reading (Tells remark) = (tt, λ a. a)
-Means-beginning_found k i reading (Decides decision freed) = (tt, λ a. a)
+Means-beginning_found k i reading (Tells remark) = (tt, Stays)
+Means-beginning_found k i reading (Decides decision freed) = (tt, Stays)
 
 -- what was found that is no unit
 pub Means-no_unit_found : (k : Known) (i : PageInput) (reading : LineState) (found : Found) → Means i.ahead (no_unit_found k i reading found)
-Means-no_unit_found k i reading (Holds unit) = (tt, λ a. a)
+Means-no_unit_found k i reading (Holds unit) = (tt, Stays)
 Means-no_unit_found k i reading (Asks purpose name) = Means-asking k i reading purpose name
 Means-no_unit_found k i reading (Measures width) = (tt, ahead-text (decimal width) i.ahead)
-Means-no_unit_found k i reading (Tells remark) = (tt, λ a. a)
-Means-no_unit_found k i reading GoesOn = (tt, λ a. a)
-Means-no_unit_found k i reading (GivesUnit unit) = (tt, λ a. a)
-Means-no_unit_found k i reading (Escape b) = (tt, λ a. a)
-Means-no_unit_found k i reading (Motion columns remark) = (tt, λ a. a)
-Means-no_unit_found k i reading (Decides decision freed) = (tt, λ a. a)
+Means-no_unit_found k i reading (Tells remark) = (tt, Stays)
+Means-no_unit_found k i reading GoesOn = (tt, Stays)
+Means-no_unit_found k i reading (GivesUnit unit) = (tt, Stays)
+Means-no_unit_found k i reading (Escape b) = (tt, Stays)
+Means-no_unit_found k i reading (Motion columns remark) = (tt, Stays)
+Means-no_unit_found k i reading (Decides decision freed) = (tt, Stays)

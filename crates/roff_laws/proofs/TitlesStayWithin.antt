@@ -1,7 +1,7 @@
 -- No title has more bytes than the limit on a line says.
 --
 -- That of the one that is read is said by the counts (`RunsStayWithin`). Reading changes no title that is kept, and places none.
-use Rattle.std.proofs.Common.{◌≡◌, ◌≤◌, ℕ, zero, suc, List, [], ◌∷◌, ◌++◌, Option, Some, None, refl, ◌∙◌, arith}
+use Rattle.std.proofs.Common.{◌≡◌, ◌≤◌, ℕ, zero, suc, List, [], ◌∷◌, ◌++◌, Option, Some, None, refl, ◌∙◌, ap, arith}
 use Rattle.std.specs.Prelude.{if◌then◌else◌}
 use Rattle.roff_ahead.specs.Input.{Ahead, ByteAhead, FreeAhead, EndAhead, ReturnAhead, DoAhead, counting, item_taken}
 use Rattle.roff_num.specs.declared.limit.Limit.{Limit}
@@ -33,7 +33,8 @@ use Rattle.roff_run.proofs.GivenPages.{keeps-given}
 use Rattle.roff_run.proofs.Readings.{ReadsOn, LimitStops, AheadTaken, ByteTaken, NoteTaken, HalfEnds, InputLeft, LineEnds, PhaseEnds, MessageTold, RunAborts, SourceFails, SourceStops, SprungRead, ReadsOn-with_sprung}
 use Rattle.roff_run.proofs.Behind.{Behind-ahead_taken, Behind-sprung_read, Passed-phase_ended}
 use Rattle.roff_laws.specs.Laws.{HasTitlesWithin, NoTitleIsLonger, TitlesAreWithin}
-use Rattle.roff_laws.proofs.PerformedOrStopped.{PerformedOrStopped, Performed, Sprang, EndsOver, StoppedAt, first_of, left_of, performed_or_stopped}
+use Rattle.roff_laws.proofs.InputLeaving.{IsLeft-left_in}
+use Rattle.roff_laws.proofs.PerformedOrStopped.{PerformedOrStopped, Performed, Sprang, EndsOver, StoppedAt, first_of, left_behind, performed_or_stopped}
 use Rattle.roff_laws.proofs.RunsStayWithin.{IsWithin-initial, IsWithin-step, title-chosen, title-given}
 
 -- the titles that were placed behind an event
@@ -136,7 +137,8 @@ titles-read l s t (LineEnds unfinished none ends is_made) within is =
     titles-same l s t (kept-changed (end_taking (known s) s.reading s.input).effect.changes s.registers) refl within is
 titles-read l s t (MessageTold was_told is_made) within is = titles-same l s t refl refl within is
 titles-read l s t (RunAborts was_told) within is = titles-same l s t refl refl within is
-titles-read l s t (InputLeft leaves is_made) within is = titles-same l s t refl refl within is
+titles-read l s t (InputLeft leaves is_made) within is =
+    let left = IsLeft-left_in s.phase s in titles-same l s t (ap (λ (rs : AllRegisters). rs.kept_title) left.registers) left.history within is
 titles-read l s t (SprungRead name sprung is_made) within is =
     let called : Called = called_by name s.input.names in
     titles-same l s t (kept-sprung_read called s) (Behind-sprung_read called s).history within is
@@ -148,7 +150,7 @@ titles-step_with : (l : Limits) (es : List PageEvent) (s : State) → IsWithin l
     → HasTitlesWithin l.line (step_with l es s)
 titles-step_with l (e ∷ rest) s within is =
     let own : Option PageEvent = next s.history e in
-    titles-event l (first_of own e) (left_of own e rest) s _ (performed_or_stopped l own e rest s) within is
+    titles-event l (first_of own e) (left_behind own e rest s) s _ (performed_or_stopped l own e rest s) within is
 titles-step_with l [] s within is = titles-read l s _ (ReadsOn-with_sprung l s.sprung s refl) within is
 
 -- a step

@@ -4,8 +4,9 @@ use Rattle.std.specs.Prelude.{IsSome}
 use Rattle.roff_num.specs.declared.limits.Limits.{Limits}
 use Rattle.roff_run.specs.PageEvents.{PageEvent}
 use Rattle.roff_run.specs.Events.Lines.{closing_events}
-use Rattle.roff_run.specs.Run.{State, known, moved, phase_ended}
-use Rattle.roff_ahead.specs.Input.{Ahead, ByteAhead, FreeAhead, EndAhead, ReturnAhead, DoAhead, cost, item_taken, counting}
+use Rattle.roff_run.specs.Run.{State, input_left, known, left_in, moved, phase_ended}
+use Rattle.roff_run.specs.Reading.Returns.{gone_back_to}
+use Rattle.roff_ahead.specs.Input.{Ahead, ByteAhead, FreeAhead, EndAhead, ReturnAhead, DoAhead, cost, item_taken, counting, outermost_back}
 use Rattle.roff_source.specs.Tape.{Tape, Item, Gives, OneByte, OneNote, front, behind_front}
 use Rattle.roff_run.specs.TurnsToCome.{begun, endings_of, free_ahead, lines_left, most_left, phases_left, turns_of}
 use Rattle.roff_run.specs.Environments.{interrupted_line}
@@ -18,8 +19,8 @@ use Rattle.roff_run.proofs.EscapeCounts.{some_ending}
 use Rattle.roff_run.proofs.LinesLeft.{left-few, left_behind}
 use Rattle.roff_run.proofs.Keeping.{Keeps-end_taking, Keeps-last_called}
 use Rattle.roff_run.proofs.LinesEnded.{AtBrace, AtStart, LineEnded, Within, line_ended, unended-few}
+use Rattle.roff_run.proofs.Behind.{Behind-byte_taken, Behind-ahead_taken, Behind-escape_ends, begun-behind_return}
 use Rattle.roff_run.proofs.Readings.{ReadsOn, LimitStops, AheadTaken, ByteTaken, NoteTaken, HalfEnds, InputLeft, LineEnds, PhaseEnds, MessageTold, RunAborts, SourceFails, SourceStops, SprungRead, line_ends}
-use Rattle.roff_run.proofs.Behind.{Behind-byte_taken, Behind-ahead_taken, Behind-escape_ends}
 
 -- How many turns are enough. What is still to be charged may begin something that ends, and a line that ends behind that, and so
 -- may a free byte; an item of the source takes one. A condition takes two endings, and the escape that begins it one more: the
@@ -85,6 +86,22 @@ PhaseEnds-fewer l n LastMacro s is unfinished enough =
     inr (omega (arith, enough, few, phases))
 PhaseEnds-fewer l n Closing s is unfinished enough = inl refl
 
+-- what is gone back to may be a line that is unfinished
+behind_left : (l : Limits) (s : State) → s.reading ≡ Exiting → turns_needed l (input_left s) + 1 ≤ turns_needed l s
+behind_left l s leaves =
+    let back : ℕ = outermost_back 0 s.input.ahead in
+    let turns : turns_of (endings_of s.input.escapes) s.reading ≡ turns_of (endings_of s.input.escapes) Exiting = ap (turns_of (endings_of s.input.escapes)) leaves in
+    let none = begun-behind_return back LineStart in
+    omega (arith, turns, none, unended-few (gone_back_to back))
+
+-- the input is left
+InputLeft-fewer : (l : Limits) (phase : Phase) (s : State) → s.reading ≡ Exiting → turns_needed l (left_in phase s) + 1 ≤ turns_needed l s
+InputLeft-fewer l Reading s leaves = behind_left l s leaves
+InputLeft-fewer l LastMacro s leaves = behind_left l s leaves
+InputLeft-fewer l Closing s leaves =
+    let turns : turns_of (endings_of s.input.escapes) s.reading ≡ turns_of (endings_of s.input.escapes) Exiting = ap (turns_of (endings_of s.input.escapes)) leaves in
+    omega (arith, turns)
+
 -- what was read, or how the run ended
 pub EndsWithin-read : (l : Limits) (n : ℕ) (s t : State) → ReadsOn l s t → s.to_do ≡ [] → s.sprung ≡ None → turns_needed l s ≤ suc n → EndsWithin l n t
 EndsWithin-read l n s t (LimitStops limit) idle unsprung enough = inl refl
@@ -117,9 +134,7 @@ EndsWithin-read l n s t (MessageTold told is_made) idle unsprung enough =
     let turns : turns_of (endings_of s.input.escapes) s.reading ≡ turns_of (endings_of s.input.escapes) (Told false) = ap (turns_of (endings_of s.input.escapes)) told in
     fewer_needed l n s t enough (omega (arith, turns))
 EndsWithin-read l n s t (RunAborts told) idle unsprung enough = inl refl
-EndsWithin-read l n s t (InputLeft leaves is_made) idle unsprung enough =
-    let turns : turns_of (endings_of s.input.escapes) s.reading ≡ turns_of (endings_of s.input.escapes) Exiting = ap (turns_of (endings_of s.input.escapes)) leaves in
-    fewer_needed l n s t enough (omega (arith, turns))
+EndsWithin-read l n s t (InputLeft leaves is_made) idle unsprung enough = fewer_needed l n s t enough (InputLeft-fewer l s.phase s leaves)
 EndsWithin-read l n s t (SprungRead name sprung is_made) idle unsprung enough = absurd (cc)
 EndsWithin-read l n s t (SourceFails is_open fails) idle unsprung enough = inl refl
 EndsWithin-read l n s t (SourceStops limit is_open stops) idle unsprung enough = inl refl

@@ -10,4 +10,5 @@ pub mod RequestLaws
 pub mod PageLaws
 pub mod EnvironmentLaws
 pub mod SpringLaws
+pub mod TrapLaws
 pub mod SpringRows

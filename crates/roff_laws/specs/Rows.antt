@@ -53,6 +53,10 @@ abbrev pub formatted_with : ℕ → ℕ → ℕ → List ℕ → Result
 formatted_with stack depth names text =
     result_of (record default_limits { stack = stack; depth = depth; names = names }) text Ended
 
+-- with these limits on the traps, and on the output
+abbrev pub formatted_pages_within : ℕ → ℕ → List ℕ → Result
+formatted_pages_within traps output text = result_of (record default_limits { traps = traps; output = output }) text Ended
+
 -- where the text ends so, with this limit on the bytes
 abbrev pub formatted_up_to : ℕ → Ending → List ℕ → Result
 formatted_up_to bytes ending text = result_of (record default_limits { bytes = bytes }) text ending

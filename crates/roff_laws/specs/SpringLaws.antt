@@ -14,10 +14,10 @@ use Rattle.roff_run.specs.Reading.Returns.{back_of, in_sprung}
 use Rattle.roff_run.specs.Requests.{called_by}
 use Rattle.roff_run.specs.Run.{State, after, made, step}
 use Rattle.roff_run.specs.Run.Counts.{refusal}
-use Rattle.roff_run.specs.Springs.{next, springs}
+use Rattle.roff_run.specs.Springs.{left_of, next, springs}
 use Rattle.roff_run.specs.declared.environment_number.EnvironmentNumber.{EnvironmentNumber}
 use Rattle.roff_run.specs.declared.event.InputTrap.{InputTrap}
-use Rattle.roff_run.specs.PageEvents.{PageEvent}
+use Rattle.roff_run.specs.PageEvents.{PageEvent, PastEvent}
 use Rattle.roff_run.specs.Titles.{keeping, put_back, told}
 use Rattle.roff_run.specs.declared.event.PageEvent.TheVariants.{Text, InputTrap as SetsTrap}
 use Rattle.roff_run.specs.declared.line_state.LineState.{LineState}
@@ -25,26 +25,41 @@ use Rattle.roff_run.specs.declared.line_state.LineState.TheVariants.{LineStart, 
 use Rattle.roff_run.specs.declared.request.Called.TheVariants.{Body as ABody, Nothing as Unknown}
 use Rattle.roff_laws.specs.EnvironmentLaws.{environment_of}
 
--- an event springs a macro: it is the first of those that are to be done, nothing comes before it, no limit refuses it, and the
--- last page doesn't end with it
+-- the event that is performed where one is the first to be done, told what comes before it
+abbrev pub first_of : Option PageEvent → PageEvent → PageEvent
+first_of None e = e
+first_of (Some own) e = own
+
+-- what is left behind it: of an eject that it goes on, and the others; or the event before which another one came
+abbrev pub left_behind : Option PageEvent → PageEvent → List PageEvent → State → List PageEvent
+left_behind None e rest s = left_of s.history (told s.registers e) ++ rest
+left_behind (Some own) e rest s = e ∷ rest
+
+-- the event that is performed in a state, as it happens
+abbrev pub happening : PageEvent → State → PastEvent
+happening e s = told s.registers (first_of (next s.history e) e)
+
+-- an event springs a macro, or what comes before it does: it is the first of those that are to be done, no limit refuses what
+-- happens, and the last page doesn't end with it
 pub record Springs (l : Limits) (s : State) (e : PageEvent) (rest : List PageEvent) (name : ShortName) : Type 0 where
   pub going : s.ended ≡ None
   pub first : s.to_do ≡ e ∷ rest
-  pub none_before : next s.history e ≡ None
-  pub allowed : refusal l s.history (told s.registers e) ≡ None
-  pub goes_on : (layout_of (told s.registers e ∷ s.history)).is_over ≡ false
-  pub sprung : springs s.history (told s.registers e) ≡ Some name
+  pub allowed : refusal l s.history (happening e s) ≡ None
+  pub goes_on : (layout_of (happening e s ∷ s.history)).is_over ≡ false
+  pub sprung : springs s.history (happening e s) ≡ Some name
 
--- the state behind the event, with the rest put back: a title among it is kept
+-- the state behind it, with what is left put back: a title among it is kept
 abbrev pub with_rest_back : PageEvent → List PageEvent → State → State
-with_rest_back e rest s = record s {
-  to_do = [];
-  history = told s.registers e ∷ s.history;
-  registers = keeping rest s.registers;
-  input = record s.input { ahead = map DoAhead (map put_back rest) ++ s.input.ahead };
-}
+with_rest_back e rest s =
+    let left : List PageEvent = left_behind (next s.history e) e rest s in
+    record s {
+      to_do = [];
+      history = happening e s ∷ s.history;
+      registers = keeping left s.registers;
+      input = record s.input { ahead = map DoAhead (map put_back left) ++ s.input.ahead };
+    }
 
--- Its body comes to stand in front, an end behind it that leads back to what was read, and behind that the rest of the events.
+-- Its body comes to stand in front, an end behind it that leads back to what was read, and behind that what is left of the events.
 -- That takes two steps, and costs nothing. No arguments are in force in it.
 abbrev pub MacrosAreReadFirst : Type 0
 MacrosAreReadFirst =

@@ -1,5 +1,5 @@
-//! Laws over whole runs, their pages, registers, environments, macros that spring and the table of
-//! requests: facts about the definitions alone, as contracts of functions that do nothing.
+//! Laws over whole runs, their pages, registers, environments, traps, macros that spring and the
+//! table of requests: facts about the definitions alone, as contracts of functions that do nothing.
 #![tactic(auto)]
 
 pub mod environment_laws;
@@ -8,3 +8,4 @@ pub mod page_laws;
 pub mod register_laws;
 pub mod request_laws;
 pub mod spring_laws;
+pub mod trap_laws;

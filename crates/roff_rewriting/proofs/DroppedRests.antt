@@ -216,6 +216,7 @@ module _ (l : Limits) (s : State) (from : Origin) (next : Known → Known) (name
         title = within_begins.title;
         environments = within.environments;
         output = within.output;
+        traps = within.traps;
       } in
       let same : begun_from e from more ≡ begins bytes =
       ap (λ (j : PageInput). record e { tape = tape_at from [] e.tape; input = j; reading = LineStart }) (counted-entered name appends text before from front more paid_for)

@@ -1,3 +1,4 @@
+pub mod CopiedNames
 pub mod MessageLines
 pub mod ReadTexts
 pub mod Ways
@@ -16,3 +17,8 @@ pub mod PrintedNumbers
 pub mod TitleReading
 pub mod TitleRuns
 pub mod TitleLaws
+pub mod WordsApart
+pub mod WordEnds
+pub mod StandsAhead
+pub mod LinesGoOn
+pub mod MacroEnds

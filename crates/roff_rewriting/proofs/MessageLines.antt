@@ -222,6 +222,7 @@ module _ (l : Limits) (s : State) (control : ℕ) (name : ShortName) (front behi
         title = before.title;
         environments = before.environments;
         output = before.output;
+        traps = before.traps;
       }
 
   room4 : HasRoom l s names from most (telling texts t2) last (with_charge c4)
@@ -237,6 +238,7 @@ module _ (l : Limits) (s : State) (control : ℕ) (name : ShortName) (front behi
     title = room2.title;
     environments = room2.environments;
     output = room2.output;
+    traps = room2.traps;
   }
 
   within4 : IsWithin l u4

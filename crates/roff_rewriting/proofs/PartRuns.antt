@@ -15,6 +15,7 @@ use Rattle.roff_rewriting.specs.Parts.{Part, Written, bytes_of, bytes_of_part, c
 use Rattle.roff_rules.proofs.Interpolation.{ReadsEscapes-reads_escapes, held-settled_for, settled_for}
 use Rattle.roff_run.specs.Environments.{environments}
 use Rattle.roff_run.specs.Output.{PageHistory, written}
+use Rattle.roff_run.specs.Layouts.{layout_of}
 use Rattle.roff_run.proofs.ItemsTaken.{FromAhead, FromSource, Origin, ahead_at}
 use Rattle.roff_run.proofs.Leads.{after-add}
 use Rattle.roff_run.proofs.NameBytes.{stage}
@@ -126,6 +127,7 @@ room-again l s t names (FromAhead rest) most p q bytes more i j many same room c
   title = omega (arith, room.title, many.title);
   environments = subst (λ (h : PageHistory). EnvironmentsWithin l (environments h)) (sym same) room.environments;
   output = omega (arith, room.output, ap (λ (h : PageHistory). length (written h)) same);
+  traps = omega (arith, room.traps, ap (λ (h : PageHistory). length (layout_of h).traps) same);
 }
 room-again l s t names (FromSource tape) most p q bytes more i j many same room charged_few stack_few deep live names_few results_few = record {
   charged = charged_few;
@@ -139,6 +141,7 @@ room-again l s t names (FromSource tape) most p q bytes more i j many same room 
   title = omega (arith, room.title, many.title);
   environments = subst (λ (h : PageHistory). EnvironmentsWithin l (environments h)) (sym same) room.environments;
   output = omega (arith, room.output, ap (λ (h : PageHistory). length (written h)) same);
+  traps = omega (arith, room.traps, ap (λ (h : PageHistory). length (layout_of h).traps) same);
 }
 
 -- a run behind some parts, where there is room for what comes
@@ -235,6 +238,7 @@ module _ (l : Limits) (s : State) (names : Named Entry) (from : Origin) (most : 
           title = omega (arith, room.room.title, as_many.title);
           environments = room.room.environments;
           output = room.room.output;
+          traps = room.room.traps;
         }
 
     room-last : HasRoom l s1 names from most behind last (charged total i2)

@@ -214,6 +214,7 @@ title-from l s from control name t begins has is_title ahead tape within charged
       title = within_there.title;
       environments = within_there.environments;
       output = within_there.output;
+      traps = within_there.traps;
     } in
     let on : TakesItems (with_title read s) = record {
       going = begins.takes.going;

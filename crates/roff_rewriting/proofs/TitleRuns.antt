@@ -13,7 +13,7 @@ use Rattle.roff_store.specs.Named.{Named}
 use Rattle.roff_store.specs.Texts.{Entry}
 use Rattle.roff_rewriting.proofs.TitleColumns.{not-byte}
 use Rattle.roff_rewriting.proofs.TitleReading.{Here, Onward, TitlePath, TitleStage, TitleTurns, changing_taking, titled}
-use Rattle.roff_rules.specs.TextLaws.{AreAllowed, all_performed, performed_with}
+use Rattle.roff_rules.specs.TextLaws.{AllQuiet, all_performed, performed_with}
 use Rattle.roff_run.proofs.ItemsTaken.{Origin}
 use Rattle.roff_run.proofs.NameBytes.{stage}
 use Rattle.roff_run.proofs.PlainRuns.{HasRoom, HasRoom-behind, IsSmall, IsWithin-HasRoom, Most, behind_byte, behind_bytes, run_at, step-taken}
@@ -65,6 +65,7 @@ room-titled l s t u names from most p bytes i few room = record {
   title = few;
   environments = room.environments;
   output = room.output;
+  traps = room.traps;
 }
 
 -- a step at a byte
@@ -131,18 +132,18 @@ none-begins h = ap (λ (takes : Bool). page_begin_or (not takes && true) None) (
 
 -- the title's own step
 title-happens : (l : Limits) (u : State) → u.ended ≡ None → next u.history (Title Read) ≡ None
-    → AreAllowed l u.registers u.history (Title Read ∷ [])
+    → AllQuiet l u.registers u.history (Title Read ∷ [])
     → step l (record u { to_do = Title Read ∷ [] }) ≡ record u { to_do = []; history = told u.registers (Title Read) ∷ u.history }
 title-happens l u going none allowed =
     let before : State = record u { to_do = Title Read ∷ [] } in
     ap (λ (ended : Option Status). elim ended [ None ↦ step_with l before.to_do before | Some status ↦ before ]) going
     ∙ ap (λ (own : Option PageEvent). performing l own (Title Read) [] before) none
-    ∙ event-happens l before (Title Read) [] allowed.0 allowed.1 refl
+    ∙ event-happens l before (Title Read) [] allowed.0.allowed allowed.0.goes_on allowed.0.none_sprung
 
 -- by whether the first page begins in front of it
 title-placed_by : (l : Limits) (u : State) (c : Bool) → u.ended ≡ None → begins u.history (Title Read) ≡ c
     → let events : List PageEvent = title_events u.registers u.history (page_begin_or c None) in
-    AreAllowed l u.registers u.history events
+    AllQuiet l u.registers u.history events
     → after l (length events) (record u { to_do = Title Read ∷ [] }) ≡ record u { to_do = []; history = behind_all u.registers events u.history }
 title-placed_by l u false going is allowed =
     title-happens l u going (ap (λ (c : Bool). page_begin_or c None) is) allowed
@@ -154,21 +155,21 @@ title-placed_by l u true going is allowed =
     let begun : State = record u { history = g } in
     let rest : Option PageEvent → List PageEvent = λ own.
     elim own [ None ↦ Title Read ∷ [] | Some first ↦ first ∷ performed_with rs 0 (told rs first ∷ g) (Title Read) (all_performed rs []) ] in
-    let last : (own : Option PageEvent) → next g (Title Read) ≡ own → own ≡ None → AreAllowed l rs g (rest own)
+    let last : (own : Option PageEvent) → next g (Title Read) ≡ own → own ≡ None → AllQuiet l rs g (rest own)
     → after l (length (rest own)) (record begun { to_do = Title Read ∷ [] }) ≡ record u { to_do = []; history = behind_all rs (rest own) g } =
     λ own is_own none.
     subst
     (λ (own : Option PageEvent).
-    AreAllowed l rs g (rest own) → after l (length (rest own)) (record begun { to_do = Title Read ∷ [] }) ≡ record u { to_do = []; history = behind_all rs (rest own) g })
+    AllQuiet l rs g (rest own) → after l (length (rest own)) (record begun { to_do = Title Read ∷ [] }) ≡ record u { to_do = []; history = behind_all rs (rest own) g })
     (sym none) (λ allowed. title-happens l begun going (none-begins h) allowed) in
     let first : step l before ≡ record u { to_do = Title Read ∷ []; history = g } =
     ap (λ (ended : Option Status). elim ended [ None ↦ step_with l before.to_do before | Some status ↦ before ]) going
     ∙ ap (λ (own : Option PageEvent). performing l own (Title Read) [] before) (ap (λ (c : Bool). page_begin_or c None) is)
-    ∙ event-happens l before (Page Begin) (Title Read ∷ []) allowed.0 allowed.1 refl in
-    ap (after l (length (rest (next g (Title Read))))) first ∙ last (next g (Title Read)) refl (none-begins h) allowed.2
+    ∙ event-happens l before (Page Begin) (Title Read ∷ []) allowed.0.allowed allowed.0.goes_on allowed.0.none_sprung in
+    ap (after l (length (rest (next g (Title Read))))) first ∙ last (next g (Title Read)) refl (none-begins h) allowed.1
 
 pub title-placed : (l : Limits) (u : State) → u.ended ≡ None
     → let events : List PageEvent = all_performed u.registers (Title Read ∷ []) u.history in
-    AreAllowed l u.registers u.history events
+    AllQuiet l u.registers u.history events
     → after l (length events) (record u { to_do = Title Read ∷ [] }) ≡ record u { to_do = []; history = behind_all u.registers events u.history }
 title-placed l u going allowed = title-placed_by l u (begins u.history (Title Read)) going refl allowed

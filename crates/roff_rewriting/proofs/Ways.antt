@@ -56,6 +56,7 @@ HasRoom-two l s names (FromAhead rest) most p q b c bytes i grows room = record 
   title = room.title;
   environments = room.environments;
   output = room.output;
+  traps = room.traps;
 }
 HasRoom-two l s names (FromSource tape) most p q b c bytes i grows room = record {
   charged = omega (arith, room.charged);
@@ -69,6 +70,7 @@ HasRoom-two l s names (FromSource tape) most p q b c bytes i grows room = record
   title = room.title;
   environments = room.environments;
   output = room.output;
+  traps = room.traps;
 }
 
 -- a step at a byte that leads to another stage

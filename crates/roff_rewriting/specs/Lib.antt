@@ -1,3 +1,5 @@
+pub mod CopiedNames
+pub mod MacroEnds
 pub mod MessageLines
 pub mod Parts
 pub mod TextsInCalls
@@ -5,3 +7,5 @@ pub mod TextsInDefinitions
 pub mod TextsInMessages
 pub mod TextsInStrings
 pub mod TitleLaws
+pub mod WordsApart
+pub mod WordEnds

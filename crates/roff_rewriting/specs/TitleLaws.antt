@@ -14,7 +14,7 @@ use Rattle.roff_store.specs.Named.{Named}
 use Rattle.roff_store.specs.Texts.{Entry}
 use Rattle.roff_ahead.specs.Input.{Ahead, ByteAhead, lines_taken}
 use Rattle.roff_rules.specs.CallLaws.{BeginsLine, IsControl}
-use Rattle.roff_rules.specs.TextLaws.{AreAllowed, all_performed}
+use Rattle.roff_rules.specs.TextLaws.{AllQuiet, all_performed}
 use Rattle.roff_rules.specs.WordCalls.{call_with}
 use Rattle.roff_run.specs.Environments.{text_of}
 use Rattle.roff_run.specs.Layouts.{happens, layout_of}
@@ -148,8 +148,8 @@ pub record PlacesTitle (page : Option ℕ) (t : TitleOnLine) (h : PageHistory) (
 
 -- What the line of a title does. In as many steps as it has bytes it leads to where the title that was read is to be placed next,
 -- and wherever that is its parts stand where they belong, also where it is kept while a macro is read. Each event is a step: the
--- title, and in front of it the first page's beginning, where none was begun, if no limit refuses these and the last page doesn't
--- end with one.
+-- title, and in front of it the first page's beginning, where none was begun, if no limit refuses these, the last page doesn't end
+-- with one, and none springs a macro.
 pub record LeadsToTitle (l : Limits) (s : State) (t : TitleOnLine) (line : List ℕ) (behind : State) : Type 0 where
   pub read : TitleText
   pub places : (h : PageHistory) (rs : AllRegisters) → rs.title ≡ read → PlacesTitle s.registers.page_character t h rs Read
@@ -158,7 +158,7 @@ pub record LeadsToTitle (l : Limits) (s : State) (t : TitleOnLine) (line : List 
   pub is_placed :
       let rs : AllRegisters = record s.registers { title = read } in
       let events : List PageEvent = all_performed rs (Title Read ∷ []) s.history in
-      AreAllowed l rs s.history events →
+      AllQuiet l rs s.history events →
       after l (length line + length events) s ≡ record behind { registers = rs; history = behind_all rs events s.history }
 
 -- Three parts of printable bytes stand in the title's text where they belong, and its line costs one for each byte. So it is where

@@ -1,9 +1,11 @@
-//! The rules of reading as laws, of lines with escapes among their bytes that are read as texts, and
-//! of titles: facts about the definitions alone, as contracts of functions that do nothing.
+//! The rules of reading as laws, of lines with escapes that are read as texts, of titles, and of the
+//! words around a macro that springs: facts about the definitions alone, as contracts of functions
+//! that do nothing.
 #![tactic(auto)]
 
 pub mod call_laws;
 pub mod definition_laws;
+pub mod footer_laws;
 pub mod message_laws;
 pub mod name_laws;
 pub mod string_laws;

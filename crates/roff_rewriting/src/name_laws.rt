@@ -2,7 +2,16 @@
 
 ghost use Rattle.std.specs.Prelude.{◌≡◌, [], codes};
 ghost use Rattle.roff_laws.specs.Rows.{formatted, gives};
+ghost use Rattle.roff_rewriting.specs.CopiedNames.{NamesAreTheirFirstTwoBytes};
+ghost use Rattle.roff_rewriting.specs.CopiedNames.{NamesOfTheSourceAreTheirFirstTwoBytes};
 ghost use Rattle.roff_run.specs.declared.status.Status.TheVariants.{Done};
+
+/// Of what copy mode makes of a name in parentheses the first two bytes are the name: its text is
+/// read in the escape's place, that of a register or of a string.
+pub fn names()
+    ensures ahead { NamesAreTheirFirstTwoBytes }
+    ensures source { NamesOfTheSourceAreTheirFirstTwoBytes }
+{}
 
 /// What the definitions give on worked rows of names with an escape that stays in copy mode, which
 /// is two bytes: of what a name in parentheses is copied to the first two bytes are the name, and

@@ -102,6 +102,7 @@ within-asks l s keeps from half bytes i room =
       title = within.title;
       environments = within.environments;
       output = within.output;
+      traps = within.traps;
     }
 
 -- behind a byte too

@@ -79,6 +79,7 @@ within-without l s from reading bytes i room =
       title = within.title;
       environments = within.environments;
       output = within.output;
+      traps = within.traps;
     }
 
 -- what the name stands for, at its last byte, and at the blank behind it

@@ -1,5 +1,5 @@
 -- The laws over the start and the end of a run.
-use Rattle.std.proofs.Common.{◌≡◌, ◌⊎◌, inl, inr, ℕ, Bool, true, false, List, [], ◌∷◌, ◌++◌, Option, Some, None, refl, sym, ap, ◌∙◌}
+use Rattle.std.proofs.Common.{◌≡◌, ◌≢◌, ◌⊎◌, inl, inr, ℕ, Bool, true, false, List, [], ◌∷◌, ◌++◌, Option, Some, None, refl, sym, ap, ◌∙◌}
 use Rattle.std.specs.Prelude.{bytes_eq, pos, if◌then◌else◌}
 use Rattle.std.proofs.lemmas.List.{append-nil}
 use Rattle.roff_num.specs.declared.limit.Limit.{Limit}
@@ -9,9 +9,9 @@ use Rattle.roff_num.specs.declared.short_name.ShortName.{ShortName}
 use Rattle.roff_escape.specs.OpenEscape.{OpenEscape}
 use Rattle.roff_ahead.specs.Input.{Ahead}
 use Rattle.roff_source.specs.Tape.{Answer, Ended, Ends, front}
-use Rattle.roff_rules.specs.EndLaws.{ExClosesTheInput, GivenRegistersRead, IsReadThrough, NamesNone, TheLastMacroIsRead, ThenTheLineIsPlaced, ThenTheRunIsDone, WithoutOneNothingIsRead}
+use Rattle.roff_rules.specs.EndLaws.{ExClosesTheInput, ExIsIgnoredAsTheRunCloses, GivenRegistersRead, IsReadThrough, NamesNone, TheLastMacroIsRead, ThenTheLineIsPlaced, ThenTheRunIsDone, WithoutOneNothingIsRead}
 use Rattle.roff_run.specs.Reading.Calls.{called_last, last_called}
-use Rattle.roff_run.specs.Reading.Ends.{is_unfinished}
+use Rattle.roff_run.specs.Reading.Ends.{due, is_unfinished}
 use Rattle.roff_run.specs.Reading.Items.{PageInput}
 use Rattle.roff_run.specs.Environments.{PageHistory}
 use Rattle.roff_run.specs.Layouts.{layout_of}
@@ -21,13 +21,15 @@ use Rattle.roff_run.specs.Requests.Numbering.{number_of_page}
 use Rattle.roff_run.specs.Run.Counts.{first_passed, names_counted}
 use Rattle.roff_run.specs.Starts.{history_given, with_given}
 use Rattle.roff_store.specs.declared.register.Register.{Register}
+use Rattle.roff_laws.proofs.Endings.{step-going}
 use Rattle.roff_laws.proofs.RegisterLaws.{number_by, settable-other, settable-set, settable_by}
 use Rattle.roff_run.specs.PageEvents.{PageEvent}
 use Rattle.roff_run.specs.Events.Lines.{closing_events}
-use Rattle.roff_run.specs.Run.{State, answered, ending_input, input_ended, known, made, phase_ended, source_answer, step, unless_refused, with_registers}
+use Rattle.roff_run.specs.Run.{State, answered, ending_input, input_ended, input_left, known, left_in, made, phase_ended, reading_by, source_answer, step, step_with, unless_refused, with_registers, with_sprung}
 use Rattle.roff_run.proofs.ItemsTaken.{step-reads}
 use Rattle.roff_rules.proofs.Interpolation.{unread_input_is_the_tape}
-use Rattle.roff_run.specs.declared.line_state.LineState.TheVariants.{LineStart}
+use Rattle.roff_run.specs.declared.line_state.LineState.{LineState}
+use Rattle.roff_run.specs.declared.line_state.LineState.TheVariants.{Exiting, LineStart}
 use Rattle.roff_run.specs.declared.phase.Phase.{Phase}
 use Rattle.roff_run.specs.declared.phase.Phase.TheVariants.{Reading, LastMacro, Closing}
 use Rattle.roff_run.specs.declared.request.Called.{Called}
@@ -83,8 +85,26 @@ then_the_line_is_placed l s through =
 pub then_the_run_is_done : ThenTheRunIsDone
 then_the_run_is_done l s through = ends-phase l Closing s through
 
+-- the step behind the line of an `.ex`
+leaving-step : (l : Limits) (s : State) → s.ended ≡ None → s.to_do ≡ [] → s.sprung ≡ None → s.reading ≡ Exiting → step l s ≡ made l s (left_in s.phase s)
+leaving-step l s going idle unsprung leaves =
+    step-going l s going
+    ∙ ap (λ (es : List PageEvent). step_with l es s) idle
+    ∙ ap (λ (name : Option ShortName). with_sprung l name s) unsprung
+    ∙ ap (λ (reading : LineState). reading_by l (due reading) s) leaves
+
+-- before it closes the input is left
+left-reading : (phase : Phase) (s : State) → phase ≢ Closing → left_in phase s ≡ input_left s
+left-reading Reading s reads = refl
+left-reading LastMacro s reads = refl
+left-reading Closing s reads = absurd (reads refl)
+
 pub ex_closes_the_input : ExClosesTheInput
-ex_closes_the_input l s going idle unsprung leaves = rw (going, idle, unsprung, leaves) refl
+ex_closes_the_input l s going idle unsprung leaves reads = leaving-step l s going idle unsprung leaves ∙ ap (made l s) (left-reading s.phase s reads)
+
+pub ex_is_ignored_as_the_run_closes : ExIsIgnoredAsTheRunCloses
+ex_is_ignored_as_the_run_closes l s going idle unsprung leaves closes =
+    leaving-step l s going idle unsprung leaves ∙ ap (λ (p : Phase). made l s (left_in p s)) closes
 
 -- a limit that refuses a register ends the run
 refused_ends : (l : Limits) (r : Option Limit) (s done : State) → (unless_refused l r s done).ended ≡ None → unless_refused l r s done ≡ done

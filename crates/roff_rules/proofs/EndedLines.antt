@@ -23,8 +23,7 @@ use Rattle.roff_rules.proofs.DefinedBytes.{Allows, Definition, defining, newest-
 use Rattle.roff_rules.proofs.DefinitionLaws.{making-length, making-stored, remove-last, path-lines}
 use Rattle.roff_rules.proofs.Skipping.{IsPlain, IsPlain-counting, skipped_behind, step-counting, taking-goes_on, run_at as skips_at}
 use Rattle.roff_rules.proofs.EventRuns.{AreQuiet, Means, Tells, after-Tells, after-meant, behind-append, behind_performed, fits-room, idle-state, perform-all, quiet-front, steps-append, steps_of, taken_as-meaning, text_at}
-use Rattle.roff_rules.proofs.TextLaws.{NoneGoesOn, first_events, glyph_line, leading_line, means-first, means-newline, neither, taking-glyph, tells-behind_blank, tells-rest}
-use Rattle.roff_rules.proofs.QuietEvents.{part_events, quiet-text}
+use Rattle.roff_rules.proofs.TextLaws.{NoneGoesOn, first_events, glyph_line, leading_line, means-first, means-newline, neither, part_events, taking-glyph, tells-behind_blank, tells-rest}
 use Rattle.roff_rules.specs.CallLaws.{BeginsLine}
 use Rattle.roff_rules.specs.ConditionLaws.{AreKept, MayEnd}
 use Rattle.roff_rules.specs.DefinitionLaws.{bytes_of_lines, text_of_lines}
@@ -187,10 +186,9 @@ unfinished-text l s tape (suc n) first word others trailing begins none_goes is 
     (tells-behind_blank n first word others trailing is.leading_few is.first_is is.word_is is.others_are) ahead stands within charged allowed
 
 pub unfinished_text_lines_tell_their_words : UnfinishedTextLinesTellTheirWords
-unfinished_text_lines_tell_their_words l s t tape begins none_goes none_springs is none stands ends within charged allowed =
+unfinished_text_lines_tell_their_words l s t tape begins none_goes is none stands ends within charged allowed =
     let h : PageHistory = behind_performed s.registers (text_events t) s.history in
-    unfinished-text l s tape t.leading t.first t.word t.others t.trailing begins none_goes is ends none stands within charged
-    (quiet-text t l s.registers s.history none_springs allowed)
+    unfinished-text l s tape t.leading t.first t.word t.others t.trailing begins none_goes is ends none stands within charged allowed
     ∙ ap (λ (i : PageInput). record s { tape = tape; input = i; history = h })
     (counted-source tape (unfinished_bytes t) s.input none)
 

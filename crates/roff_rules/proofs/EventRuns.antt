@@ -1,5 +1,5 @@
 -- Runs over bytes that mean events.
-use Rattle.std.proofs.Common.{◌≡◌, ℕ, zero, suc, ◌+◌, ◌≤◌, Bool, false, List, ◌∷◌, ◌++◌, length, Option, Some, None, refl, ap, sym, subst, ◌∙◌, arith, append_assoc, []}
+use Rattle.std.proofs.Common.{◌≡◌, ℕ, zero, suc, ◌+◌, ◌≤◌, Bool, List, ◌∷◌, ◌++◌, length, Option, Some, None, refl, ap, sym, subst, ◌∙◌, arith, append_assoc, []}
 use Rattle.std.specs.Prelude.{⊤, map}
 use Rattle.std.proofs.lemmas.List.{append-nil, length-append}
 use Rattle.roff_num.specs.declared.limits.Limits.{Limits}
@@ -19,30 +19,18 @@ use Rattle.roff_run.specs.Titles.{told}
 use Rattle.roff_lines.specs.declared.event.Event.TheVariants.{WordEnd}
 use Rattle.roff_pages.specs.declared.layout_event.LayoutEvent.TheVariants.{Begin}
 use Rattle.roff_run.specs.declared.event.PageEvent.TheVariants.{Page, Text}
-use Rattle.roff_run.specs.Layouts.{layout_of}
 use Rattle.roff_laws.proofs.ComesBefore.{ComesBefore, NothingComes, PageComes, WordEndComes, comes_before, steps_in_front, steps_in_front-few}
-use Rattle.roff_laws.proofs.PerformedOrStopped.{first_of, left_of}
-use Rattle.roff_rules.specs.TextLaws.{all_performed, performed_with}
+use Rattle.roff_laws.proofs.PerformedOrStopped.{left_of-none}
+use Rattle.roff_rules.specs.TextLaws.{AllQuiet, IsQuiet, all_performed, performed_with}
 use Rattle.roff_run.specs.Run.{State, after, done_if, known, made, performed, performing, sprung_at, step, step_with, taken_as, unless_refused}
 use Rattle.roff_run.specs.TurnsToCome.{behind_all}
 use Rattle.roff_run.specs.declared.line_state.LineState.{LineState}
 use Rattle.roff_run.specs.declared.line_state.LineState.TheVariants.{LineStart}
 use Rattle.roff_run.specs.declared.status.Status.{Status}
 use Rattle.roff_rules.proofs.LineRooms.{Room, reads_at, room-behind, within-room}
-use Rattle.roff_run.specs.Springs.{next, springs}
+use Rattle.roff_run.specs.Springs.{left_of, next, springs}
 use Rattle.roff_run.specs.Run.Counts.{refusal}
 use Rattle.roff_num.specs.declared.short_name.ShortName.{ShortName}
-
--- an event is quiet: no limit refuses it, the last page doesn't end with it, and it springs no macro
-pub record IsQuiet (l : Limits) (h : PageHistory) (e : PastEvent) : Type 0 where
-  pub allowed : refusal l h e ≡ None
-  pub goes_on : (layout_of (e ∷ h)).is_over ≡ false
-  pub none_sprung : springs h e ≡ None
-
--- so it is of each of these, one behind another
-abbrev pub AllQuiet : Limits → AllRegisters → PageHistory → List PageEvent → Type 0
-AllQuiet l rs h [] = ⊤
-AllQuiet l rs h (e ∷ es) = IsQuiet l h (told rs e) × AllQuiet l rs (told rs e ∷ h) es
 
 -- events are quiet as they are performed, each with what comes before it
 abbrev pub AreQuiet : Limits → AllRegisters → PageHistory → List PageEvent → Type 0
@@ -64,17 +52,23 @@ quiet-step l s e left quiet =
     ∙ ap (λ (over : Bool). done_if over happened (sprung_at (springs s.history e) left happened)) quiet.goes_on
     ∙ ap (λ (name : Option ShortName). sprung_at name left happened) quiet.none_sprung
 
--- one that is to do, or what comes before it
-own-step : (l : Limits) (s : State) (own : Option PageEvent) (e : PageEvent) (es : List PageEvent) → s.ended ≡ None → next s.history e ≡ own
-    → let happens : PastEvent = told s.registers (first_of own e) in
-    IsQuiet l s.history happens
-    → step l (record s { to_do = e ∷ es }) ≡ record s { to_do = left_of own e es; history = happens ∷ s.history }
-own-step l s None e es going is quiet =
+-- one that is to do
+quiet-alone : (l : Limits) (s : State) (e : PageEvent) (es : List PageEvent) → s.ended ≡ None → next s.history e ≡ None
+    → IsQuiet l s.history (told s.registers e)
+    → step l (record s { to_do = e ∷ es }) ≡ record s { to_do = es; history = told s.registers e ∷ s.history }
+quiet-alone l s e es going is quiet =
     let before : State = record s { to_do = e ∷ es } in
+    let happens : PastEvent = told s.registers e in
     ap (λ (ended : Option Status). elim ended [ None ↦ step_with l before.to_do before | Some status ↦ before ]) going
     ∙ ap (λ (own : Option PageEvent). performing l own e es before) is
-    ∙ quiet-step l before (told s.registers e) es quiet
-own-step l s (Some own) e es going is quiet =
+    ∙ quiet-step l before happens (left_of s.history happens ++ es) quiet
+    ∙ ap (λ (front : List PageEvent). record s { to_do = front ++ es; history = happens ∷ s.history }) (left_of-none s.registers e s.history quiet.none_sprung)
+
+-- or what comes before it
+quiet-own : (l : Limits) (s : State) (own e : PageEvent) (es : List PageEvent) → s.ended ≡ None → next s.history e ≡ Some own
+    → IsQuiet l s.history (told s.registers own)
+    → step l (record s { to_do = e ∷ es }) ≡ record s { to_do = e ∷ es; history = told s.registers own ∷ s.history }
+quiet-own l s own e es going is quiet =
     let before : State = record s { to_do = e ∷ es } in
     ap (λ (ended : Option Status). elim ended [ None ↦ step_with l before.to_do before | Some status ↦ before ]) going
     ∙ ap (λ (own : Option PageEvent). performing l own e es before) is
@@ -97,14 +91,14 @@ perform-alone : (l : Limits) (s : State) (e : PageEvent) (es : List PageEvent) �
     → PerformsFirst l s e es (e ∷ all_performed s.registers es (told s.registers e ∷ s.history))
 perform-alone l s e es going none others quiet =
     let h : PageHistory = told s.registers e ∷ s.history in
-    ap (after l (steps_of s.registers es h)) (own-step l s None e es going none quiet.0)
+    ap (after l (steps_of s.registers es h)) (quiet-alone l s e es going none quiet.0)
     ∙ others (record s { history = h }) going quiet.1
 
 perform-own : (l : Limits) (s : State) (own e : PageEvent) (es performed : List PageEvent) → s.ended ≡ None → next s.history e ≡ Some own
     → PerformsFirst l (record s { history = told s.registers own ∷ s.history }) e es performed
     → PerformsFirst l s e es (own ∷ performed)
 perform-own l s own e es performed going is others quiet =
-    ap (after l (length performed)) (own-step l s (Some own) e es going is quiet.0) ∙ others quiet.1
+    ap (after l (length performed)) (quiet-own l s own e es going is quiet.0) ∙ others quiet.1
 
 -- by what comes before it
 perform-by : (l : Limits) (n : ℕ) (s : State) (e : PageEvent) (es : List PageEvent) (own : Option PageEvent) → s.ended ≡ None → next s.history e ≡ own

@@ -152,7 +152,7 @@ charge-asked s reading from a half charge line _ name AString = refl
 charge-asked s reading from a half charge line _ name AnArgument = refl
 
 -- an escape is read as its text
-escape-reads : (l : Limits) (s : State) (from : Origin) (asks : NameUse) (name bytes : List ℕ)
+pub escape-reads : (l : Limits) (s : State) (from : Origin) (asks : NameUse) (name bytes : List ℕ)
     → Interpolates asks → TakesItems s → ReadsEscapes s.reading → reads_above s.input.escapes ≡ true → AsksAtLast (place_in (known s) s.reading) asks name s.input.escapes (Backslash ∷ s.input.escapes) bytes
     → s.input.ahead ≡ ahead_at from (backslash ∷ bytes) → s.tape ≡ tape_at from (backslash ∷ bytes) s.tape
     → let read : State = read_from from asks name (length (backslash ∷ bytes)) s in

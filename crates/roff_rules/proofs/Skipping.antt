@@ -219,7 +219,7 @@ pub record IsPlain (l : Limits) (s : State) (input : PageInput) : Type 0 where
 within-counting : (l : Limits) (s : State) (input : PageInput) (b : ℕ) → IsWithin l (record s { input = input }) → input.charge + 1 ≤ l.bytes
     → IsWithin l (record s { input = counting b input })
 within-counting l s input b within few =
-    record { bytes = few; stack = within.stack; depth = within.depth; store = within.store; texts = within.texts; making = within.making; conditions = within.conditions; names = within.names; title = within.title; environments = within.environments; output = within.output }
+    record { bytes = few; stack = within.stack; depth = within.depth; store = within.store; texts = within.texts; making = within.making; conditions = within.conditions; names = within.names; title = within.title; environments = within.environments; output = within.output; traps = within.traps }
 
 pub IsPlain-counting : (l : Limits) (s : State) (input : PageInput) (b : ℕ) → IsPlain l s input → input.charge + 1 ≤ l.bytes → IsPlain l s (counting b input)
 IsPlain-counting l s input b plain few =

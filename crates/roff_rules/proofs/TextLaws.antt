@@ -39,7 +39,6 @@ use Rattle.roff_run.specs.declared.line_state.LineState.TheVariants.{Control, Li
 use Rattle.roff_run.specs.declared.line_state.TextLine.{TextLine}
 use Rattle.roff_rules.proofs.EventRuns.{AreQuiet, Always, Here, Means, Onward, Tells, Tells-append, after-Tells, after-meant, behind-append, behind_performed, quiet-front, steps-append, steps_of, text_at}
 use Rattle.roff_rules.proofs.LineRooms.{Room, reads_at, room-behind, room-start}
-use Rattle.roff_rules.proofs.QuietEvents.{part_events, quiet-text, quiet-blanks}
 
 -- a byte of plain text on a text line
 means-text : (line : TextLine) (b : ℕ) (q : LineState) (events : List PageEvent) → is_text_byte b ≡ true
@@ -135,6 +134,10 @@ tells-word (b ∷ word) glyphs =
 tells-gap : (n : ℕ) → Tells (InText glyph_line) (replicate n blank) (gap_events n) (InText glyph_line)
 tells-gap zero = Here (InText glyph_line)
 tells-gap (suc n) = tells-byte blank (replicate n blank) (Text WordEnd ∷ Text (Gap 1) ∷ []) (gap_events n) (InText glyph_line) refl refl (tells-gap n)
+
+-- blanks, and the word behind them
+abbrev pub part_events : ℕ × List ℕ → List PageEvent
+part_events part = gap_events (suc part.0) ++ word_events part.1
 
 tells-others : (others : List (ℕ × List ℕ)) → All (λ (part : ℕ × List ℕ). All IsGlyph part.1) others
     → Tells (InText glyph_line) (flat_map gap_and_word others) (flat_map part_events others) (InText glyph_line)
@@ -295,17 +298,15 @@ text-from l s from (suc n) first word others trailing begins none_goes is ahead 
     (tells-behind_blank n first word others trailing is.leading_few is.first_is is.word_is is.others_are) refl (means-newline glyph_line) ahead tape within charged allowed
 
 pub text_lines_tell_their_words : TextLinesTellTheirWords
-text_lines_tell_their_words l s t rest begins none_goes none_springs is ahead within charged allowed =
+text_lines_tell_their_words l s t rest begins none_goes is ahead within charged allowed =
     let h : PageHistory = behind_performed s.registers (text_events t) s.history in
-    text-from l s (FromAhead rest) t.leading t.first t.word t.others t.trailing begins none_goes is ahead refl within charged
-    (quiet-text t l s.registers s.history none_springs allowed)
+    text-from l s (FromAhead rest) t.leading t.first t.word t.others t.trailing begins none_goes is ahead refl within charged allowed
     ∙ ap (λ (i : PageInput). record s { input = i; history = h }) (counted-ahead rest (text_bytes t) s.input)
 
 pub text_lines_of_the_source_tell_their_words : TextLinesOfTheSourceTellTheirWords
-text_lines_of_the_source_tell_their_words l s t tape begins none_goes none_springs is none stands within charged allowed =
+text_lines_of_the_source_tell_their_words l s t tape begins none_goes is none stands within charged allowed =
     let h : PageHistory = behind_performed s.registers (text_events t) s.history in
-    text-from l s (FromSource tape) t.leading t.first t.word t.others t.trailing begins none_goes is none stands within charged
-    (quiet-text t l s.registers s.history none_springs allowed)
+    text-from l s (FromSource tape) t.leading t.first t.word t.others t.trailing begins none_goes is none stands within charged allowed
     ∙ ap (λ (i : PageInput). record s { tape = tape; input = i; history = h }) (counted-source tape (text_bytes t) s.input none)
 
 -- a line of blanks alone
@@ -344,13 +345,11 @@ blanks-from l s from (suc n) begins none_goes few ahead tape within charged allo
 pub blank_lines_space : BlankLinesSpace
 blank_lines_space l s n rest begins none_goes few ahead within charged allowed =
     let h : PageHistory = behind_performed s.registers (blank_events n) s.history in
-    blanks-from l s (FromAhead rest) n begins none_goes few ahead refl within charged
-    (quiet-blanks n l s.registers s.history allowed)
+    blanks-from l s (FromAhead rest) n begins none_goes few ahead refl within charged allowed
     ∙ ap (λ (i : PageInput). record s { input = i; history = h }) (counted-ahead rest (blank_bytes n) s.input)
 
 pub blank_lines_of_the_source_space : BlankLinesOfTheSourceSpace
 blank_lines_of_the_source_space l s n tape begins none_goes few none stands within charged allowed =
     let h : PageHistory = behind_performed s.registers (blank_events n) s.history in
-    blanks-from l s (FromSource tape) n begins none_goes few none stands within charged
-    (quiet-blanks n l s.registers s.history allowed)
+    blanks-from l s (FromSource tape) n begins none_goes few none stands within charged allowed
     ∙ ap (λ (i : PageInput). record s { tape = tape; input = i; history = h }) (counted-source tape (blank_bytes n) s.input none)

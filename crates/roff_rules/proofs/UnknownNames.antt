@@ -117,6 +117,7 @@ within-passed l s from line ahead within charged = record {
   title = within.title;
   environments = within.environments;
   output = within.output;
+  traps = within.traps;
 }
 
 unknown-from : (l : Limits) (s : State) (from : Origin) (control : ℕ) (name : ShortName) (behind : List ℕ)

@@ -1,16 +1,17 @@
 -- Laws over the start and the end of a run: registers that are given, the last macro, and the end of all input (manual,
 -- sections 7, 8 and 18).
-use Rattle.std.specs.Prelude.{◌≡◌, ◌⊎◌, ℕ, true, false, List, [], ◌∷◌, ◌++◌, map, Some, None, ◌==◌}
+use Rattle.std.specs.Prelude.{◌≡◌, ◌≢◌, ◌⊎◌, ℕ, true, false, List, [], ◌∷◌, ◌++◌, map, Some, None, ◌==◌}
 use Rattle.std.specs.List.{AllByRecursion}
 use Rattle.roff_num.specs.ShortNames.{name_bytes}
 use Rattle.roff_num.specs.declared.limits.Limits.{Limits}
 use Rattle.roff_num.specs.declared.num.Num.{Num}
 use Rattle.roff_num.specs.declared.short_name.ShortName.{ShortName}
-use Rattle.roff_ahead.specs.Input.{ByteAhead, ReturnAhead, leaving, without_arguments}
+use Rattle.roff_ahead.specs.Input.{ByteAhead, ReturnAhead, leaving, outermost_back, without_arguments}
 use Rattle.roff_ahead.specs.Input.Calls.{called_text}
 use Rattle.roff_ahead.specs.Input.Names.{body_named}
 use Rattle.roff_source.specs.Tape.{Ended, Ends, front}
 use Rattle.roff_run.specs.Reading.Ends.{due, is_unfinished}
+use Rattle.roff_run.specs.Reading.Returns.{gone_back_to}
 use Rattle.roff_run.specs.Registers.{is_read_only, settable}
 use Rattle.roff_run.specs.Requests.{called_by}
 use Rattle.roff_run.specs.Events.Lines.{closing_events}
@@ -64,11 +65,18 @@ ThenTheLineIsPlaced =
 abbrev pub ThenTheRunIsDone : Type 0
 ThenTheRunIsDone = (l : Limits) (s : State) → IsReadThrough Closing s → step l s ≡ made l s (ending_as Done s)
 
--- behind the line of an `.ex` what is ahead is dropped, and nothing more is taken of the source; the phase doesn't end
+-- Behind the line of an `.ex` what is ahead is dropped, and nothing more is taken of the source; the phase doesn't end. Read on is the
+-- line that the outermost body interrupted, if one did, as behind its end.
 abbrev pub ExClosesTheInput : Type 0
 ExClosesTheInput =
-    (l : Limits) (s : State) → s.ended ≡ None → s.to_do ≡ [] → s.sprung ≡ None → s.reading ≡ Exiting
-    → step l s ≡ made l s (record s { input = leaving s.input; reading = LineStart; is_closed = true })
+    (l : Limits) (s : State) → s.ended ≡ None → s.to_do ≡ [] → s.sprung ≡ None → s.reading ≡ Exiting → s.phase ≢ Closing
+    → step l s ≡ made l s (record s { input = leaving s.input; reading = gone_back_to (outermost_back 0 s.input.ahead); is_closed = true })
+
+-- as the run closes nothing is dropped: its line ends, and does nothing
+abbrev pub ExIsIgnoredAsTheRunCloses : Type 0
+ExIsIgnoredAsTheRunCloses =
+    (l : Limits) (s : State) → s.ended ≡ None → s.to_do ≡ [] → s.sprung ≡ None → s.reading ≡ Exiting → s.phase ≡ Closing
+    → step l s ≡ made l s (record s { reading = LineStart })
 
 -- no other register of this name is among these
 abbrev pub NamesNone : ℕ → List (ℕ × Num) → Type 0

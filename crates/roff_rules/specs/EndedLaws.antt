@@ -10,16 +10,13 @@ use Rattle.roff_ahead.specs.Input.{lines_taken}
 use Rattle.roff_rules.specs.CallLaws.{BeginsLine}
 use Rattle.roff_rules.specs.ConditionLaws.{AreKept, MayEnd}
 use Rattle.roff_rules.specs.DefinitionLaws.{AreItsLines, BeginsDefinition, HasRoomFor, bytes_of_lines, text_of_lines}
-use Rattle.roff_rules.specs.TextLaws.{AreAllowed, IsTextOnLine, TextOnLine, all_performed, gap_and_word, text_events}
+use Rattle.roff_rules.specs.TextLaws.{AllQuiet, IsTextOnLine, TextOnLine, all_performed, gap_and_word, text_events}
 use Rattle.roff_run.specs.Environments.{interrupted_line}
 use Rattle.roff_run.specs.ItemsTaken.{TakesItems}
 use Rattle.roff_run.specs.Messages.{message_lines}
 use Rattle.roff_run.specs.Reading.Branches.{branch_of, most_braces}
 use Rattle.roff_run.specs.Reading.Items.{PageInput}
-use Rattle.roff_run.specs.Springs.{springs}
-use Rattle.roff_lines.specs.declared.event.Event.TheVariants.{Count}
 use Rattle.roff_run.specs.PageEvents.{PageEvent}
-use Rattle.roff_run.specs.declared.event.PageEvent.TheVariants.{Text}
 use Rattle.roff_run.specs.Run.{State, after}
 use Rattle.roff_run.specs.TurnsToCome.{behind_all}
 use Rattle.roff_run.specs.Within.{IsWithin}
@@ -36,10 +33,10 @@ unfinished_bytes t =
 abbrev pub UnfinishedTextLinesTellTheirWords : Type 0
 UnfinishedTextLinesTellTheirWords =
     (l : Limits) (s : State) (t : TextOnLine) (tape : Tape) →
-    BeginsLine s → interrupted_line s.history ≡ None → springs s.history (Text Count) ≡ None → IsTextOnLine t → s.input.ahead ≡ [] →
+    BeginsLine s → interrupted_line s.history ≡ None → IsTextOnLine t → s.input.ahead ≡ [] →
     s.tape ≡ items_then (map OneByte (unfinished_bytes t)) tape → front tape ≡ Ends Ended →
     let events : List PageEvent = all_performed s.registers (text_events t) s.history in
-    IsWithin l s → s.input.charge + length (unfinished_bytes t) ≤ l.bytes → AreAllowed l s.registers s.history events →
+    IsWithin l s → s.input.charge + length (unfinished_bytes t) ≤ l.bytes → AllQuiet l s.registers s.history events →
     after l (length (unfinished_bytes t) + length events + 1) s
     ≡ record s { tape = tape; input = lines_taken (unfinished_bytes t) s.input; history = behind_all s.registers events s.history }
 

@@ -10,7 +10,7 @@ use Rattle.roff_ahead.specs.Input.{Ahead, ByteAhead, lines_taken}
 use Rattle.roff_rules.specs.CallLaws.{BeginsLine}
 use Rattle.roff_run.specs.Environments.{PageHistory, interrupted_line}
 use Rattle.roff_run.specs.Reading.TextLines.{most_leading}
-use Rattle.roff_run.specs.PageEvents.{PageEvent}
+use Rattle.roff_run.specs.PageEvents.{PageEvent, PastEvent}
 use Rattle.roff_pages.specs.declared.layout_event.LayoutEvent.TheVariants.{Space}
 use Rattle.roff_run.specs.declared.event.PageEvent.TheVariants.{Page, Text}
 use Rattle.roff_run.specs.Layouts.{layout_of}
@@ -89,23 +89,27 @@ abbrev pub all_performed : AllRegisters → List PageEvent → PageHistory → L
 all_performed rs [] h = []
 all_performed rs (e ∷ es) h = performed_with rs 2 h e (all_performed rs es)
 
--- no limit refuses any of these events, one behind another, and the last page doesn't end with one
-abbrev pub AreAllowed : Limits → AllRegisters → PageHistory → List PageEvent → Type 0
-AreAllowed l rs h [] = ⊤
-AreAllowed l rs h (e ∷ es) =
-    let behind : PageHistory = told rs e ∷ h in
-    (refusal l h (told rs e) ≡ None) × ((layout_of behind).is_over ≡ false) × AreAllowed l rs behind es
+-- an event is quiet: no limit refuses it, the last page doesn't end with it, and it springs no macro
+pub record IsQuiet (l : Limits) (h : PageHistory) (e : PastEvent) : Type 0 where
+  pub allowed : refusal l h e ≡ None
+  pub goes_on : (layout_of (e ∷ h)).is_over ≡ false
+  pub none_sprung : springs h e ≡ None
+
+-- so is each of these, one behind another
+abbrev pub AllQuiet : Limits → AllRegisters → PageHistory → List PageEvent → Type 0
+AllQuiet l rs h [] = ⊤
+AllQuiet l rs h (e ∷ es) = IsQuiet l h (told rs e) × AllQuiet l rs (told rs e ∷ h) es
 
 -- A line of text tells its words and gaps, in order, and the first page begins where it has to. A step is taken for each byte, and
 -- one for each event, and each byte costs one; nothing else changes, and a line begins behind it. So it is where no line was
--- interrupted that is to go on, and no macro springs as the line counts.
+-- interrupted that is to go on, and no macro springs on the way, at a trap of the page or as the line counts.
 abbrev pub TextLinesTellTheirWords : Type 0
 TextLinesTellTheirWords =
     (l : Limits) (s : State) (t : TextOnLine) (rest : List (Ahead PageEvent)) →
-    BeginsLine s → interrupted_line s.history ≡ None → springs s.history (Text Count) ≡ None → IsTextOnLine t →
+    BeginsLine s → interrupted_line s.history ≡ None → IsTextOnLine t →
     s.input.ahead ≡ map ByteAhead (text_bytes t) ++ rest →
     let events : List PageEvent = all_performed s.registers (text_events t) s.history in
-    IsWithin l s → s.input.charge + length (text_bytes t) ≤ l.bytes → AreAllowed l s.registers s.history events →
+    IsWithin l s → s.input.charge + length (text_bytes t) ≤ l.bytes → AllQuiet l s.registers s.history events →
     after l (length (text_bytes t) + length events) s
     ≡ record s {
       input = record s.input { ahead = rest; charge = s.input.charge + length (text_bytes t) };
@@ -116,10 +120,10 @@ TextLinesTellTheirWords =
 abbrev pub TextLinesOfTheSourceTellTheirWords : Type 0
 TextLinesOfTheSourceTellTheirWords =
     (l : Limits) (s : State) (t : TextOnLine) (tape : Tape) →
-    BeginsLine s → interrupted_line s.history ≡ None → springs s.history (Text Count) ≡ None → IsTextOnLine t → s.input.ahead ≡ [] →
+    BeginsLine s → interrupted_line s.history ≡ None → IsTextOnLine t → s.input.ahead ≡ [] →
     s.tape ≡ items_then (map OneByte (text_bytes t)) tape →
     let events : List PageEvent = all_performed s.registers (text_events t) s.history in
-    IsWithin l s → s.input.charge + length (text_bytes t) ≤ l.bytes → AreAllowed l s.registers s.history events →
+    IsWithin l s → s.input.charge + length (text_bytes t) ≤ l.bytes → AllQuiet l s.registers s.history events →
     after l (length (text_bytes t) + length events) s
     ≡ record s { tape = tape; input = lines_taken (text_bytes t) s.input; history = behind_all s.registers events s.history }
 
@@ -138,7 +142,7 @@ BlankLinesSpace =
     (l : Limits) (s : State) (n : ℕ) (rest : List (Ahead PageEvent)) →
     BeginsLine s → interrupted_line s.history ≡ None → n ≤ most_leading → s.input.ahead ≡ map ByteAhead (blank_bytes n) ++ rest →
     let events : List PageEvent = all_performed s.registers (blank_events n) s.history in
-    IsWithin l s → s.input.charge + length (blank_bytes n) ≤ l.bytes → AreAllowed l s.registers s.history events →
+    IsWithin l s → s.input.charge + length (blank_bytes n) ≤ l.bytes → AllQuiet l s.registers s.history events →
     after l (length (blank_bytes n) + length events) s
     ≡ record s {
       input = record s.input { ahead = rest; charge = s.input.charge + length (blank_bytes n) };
@@ -152,6 +156,6 @@ BlankLinesOfTheSourceSpace =
     BeginsLine s → interrupted_line s.history ≡ None → n ≤ most_leading → s.input.ahead ≡ [] →
     s.tape ≡ items_then (map OneByte (blank_bytes n)) tape →
     let events : List PageEvent = all_performed s.registers (blank_events n) s.history in
-    IsWithin l s → s.input.charge + length (blank_bytes n) ≤ l.bytes → AreAllowed l s.registers s.history events →
+    IsWithin l s → s.input.charge + length (blank_bytes n) ≤ l.bytes → AllQuiet l s.registers s.history events →
     after l (length (blank_bytes n) + length events) s
     ≡ record s { tape = tape; input = lines_taken (blank_bytes n) s.input; history = behind_all s.registers events s.history }

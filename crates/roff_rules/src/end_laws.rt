@@ -2,7 +2,8 @@
 //! functions that do nothing.
 
 ghost use Rattle.std.specs.Prelude.{◌≡◌, [], ◌∷◌, codes, pos};
-ghost use Rattle.roff_rules.specs.EndLaws.{ExClosesTheInput, GivenRegistersRead};
+ghost use Rattle.roff_rules.specs.EndLaws.{ExClosesTheInput, ExIsIgnoredAsTheRunCloses};
+ghost use Rattle.roff_rules.specs.EndLaws.{GivenRegistersRead};
 ghost use Rattle.roff_rules.specs.EndLaws.{TheLastMacroIsRead};
 ghost use Rattle.roff_rules.specs.EndLaws.{ThenTheLineIsPlaced, ThenTheRunIsDone};
 ghost use Rattle.roff_rules.specs.EndLaws.{WithoutOneNothingIsRead};
@@ -23,9 +24,11 @@ pub fn last_macro()
     ensures done { ThenTheRunIsDone }
 {}
 
-/// Behind the line of `.ex` nothing more is taken of the source.
+/// Behind the line of `.ex` nothing more is taken of the source, and a line that a macro
+/// interrupted is read on; as the run closes it is ignored.
 pub fn closed_input()
-    ensures { ExClosesTheInput }
+    ensures closes { ExClosesTheInput }
+    ensures ignored { ExIsIgnoredAsTheRunCloses }
 {}
 
 /// A register that is given to a run reads as its value.

@@ -1,0 +1,131 @@
+-- A macro that sprang is read up to its end.
+use Rattle.std.proofs.Common.{◌≡◌, ◌⊎◌, inl, inr, ℕ, zero, suc, List, [], ◌∷◌, ◌++◌, Option, Some, None, refl, sym, ◌∙◌, ap, subst, map}
+use Rattle.std.specs.Prelude.{IsSome}
+use Rattle.roff_num.specs.ShortNames.{name_bytes}
+use Rattle.roff_num.specs.declared.limits.Limits.{Limits}
+use Rattle.roff_num.specs.declared.limit.Limit.{Limit}
+use Rattle.roff_ahead.specs.Input.{Ahead, ReturnAhead, ByteAhead}
+use Rattle.roff_ahead.specs.Input.Calls.{called_text}
+use Rattle.roff_ahead.specs.Input.Names.{body_named}
+use Rattle.roff_run.specs.PageEvents.{PageEvent}
+use Rattle.roff_run.specs.Reading.Returns.{back_of, behind_return, gone_back_to, in_sprung}
+use Rattle.roff_run.specs.Run.{Leads, State, after, made, step, step_with, grown, sprung_read, unless_refused}
+use Rattle.roff_run.specs.Springs.{next}
+use Rattle.roff_run.specs.declared.line_state.LineState.{LineState}
+use Rattle.roff_run.specs.declared.line_state.LineState.TheVariants.{LineStart, Branch, Braced, Text as InText, Control, Name, Arguments as InArguments, Deciding, StringName, StringText, Skipping, Dropped, Telling, Told, Exiting, Calling, Defining, TitleFront, Title as InTitle}
+use Rattle.roff_run.specs.declared.request.Called.TheVariants.{Body as ABody}
+use Rattle.roff_run.specs.Run.Counts.{first_passed}
+use Rattle.roff_run.proofs.Leads.{Leads-refl, Leads-step, Leads-to}
+use Rattle.roff_run.proofs.Readings.{ReadsOn-with_sprung}
+use Rattle.roff_laws.specs.SpringLaws.{with_rest_back}
+use Rattle.roff_laws.proofs.Endings.{ended_or_not, step-ended, step-going}
+use Rattle.roff_laws.proofs.PerformedOrStopped.{first_of, left_behind, performed_or_stopped}
+use Rattle.roff_laws.proofs.SpringLaws.{gone_back, macros_are_read_first}
+use Rattle.roff_rewriting.specs.MacroEnds.{EndTaken, HasBeenRead, InputLeft, IsRead, MacrosAreReadToTheirEnd, MacrosBeginALine, ReadsNoControlLine, RunEnded}
+use Rattle.roff_rewriting.proofs.StandsAhead.{EndWith, Ends, IsLost, IsTaken, Stands, StandsOrTaken, stands-performed, stands-read}
+
+-- where no control line is being read, what the end leads back to is read
+back_there : (code : ℕ) (reading : LineState) → ReadsNoControlLine reading → behind_return code reading ≡ gone_back_to code
+back_there code LineStart none = refl
+back_there code Branch none = refl
+back_there code Braced none = refl
+back_there code (InText line) none = refl
+back_there code (Control breaks) none = absurd none
+back_there code (Name breaks first) none = absurd none
+back_there code (InArguments breaks request) none = absurd none
+back_there code (Deciding keeps) none = absurd none
+back_there code (Skipping opened closed behind) none = absurd none
+back_there code (StringName appends) none = absurd none
+back_there code (StringText name appends is_front) none = absurd none
+back_there code Dropped none = absurd none
+back_there code (Telling aborts is_front) none = absurd none
+back_there code (Told aborts) none = absurd none
+back_there code Exiting none = absurd none
+back_there code TitleFront none = absurd none
+back_there code (InTitle delimiter) none = absurd none
+back_there code (Calling name) none = absurd none
+back_there code (Defining name appends end matched) none = absurd none
+
+-- something is read while the end stands ahead
+read-on : (l : Limits) (from : State) (reading : LineState) (behind : List (Ahead PageEvent)) (s t : State) → Leads l from s → step l s ≡ t
+    → StandsOrTaken (ReturnAhead (back_of reading)) behind s t → HasBeenRead l from reading behind t
+read-on l from reading behind s t leads goes (Stands ends) = IsRead ends.front ends.is
+read-on l from reading behind s t leads goes (IsTaken ahead is) =
+    let there = goes ∙ is in
+    EndTaken s leads (record {
+      stands = ahead;
+      input = ap (λ (u : State). u.input) there;
+      goes_on = λ may none. ap (λ (u : State). u.reading) there ∙ (back_there (back_of reading) s.reading none ∙ gone_back reading may);
+    }) (subst (λ (u : State). Leads l u t) (sym goes) (Leads-refl l t))
+read-on l from reading behind s t leads goes (Ends ended) = RunEnded ended
+read-on l from reading behind s t leads goes (IsLost leaves reads) =
+    InputLeft s leads (record { read = leaves; reads = reads }) (Leads-to l s s t (Leads-refl l s) goes)
+
+-- and something is done
+read-step_with : (l : Limits) (from : State) (reading : LineState) (behind : List (Ahead PageEvent)) (es : List PageEvent) (s : State)
+    → Leads l from s → step l s ≡ step_with l es s → EndWith (ReturnAhead (back_of reading)) behind s.input.ahead
+    → HasBeenRead l from reading behind (step_with l es s)
+read-step_with l from reading behind (x ∷ es) s leads goes ends =
+    let own : Option PageEvent = next s.history x in
+    let done = performed_or_stopped l own x es s in
+    elim (stands-performed (ReturnAhead (back_of reading)) behind l (first_of own x) (left_behind own x es s) s _ done ends) [
+      | inl ended ↦ RunEnded ended
+      | inr still ↦ IsRead still.front still.is
+    ]
+read-step_with l from reading behind [] s leads goes ends =
+    read-on l from reading behind s _ leads goes (stands-read (ReturnAhead (back_of reading)) behind l s _ (ReadsOn-with_sprung l s.sprung s refl) ends)
+
+read-step : (l : Limits) (from : State) (reading : LineState) (behind : List (Ahead PageEvent)) (s : State) → Leads l from s
+    → HasBeenRead l from reading behind s → HasBeenRead l from reading behind (step l s)
+read-step l from reading behind s leads (IsRead front is) = elim (ended_or_not s.ended) [
+  | inl ended ↦ subst (HasBeenRead l from reading behind) (sym (step-ended l s ended)) (RunEnded ended)
+  | inr going ↦
+      subst (HasBeenRead l from reading behind) (sym (step-going l s going))
+      (read-step_with l from reading behind s.to_do s leads (step-going l s going) (record { front = front; is = is }))
+]
+read-step l from reading behind s leads (EndTaken at to_it takes behind_it) = EndTaken at to_it takes (Leads-step l (step l at) s behind_it)
+read-step l from reading behind s leads (RunEnded ended) = subst (HasBeenRead l from reading behind) (sym (step-ended l s ended)) (RunEnded ended)
+read-step l from reading behind s leads (InputLeft at to_it leaves behind_it) = InputLeft at to_it leaves (Leads-step l at s behind_it)
+
+read-after : (l : Limits) (from : State) (reading : LineState) (behind : List (Ahead PageEvent)) (n : ℕ) (s : State) → Leads l from s
+    → HasBeenRead l from reading behind s → HasBeenRead l from reading behind (after l n s)
+read-after l from reading behind zero s leads read = read
+read-after l from reading behind (suc n) s leads read =
+    read-after l from reading behind n (step l s) (Leads-step l from s leads) (read-step l from reading behind s leads read)
+
+-- it begins so, unless a limit stops the run
+begun : (l : Limits) (from : State) (reading : LineState) (behind : List (Ahead PageEvent)) (r : Option Limit) (before done : State)
+    → HasBeenRead l from reading behind done → HasBeenRead l from reading behind (unless_refused l r before done)
+begun l from reading behind None before done read = read
+begun l from reading behind (Some limit) before done read = RunEnded refl
+
+pub macros_are_read_to_their_end : MacrosAreReadToTheirEnd
+macros_are_read_to_their_end l s e rest name n springs is =
+    let back : State = with_rest_back e rest s in
+    let before : State = record back { sprung = Some name } in
+    let done : State = record before {
+      sprung = None;
+      reading = in_sprung s.reading;
+      input = record before.input {
+        ahead = map ByteAhead (called_text (body_named (name_bytes name) s.input)) ++ ReturnAhead (back_of s.reading) ∷ before.input.ahead;
+        calls = [] ∷ s.input.calls;
+      };
+    } in
+    let there : after l 2 s ≡ made l before done = macros_are_read_first l s e rest name springs is in
+    read-after l s s.reading back.input.ahead n (after l 2 s) (record { steps = 2; there = refl })
+    (subst (HasBeenRead l s s.reading back.input.ahead) (sym there)
+    (begun l s s.reading back.input.ahead (first_passed l (grown done)) before done
+    (IsRead (map ByteAhead (called_text (body_named (name_bytes name) s.input))) refl)))
+
+-- so a line begins
+begins_line : (l : Limits) (r : Option Limit) (before done : State) → done.reading ≡ LineStart
+    → IsSome (unless_refused l r before done).ended ⊎ ((unless_refused l r before done).reading ≡ LineStart)
+begins_line l None before done is = inr is
+begins_line l (Some limit) before done is = inl refl
+
+pub macros_begin_a_line : MacrosBeginALine
+macros_begin_a_line l s e rest name springs is none =
+    let before : State = record (with_rest_back e rest s) { sprung = Some name } in
+    let done : State = sprung_read (ABody name) before in
+    subst (λ (t : State). IsSome t.ended ⊎ (t.reading ≡ LineStart)) (sym (macros_are_read_first l s e rest name springs is))
+    (begins_line l (first_passed l (grown done)) before done (back_there 0 s.reading none))

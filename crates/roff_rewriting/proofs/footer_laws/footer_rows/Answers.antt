@@ -1,0 +1,55 @@
+use Rattle.std.proofs.Common.{refl}
+use Rattle.roff_num.specs.Expressions.{folded_onto, operand_within, value_at}
+use Rattle.roff_rewriting.proofs.footer_laws.footer_rows.Goals as goal
+
+pub returns-clause-between_words : goal.returns-clause-between_words
+unfolding folded_onto operand_within value_at
+returns-clause-between_words c = refl
+
+pub returns-clause-interrupted_there : goal.returns-clause-interrupted_there
+unfolding folded_onto operand_within value_at
+returns-clause-interrupted_there c = refl
+
+pub returns-clause-joined_there : goal.returns-clause-joined_there
+unfolding folded_onto operand_within value_at
+returns-clause-joined_there c = refl
+
+pub returns-clause-in_front_of_a_line_end : goal.returns-clause-in_front_of_a_line_end
+unfolding folded_onto operand_within value_at
+returns-clause-in_front_of_a_line_end c = refl
+
+pub returns-clause-in_front_of_a_break : goal.returns-clause-in_front_of_a_break
+unfolding folded_onto operand_within value_at
+returns-clause-in_front_of_a_break c = refl
+
+pub returns-clause-at_a_line_end : goal.returns-clause-at_a_line_end
+unfolding folded_onto operand_within value_at
+returns-clause-at_a_line_end c = refl
+
+pub returns-clause-interrupted_at_a_line_end : goal.returns-clause-interrupted_at_a_line_end
+unfolding folded_onto operand_within value_at
+returns-clause-interrupted_at_a_line_end c = refl
+
+pub returns-clause-joined_at_a_line_end : goal.returns-clause-joined_at_a_line_end
+unfolding folded_onto operand_within value_at
+returns-clause-joined_at_a_line_end c = refl
+
+pub returns-clause-in_an_interrupted_word : goal.returns-clause-in_an_interrupted_word
+unfolding folded_onto operand_within value_at
+returns-clause-in_an_interrupted_word c = refl
+
+pub returns-clause-in_another_environment : goal.returns-clause-in_another_environment
+unfolding folded_onto operand_within value_at
+returns-clause-in_another_environment c = refl
+
+pub returns-clause-at_the_first_page : goal.returns-clause-at_the_first_page
+unfolding folded_onto operand_within value_at
+returns-clause-at_the_first_page c = refl
+
+pub returns-clause-interrupted_at_the_first_page : goal.returns-clause-interrupted_at_the_first_page
+unfolding folded_onto operand_within value_at
+returns-clause-interrupted_at_the_first_page c = refl
+
+pub returns-clause-interrupted_at_an_input_trap : goal.returns-clause-interrupted_at_an_input_trap
+unfolding folded_onto operand_within value_at
+returns-clause-interrupted_at_an_input_trap c = refl

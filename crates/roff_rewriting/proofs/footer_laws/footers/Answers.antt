@@ -1,0 +1,13 @@
+use Rattle.roff_rewriting.proofs.LinesGoOn.{lines_go_on_with_another_word}
+use Rattle.roff_rewriting.proofs.WordEnds.{text_lines_end_words_so}
+use Rattle.roff_rewriting.proofs.WordsApart.{footers_begin_words}
+use Rattle.roff_rewriting.proofs.footer_laws.footers.Goals as goal
+
+pub returns-clause-front : goal.returns-clause-front
+returns-clause-front c = footers_begin_words
+
+pub returns-clause-behind : goal.returns-clause-behind
+returns-clause-behind c = lines_go_on_with_another_word
+
+pub returns-clause-ends : goal.returns-clause-ends
+returns-clause-ends c = text_lines_end_words_so

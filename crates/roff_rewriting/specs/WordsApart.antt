@@ -1,0 +1,113 @@
+-- Words around a macro that springs in the middle of a text line, and the words of its own lines (manual, sections 4.1 and 7.5).
+use Rattle.std.specs.Prelude.{◌≡◌, ◌<◌, ℕ, suc, true, false, List, [], ◌∷◌, ◌++◌, reverse, Some, None, IsSome, if◌then◌else◌}
+use Rattle.std.specs.List.{flat_map}
+use Rattle.roff_num.specs.declared.limits.Limits.{Limits}
+use Rattle.roff_num.specs.declared.short_name.ShortName.{ShortName}
+use Rattle.roff_ahead.specs.Input.{Ahead, DoAhead}
+use Rattle.roff_lines.specs.Events.{History}
+use Rattle.roff_lines.specs.declared.event.Event.TheVariants.{Print, Tab, WordEnd, Gap, LineEnd, Break}
+use Rattle.roff_lines.specs.Fitting.{Word}
+use Rattle.roff_lines.specs.Lines.{Finished}
+use Rattle.roff_lines.specs.Places.{tab_width}
+use Rattle.roff_lines.specs.Words.{has_open_word, open_glyphs, open_word}
+use Rattle.roff_lines.specs.declared.glyph.Glyph.{Glyph}
+use Rattle.roff_lines.specs.declared.glyph.Glyph.TheVariants.{Blanks}
+use Rattle.roff_pages.specs.Happenings.{Places}
+use Rattle.roff_run.specs.Environments.{environments, text_of}
+use Rattle.roff_run.specs.declared.environment_number.EnvironmentNumber.{EnvironmentNumber}
+use Rattle.roff_run.specs.declared.event.PageEvent.TheVariants.{Text}
+use Rattle.roff_run.specs.Layouts.{happens}
+use Rattle.roff_run.specs.PageEvents.{PageEvent}
+use Rattle.roff_run.specs.Run.{Leads, State, after}
+use Rattle.roff_run.specs.Springs.{next}
+use Rattle.roff_laws.specs.EnvironmentLaws.{text_in}
+use Rattle.roff_laws.specs.SpringLaws.{Springs, happening, with_rest_back}
+use Rattle.roff_laws.specs.TrapLaws.{LeavesInput}
+
+-- all words that have ended, the newest first
+abbrev pub ended_words : History → List Word
+ended_words [] = []
+ended_words (WordEnd ∷ h) = if has_open_word h then open_word h ∷ ended_words h else ended_words h
+ended_words (_ ∷ h) = ended_words h
+
+-- all glyphs that were told, the newest first
+abbrev pub glyphs_of : History → List Glyph
+glyphs_of [] = []
+glyphs_of (Print g ∷ h) = g ∷ glyphs_of h
+glyphs_of (Tab ∷ h) = Blanks (tab_width h) ∷ glyphs_of h
+glyphs_of (_ ∷ h) = glyphs_of h
+
+-- the glyphs of words, the newest first
+abbrev pub glyphs_in : List Word → List Glyph
+glyphs_in ws = flat_map (λ w. reverse w.glyphs) ws
+
+-- What was told behind a history stands in words of its own: the words that had ended are as they were, and those that ended since,
+-- and the open one, are of the glyphs that were told since, and of no others.
+pub record InWordsOfItsOwn (before behind : History) : Type 0 where
+  pub words : List Word
+  pub others_stay : ended_words behind ≡ words ++ ended_words before
+  pub of_its_glyphs : glyphs_of behind ≡ (open_glyphs behind ++ glyphs_in words) ++ glyphs_of before
+
+-- In front of an open word stands a blank at least, also where it began directly behind the end of another one, as a footer's text does.
+abbrev pub WordsStandApart : Type 0
+WordsStandApart = (h : History) → has_open_word h ≡ true → 0 < (open_word h).gap
+
+-- A glyph that is told where a word is open is one of that word, and no other word ends: so it is behind the text of a macro that `\c`
+-- interrupted, or whose last line a backslash joins to what follows, where what sprang it was a line's end.
+abbrev pub OpenWordsGoOn : Type 0
+OpenWordsGoOn =
+    (h : History) (g : Glyph) → has_open_word h ≡ true →
+    ((open_word (Print g ∷ h)).glyphs ≡ (open_word h).glyphs ++ g ∷ []) × ((open_word (Print g ∷ h)).gap ≡ (open_word h).gap)
+    × (ended_words (Print g ∷ h) ≡ ended_words h)
+
+-- where no word is open in an environment, all that is told there later stands in words of its own
+abbrev pub WordsBeginWhereNoneIsOpen : Type 0
+WordsBeginWhereNoneIsOpen =
+    (l : Limits) (s : State) (number : EnvironmentNumber) (n : ℕ) → has_open_word (text_in number s.history) ≡ false
+    → InWordsOfItsOwn (text_in number s.history) (text_in number (after l n s).history)
+
+-- The text of a macro that springs as a line is finished, at a word's end, a line's end or a break, and all that is told behind it in
+-- the environment of that line, stands in words of its own: the word in front has ended.
+abbrev pub FootersBeginWords : Type 0
+FootersBeginWords =
+    (l : Limits) (s : State) (e : PageEvent) (rest : List PageEvent) (name : ShortName) (line : Finished) (n : ℕ) → Springs l s e rest name
+    → happens s.history (happening e s) ≡ Some (Places line) →
+    let number : EnvironmentNumber = (environments s.history).number in
+    InWordsOfItsOwn (text_in number (happening e s ∷ s.history)) (text_in number (after l (suc n) s).history)
+
+-- an event of a text line that ends a word that was left open in front of it
+abbrev pub EndsOpenWord : PageEvent → Type 0
+EndsOpenWord (Text (Gap columns)) = Unit {0}
+EndsOpenWord (Text LineEnd) = Unit {0}
+EndsOpenWord (Text Break) = Unit {0}
+EndsOpenWord (_) = ⊥
+
+-- an event that was put back waits, and this stands behind it: other items may stand in front of it, or it is to be done next
+pub data WaitsInFront (e : PageEvent) (behind : List (Ahead PageEvent)) (s : State) : Type 0 where
+  StandsThere : (front : List (Ahead PageEvent)) → s.input.ahead ≡ front ++ DoAhead e ∷ behind → WaitsInFront e behind s
+  IsNext : s.to_do ≡ e ∷ [] → s.input.ahead ≡ behind → WaitsInFront e behind s
+
+-- a line goes on with an event, in the environment in force: nothing comes before that any more, and no word is open
+pub record GoesOnWith (e : PageEvent) (behind : List (Ahead PageEvent)) (s : State) : Type 0 where
+  pub first : s.to_do ≡ e ∷ []
+  pub others : s.input.ahead ≡ behind
+  pub none_before : next s.history e ≡ None
+  pub no_word : has_open_word (text_of s.history) ≡ false
+
+-- What was left of a line, with this event in front, has come so far from where a macro sprang: it waits yet; or the line went on with
+-- it, and what is told since then is in words of its own; or the run ended; or an `ex` left the input on the way.
+pub data HasGoneOn (l : Limits) (from : State) (e : PageEvent) (behind : List (Ahead PageEvent)) (s : State) : Type 0 where
+  Waits : WaitsInFront e behind s → HasGoneOn l from e behind s
+  WentOn : (at : State) → Leads l from at → GoesOnWith e behind at → Leads l at s
+      → InWordsOfItsOwn (text_in (environments at.history).number at.history) (text_in (environments at.history).number s.history)
+      → HasGoneOn l from e behind s
+  RunEnded : IsSome s.ended → HasGoneOn l from e behind s
+  InputLeft : (at : State) → Leads l from at → LeavesInput at → Leads l at s → HasGoneOn l from e behind s
+
+-- A text line that a macro interrupts between two words goes on with another word, whatever the macro is, also where its text leaves a
+-- word open: a gap, the line's end or a break is put back behind it, and ends that word first.
+abbrev pub LinesGoOnWithAnotherWord : Type 0
+LinesGoOnWithAnotherWord =
+    (l : Limits) (s : State) (e : PageEvent) (rest : List PageEvent) (name : ShortName) (first : PageEvent) (behind : List (Ahead PageEvent))
+    (n : ℕ) → Springs l s e rest name → EndsOpenWord first → (with_rest_back e rest s).input.ahead ≡ DoAhead first ∷ behind
+    → HasGoneOn l s first behind (after l (suc n) s)
