@@ -9,7 +9,7 @@ use Rattle.roff_arguments.proofs.KeptArguments.{held-finished, held-only_kept}
 use Rattle.roff_arguments.specs.Arguments.{finished}
 use Rattle.roff_ahead.specs.Input.{with_arguments}
 use Rattle.roff_ahead.specs.Input.Names.{adding}
-use Rattle.roff_scan.specs.Unread.{changing}
+use Rattle.roff_ahead.specs.Unread.{changing}
 use Rattle.roff_run.specs.Definitions.{end_mark, front_of}
 use Rattle.roff_reader.specs.Reader.State.{ReaderState}
 use Rattle.roff_reader.specs.Reader.Taken.{InputCameTo, TakesAs}

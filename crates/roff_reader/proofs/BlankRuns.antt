@@ -9,7 +9,7 @@ use Rattle.roff_source.specs.Bytes.{blank}
 use Rattle.roff_escape.specs.OpenEscape.{OpenEscape}
 use Rattle.roff_escape.specs.Waiting.{is_ended_by}
 use Rattle.roff_source.specs.Tape.{Tape}
-use Rattle.roff_scan.specs.Unread.{IsWithin}
+use Rattle.roff_ahead.specs.Unread.{IsWithin}
 use Rattle.roff_scan.specs.Unread.Runs.{TakesRun}
 use Rattle.roff_scan.specs.declared.run_kind.RunKind.TheVariants.{Blanks}
 use Rattle.roff_store.specs.Named.{Named}

@@ -4,7 +4,7 @@ use Rattle.std.specs.Prelude.{◌&&◌, get_or, if◌then◌else◌, nat_le}
 use Rattle.std.proofs.lemmas.Bool.{le-leb, leb-true, lt-leb}
 use Rattle.roff_requests.specs.declared.composer.Composer.{Composer as ComposerOf}
 use Rattle.roff_num.specs.declared.limit.Limit.{Limit}
-use Rattle.roff_scan.specs.Unread.{changing}
+use Rattle.roff_ahead.specs.Unread.{changing}
 use Rattle.roff_escape.specs.declared.open_escape.CopyUnit.{CopyUnit}
 use Rattle.roff_escape.specs.declared.open_escape.CopyUnit.TheVariants.{Byte, Kept}
 use Rattle.roff_escape.specs.declared.open_escape.Found.{Found}

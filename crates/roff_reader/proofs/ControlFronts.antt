@@ -8,7 +8,7 @@ use Rattle.roff_source.specs.Bytes.{backslash, is_dropped}
 use Rattle.roff_escape.specs.OpenEscape.{OpenEscape, texts_held}
 use Rattle.roff_escape.specs.OpenEscapes.{byte_read}
 use Rattle.roff_source.specs.Tape.{Tape}
-use Rattle.roff_scan.specs.Unread.{IsWithin}
+use Rattle.roff_ahead.specs.Unread.{IsWithin}
 use Rattle.roff_scan.specs.Unread.Calls.{PassesFront, front_bytes, next_bytes}
 use Rattle.roff_store.specs.Named.{Named}
 use Rattle.roff_store.specs.Texts.{Entry}

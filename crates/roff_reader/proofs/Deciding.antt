@@ -15,7 +15,7 @@ use Rattle.roff_escape.specs.OpenEscapes.{byte_read}
 use Rattle.roff_ahead.specs.Input.{pushed, depth, result_count}
 use Rattle.roff_ahead.specs.Input.Calls.{with_result}
 use Rattle.roff_ahead.specs.Input.Names.{names_added, stored}
-use Rattle.roff_scan.specs.Unread.{changing, input_refusal}
+use Rattle.roff_ahead.specs.Unread.{changing, input_refusal}
 use Rattle.roff_escape.specs.declared.escapes.Escape.{Escape as Kind}
 use Rattle.roff_escape.specs.declared.escapes.Escape.TheVariants.{Prints, Blank, NoWidth, Tab as GivesTab, Interrupts, Brace, Nothing, Comment as BeginsComment, Size as BeginsSize, Name as BeginsName, Text as BeginsText, Width as BeginsWidth, LeftOut as IsLeftOut}
 use Rattle.roff_escape.specs.declared.escapes.NameUse.TheVariants.{Register, Text, Argument, Character, Font, LeftOut as NameLeftOut}

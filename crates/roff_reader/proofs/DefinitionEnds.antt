@@ -18,9 +18,12 @@ use Rattle.roff_run.specs.Reading.DefinedLines.{behind_definition}
 use Rattle.roff_run.specs.Reading.Found.{read_in}
 use Rattle.roff_run.specs.Reading.Items.{PageInput, Taking}
 use Rattle.roff_run.specs.Registers.{AllRegisters, Change, Known, changed_by_all}
-use Rattle.roff_run.specs.declared.event.PageEvent.TheVariants.{Back}
+use Rattle.roff_run.specs.declared.event.PageEvent.TheVariants.{Back, Page}
 use Rattle.roff_run.specs.Requests.{Effect, called_by, meant_by, request_effect, row_of}
-use Rattle.roff_run.specs.Requests.Effects.{happens, no_such_environment}
+use Rattle.roff_run.specs.Requests.Effects.{happens, no_such_environment, nothing}
+use Rattle.roff_run.specs.Requests.Paging.{page_ejected}
+use Rattle.roff_pages.specs.Queries.{is_diverting}
+use Rattle.roff_pages.specs.declared.layout_event.LayoutEvent.TheVariants.{Eject}
 use Rattle.roff_run.specs.TitleTexts.{TitleText, title_length}
 use Rattle.roff_run.specs.declared.line_state.LineState.TheVariants.{Arguments as InArguments, TitleFront}
 use Rattle.roff_num.specs.declared.short_name.ShortName.{ShortName}
@@ -30,7 +33,7 @@ use Rattle.roff_run.specs.declared.request.LineReading.{LineReading}
 use Rattle.roff_run.specs.declared.request.LineReading.TheVariants.{ByArguments, ByCondition, ByElse, ByLastLine, ByMessage, ByString, ByLines, ByTitle}
 use Rattle.roff_run.specs.declared.request.LinesFor.TheVariants.{Macro, Nobody}
 use Rattle.roff_run.specs.declared.request.Request.{Request}
-use Rattle.roff_run.specs.declared.request.Request.TheVariants.{Abort, Adjust, AppendString, AssignFormat, Break, DefineString, Else, EndMacro, Exit, Fill, If, IfElse, Indent, LineLength, NoAdjust, NoFill, NumberRegister, PageLength, PageNumber, PageOffset, RemoveNames, RemoveRegisters, Rename, Space as SpaceDown, TellMessage, WithoutEffect, LeftOut, AppendMacro, DefineMacro, Ignore, Centre, Environment as SwitchEnvironment, InputTrap, LineSpacing, TabStops, TemporaryIndent, PageCharacter, Title as TitleRequest, TitleLength}
+use Rattle.roff_run.specs.declared.request.Request.TheVariants.{Abort, Adjust, AppendString, AssignFormat, BeginPage, Break, ChangeTrap, DefineString, Else, EndMacro, Exit, Fill, If, IfElse, Indent, LineLength, Need, NoAdjust, NoFill, NoSpace, NumberRegister, PageLength, PageNumber, PageOffset, PlantTrap, RemoveNames, RemoveRegisters, Rename, RestoreSpacing, Space as SpaceDown, TellMessage, WithoutEffect, LeftOut, AppendMacro, DefineMacro, Ignore, Centre, Environment as SwitchEnvironment, InputTrap, LineSpacing, TabStops, TemporaryIndent, PageCharacter, Title as TitleRequest, TitleLength}
 
 -- what names stand for, how many did at first, and the texts in the making
 pub record NamesAndTexts : Type 0 where
@@ -73,6 +76,12 @@ CallsNothing-switch : (breaks has_left : Bool) → CallsNothing (meant_by breaks
 CallsNothing-switch breaks true = record { calls = refl; registers = λ rs. refl }
 CallsNothing-switch breaks false = record { calls = refl; registers = λ rs. refl }
 
+-- that of ejecting a page, unless a diversion is open
+CallsNothing-eject : (breaks is_diverting : Bool) (asked : ℕ)
+    → CallsNothing (meant_by breaks (if is_diverting then nothing else happens [] (Page (Eject asked) ∷ [])))
+CallsNothing-eject breaks true asked = record { calls = refl; registers = λ rs. refl }
+CallsNothing-eject breaks false asked = record { calls = refl; registers = λ rs. refl }
+
 -- that of a request without arguments
 CallsNothing-request : (k : Known) (breaks : Bool) (request : Request) → CallsNothing (request_effect k breaks request [])
 CallsNothing-request k breaks Abort = record { calls = refl; registers = λ rs. refl }
@@ -80,8 +89,10 @@ CallsNothing-request k breaks Adjust = record { calls = refl; registers = λ rs.
 CallsNothing-request k breaks AssignFormat = record { calls = refl; registers = λ rs. refl }
 CallsNothing-request k breaks AppendMacro = record { calls = refl; registers = λ rs. refl }
 CallsNothing-request k breaks AppendString = record { calls = refl; registers = λ rs. refl }
+CallsNothing-request k breaks BeginPage = CallsNothing-eject (breaks && true) (is_diverting k.layout) (page_ejected k.layout)
 CallsNothing-request k breaks Break = record { calls = refl; registers = λ rs. refl }
 CallsNothing-request k breaks Centre = record { calls = refl; registers = λ rs. refl }
+CallsNothing-request k breaks ChangeTrap = record { calls = refl; registers = λ rs. refl }
 CallsNothing-request k breaks DefineMacro = record { calls = refl; registers = λ rs. refl }
 CallsNothing-request k breaks DefineString = record { calls = refl; registers = λ rs. refl }
 CallsNothing-request k breaks Else = record { calls = refl; registers = λ rs. refl }
@@ -96,8 +107,10 @@ CallsNothing-request k breaks Indent = record { calls = refl; registers = λ rs.
 CallsNothing-request k breaks InputTrap = record { calls = refl; registers = λ rs. refl }
 CallsNothing-request k breaks LineLength = record { calls = refl; registers = λ rs. refl }
 CallsNothing-request k breaks LineSpacing = record { calls = refl; registers = λ rs. refl }
+CallsNothing-request k breaks Need = record { calls = refl; registers = λ rs. refl }
 CallsNothing-request k breaks NoAdjust = record { calls = refl; registers = λ rs. refl }
 CallsNothing-request k breaks NoFill = record { calls = refl; registers = λ rs. refl }
+CallsNothing-request k breaks NoSpace = record { calls = refl; registers = λ rs. refl }
 CallsNothing-request k breaks NumberRegister = record { calls = refl; registers = λ rs. refl }
 CallsNothing-request k breaks PageCharacter = record { calls = refl; registers = λ rs. refl }
 CallsNothing-request k breaks PageLength = record { calls = refl; registers = λ rs. refl }
@@ -106,12 +119,14 @@ CallsNothing-request k breaks PageOffset = record { calls = refl; registers = λ
 CallsNothing-request k breaks RemoveNames = record { calls = refl; registers = λ rs. refl }
 CallsNothing-request k breaks RemoveRegisters = record { calls = refl; registers = λ rs. refl }
 CallsNothing-request k breaks Rename = record { calls = refl; registers = λ rs. refl }
+CallsNothing-request k breaks RestoreSpacing = record { calls = refl; registers = λ rs. refl }
 CallsNothing-request k breaks SpaceDown = record { calls = refl; registers = λ rs. refl }
 CallsNothing-request k breaks TabStops = record { calls = refl; registers = λ rs. refl }
 CallsNothing-request k breaks TemporaryIndent = record { calls = refl; registers = λ rs. refl }
 CallsNothing-request k breaks TitleRequest = record { calls = refl; registers = λ rs. refl }
 CallsNothing-request k breaks TitleLength = record { calls = refl; registers = λ rs. refl }
 CallsNothing-request k breaks TellMessage = record { calls = refl; registers = λ rs. refl }
+CallsNothing-request k breaks PlantTrap = record { calls = refl; registers = λ rs. refl }
 CallsNothing-request k breaks (WithoutEffect name) = record { calls = refl; registers = λ rs. refl }
 CallsNothing-request k breaks (LeftOut name) = record { calls = refl; registers = λ rs. refl }
 

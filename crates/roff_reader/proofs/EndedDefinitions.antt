@@ -8,7 +8,7 @@ use Rattle.roff_num.specs.declared.limits.Limits.{Limits}
 use Rattle.roff_escape.specs.OpenEscape.{unit_bytes}
 use Rattle.roff_ahead.specs.Input.{beginning_line, depth, pushed, result_count}
 use Rattle.roff_ahead.specs.Input.Names.{calling_on, dropping}
-use Rattle.roff_scan.specs.Unread.{input_refusal}
+use Rattle.roff_ahead.specs.Unread.{input_refusal}
 use Rattle.roff_escape.specs.declared.open_escape.CopyUnit.{CopyUnit}
 use Rattle.roff_escape.specs.declared.open_escape.Found.{Found}
 use Rattle.roff_escape.specs.declared.open_escape.Found.TheVariants.{GoesOn, Unit as OneUnit, Holds, Escape, Asks, Motion, Measures, Tells, Decides}

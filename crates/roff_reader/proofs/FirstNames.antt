@@ -6,8 +6,8 @@ use Rattle.roff_num.specs.declared.limit.Limit.{Limit}
 use Rattle.roff_num.specs.declared.limits.Limits.{Limits}
 use Rattle.roff_ahead.specs.Input.{initial_input}
 use Rattle.roff_ahead.specs.Input.Names.{calling, names_added, stored}
-use Rattle.roff_scan.specs.declared.looked.Looked.TheVariants.{Nothing}
-use Rattle.roff_scan.specs.Unread.{changing, input_refusal, unless_passed}
+use Rattle.roff_ahead.specs.declared.looked.Looked.TheVariants.{Nothing}
+use Rattle.roff_ahead.specs.Unread.{changing, input_refusal, unless_passed}
 use Rattle.roff_store.specs.Named.{Named, with_entry}
 use Rattle.roff_store.specs.TextCalls.{Set}
 use Rattle.roff_store.specs.Texts.{Entry, Request as RequestEntry, bytes_in}

@@ -28,4 +28,3 @@ pub mod ControlFronts
 pub mod LineEnds
 pub mod WaitingAlone
 pub mod Titles
-pub mod FewBehind

@@ -10,7 +10,7 @@ use Rattle.roff_requests.specs.Composer.Standing.{StandFor}
 use Rattle.roff_requests.specs.declared.composer.Composer.{Composer as ComposerOf}
 use Rattle.roff_num.specs.declared.limit.Limit.{Limit}
 use Rattle.roff_source.specs.Bytes.{blank, is_dropped, newline}
-use Rattle.roff_scan.specs.Unread.{EndsDecided, changing, input_refusal}
+use Rattle.roff_ahead.specs.Unread.{EndsDecided, changing, input_refusal}
 use Rattle.roff_escape.specs.declared.open_escape.CopyUnit.{CopyUnit}
 use Rattle.roff_escape.specs.declared.open_escape.Found.{Found}
 use Rattle.roff_escape.specs.declared.open_escape.Found.TheVariants.{GoesOn, Unit as OneUnit, Holds, Escape, Asks, Motion, Measures, Tells, Decides}

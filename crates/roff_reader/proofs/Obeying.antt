@@ -10,7 +10,7 @@ use Rattle.roff_num.specs.declared.limit.Limit.TheVariants.{Names}
 use Rattle.roff_arguments.specs.Arguments.{finished, no_arguments, only_kept}
 use Rattle.roff_ahead.specs.Input.{with_arguments, without_arguments}
 use Rattle.roff_ahead.specs.Input.Calls.{arguments_given}
-use Rattle.roff_scan.specs.Unread.{input_refusal}
+use Rattle.roff_ahead.specs.Unread.{input_refusal}
 use Rattle.roff_store.proofs.Calls.{length-without_entry_le}
 use Rattle.roff_store.specs.Named.{without_entry}
 use Rattle.roff_store.specs.Registers.{Registers}

@@ -34,7 +34,7 @@ use Rattle.roff_run.specs.Registers.{AllRegisters}
 use Rattle.roff_run.specs.PageEvents.{PageEvent}
 use Rattle.roff_run.specs.declared.event.PageEvent.TheVariants.{Text}
 use Rattle.roff_run.specs.Run.{State, Leads, byte_taken, known_at, done_if, made, performed, performing, sprung_at, step, taken_as, unless_refused}
-use Rattle.roff_run.specs.Springs.{begins, needs_page, next, page_begin_or, springs}
+use Rattle.roff_run.specs.Springs.{begins, needs_page, next, page_begin_or, springs, sprung_on}
 use Rattle.roff_num.specs.declared.short_name.ShortName.{ShortName}
 use Rattle.roff_run.specs.Run.Counts.{counts_in, first_passed, refusal, written_counted}
 use Rattle.roff_run.specs.TurnsToCome.{turns_within}
@@ -120,6 +120,10 @@ allowed l h e quiet within =
     (le-ltb l.line (pending_length (e ∷ text_of h)) within)
     ∙ ap (λ (line : Option Finished). first_passed l (written_counted h (option_map Places line))) quiet
 
+-- a word end that finishes no line springs nothing
+unsprung_end : (h : PageHistory) → finished (text_of h) WordEnd ≡ None → springs h (Text WordEnd) ≡ None
+unsprung_end h quiet = ap (λ (line : Option Finished). sprung_on (option_map Places line) (layout_of h)) quiet
+
 -- a run that reads this on, with these registers and messages
 module _ (l : Limits) (reading : LineState) (rs : AllRegisters) (messages : List ℕ) (phase : Phase) (closed : Bool) where
   -- where it has come to: the tape, the input, the history and the events to do
@@ -162,7 +166,7 @@ module _ (l : Limits) (reading : LineState) (rs : AllRegisters) (messages : List
       record {
         steps = 2;
         there = ap (step l)
-            (step-event tape input h WordEnd (Text (Gap 1) ∷ []) (unbegun h (Text WordEnd) takes) refl (allowed l h WordEnd quiet within) behind.goes_on)
+            (step-event tape input h WordEnd (Text (Gap 1) ∷ []) (unbegun h (Text WordEnd) takes) (unsprung_end h quiet) (allowed l h WordEnd quiet within) behind.goes_on)
             ∙ step-event tape input ended (Gap 1) [] (unbegun ended (Text (Gap 1)) behind) refl (allowed l ended (Gap 1) refl within) behind.goes_on;
       }
   leads-events false b tape input h within quiet takes =

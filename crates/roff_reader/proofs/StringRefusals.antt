@@ -13,7 +13,7 @@ use Rattle.roff_escape.specs.OpenEscape.{texts_held, unit_bytes}
 use Rattle.roff_ahead.specs.Input.{bytes_ahead, depth, pushed, result_count}
 use Rattle.roff_arguments.specs.Arguments.{live_bytes}
 use Rattle.roff_ahead.specs.Input.Names.{adding, calling, calling_on, names_added, stored}
-use Rattle.roff_scan.specs.Unread.{input_refusal}
+use Rattle.roff_ahead.specs.Unread.{input_refusal}
 use Rattle.roff_arguments.specs.declared.arguments.Place.{Place}
 use Rattle.roff_arguments.specs.declared.arguments.Place.TheVariants.{Between, InPlain, InQuotes, BehindQuote}
 use Rattle.roff_escape.specs.declared.open_escape.CopyUnit.{CopyUnit}

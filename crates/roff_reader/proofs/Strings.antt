@@ -12,7 +12,7 @@ use Rattle.roff_store.specs.TextCalls.{Set}
 use Rattle.roff_store.specs.Texts.{Entry, Body as BodyOfName, Request as RequestOfName, has_body, is_body, kind_given, kind_of}
 use Rattle.roff_store.specs.declared.text.Kind.{Kind}
 use Rattle.roff_store.specs.declared.text.Kind.TheVariants.{Body as BodyGiven, Request as RequestGiven}
-use Rattle.roff_scan.specs.Unread.{changing, input_refusal}
+use Rattle.roff_ahead.specs.Unread.{changing, input_refusal}
 use Rattle.roff_escape.specs.declared.open_escape.CopyUnit.{CopyUnit}
 use Rattle.roff_escape.specs.declared.open_escape.CopyUnit.TheVariants.{Byte, Kept}
 use Rattle.roff_escape.specs.declared.open_escape.Found.{Found}

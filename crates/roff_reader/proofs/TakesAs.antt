@@ -12,7 +12,7 @@ use Rattle.roff_escape.specs.OpenEscape.{OpenEscape, texts_held}
 use Rattle.roff_escape.specs.OpenEscapes.{Reads, byte_read, reading_ended}
 use Rattle.roff_ahead.specs.Input.{choosing, pushing, with_escapes}
 use Rattle.roff_ahead.specs.Input.Calls.{without_last}
-use Rattle.roff_scan.specs.Unread.{changing, input_refusal, reading, unless_passed}
+use Rattle.roff_ahead.specs.Unread.{changing, input_refusal, reading, unless_passed}
 use Rattle.roff_escape.specs.declared.open_escape.Found.{Found}
 use Rattle.roff_escape.specs.declared.open_escape.Surroundings.{Surroundings}
 use Rattle.roff_escape.proofs.TextsHeld.{texts_held-byte_read, texts_held-reading_ended}

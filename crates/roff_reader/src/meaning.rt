@@ -3,8 +3,7 @@
 ghost use Rattle.std.specs.Prelude.{◌≡◌, ◌≤◌, None, IfSome, slice_get};
 ghost use Rattle.roff_run.specs.Events.Lines.{line_events};
 ghost use Rattle.roff_run.specs.Requests.Effects.{behind_break};
-ghost use Rattle.roff_run.specs.Springs.{AreFewBehind};
-ghost use Rattle.roff_requests.specs.Events.{request_events, stops_set};
+ghost use Rattle.roff_requests.specs.Events.{around_break, request_events, stops_set};
 ghost use Rattle.roff_reader.specs.Reader.State.{nothing_kept, resumed_if};
 
 use arrayvec::ArrayVec;
@@ -61,19 +60,22 @@ impl Meaning {
         self.is_request = false;
     }
 
-    /// Keeps a message, if there is one, and the events of a request: those of its break, if it breaks,
-    /// and these behind it.
+    /// Keeps a message, if there is one, and the events of a request: one in front of its break, if there
+    /// is one, those of the break, if it breaks, and these behind it.
     pub(crate) fn keep_request(
         &mut self,
         message: Option<Message>,
+        before: Option<PageEvent>,
         breaks: bool,
         behind: RequestEvents,
     )
-        ensures { self.new
-            ≡ record { message = message; events = behind_break breaks (request_events behind) } }
+        ensures { self.new ≡ record {
+          message = message;
+          events = around_break before breaks (request_events behind);
+        } }
     {
         self.message = message;
-        self.requested.keep(breaks, behind);
+        self.requested.keep(before, breaks, behind);
         self.is_request = true;
     }
 
@@ -95,18 +97,11 @@ impl Meaning {
         self.message
     }
 
-    /// Behind each event that may spring a macro stand few: a fact, and nothing that is done.
-    pub(crate) fn few_behind(&self)
-        ensures { AreFewBehind self.now.events }
-    {
-        self.requested.few_behind();
-    }
-
-    /// The event at an index, if there are so many: 35 at most.
+    /// The event at an index, if there are so many: 36 at most.
     #[inline(always)]
     pub(crate) fn event(&self, index: usize) -> Option<PageEvent>
         ensures at { result ≡ slice_get self.now.events index }
-        ensures few { IfSome result (λ event. index ≤ 34) }
+        ensures few { IfSome result (λ event. index ≤ 35) }
     {
         if self.is_request {
             return self.requested.at(index);

@@ -13,7 +13,6 @@ ghost use Rattle.roff_run.specs.Registers.Capped.{admitted, after};
 ghost use Rattle.roff_run.specs.Starts.{given_change};
 ghost use Rattle.roff_run.specs.declared.phase.Phase.{Phase};
 ghost use Rattle.roff_reader.specs.Clauses.{behind_return};
-ghost use Rattle.roff_run.specs.Springs.{AreFewBehind};
 
 mod ahead;
 mod arguments;
@@ -38,7 +37,7 @@ mod waiting;
 
 use crate::meaning::Meaning;
 use roff_num::{Limit, Limits, Name, Num};
-use roff_requests::{Composer, RunRegisters};
+use roff_requests::{Composer, RequestEvents, RunRegisters};
 use roff_run::{Due, LineEvents, LineState, Message, PageEvent, Request, Step};
 use roff_scan::{Unread, is_dropped};
 use roff_store::Entry;
@@ -198,20 +197,32 @@ impl Reader {
         self.meaning.keep_line(None, false, LineEvents::Closing);
     }
 
-    /// The event at an index of the meaning that is kept, if there are so many: 35 at most.
+    /// The event at an index of the meaning that is kept, if there are so many: 36 at most.
     #[inline(always)]
     pub fn event(&self, index: usize) -> Option<PageEvent>
         ensures at { result ≡ slice_get self.now.meaning.events index }
-        ensures few { IfSome result (λ event. index ≤ 34) }
+        ensures few { IfSome result (λ event. index ≤ 35) }
     {
         self.meaning.event(index)
     }
 
-    /// Behind each event that may spring a macro stand few: a fact, and nothing that is done.
-    pub fn few_behind(&self)
-        ensures { AreFewBehind self.now.meaning.events }
+    /// Keeps the events of a step that has a name of its own, where some of them are put back.
+    #[cold]
+    pub fn keep_step(&mut self, step: Step)
+        ensures kept { self.new.meaning.events ≡ events_of [] step }
+        ensures others { self.new ≡ record self.old { meaning = self.new.meaning } }
     {
-        self.meaning.few_behind();
+        self.meaning.keep_line(None, false, step.line());
+    }
+
+    /// Keeps an event that is put back.
+    #[cold]
+    pub fn keep_event(&mut self, event: PageEvent)
+        ensures kept { self.new.meaning.events ≡ event ∷ [] }
+        ensures others { self.new ≡ record self.old { meaning = self.new.meaning } }
+    {
+        self.meaning
+            .keep_request(None, None, false, RequestEvents::One(event));
     }
 
     /// Its message, on the line of the last byte taken, if it has one.

@@ -3,7 +3,6 @@ pub mod TabStops
 pub mod RegisterTables
 pub mod Numbering
 pub mod EventsAt
-pub mod FewBehind
 pub mod Heights
 pub mod PageLengths
 pub mod PageSteps

@@ -1,11 +1,10 @@
 //! The events of a request, as code keeps them.
 
 ghost use Rattle.std.specs.Prelude.{◌≡◌, ◌≤◌, ◌∷◌, [], true, map, IfSome, slice_get, if◌then◌else◌};
-ghost use Rattle.roff_requests.specs.Events.{request_events, stop_at, stops_set};
+ghost use Rattle.roff_requests.specs.Events.{around_break, request_events, stop_at, stops_set};
 ghost use Rattle.roff_lines.specs.declared.event.Event.TheVariants.{Break};
 ghost use Rattle.roff_run.specs.declared.event.PageEvent.TheVariants.{Text};
 ghost use Rattle.roff_run.specs.Requests.Effects.{behind_break};
-ghost use Rattle.roff_run.specs.Springs.{AreFewBehind};
 
 use arrayvec::ArrayVec;
 use roff_lines::{Event, Param};
@@ -26,10 +25,12 @@ pub enum RequestEvents {
 /// Tab stops, in columns.
 pub(crate) type Stops = ArrayVec<u32, 32>;
 
-/// The events of a request: those of its break, if it breaks, and behind them a few, or those of tab
-/// stops. The stops are large and seldom set: they stay where they are until others are.
+/// The events of a request: one in front of its break, if there is one, those of its break, if it
+/// breaks, and behind them a few, or those of tab stops. The stops are large and seldom set: they
+/// stay where they are until others are.
 #[derive(Drop)]
 pub struct RequestedEvents {
+    before: Option<PageEvent>,
     breaks: bool,
     behind: RequestEvents,
     sets_stops: bool,
@@ -50,6 +51,7 @@ impl RequestedEvents {
         ensures { result.items ≡ [] }
     {
         RequestedEvents {
+            before: None,
             breaks: false,
             behind: RequestEvents::Nothing,
             sets_stops: false,
@@ -57,10 +59,12 @@ impl RequestedEvents {
         }
     }
 
-    /// Keeps those of a break, if there is one, and these behind it.
-    pub fn keep(&mut self, breaks: bool, behind: RequestEvents)
-        ensures { self.new.items ≡ behind_break breaks (request_events behind) }
+    /// Keeps one in front of a break, if there is one, those of the break, if there is one, and these
+    /// behind it.
+    pub fn keep(&mut self, before: Option<PageEvent>, breaks: bool, behind: RequestEvents)
+        ensures { self.new.items ≡ around_break before breaks (request_events behind) }
     {
+        self.before = before;
         self.breaks = breaks;
         self.behind = behind;
         self.sets_stops = false;
@@ -71,32 +75,60 @@ impl RequestedEvents {
     pub fn keep_stops(&mut self, breaks: bool, stops: Stops)
         ensures { self.new.items ≡ behind_break breaks (stops_set stops.items) }
     {
+        self.before = None;
         self.breaks = breaks;
         self.sets_stops = true;
         self.stops = stops;
     }
 
-    /// Behind each of them that may spring a macro stand few: a fact, and nothing that is done.
-    pub fn few_behind(&self)
-        ensures { AreFewBehind self.now.items }
-    {
-        let _ = &self.breaks;
-    }
-
-    /// The event at an index, if there are so many: 35 at most.
+    /// The event at an index, if there are so many: 36 at most.
     #[inline(always)]
     pub fn at(&self, index: usize) -> Option<PageEvent>
         ensures at { result ≡ slice_get self.now.items index }
-        ensures few { IfSome result (λ event. index ≤ 34) }
+        ensures few { IfSome result (λ event. index ≤ 35) }
     {
-        if !self.breaks {
-            return kept_at(self.behind, self.sets_stops, &self.stops, index);
+        match (self.before, index) {
+            (None, _) => broken_at(
+                self.breaks,
+                self.behind,
+                self.sets_stops,
+                &self.stops,
+                index,
+            ),
+            (Some(event), 0) => Some(event),
+            (Some(_), _) => {
+                broken_at(
+                    self.breaks,
+                    self.behind,
+                    self.sets_stops,
+                    &self.stops,
+                    index - 1,
+                )
+            }
         }
-        if index == 0 {
-            return Some(PageEvent::Text(Event::WordEnd));
-        }
-        break_at(self.behind, self.sets_stops, &self.stops, index - 1)
     }
+}
+
+/// The event at an index of a break, if there is one, and what is kept behind it.
+#[inline(always)]
+fn broken_at(
+    breaks: bool,
+    few: RequestEvents,
+    sets_stops: bool,
+    stops: &Stops,
+    index: usize,
+) -> Option<PageEvent>
+    ensures at { result ≡ slice_get (behind_break breaks
+        (if sets_stops then stops_set stops.now.items else request_events few)) index }
+    ensures few { IfSome result (λ event. index ≤ 34) }
+{
+    if !breaks {
+        return kept_at(few, sets_stops, stops, index);
+    }
+    if index == 0 {
+        return Some(PageEvent::Text(Event::WordEnd));
+    }
+    break_at(few, sets_stops, stops, index - 1)
 }
 
 /// The event at an index of a break and what is kept behind it.
@@ -159,11 +191,11 @@ fn stop_at(stops: &Stops, index: usize) -> Option<PageEvent>
     }
 }
 
-/// Whether there are neither those of a break nor others behind it.
-pub fn are_none(breaks: bool, behind: RequestEvents) -> bool
-    ensures { result ≡ true → behind_break breaks (request_events behind) ≡ [] }
+/// Whether there is none: neither in front of a break, nor of one, nor behind it.
+pub fn are_none(before: Option<PageEvent>, breaks: bool, behind: RequestEvents) -> bool
+    ensures { result ≡ true → around_break before breaks (request_events behind) ≡ [] }
 {
-    if breaks {
+    if breaks || before.is_some() {
         return false;
     }
     match behind {

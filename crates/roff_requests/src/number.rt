@@ -1,9 +1,10 @@
 //! Numbers as arguments of requests: the values of expressions, and the lengths that they set.
 
-ghost use Rattle.std.specs.Prelude.{◌≡◌, ◌+ℤ◌};
+ghost use Rattle.std.specs.Prelude.{◌≡◌, ◌/◌, ◌+ℤ◌, Ok};
 ghost use Rattle.roff_num.specs.Ranges.{in_range};
+ghost use Rattle.roff_num.specs.Steps.{followed};
 ghost use Rattle.roff_run.specs.Numbers.{height_beside, height_in, rounded_in_range, value_beside};
-ghost use Rattle.roff_run.specs.Numbers.{value_in};
+ghost use Rattle.roff_run.specs.Numbers.{at_least_zero, value_in};
 
 use roff_num::{NumFault, Scale, eval, round_h, round_v};
 
@@ -114,4 +115,12 @@ pub(crate) fn rounded_to_lines(height: i32) -> i32
     ensures { Ok result ≡ rounded_in_range 40 height }
 {
     round_v(height)
+}
+
+/// The whole lines of a height: it is rounded, and not below 0.
+pub(crate) fn lines_in(height: i32) -> u32
+    ensures { Ok result
+        ≡ followed (rounded_in_range 40 height) (λ r. Ok (at_least_zero r / 40)) }
+{
+    rounded_to_lines(height).max(0) as u32 / LINE
 }

@@ -16,6 +16,7 @@ mod springing;
 mod switching;
 mod tabs;
 mod titles;
+mod traps;
 
 use Request::{LeftOut, WithoutEffect};
 pub(crate) use effects::Response;
@@ -54,8 +55,10 @@ fn does(request: Request, known: RequestFacts, given: Given<'_>) -> Response
         Request::AssignFormat => numbering::assign_format(given.first, given.second),
         Request::AppendMacro => Response::nothing(),
         Request::AppendString => Response::nothing(),
+        Request::BeginPage => paging::begin_page(known, given.first),
         Request::Break => Response::nothing(),
         Request::Centre => adjustment::centre(given.first),
+        Request::ChangeTrap => traps::change_trap(known, given.first, given.second),
         Request::DefineMacro => Response::nothing(),
         Request::DefineString => Response::nothing(),
         Request::Else => Response::nothing(),
@@ -72,15 +75,19 @@ fn does(request: Request, known: RequestFacts, given: Given<'_>) -> Response
         Request::LineSpacing => spacing::line_spacing(known, given.first),
         Request::TitleLength => lengths::title_length(known, given.first),
         Request::NoAdjust => Response::setting(Param::Adjusting(false)),
+        Request::Need => spacing::need(known, given.first),
         Request::NoFill => Response::setting(Param::Filling(false)),
         Request::NumberRegister => numbering::set_register(known, given),
+        Request::NoSpace => spacing::spaceless(true),
         Request::PageCharacter => titles::page_character(given.first),
         Request::PageLength => paging::page_length(known, given.first),
         Request::PageNumber => paging::page_number(known, given.first),
         Request::PageOffset => paging::page_offset(known, given.first),
+        Request::PlantTrap => traps::plant_trap(known, given.first, given.second),
         Request::RemoveNames => Response::changing(Changes::RemoveNamesGiven),
         Request::Rename => naming::rename(given.first, given.second),
         Request::RemoveRegisters => Response::changing(Changes::RemoveGiven),
+        Request::RestoreSpacing => spacing::spaceless(false),
         Request::Space => spacing::space_down(known, given.first),
         Request::TabStops => Response::SetsStops,
         Request::TemporaryIndent => lengths::temporary_indent(known, given.first),

@@ -3,7 +3,7 @@ use Rattle.std.specs.Prelude.{◌≡◌, true, false, List, None, Some, Result, 
 use Rattle.roff_num.specs.declared.limit.Limit.{Limit}
 use Rattle.roff_num.specs.declared.limit.Limit.TheVariants.{Names}
 use Rattle.roff_num.specs.declared.limits.Limits.{Limits}
-use Rattle.roff_scan.specs.Unread.{input_refusal}
+use Rattle.roff_ahead.specs.Unread.{input_refusal}
 use Rattle.roff_run.specs.Environments.{PageHistory}
 use Rattle.roff_run.specs.Events.Steps.{events_of, messages_of}
 use Rattle.roff_requests.specs.Composer.Standing.{StandFor}

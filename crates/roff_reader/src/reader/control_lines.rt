@@ -136,6 +136,7 @@ impl Reader {
 
 /// What is read behind a name that stands for this, if nothing else changes but what is half read:
 /// of all but the other branch of a condition.
+#[inline(always)]
 pub(super) fn behind_called(breaks: bool, called: Called) -> Option<LineState>
     ensures leads { IfSome result (λ reading. LeadsTo (λ i. behind_called i breaks called) reading) }
     ensures other { result ≡ None → LeadsToElse (λ i. behind_called i breaks called) }
@@ -148,6 +149,7 @@ pub(super) fn behind_called(breaks: bool, called: Called) -> Option<LineState>
 }
 
 /// The same of a request.
+#[inline(always)]
 fn behind_request(breaks: bool, request: Request) -> Option<LineState>
     ensures leads { IfSome result (λ reading.
         LeadsTo (λ i. behind_name i breaks request (row_of request).line) reading) }

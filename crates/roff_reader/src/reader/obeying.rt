@@ -53,11 +53,10 @@ impl Reader {
         if effect.sets_stops {
             return self.keep_stops(effect.breaks, given);
         }
-        if are_none(effect.breaks, effect.events) {
+        if are_none(effect.before, effect.breaks, effect.events) {
             return self.say(effect.message);
         }
-        self.meaning
-            .keep_request(effect.message, effect.breaks, effect.events);
+        self.meaning.keep_request(effect.message, effect.before, effect.breaks, effect.events);
         Step::Meaning
     }
 
@@ -108,6 +107,8 @@ impl Reader {
             page_offset: composer.pages.offset(),
             previous_page_offset: composer.pages.previous_offset(),
             page_number: composer.pages.number(),
+            begun: composer.pages.begun(),
+            diverts: composer.pages.is_diverting(),
         };
         effect(request, breaks, known, given)
     }

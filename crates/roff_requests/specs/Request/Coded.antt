@@ -1,5 +1,5 @@
 -- What the code of requests is given, and what it answers, as the definition has it.
-use Rattle.std.specs.Prelude.{◌≡◌, ℕ, List, [], ◌∷◌, slice_get, IfSome, Option, Some, None, if◌then◌else◌}
+use Rattle.std.specs.Prelude.{◌≡◌, ℕ, ◌^◌, List, [], ◌∷◌, min, slice_get, IfSome, Option, Some, None, if◌then◌else◌}
 use Rattle.arrayvec.specs.ArrayVec.{ArrayVec}
 use Rattle.std.specs.Option.{option_copied, option_to_list}
 use Rattle.roff_num.specs.Names.{name_of}
@@ -9,17 +9,17 @@ use Rattle.roff_run.specs.declared.request.Request.TheVariants.{NumberRegister}
 use Rattle.roff_requests.specs.declared.requests.effects.Changes.{Changes}
 use Rattle.roff_requests.specs.declared.requests.effects.Changes.TheVariants.{Nothing, One, RemoveGiven, RemoveNamesGiven, Rename as RenameGiven}
 use Rattle.roff_requests.specs.declared.requests.effects.Response.{Response as CodedResponse}
-use Rattle.roff_requests.specs.declared.requests.effects.Response.TheVariants.{Ignored as IgnoredWith, Obeyed as ObeyedWith, SetsStops}
+use Rattle.roff_requests.specs.declared.requests.effects.Response.TheVariants.{Around as HappensAround, Ignored as IgnoredWith, Obeyed as ObeyedWith, SetsStops}
 use Rattle.roff_requests.specs.declared.requests.effects.Effect.{Effect as CodedEffect}
 use Rattle.roff_requests.specs.declared.requests.effects.RequestFacts.{RequestFacts}
-use Rattle.roff_requests.specs.Events.{request_events, stops_set}
+use Rattle.roff_requests.specs.Events.{around_break, request_events, stops_set}
 use Rattle.roff_pages.specs.Pages.Counted.{counted}
-use Rattle.roff_pages.specs.Queries.{place_now}
+use Rattle.roff_pages.specs.Queries.{is_diverting, place_now}
 use Rattle.roff_run.specs.Registers.{Known, Change, Remove, value_in_force}
 use Rattle.roff_requests.specs.Registers.Coded.{change_of}
 use Rattle.roff_store.specs.TextCalls.{Call, Rename}
-use Rattle.roff_run.specs.Requests.{Response, Ignored, Obeyed, Effect}
-use Rattle.roff_run.specs.Requests.Effects.{bad_number, behind_break, happens, meant_by}
+use Rattle.roff_run.specs.Requests.{Response, Around, Ignored, Obeyed, Effect}
+use Rattle.roff_run.specs.Requests.Effects.{bad_number, happens, meant_by}
 use Rattle.roff_run.specs.Requests.Naming.{removals}
 use Rattle.roff_run.specs.Requests.Numbering.{name_given, names_given}
 use Rattle.roff_run.specs.Requests.Tabs.{tab_stops}
@@ -42,8 +42,8 @@ abbrev pub name_in : Option (List ℕ) → Option (List ℕ)
 name_in None = None
 name_in (Some text) = name_of (name_given text)
 
--- The code knows what a request asks for: the settings, the place, and the page's length, offset and number, and the value of the
--- register that the first argument names, which one request alone asks for.
+-- The code knows what a request asks for: the settings, the place, and the page's length, offset and number, which page is ejected
+-- and whether a diversion is open, and the value of the register that the first argument names, which one request alone asks for.
 pub record KnowsOf (k : Known) (request : Request) (as_given : List (List ℕ)) (known : RequestFacts) : Type 0 where
   pub settings : known.settings ≡ k.settings
   pub has_left : known.has_left ≡ k.has_left
@@ -52,6 +52,8 @@ pub record KnowsOf (k : Known) (request : Request) (as_given : List (List ℕ)) 
   pub page_offset : known.page_offset ≡ k.layout.offset
   pub previous_page_offset : known.previous_page_offset ≡ k.layout.previous_offset
   pub page_number : known.page_number ≡ k.layout.number
+  pub begun : known.begun ≡ min k.layout.begun (2 ^ 32)
+  pub diverts : known.diverts ≡ is_diverting k.layout
   pub in_force : request ≡ NumberRegister → IfSome (register_named as_given) (λ name. known.in_force ≡ value_in_force k name)
 
 -- the changes of registers that a request makes, given these arguments
@@ -76,6 +78,7 @@ response_of as_given (IgnoredWith message) = Ignored (option_to_list message)
 response_of as_given (ObeyedWith message changes events) =
     Obeyed (option_to_list message) (changes_of as_given changes) (calls_of as_given changes) (request_events events)
 response_of as_given SetsStops = tab_stops as_given
+response_of as_given (HappensAround before behind) = Around before behind
 
 -- what a request for tab stops did where its arguments are these stops, or none that are good
 abbrev pub stops_response : Option (ArrayVec ℕ) → Response
@@ -89,7 +92,8 @@ said_by as_given e = if e.sets_stops then (meant_by e.breaks (tab_stops as_given
 -- and its events
 abbrev pub asked_by : List (List ℕ) → CodedEffect → List PageEvent
 asked_by as_given e =
-    if e.sets_stops then (meant_by e.breaks (tab_stops as_given)).events else behind_break e.breaks (request_events e.events)
+    if e.sets_stops then (meant_by e.breaks (tab_stops as_given)).events
+    else around_break e.before e.breaks (request_events e.events)
 
 -- what it means there
 abbrev pub effect_of : List (List ℕ) → CodedEffect → Effect

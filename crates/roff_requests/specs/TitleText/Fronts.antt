@@ -1,5 +1,5 @@
 -- Bytes of a title's part that are read at once (manual, section 14).
-use Rattle.std.specs.Prelude.{◌≡◌, ℕ, ◌≤◌, ◌==◌, Bool, true, not, ◌&&◌, List, length, map, nat_le, take, Option, if◌then◌else◌}
+use Rattle.std.specs.Prelude.{◌≡◌, ℕ, ◌<◌, ◌≤◌, ◌==◌, ◌⊎◌, Bool, true, false, not, ◌&&◌, List, length, map, nat_le, slice_index_or, take, Option, if◌then◌else◌}
 use Rattle.std.specs.List.{AllByRecursion}
 use Rattle.roff_lines.specs.Glyphs.{glyph_blank}
 use Rattle.roff_sinks.specs.Titles.{page_mark}
@@ -26,3 +26,5 @@ pub record AddsFront (front : List ℕ) (delimiter count : ℕ) (old new : Cappe
   pub plain : AllByRecursion (IsPlain delimiter) (take count front)
   pub added : new ≡ with_change (TitleGets (map (kept_byte old.all.page_character) (take count front))) old
   pub within : title_length new.all.title ≤ new.line
+  -- they go as far as there are such bytes, and the title has room
+  pub goes : count < length front → (is_plain delimiter (slice_index_or front count 0) ≡ false) ⊎ (title_length new.all.title ≡ new.line)

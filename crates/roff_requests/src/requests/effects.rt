@@ -38,6 +38,10 @@ pub struct RequestFacts {
     pub previous_page_offset: u32,
     /// The number of the page.
     pub page_number: Num,
+    /// How many pages were begun; no more than 2^32 are counted.
+    pub begun: u64,
+    /// Whether a diversion is open.
+    pub diverts: bool,
 }
 
 /// A place above this reads as this, in basic units.
@@ -62,6 +66,8 @@ pub(crate) enum Response {
     Ignored(Option<Message>),
     /// It says this, registers or names change so, and this happens behind its break.
     Obeyed(Option<Message>, Changes, RequestEvents),
+    /// One event happens in front of its break, and one behind it.
+    Around(PageEvent, PageEvent),
     /// Its arguments are stops, which are set behind its break in place of those in force.
     SetsStops,
 }
@@ -92,7 +98,10 @@ pub enum Changes {
 pub struct Effect {
     pub message: Option<Message>,
     pub changes: Changes,
+    /// What happens in front of its break.
+    pub before: Option<PageEvent>,
     pub breaks: bool,
+    /// What happens behind it.
     pub events: RequestEvents,
     pub sets_stops: bool,
 }
@@ -181,6 +190,7 @@ impl Response {
             Response::Ignored(message) => Effect {
                 message,
                 changes: Changes::Nothing,
+                before: None,
                 breaks: false,
                 events: RequestEvents::Nothing,
                 sets_stops: false,
@@ -188,13 +198,23 @@ impl Response {
             Response::Obeyed(message, changes, events) => Effect {
                 message,
                 changes,
+                before: None,
                 breaks,
                 events,
+                sets_stops: false,
+            },
+            Response::Around(before, behind) => Effect {
+                message: None,
+                changes: Changes::Nothing,
+                before: Some(before),
+                breaks,
+                events: RequestEvents::One(behind),
                 sets_stops: false,
             },
             Response::SetsStops => Effect {
                 message: None,
                 changes: Changes::Nothing,
+                before: None,
                 breaks,
                 events: RequestEvents::Nothing,
                 sets_stops: true,

@@ -1,21 +1,22 @@
-//! The page length, the page offset, and the number of the next page.
+//! The page length, the page offset, the number of the next page, and ejecting a page.
 
-ghost use Rattle.std.specs.Prelude.{◌≡◌, ◌/◌, ℕ, List, Ok, slice_get};
+ghost use Rattle.std.specs.Prelude.{◌≡◌, ◌^◌, ℕ, List, min, slice_get};
 ghost use Rattle.std.specs.Option.{option_copied};
-ghost use Rattle.roff_num.specs.Steps.{followed};
-ghost use Rattle.roff_run.specs.Numbers.{at_least_zero, rounded_in_range};
+ghost use Rattle.roff_pages.specs.Layout.{Layout};
+ghost use Rattle.roff_pages.specs.Queries.{is_diverting};
 ghost use Rattle.roff_run.specs.Registers.{Known};
 ghost use Rattle.roff_requests.specs.Request.Coded.{KnowsOf, response_of};
-ghost use Rattle.roff_run.specs.declared.request.Request.TheVariants.{PageLength};
-ghost use Rattle.roff_run.specs.Requests.Paging.{lines_on_page, lines_set, page_length};
-ghost use Rattle.roff_run.specs.Requests.Paging.{next_numbered, page_number, page_offset};
+ghost use Rattle.roff_run.specs.declared.request.Request.TheVariants.{BeginPage, PageLength};
+ghost use Rattle.roff_run.specs.Requests.Paging.{begin_page, ejected, ejected_by, ejected_to};
+ghost use Rattle.roff_run.specs.Requests.Paging.{lines_on_page, lines_set, next_numbered, page_ejected};
+ghost use Rattle.roff_run.specs.Requests.Paging.{page_length, page_number, page_offset};
 
 use super::lengths::length_wanted;
-use crate::number::{LINE, height_beside, rounded_to_lines, value_beside};
+use crate::number::{LINE, height_beside, lines_in, value_beside};
 use crate::requests::{RequestFacts, Response};
 use roff_num::{Num, NumFault, Scale};
 use roff_pages::LayoutEvent;
-use roff_run::Message;
+use roff_run::{Message, PageEvent};
 
 /// The page length where none is given, in lines: 11 inches.
 const USUAL_LENGTH: u32 = 66;
@@ -45,14 +46,6 @@ fn lines_set(known: RequestFacts, text: &[u8]) -> Result<u32, NumFault>
         Ok(height) => Ok(lines_in(height)),
         Err(fault) => Err(fault),
     }
-}
-
-/// The whole lines of a height: it is rounded, and not below 0.
-fn lines_in(height: i32) -> u32
-    ensures { Ok result
-        ≡ followed (rounded_in_range 40 height) (λ r. Ok (at_least_zero r / 40)) }
-{
-    rounded_to_lines(height).max(0) as u32 / LINE
 }
 
 /// The page has so many lines from now on; one that would have none is refused.
@@ -103,4 +96,67 @@ fn next_numbered(number: Result<i32, NumFault>) -> Response
         Ok(number) => Response::on_page(LayoutEvent::Next(Num(number))),
         Err(_) => Response::bad_number(),
     }
+}
+
+/// `bp`: the page is ejected, where no diversion is open; the next one gets the number that is given.
+/// A sign in front adds to that of the page in force, or takes from it.
+pub(super) fn begin_page(known: RequestFacts, argument: Option<&[u8]>) -> Response
+    ensures { (k : Known) (as_given : List (List ℕ)) → KnowsOf k BeginPage as_given known
+        → option_copied argument.entry ≡ slice_get as_given 0
+        → response_of as_given result ≡ begin_page k as_given }
+{
+    match argument {
+        None => ejected(known),
+        Some(text) => ejected_by(
+            value_beside(i64::from(known.page_number.0), Scale::Units, text),
+            known,
+        ),
+    }
+}
+
+/// The page is ejected for one of this number.
+fn ejected_by(number: Result<i32, NumFault>, known: RequestFacts) -> Response
+    ensures { (L : Layout) (as_given : List (List ℕ)) → known.begun ≡ min L.begun (2 ^ 32)
+        → known.diverts ≡ is_diverting L → response_of as_given result ≡ ejected_by L number }
+{
+    match number {
+        Ok(number) => ejected_to(Num(number), known),
+        Err(_) => Response::bad_number(),
+    }
+}
+
+/// The page is ejected.
+fn ejected(known: RequestFacts) -> Response
+    ensures { (L : Layout) (as_given : List (List ℕ)) → known.begun ≡ min L.begun (2 ^ 32)
+        → known.diverts ≡ is_diverting L → response_of as_given result ≡ ejected L }
+{
+    if known.diverts {
+        return Response::nothing();
+    }
+    Response::on_page(LayoutEvent::Eject(page_ejected(known.begun)))
+}
+
+/// The same, and the next page gets this number.
+fn ejected_to(number: Num, known: RequestFacts) -> Response
+    ensures { (L : Layout) (as_given : List (List ℕ)) → known.begun ≡ min L.begun (2 ^ 32)
+        → known.diverts ≡ is_diverting L → response_of as_given result ≡ ejected_to number L }
+{
+    if known.diverts {
+        return Response::nothing();
+    }
+    let eject = LayoutEvent::EjectTo(page_ejected(known.begun), number);
+    if known.begun == 0 {
+        return Response::on_page(eject);
+    }
+    Response::Around(
+        PageEvent::Page(LayoutEvent::Next(number)),
+        PageEvent::Page(eject),
+    )
+}
+
+/// The page that is ejected where so many were begun: the last of them, or else the first.
+fn page_ejected(begun: u64) -> u32
+    ensures { (L : Layout) → begun ≡ min L.begun (2 ^ 32) → result ≡ page_ejected L }
+{
+    begun.min(u64::from(u32::MAX)).max(1) as u32
 }

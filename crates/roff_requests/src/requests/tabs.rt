@@ -8,8 +8,8 @@ ghost use Rattle.roff_run.specs.Requests.Tabs.{stop_place, tab_stops};
 
 use crate::events::Stops;
 use crate::number::{rounded_to_columns, value_beside, value_in};
+use roff_arguments::ArgumentList;
 use roff_num::{NumFault, Scale};
-use roff_scan::ArgumentList;
 
 /// Of more stops than this the others are ignored.
 const MOST_STOPS: usize = 32;

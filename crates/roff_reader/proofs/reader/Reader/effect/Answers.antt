@@ -22,6 +22,8 @@ returns c = λ l h stands.
       page_offset = c.offset.ensures (layout_of h) stands.pages;
       previous_page_offset = c.previous_offset.ensures (layout_of h) stands.pages;
       page_number = c.number.ensures (layout_of h) stands.pages;
+      begun = c.begun.ensures (layout_of h) stands.pages;
+      diverts = c.is_diverting.ensures.layout (layout_of h) stands.pages;
       in_force = c.in_force_for.ensures l h as_given stands first;
     })
     (record { first = first; second = c.get-2.ensures ∙ argument 1; third = c.get-3.ensures ∙ argument 2 })

@@ -2,7 +2,7 @@ use Rattle.std.proofs.Common.{◌≡◌, ℕ, List, ◌++◌, true, rules, subst
 use Rattle.std.specs.Prelude.{is_some}
 use Rattle.roff_escape.specs.OpenEscape.{unit_bytes}
 use Rattle.roff_ahead.specs.Input.Names.{adding}
-use Rattle.roff_scan.specs.Unread.{changing}
+use Rattle.roff_ahead.specs.Unread.{changing}
 use Rattle.roff_reader.proofs.BegunDefinitions.{InputCameTo-defined}
 use Rattle.roff_reader.proofs.reader.definitions.grow_definition.Goals.{in-Byte, in-Kept}
 use Rattle.roff_reader.proofs.reader.definitions.grow_definition.Goals as goal

@@ -1,7 +1,7 @@
 use Rattle.std.proofs.Common.{◌≡◌, List, [], ℕ, rules, subst}
 use Rattle.std.specs.Prelude.{option_map}
 use Rattle.roff_ahead.specs.Input.Names.{calling}
-use Rattle.roff_scan.specs.Unread.{changing}
+use Rattle.roff_ahead.specs.Unread.{changing}
 use Rattle.roff_store.specs.Named.{entry_of}
 use Rattle.roff_store.specs.TextCalls.{Set}
 use Rattle.roff_store.specs.Texts.{Body, kind_given, kind_of}
