@@ -1,21 +1,26 @@
 -- What the code does with an item that it took, as a step of the definition.
 use Rattle.std.proofs.Common.{◌≡◌, ℕ, ◌+◌, ◌*◌, ◌-◌, List, [], ◌∷◌, ◌++◌, ◌≤◌, arith, length, Option, Some, None, Result, Ok, Err, OnOk, inl, inr, refl, subst, sym, ap, append-nil, ◌∙◌}
+use Rattle.std.specs.Prelude.{map}
 use Rattle.roff_num.specs.declared.limit.Limit.{Limit}
 use Rattle.roff_num.specs.declared.limits.Limits.{Limits}
+use Rattle.roff_ahead.specs.Input.{putting_all_back}
 use Rattle.roff_source.specs.Tape.{Tape}
-use Rattle.roff_scan.specs.Looking.{is_closed, looked_then}
-use Rattle.roff_scan.specs.declared.looked.Looked.{Looked}
-use Rattle.roff_scan.specs.declared.looked.Looked.TheVariants.{Nothing, Byte, Closed}
+use Rattle.roff_ahead.specs.Looking.{is_closed, looked_then}
+use Rattle.roff_ahead.specs.declared.looked.Looked.{Looked}
+use Rattle.roff_ahead.specs.declared.looked.Looked.TheVariants.{Nothing, Byte, Closed}
 use Rattle.roff_engine.specs.declared.formatter.Formatter.{Formatter}
 use Rattle.roff_engine.specs.declared.halt.Halt.{Halt}
 use Rattle.roff_engine.specs.declared.halt.Halt.TheVariants.{Limit as Limited, Refused, Over, Output, Messages}
 use Rattle.roff_engine.specs.declared.running.Running.{Running as Coded}
 use Rattle.roff_engine.specs.Engine.Outcome.{Beginning, Seen, IsLeftOf, Reaches, OutcomeOf, seen}
 use Rattle.roff_engine.specs.Formatter.Performing.{CameBehind, TakingDone, DoesTaking, Opens, acting, going, sinks}
-use Rattle.roff_run.specs.Springs.{CountsLast}
-use Rattle.roff_engine.specs.Formatter.Sprung.{rest_left}
+use Rattle.roff_run.specs.Springs.{AreFewBehind}
+use Rattle.roff_run.proofs.KeepingText.{StaysFew}
+use Rattle.roff_ahead.specs.Input.Few.{AreFewFrom}
+use Rattle.roff_engine.specs.Formatter.Sprung.{most_back, rest_left}
 use Rattle.roff_run.specs.TurnsToCome.{most_left}
-use Rattle.roff_engine.specs.Running.Springing.{GoesOn, HasRoom, IsBehind}
+use Rattle.roff_engine.specs.Running.Room.{FewFor}
+use Rattle.roff_engine.specs.Running.Springing.{GoesOn, IsBehind}
 use Rattle.roff_engine.specs.declared.sprung.Sprung.{Sprung}
 use Rattle.roff_engine.specs.Running.Turning.{DoesItem, Halts, TookFrom, line_told, line_turns, lines_left_in, state_at, turns_at, turns_of_run}
 use Rattle.roff_sinks.specs.Sinks.{Sunk}
@@ -29,6 +34,7 @@ use Rattle.roff_run.specs.Registers.{Known}
 use Rattle.roff_run.specs.Run.{State, ending_as, known_at, made, step, taken_as, unless_refused, grown}
 use Rattle.roff_run.specs.Run.Counts.{first_passed}
 use Rattle.roff_run.specs.PageEvents.{PageEvent}
+use Rattle.roff_run.specs.Titles.{put_back}
 use Rattle.roff_run.specs.declared.line_state.LineState.{LineState}
 use Rattle.roff_run.specs.declared.phase.Phase.{Phase}
 use Rattle.roff_run.specs.declared.status.Status.{Status}
@@ -36,6 +42,9 @@ use Rattle.roff_run.specs.declared.status.Status.TheVariants.{Done}
 use Rattle.roff_run.specs.Environments.{interrupted_line}
 use Rattle.roff_run.specs.TurnsToCome.{begun, lines_left, phases_left, turns_to_come, turns_within}
 use Rattle.roff_engine.proofs.Halting.{rest_over}
+use Rattle.roff_engine.proofs.EventsLeft.{few-most}
+use Rattle.roff_engine.proofs.Fronts.{few-put_back}
+use Rattle.roff_engine.proofs.Room.{ends-within, room_left}
 use Rattle.roff_engine.proofs.TurnsLeft.{line_turns-more, lines_left-stands}
 
 -- a tape is what is left of itself behind a byte that was looked at
@@ -129,30 +138,37 @@ IsTaking f does phase more run =
     (tape : Tape) (h : PageHistory) (messages : List ℕ)
     → does (state_at tape run h messages) ≡ taken_as (taken_of f run h) (ready_to_take tape run h messages phase more)
 
--- where nothing is put back no room is asked for
-no_room : (events : List PageEvent) (u : PageUnread) → events ≡ [] → HasRoom events u
-no_room events u none = λ some. omega (arith, some, ap (λ (es : List PageEvent). length es) none)
-
 -- the run stands behind the events of a taking, of which one may have sprung a macro
 IsBehind-taken : (t : Beginning) (tape : Tape) (start now : Seen) (old new : Coded) (taken : Taking) (h : PageHistory) (messages : List ℕ) (phase : Phase) (more : List PageEvent) (sprung : Option Sprung)
     → CameTo taken old.formatter.reader.registers new.formatter.reader old.unread new.unread
     → new.limits ≡ old.limits → new.phase ≡ phase → old.unread.limits ≡ old.limits → IsReady old.formatter.reader.registers old.unread
     → CameBehind old.limits t start now (taken_as taken (ready_to_take tape old h messages phase more)) (taken.effect.events ++ more) h new.formatter.reader.meaning.events [] sprung new.formatter.composer
-    → CountsLast (taken.effect.events ++ more)
+    → AreFewBehind (taken.effect.events ++ more) → StaysFew old.unread.input.ahead taken.input.ahead
+    → FewFor (taken.effect.events ++ more) taken.reading taken.input.escapes old.unread.input.ahead
     → IsBehind t tape start now sprung new
-IsBehind-taken t tape start now old new taken h messages phase more sprung became limits same kept ready came counts = record {
-  room = no_room (rest_left sprung new.formatter.reader.meaning.events) new.unread (came.last counts);
-  history = came.history;
-  messages = (taken_as taken (state_at tape old h messages)).messages;
-  reaches = rw (limits, became.input, became.reading, became.registers, same) came.reaches;
-  stands = subst (λ (l : Limits). StandFor l came.history new.formatter.composer) (sym limits) came.stands;
-  ready = record {
-    cap = rw (became.registers, became.input) ready.cap;
-    line = rw (became.registers, became.input) ready.line;
-    within = rw (became.registers, became.input) became.within;
-  };
-  limits = rw (became.input, limits) kept;
-}
+IsBehind-taken t tape start now old new taken h messages phase more sprung became limits same kept ready came short stays few =
+    let events : List PageEvent = taken.effect.events ++ more in
+    let rest : List PageEvent = rest_left sprung new.formatter.reader.meaning.events in
+    let room : ℕ = 5 - most_back events in
+    let is_ready : IsReady new.formatter.reader.registers new.unread = record {
+      cap = rw (became.registers, became.input) ready.cap;
+      line = rw (became.registers, became.input) ready.line;
+      within = rw (became.registers, became.input) became.within;
+    } in
+    let behind : AreFewFrom room new.unread.input.ahead =
+    subst (λ (u : PageUnread). AreFewFrom room u.input.ahead) (sym became.input) (stays room (omega arith) few.few) in
+    let enough : length rest + room ≤ 5 = omega (arith, came.few, few-most events short) in record {
+      room = room_left rest room new.unread behind enough (ends-within new.unread.limits new.formatter.reader.registers.all new.unread.input is_ready.within);
+      few = subst (λ (reading : LineState). FewFor [] reading new.unread.input.escapes (putting_all_back (map put_back rest) new.unread.input).ahead) (sym became.reading)
+          (subst (λ (u : PageUnread). FewFor [] taken.reading u.input.escapes (putting_all_back (map put_back rest) u.input).ahead) (sym became.input)
+          (few-put_back events rest taken.reading taken.input.escapes old.unread.input.ahead taken.input few stays (omega (arith, came.few)) (few-most events short)));
+      history = came.history;
+      messages = (taken_as taken (state_at tape old h messages)).messages;
+      reaches = rw (limits, became.input, became.reading, became.registers, same) came.reaches;
+      stands = subst (λ (l : Limits). StandFor l came.history new.formatter.composer) (sym limits) came.stands;
+      ready = is_ready;
+      limits = rw (became.input, limits) kept;
+    }
 
 -- no more turns are to come of it than of that state
 turns-behind : (l : Limits) (tape : Tape) (old new : Coded) (taken : Taking) (h behind : PageHistory) (messages : List ℕ) (phase : Phase) (more : List PageEvent)
@@ -209,6 +225,14 @@ module _ (f : Known → Taking) (does : State → State) (phase : Phase) (more :
       (λ stands reaches opens. takes.does t start failures from (looked_then old.unread.looked tape) h took.messages phase (is_closed old.unread.looked) [] stands took.ready reaches opens)
       took.stands took.reaches (opened took)
 
+  -- there is room for what is put back
+  room_taken : {t : Beginning} {tape : Tape} {start now : Seen} {from : State} → (took : TookFrom t tape start now line does from old)
+      → FewFor (events_of took.history) (taken_of f old took.history).reading (taken_of f old took.history).input.escapes old.unread.input.ahead
+  room_taken {t} {tape} {start} {now} {from} took =
+      let t : Taking = taken_of f old took.history in
+      subst (λ (events : List PageEvent). FewFor (t.effect.events ++ events) t.reading t.input.escapes old.unread.input.ahead) (append-nil more)
+      (subst (λ (s : State). FewFor s.to_do s.reading s.input.escapes old.unread.input.ahead) (meant tape took.history took.messages) took.few)
+
   -- what the code could not do of it halts the run
   pub halted_acts : {out_old err_old out_new err_new : Sunk} (new : Coded) (failures : ℕ) (halt : Halt) (status : Status) (behind : Seen) (line_behind : ℕ)
       → new.limits ≡ old.limits → ((k : Known) → (f k).input.line ≡ line_behind)
@@ -240,16 +264,17 @@ pub taking_acts : {out_old err_old out_new err_new : Sunk} (f : Known → Taking
     → IsTaking f does phase more old
     → mid.limits ≡ old.limits → mid.phase ≡ phase
     → DoesTaking f more old.formatter mid.formatter old.unread mid.unread (sinks out_old err_old) (sinks out_new err_new) (Ok sprung)
-    → ((k : Known) → CountsLast ((f k).effect.events ++ more))
+    → ((k : Known) → AreFewBehind ((f k).effect.events ++ more)) → ((k : Known) → StaysFew old.unread.input.ahead (f k).input.ahead)
     → GoesOn sprung mid new (seen failures out_new err_new) behind r
     → DoesItem line does old new (seen failures out_old err_old) behind r
-taking_acts {out_old} {err_old} {out_new} {err_new} f does phase more line old mid new failures sprung behind r meant limits same takes counts goes =
+taking_acts {out_old} {err_old} {out_new} {err_new} f does phase more line old mid new failures sprung behind r meant limits same takes short stays goes =
     let there : (t : Beginning) (tape : Tape) (start : Seen) (from : State) → TookFrom t tape start (seen failures out_old err_old) line does from old
     → IsBehind t tape start (seen failures out_new err_new) sprung mid = λ t tape start from took.
     IsBehind-taken t tape start _ old mid (taken_of f old took.history) took.history took.messages phase more sprung
     (takes.became old.limits took.history took.stands took.ready) limits same took.limits took.ready
     (did f does phase more line old meant mid.formatter mid.unread (Ok sprung) takes t tape start failures from took)
-    (counts (known_at took.history old.formatter.reader.registers.all old.unread.input)) in record {
+    (short (known_at took.history old.formatter.reader.registers.all old.unread.input)) (stays (known_at took.history old.formatter.reader.registers.all old.unread.input))
+    (room_taken f does phase more line old meant took) in record {
       limits = goes.limits ∙ limits;
       acts = λ t tape start from took. goes.goes t tape start (there t tape start from took);
       turns = λ t tape start from took.
@@ -257,7 +282,7 @@ taking_acts {out_old} {err_old} {out_new} {err_new} f does phase more line old m
           subst (λ (s : State). OnOk r (turns_of_run new ≤ turns_at old.limits.bytes s)) (sym (meant tape took.history took.messages))
           (no_more-turns r (turns_of_run new) (turns_of_run mid) _ (goes.turns t tape start (there t tape start from took))
           (turns-behind old.limits tape old mid (taken_of f old took.history) took.history came.history took.messages phase more
-          (takes.became old.limits took.history took.stands took.ready) same took.limits came.stands came.few));
+          (takes.became old.limits took.history took.stands took.ready) same took.limits came.stands came.lines));
     }
 
 -- two things are the same of the states that the run may be at
@@ -280,6 +305,7 @@ TookFrom-as does other line old t tape start now from same took = record {
   quiet = took.quiet;
   line_is = took.line_is;
   rest = took.rest;
+  few = subst (λ (s : State). FewFor s.to_do s.reading s.input.escapes old.unread.input.ahead) (same tape took.history took.messages took.stands) took.few;
 }
 
 -- acting as one thing is acting as another that does the same to the state the run is at

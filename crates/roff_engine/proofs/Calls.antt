@@ -4,16 +4,22 @@ use Rattle.std.specs.Prelude.{nat_lt, is_none, ◌&&◌}
 use Rattle.roff_escape.specs.Waiting.{is_ended_by}
 use Rattle.roff_ahead.specs.Input.{Ahead, ByteAhead, FreeAhead, EndAhead, ReturnAhead, DoAhead, cost, item_taken}
 use Rattle.roff_source.specs.Tape.{Tape, Item, Answer, Ending, Ended, Failed, Stopped, OneByte, OneNote, Gives, Ends, items_then}
-use Rattle.roff_scan.specs.Looking.{answer_behind, is_closed, is_nothing, looked_then}
-use Rattle.roff_scan.specs.declared.looked.Looked.{Looked}
-use Rattle.roff_scan.specs.declared.looked.Looked.TheVariants.{Nothing, Byte, Closed}
-use Rattle.roff_scan.specs.Unread.{Asked, asks_to_take, asks_to_look, looking, looking_past, taking, taking_answer}
-use Rattle.roff_ahead.specs.Shown.{Shown, ShowsEnding, Sighted, SeesByte, SeesNothing, SeesEnding, shown_ahead, seen_ahead}
+use Rattle.roff_ahead.specs.Looking.{answer_behind, is_closed, is_nothing, looked_then}
+use Rattle.roff_ahead.specs.declared.looked.Looked.{Looked}
+use Rattle.roff_ahead.specs.declared.looked.Looked.TheVariants.{Nothing, Byte, Closed}
+use Rattle.roff_ahead.specs.Unread.{Asked, asks_to_take, asks_to_look, looking, looking_past, taking, taking_answer}
+use Rattle.roff_ahead.specs.Input.Few.{AreFew, AreFewFrom}
+use Rattle.roff_ahead.proofs.FewEvents.{few-more}
+use Rattle.roff_engine.specs.Running.Room.{FewFor, SeesOn}
+use Rattle.roff_engine.proofs.EventsLeft.{most-length}
+use Rattle.roff_engine.proofs.Fronts.{few-nothing, few-sees}
+use Rattle.roff_ahead.specs.Shown.{Shown, ShowsByte, ShowsDo, ShowsEnding, ShowsRefusal, Sighted, SeesByte, SeesNothing, SeesEnding, shown_ahead, seen_ahead}
 use Rattle.roff_engine.specs.Engine.Outcome.{IsLeftOf}
 use Rattle.roff_run.specs.Reading.Items.{PageInput}
 use Rattle.roff_run.specs.Reading.Items.{PageUnread}
 use Rattle.roff_run.specs.Registers.{AllRegisters}
 use Rattle.roff_run.specs.PageEvents.{PageEvent}
+use Rattle.roff_run.specs.declared.line_state.LineState.{LineState}
 use Rattle.roff_run.specs.Run.Counts.{counts_in, first_passed}
 use Rattle.roff_run.specs.TurnsToCome.{turns_to_come, turns_within}
 use Rattle.roff_run.proofs.InFront.{Given, WasAsked, WasNot, Given-asked, Looks-looking, items_asked, limits-taking}
@@ -83,6 +89,41 @@ turns-taking [] a i looked v = turns-answer (answer_behind looked a) (record v {
 turns-taking (item ∷ items) a i looked v =
     let u : PageUnread = record v { input = record i { ahead = item ∷ items }; looked = looked } in
     one_of (NoMoreTurns u) (nat_lt v.limits.bytes (i.charge + cost item)) _ _ (omega arith) (turns-item item items v.limits.bytes u.input)
+
+-- So few events stand in front behind what a call showed that took an item: none before the next end behind a byte. Behind another
+-- item there is room where a condition that decided is next, if something else was seen in front than an event.
+abbrev pub FewBehind : PageInput → LineState → Shown PageEvent → PageInput → Type 0
+FewBehind was reading (ShowsByte b) i = AreFewFrom 0 i.ahead
+FewBehind was reading (ShowsDo event) i = SeesOn was → FewFor (event ∷ []) reading i.escapes i.ahead
+FewBehind was reading (ShowsRefusal limit) i = Unit {0}
+FewBehind was reading (_) i = SeesOn was → FewFor [] reading i.escapes i.ahead
+
+few-answer : (a : Answer) (was : PageInput) (reading : LineState) (u : PageUnread) → u.input.ahead ≡ []
+    → FewBehind was reading (taking_answer a u).0 (taking_answer a u).1.input
+few-answer (Gives (OneByte b)) was reading u none =
+    one_of (λ (call : Shown PageEvent × PageUnread). FewBehind was reading call.0 call.1.input) (nat_lt u.limits.bytes (u.input.charge + 1)) _ _ tt
+    (subst (λ (items : List (Ahead PageEvent)). AreFewFrom 0 items) (sym none) tt)
+few-answer (Gives (OneNote message)) was reading u none = λ sees. few-nothing reading u.input none
+few-answer (Ends ending) was reading u none = λ sees. few-nothing reading u.input none
+
+few-item : (item : Ahead PageEvent) (items : List (Ahead PageEvent)) (i : PageInput) (reading : LineState) → AreFew (item ∷ items)
+    → FewBehind (record i { ahead = item ∷ items }) reading (shown_ahead item) (item_taken item items i)
+few-item (ByteAhead b) items i reading few = few
+few-item (FreeAhead b) items i reading few = few
+few-item EndAhead items i reading few = λ sees. few-sees reading (record i { ahead = items }) few sees
+few-item (ReturnAhead back) items i reading few = λ sees. few-sees reading (record i { ahead = items }) few sees
+few-item (DoAhead event) items i reading few = λ sees. record {
+  few = few-more 4 _ items (omega (arith, most-length (event ∷ []))) few.1;
+  decided = λ keeps is next. absurd (sees next refl);
+}
+
+pub few-taking : (ahead : List (Ahead PageEvent)) (a : Answer) (i : PageInput) (reading : LineState) (looked : Looked) (v : PageUnread)
+    → let u : PageUnread = record v { input = record i { ahead = ahead }; looked = looked } in AreFew ahead → FewBehind u.input reading (taking a u).0 (taking a u).1.input
+few-taking [] a i reading looked v few =
+    let u : PageUnread = record v { input = record i { ahead = [] }; looked = looked } in few-answer (answer_behind looked a) u.input reading u refl
+few-taking (item ∷ items) a i reading looked v few =
+    let was : PageInput = record i { ahead = item ∷ items } in
+    one_of (λ (call : Shown PageEvent × PageUnread). FewBehind was reading call.0 call.1.input) (nat_lt v.limits.bytes (i.charge + cost item)) _ _ tt (few-item item items i reading few)
 
 -- the call that takes the item in front
 pub Leaves-takes : (gave gives : Tape → Type 0) (u : PageUnread) (a : Answer) → Asked gave gives (asks_to_take u) a
@@ -172,6 +213,19 @@ ends-taking [] a i (Closed kept) v = λ ending is. record { looked = ends-closed
 ends-taking (item ∷ items) a i looked v =
     let u : PageUnread = record v { input = record i { ahead = item ∷ items }; looked = looked } in
     one_of (TakesEnding u _) (nat_lt v.limits.bytes (i.charge + cost item)) _ _ (λ ending is. absurd (cc)) (λ ending is. absurd (no_ending_ahead item ending is))
+
+-- and nothing stands ahead of its end
+none-answer : (a : Answer) (u : PageUnread) → u.input.ahead ≡ [] → (taking_answer a u).1.input.ahead ≡ []
+none-answer (Gives (OneByte b)) u none = one_of (λ (call : Shown PageEvent × PageUnread). call.1.input.ahead ≡ []) (nat_lt u.limits.bytes (u.input.charge + 1)) _ _ none none
+none-answer (Gives (OneNote message)) u none = none
+none-answer (Ends ending) u none = none
+
+pub none-taking : (ahead : List (Ahead PageEvent)) (a : Answer) (i : PageInput) (looked : Looked) (v : PageUnread) (ending : Ending)
+    → let u : PageUnread = record v { input = record i { ahead = ahead }; looked = looked } in (taking a u).0 ≡ ShowsEnding ending → (taking a u).1.input.ahead ≡ []
+none-taking [] a i looked v ending is = none-answer (answer_behind looked a) (record v { input = record i { ahead = [] }; looked = looked }) refl
+none-taking (item ∷ items) a i looked v ending is =
+    one_of (λ (call : Shown PageEvent × PageUnread). call.0 ≡ ShowsEnding ending → call.1.input.ahead ≡ []) (nat_lt v.limits.bytes (i.charge + cost item)) _ _
+    (λ is. absurd (cc)) (λ is. absurd (no_ending_ahead item ending is)) is
 
 -- the source's items end behind the call that takes the item in front
 pub EndsThere-takes : (u : PageUnread) (a : Answer) (ending : Ending) → (taking a u).0 ≡ ShowsEnding ending → EndsThere ending u (taking a u).1 (items_asked (asks_to_take u) a)

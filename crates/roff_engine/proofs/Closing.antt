@@ -3,8 +3,7 @@ use Rattle.std.proofs.Common.{◌≡◌, [], ◌++◌, List, Option, None, Resul
 use Rattle.roff_num.specs.declared.limit.Limit.{Limit}
 use Rattle.roff_engine.specs.declared.formatter.Formatter.{Formatter}
 use Rattle.roff_engine.specs.declared.halt.Halt.{Halt}
-use Rattle.roff_engine.specs.Formatter.Performing.{DoesTaking, PerformsAll, Sinks, TakingDone, going, sinks}
-use Rattle.roff_engine.specs.Engine.Outcome.{seen}
+use Rattle.roff_engine.specs.Formatter.Performing.{DoesTaking, PerformsAll, Sinks, going, sinks}
 use Rattle.roff_engine.specs.declared.sprung.Sprung.{Sprung}
 use Rattle.roff_engine.proofs.EventsTaken.{OnOk-fact, TakingDone-came}
 use Rattle.roff_sinks.specs.Sinks.{Sunk}
@@ -37,8 +36,8 @@ reads_on_taking j next old reader before behind told m takes = record {
           faults = reached.faults;
         };
         stands = stood;
+        lines = omega arith;
         few = omega arith;
-        last = λ counts. refl;
       };
 }
 
@@ -51,24 +50,22 @@ closing_taking old new reader u out_old out_new err r kept is performed =
     let mid : Formatter = record old { reader = reader } in
     let performs : PerformsAll closing_events mid new out_old out_new r =
     subst (λ (events : List PageEvent). PerformsAll events mid new out_old out_new r) kept performed in
-    let behind : new.reader ≡ record old.reader { reading = LineStart; meaning = reader.meaning } = performs.reader ∙ is in record {
+    record {
       became = λ l h stood ready. OnOk-fact r _ (record {
         input = refl;
-        reading = ap (λ (s : ReaderState). s.reading) behind;
-        registers = ap (λ (s : ReaderState). s.registers) behind;
+        reading = performs.reader.reading ∙ ap (λ (s : ReaderState). s.reading) is;
+        registers = performs.reader.registers ∙ ap (λ (s : ReaderState). s.registers) is;
         within = ready.within;
       });
       does = λ t0 start failures from tape h messages phase closed rest stood ready reached opens.
           let s : State =
           taken_as (meaning_events u.input LineStart closing_events) (going tape u.input old.reader.reading old.reader.registers.all h messages phase closed rest) in
           let goes : step u.limits from ≡ s = opens.opens ∙ ap (λ (r : Option Limit). unless_refused u.limits r from s) ready.within in
-          let same : reader.meaning.events ≡ new.reader.meaning.events = ap (λ (s : ReaderState). s.meaning.events) (sym performs.reader) in
-          subst (λ (events : List PageEvent). TakingDone u.limits t0 start (seen failures out_new err) from s closing_events h events rest r new.composer) same
-          (TakingDone-came u.limits t0 start _ from s closing_events h reader.meaning.events rest r new.composer
+          TakingDone-came u.limits t0 start _ from s closing_events h new.reader.meaning.events rest r new.composer
           (performs.all u.limits t0 start failures err s h rest stood (sym (ap (λ (s : ReaderState). s.registers.all) is)) (record {
             comes = Leads-to u.limits (initial u.limits t0.start t0.tape) from s reached.comes goes;
             text = rw (← opens.wrote) reached.text;
             messages = rw (append-nil (messages ++ []), append-nil messages, ← opens.said) reached.messages;
             faults = reached.faults;
-          })));
+          }));
     }

@@ -7,11 +7,10 @@ use Rattle.roff_engine.specs.declared.formatter.Formatter.{Formatter}
 use Rattle.roff_engine.specs.declared.halt.Halt.{Halt}
 use Rattle.roff_engine.specs.declared.halt.Halt.TheVariants.{Limit as Limited, Refused, Over, Output, Messages}
 use Rattle.roff_engine.specs.Engine.Outcome.{Beginning, Reaches, Seen, seen}
-use Rattle.roff_engine.specs.Formatter.Performing.{TakingDone, MeaningDone, DoesMeaning, DoesTaking, Means, Opens, RefusedAt, Sinks, acting, going}
+use Rattle.roff_engine.specs.Formatter.Performing.{TakingDone, KeepsReading, MeaningDone, DoesMeaning, DoesTaking, Means, Opens, RefusedAt, Sinks, acting, going}
 use Rattle.roff_requests.specs.Composer.Standing.{StandFor}
 use Rattle.roff_requests.specs.declared.composer.Composer.{Composer as ComposerOf}
 use Rattle.roff_run.specs.Output.{PageHistory}
-use Rattle.roff_reader.specs.Reader.State.{ReaderState}
 use Rattle.roff_reader.specs.Reader.Taken.{CameTo, IsReady, TakesAs}
 use Rattle.roff_engine.specs.declared.sprung.Sprung.{Sprung}
 use Rattle.roff_run.specs.Reading.Items.{PageUnread}
@@ -82,10 +81,12 @@ refused_taking t more old new before behind told limit takes = record {
 module _ (t : Known → Taking) (old mid : Formatter) (before behind : PageUnread) (m : Step) (takes : TakesAs t old.composer old.reader mid.reader before behind (Ok m)) (same : mid.composer ≡ old.composer)
     (line : ℕ) (is_line : line ≡ behind.input.line) where
   -- where something was done of that, it became what it becomes
-  became_taken : (new : Formatter) (r : Result (Option Sprung) Halt) → new.reader ≡ mid.reader
+  became_taken : (new : Formatter) (r : Result (Option Sprung) Halt) → KeepsReading mid new
       → (l : Limits) (h : PageHistory) → StandFor l h old.composer → IsReady old.reader.registers before
       → OnOk r (CameTo (t (known_at h old.reader.registers.all before.input)) old.reader.registers new.reader before behind)
-  became_taken new r kept l h stood ready = on_ok r (rw kept (takes.takes l h stood ready).became)
+  became_taken new r kept l h stood ready =
+      let became = (takes.takes l h stood ready).became in
+      on_ok r (record { input = became.input; reading = kept.reading ∙ became.reading; registers = kept.registers ∙ became.registers; within = became.within })
 
   -- what it means was done, as far as it was done
   done_taken : (new : Formatter) (told_old told_new : Sinks) (r : Result (Option Sprung) Halt) → DoesMeaning line (messages_of mid.reader.meaning.message m) (events_of mid.reader.meaning.events m) mid new told_old told_new r
@@ -93,12 +94,12 @@ module _ (t : Known → Taking) (old mid : Formatter) (before behind : PageUnrea
       → StandFor before.limits h old.composer → IsReady old.reader.registers before
       → Reaches before.limits t0 start (seen failures told_old.out told_old.err) from
       → let state : State = taken_as (t (known_at h old.reader.registers.all before.input)) (going tape before.input old.reader.reading old.reader.registers.all h messages phase is_closed to_do) in
-      Opens before.limits from state h messages → MeaningDone before.limits t0 start (seen failures told_new.out told_new.err) from state (t (known_at h old.reader.registers.all before.input)).effect.events h mid.reader.meaning.events to_do r new.composer
+      Opens before.limits from state h messages → MeaningDone before.limits t0 start (seen failures told_new.out told_new.err) from state (t (known_at h old.reader.registers.all before.input)).effect.events h new.reader.meaning.events to_do r new.composer
   done_taken new told_old told_new r done t0 start failures from tape h messages phase is_closed to_do stood ready reached opens =
       let k = known_at h old.reader.registers.all before.input in
       let took = takes.takes before.limits h stood ready in
       let state : State = taken_as (t k) (going tape before.input old.reader.reading old.reader.registers.all h messages phase is_closed to_do) in
-      subst (λ (es : List PageEvent). MeaningDone before.limits t0 start (seen failures told_new.out told_new.err) from state es h mid.reader.meaning.events to_do r new.composer) took.events
+      subst (λ (es : List PageEvent). MeaningDone before.limits t0 start (seen failures told_new.out told_new.err) from state es h new.reader.meaning.events to_do r new.composer) took.events
       (done.does before.limits t0 start failures from _ h to_do (subst (λ (es : ComposerOf). StandFor before.limits h es) (sym same) stood)
       (sym (ap (λ (r : Capped). r.all) took.became.registers)) reached
       (means_taken before.limits from tape before.input old.reader.reading old.reader.registers.all h messages phase is_closed to_do (t k) opens
@@ -112,10 +113,8 @@ module _ (t : Known → Taking) (old mid : Formatter) (before behind : PageUnrea
     does = λ t0 start failures from tape h messages phase is_closed rest stood ready reached opens.
         let k = known_at h old.reader.registers.all before.input in
         let state : State = taken_as (t k) (going tape before.input old.reader.reading old.reader.registers.all h messages phase is_closed rest) in
-        let kept : mid.reader.meaning.events ≡ new.reader.meaning.events = ap (λ (reader : ReaderState). reader.meaning.events) (sym done.reader) in
         subst (λ (es : List PageEvent). TakingDone before.limits t0 start (seen failures told_new.out told_new.err) from state es h new.reader.meaning.events rest r new.composer)
         (sym (append-nil (t k).effect.events))
-        (subst (λ (kept : List PageEvent). TakingDone before.limits t0 start (seen failures told_new.out told_new.err) from state (t k).effect.events h kept rest r new.composer) kept
-        (did_does before.limits t0 start _ from _ (t k).effect.events h mid.reader.meaning.events rest r new.composer
-        (done_taken new told_old told_new r done t0 start failures from tape h messages phase is_closed rest stood ready reached opens)));
+        (did_does before.limits t0 start _ from _ (t k).effect.events h new.reader.meaning.events rest r new.composer
+        (done_taken new told_old told_new r done t0 start failures from tape h messages phase is_closed rest stood ready reached opens));
   }

@@ -1,15 +1,20 @@
 -- What is due before anything more is taken: a message is told, or ends the run, or the input is left.
-use Rattle.std.proofs.Common.{◌≡◌, ◌≤◌, ℕ, Bool, true, false, List, [], ◌++◌, Option, Some, None, Ok, Err, inl, inr, refl, sym, ap, ◌∙◌, arith, append-nil}
+use Rattle.std.proofs.Common.{◌≡◌, ◌≤◌, ◌-◌, ◌==◌, if◌then◌else◌, ℕ, Bool, true, false, List, [], ◌++◌, Option, Some, None, Ok, Err, inl, inr, refl, sym, subst, ap, ◌∙◌, arith, append-nil}
 use Rattle.roff_num.specs.declared.limit.Limit.{Limit}
 use Rattle.roff_arguments.specs.Arguments.{no_arguments}
-use Rattle.roff_ahead.specs.Input.{leaving}
+use Rattle.roff_ahead.specs.Input.{leaving, outermost_back}
+use Rattle.roff_run.specs.Reading.Returns.{gone_back_to, line_of}
+use Rattle.roff_run.specs.TurnsToCome.{begun}
+use Rattle.roff_run.specs.declared.phase.Phase.{Phase}
+use Rattle.roff_run.specs.declared.phase.Phase.TheVariants.{Reading, LastMacro, Closing}
+use Rattle.roff_engine.specs.Running.Leaving.{LeavesIn, LeavesInput as LeavesInputIn}
 use Rattle.roff_source.specs.Tape.{Tape}
 use Rattle.roff_run.specs.Messages.{told_line}
 use Rattle.roff_run.specs.Output.{PageHistory}
 use Rattle.roff_run.specs.Reading.Items.{PageUnread}
 use Rattle.roff_run.specs.Reading.Ends.{due}
 use Rattle.roff_run.specs.Reading.Messages.{message_text_read}
-use Rattle.roff_run.specs.Run.{State, aborted, initial, input_left, message_told, reading_by, reported, step, unless_refused}
+use Rattle.roff_run.specs.Run.{State, aborted, initial, input_left, left_in, made, message_told, reading_by, reported, step, unless_refused}
 use Rattle.roff_run.specs.Run.Counts.{counts_in, first_passed}
 use Rattle.roff_run.specs.declared.line_state.Due.{Due}
 use Rattle.roff_run.specs.declared.line_state.Due.TheVariants.{Leaves as LeavesInput, Tells}
@@ -21,13 +26,14 @@ use Rattle.roff_engine.specs.declared.running.Running.{Running as Coded}
 use Rattle.roff_engine.specs.Engine.Outcome.{Beginning, Seen, IsLeftOf, IsRest, MessagesFail, seen}
 use Rattle.roff_engine.specs.Running.Turning.{IsAt, DoesDue, line_turns, lines_left_in, state_at}
 use Rattle.roff_sinks.specs.Sinks.{Sunk, Writes, Fails}
+use Rattle.roff_engine.proofs.Fronts.{few-nothing, few-over}
 use Rattle.roff_engine.proofs.Acting.{IsLeftOf-looked_then}
 use Rattle.roff_engine.proofs.Calls.{Leaves}
 use Rattle.roff_engine.proofs.Items.{lost, one_more}
 use Rattle.roff_engine.proofs.TurnsLeft.{lines_left_in-few}
-use Rattle.roff_scan.specs.Looking.{closing, is_closed, looked_then}
-use Rattle.roff_scan.specs.declared.looked.Looked.{Looked}
-use Rattle.roff_scan.specs.declared.looked.Looked.TheVariants.{Nothing, Byte, Closed}
+use Rattle.roff_ahead.specs.Looking.{closing, is_closed, looked_then}
+use Rattle.roff_ahead.specs.declared.looked.Looked.{Looked}
+use Rattle.roff_ahead.specs.declared.looked.Looked.TheVariants.{Nothing, Byte, Closed}
 use Rattle.roff_engine.specs.Formatter.Performing.{going}
 use Rattle.roff_run.proofs.Leads.{Leads-to}
 
@@ -189,6 +195,7 @@ told_due old failures out err told is writes = record {
         stands = at.stands;
         ready = record { cap = at.ready.cap; line = at.ready.line; within = released_within old at.ready.within };
         limits = at.limits;
+        few = few-over [] LineStart old.unread.input.escapes old.unread.input.ahead at.few.few tt;
       };
   none_due = refl;
   turns = (let line = due-line old.formatter.reader.reading (Tells false) (lines_left_in old.formatter.composer) is in
@@ -207,30 +214,46 @@ closed-closing Nothing = refl
 closed-closing (Byte b) = refl
 closed-closing (Closed kept) = refl
 
+-- what all ends of bodies lead back to is no reading that takes a turn, and nothing is due then
+abbrev IsResting : LineState → Type 0
+IsResting reading = (begun reading ≡ 0) × ((left : ℕ) → left ≤ 1 → line_turns reading left ≤ 2) × (due reading ≡ None)
+
+resting-back : (back : ℕ) → IsResting (gone_back_to back)
+resting-back back = by (back == 0) (back == 1) (back == 2)
+  where
+    by : (start branch braced : Bool) → IsResting (if start then LineStart else if branch then Branch else if braced then Braced else InText (line_of (back - 3)))
+    by true branch braced = (refl, (λ left few. omega (arith, few)), refl)
+    by false true braced = (refl, (λ left few. omega arith), refl)
+    by false false true = (refl, (λ left few. omega (arith, few)), refl)
+    by false false false = (refl, (λ left few. omega arith), refl)
+
 -- the code behind the end of all input
 abbrev pub behind_left : Coded → Coded
 behind_left old = record old {
-  formatter = record old.formatter { reader = record old.formatter.reader { reading = LineStart } };
+  formatter = record old.formatter { reader = record old.formatter.reader { reading = gone_back_to (outermost_back 0 old.unread.input.ahead) } };
   unread = record old.unread { input = leaving old.unread.input; looked = closing old.unread.looked };
 }
 
--- the input is left: the run goes on at a line's beginning, with a closed source
-pub left_due : (old : Coded) (now : Seen) → due old.formatter.reader.reading ≡ Some LeavesInput → DoesDue old (behind_left old) now now (Ok tt)
-left_due old now is = record {
+-- the input is left: the run goes on in what its ends lead back to, with a closed source
+left_due : (old : Coded) (now : Seen) → due old.formatter.reader.reading ≡ Some LeavesInput → ((s : State) → left_in old.phase s ≡ input_left s)
+    → DoesDue old (behind_left old) now now (Ok tt)
+left_due old now is leaves = record {
   limits = refl;
   idle = λ none. (let wrong : None ≡ Some LeavesInput = sym none ∙ is in absurd (cc));
   does_due = λ t tape start at.
       let from : State = state_at tape old at.history at.messages in
       let there : State = state_at tape (behind_left old) at.history at.messages in
+      let back : LineState = gone_back_to (outermost_back 0 old.unread.input.ahead) in
       let within : first_passed old.unread.limits (counts_in old.formatter.reader.registers.all (leaving old.unread.input)) ≡ None =
       first_passed-no_more old.unread.limits old.formatter.reader.registers.all (leaving old.unread.input) old.unread.input (NoMore-leaving old.unread.input) at.ready.within in
       let allowed : first_passed old.limits (counts_in old.formatter.reader.registers.all (leaving old.unread.input)) ≡ None = rw (← at.limits) within in
-      let at_tape : Tape → Bool → State = λ t closed. going t (leaving old.unread.input) LineStart old.formatter.reader.registers.all at.history at.messages old.phase closed [] in
+      let at_tape : Tape → Bool → State = λ t closed. going t (leaving old.unread.input) back old.formatter.reader.registers.all at.history at.messages old.phase closed [] in
       let same : input_left from ≡ there =
       ap (λ (t : Tape). at_tape t true) (sym (looked-closing old.unread.looked tape))
       ∙ ap (λ (closed : Bool). at_tape (looked_then (closing old.unread.looked) tape) closed) (sym (closed-closing old.unread.looked)) in
       let goes : step old.limits from ≡ there =
       ap (λ (what : Option Due). reading_by old.limits what from) is
+      ∙ ap (λ (s : State). made old.limits from s) (leaves from)
       ∙ ap (λ (r : Option Limit). unless_refused old.limits r from (input_left from)) allowed ∙ same in
       record {
         history = at.history;
@@ -244,9 +267,55 @@ left_due old now is = record {
         stands = at.stands;
         ready = record { cap = at.ready.cap; line = at.ready.line; within = within };
         limits = at.limits;
+        few = few-nothing back (leaving old.unread.input) refl;
+      };
+  none_due = (resting-back (outermost_back 0 old.unread.input.ahead)).2;
+  turns = (let line = due-line old.formatter.reader.reading LeavesInput (lines_left_in old.formatter.composer) is in
+      let resting = resting-back (outermost_back 0 old.unread.input.ahead) in
+      let few = resting.1 (lines_left_in old.formatter.composer) (lines_left_in-few old.formatter.composer) in
+      omega (arith, line, resting.0, few));
+}
+
+-- as the run closes nothing is left: a line begins
+closing_due : (old : Coded) (now : Seen) → due old.formatter.reader.reading ≡ Some LeavesInput → old.phase ≡ Closing
+    → let behind : Coded = record old { formatter = record old.formatter { reader = record old.formatter.reader { reading = LineStart } } } in
+    DoesDue old behind now now (Ok tt)
+closing_due old now is closes = record {
+  limits = refl;
+  idle = λ none. (let wrong : None ≡ Some LeavesInput = sym none ∙ is in absurd (cc));
+  does_due = λ t tape start at.
+      let from : State = state_at tape old at.history at.messages in
+      let there : State = record from { reading = LineStart } in
+      let allowed : first_passed old.limits (counts_in old.formatter.reader.registers.all old.unread.input) ≡ None = rw (← at.limits) at.ready.within in
+      let goes : step old.limits from ≡ there =
+      ap (λ (what : Option Due). reading_by old.limits what from) is
+      ∙ ap (λ (p : Phase). made old.limits from (left_in p from)) closes
+      ∙ ap (λ (r : Option Limit). unless_refused old.limits r from there) allowed in
+      record {
+        history = at.history;
+        messages = at.messages;
+        reaches = record {
+          comes = Leads-to old.limits (initial old.limits t.start t.tape) from there at.reaches.comes goes;
+          text = at.reaches.text;
+          messages = at.reaches.messages;
+          faults = at.reaches.faults;
+        };
+        stands = at.stands;
+        ready = at.ready;
+        limits = at.limits;
+        few = few-over [] LineStart old.unread.input.escapes old.unread.input.ahead at.few.few tt;
       };
   none_due = refl;
   turns = (let line = due-line old.formatter.reader.reading LeavesInput (lines_left_in old.formatter.composer) is in
       let few = lines_left_in-few old.formatter.composer in
       omega (arith, line, few));
 }
+
+-- either, by the phase
+pub leaves_due : (old new : Coded) (now : Seen) → due old.formatter.reader.reading ≡ Some LeavesInput → LeavesInputIn old new → DoesDue old new now now (Ok tt)
+leaves_due old new now is leaves = by old.phase refl leaves
+  where
+    by : (phase : Phase) → old.phase ≡ phase → LeavesIn phase old new → DoesDue old new now now (Ok tt)
+    by Reading in_phase leaves = subst (λ (run : Coded). DoesDue old run now now (Ok tt)) (sym leaves) (left_due old now is (λ s. ap (λ (p : Phase). left_in p s) in_phase))
+    by LastMacro in_phase leaves = subst (λ (run : Coded). DoesDue old run now now (Ok tt)) (sym leaves) (left_due old now is (λ s. ap (λ (p : Phase). left_in p s) in_phase))
+    by Closing in_phase leaves = subst (λ (run : Coded). DoesDue old run now now (Ok tt)) (sym leaves) (closing_due old now is in_phase)

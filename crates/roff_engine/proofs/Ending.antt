@@ -6,9 +6,9 @@ use Rattle.roff_num.specs.declared.limit.Limit.{Limit}
 use Rattle.roff_num.specs.declared.limits.Limits.{Limits}
 use Rattle.roff_escape.specs.OpenEscapes.{reading_ended}
 use Rattle.roff_source.specs.Tape.{Tape, behind_front}
-use Rattle.roff_scan.specs.Looking.{is_closed, looked_then}
-use Rattle.roff_scan.specs.declared.looked.Looked.{Looked}
-use Rattle.roff_scan.specs.declared.looked.Looked.TheVariants.{Nothing}
+use Rattle.roff_ahead.specs.Looking.{is_closed, looked_then}
+use Rattle.roff_ahead.specs.declared.looked.Looked.{Looked}
+use Rattle.roff_ahead.specs.declared.looked.Looked.TheVariants.{Nothing}
 use Rattle.roff_escape.specs.OpenEscape.{OpenEscape}
 use Rattle.roff_escape.specs.declared.open_escape.Surroundings.TheVariants.{Arguments as AboveArguments, Copy as AboveCopy, Text as AboveText}
 use Rattle.roff_engine.specs.declared.running.Running.{Running as Coded}
@@ -27,48 +27,66 @@ use Rattle.roff_run.specs.declared.line_state.LineState.{LineState}
 use Rattle.roff_run.specs.declared.line_state.LineState.TheVariants.{LineStart, Branch, Braced, Text as InText, Control, Name, Arguments as InArguments, Deciding, StringName, StringText, Skipping, Dropped, Telling, Told, Exiting, Calling, Defining, TitleFront, Title as InTitle}
 use Rattle.roff_run.specs.declared.phase.Phase.TheVariants.{Closing}
 use Rattle.roff_run.specs.declared.status.Status.TheVariants.{Done}
+use Rattle.roff_ahead.specs.Input.{Ahead}
+use Rattle.roff_ahead.specs.Input.Few.{AreFewFrom}
+use Rattle.roff_run.specs.PageEvents.{PageEvent}
 use Rattle.roff_run.proofs.Keeping.{Keeps-escape_ended}
+use Rattle.roff_run.proofs.KeepingText.{StaysFew}
 use Rattle.roff_run.proofs.Leads.{Leads-to}
 use Rattle.roff_engine.proofs.Acting.{IsLeftOf-looked_then}
 
--- the line stays where a half read item ends with nothing half read
-line-nothing_ended : (k : Known) (reading : LineState) (i : PageInput) → i.escapes ≡ []
-    → (escape_ended k reading i).input.line ≡ i.line
-line-nothing_ended k LineStart i none = subst (λ (half : List OpenEscape). (read_in k LineStart i (reading_ended (at_start k) half)).input.line ≡ i.line) (sym none) refl
-line-nothing_ended k Branch i none = subst (λ (half : List OpenEscape). (read_in k Branch i (reading_ended (at_start k) half)).input.line ≡ i.line) (sym none) refl
-line-nothing_ended k Braced i none = subst (λ (half : List OpenEscape). (read_in k Braced i (reading_ended (at_start k) half)).input.line ≡ i.line) (sym none) refl
-line-nothing_ended k (InText line) i none = subst (λ (half : List OpenEscape). (read_in k (InText line) i (reading_ended (on_line k line) half)).input.line ≡ i.line) (sym none) refl
-line-nothing_ended k (Control breaks) i none = refl
-line-nothing_ended k (Name breaks byte) i none = refl
-line-nothing_ended k (InArguments breaks request) i none =
-    subst (λ (half : List OpenEscape). (read_in k (InArguments breaks request) i (reading_ended AboveArguments half)).input.line ≡ i.line) (sym none) refl
-line-nothing_ended k (Deciding keeping) i none =
-    subst (λ (half : List OpenEscape). (read_in k (Deciding keeping) i (reading_ended AboveArguments half)).input.line ≡ i.line) (sym none) refl
-line-nothing_ended k (StringName appends) i none =
-    subst (λ (half : List OpenEscape). (read_in k (StringName appends) i (reading_ended AboveArguments half)).input.line ≡ i.line) (sym none) refl
-line-nothing_ended k (Calling name) i none =
-    subst (λ (half : List OpenEscape). (read_in k (Calling name) i (reading_ended AboveArguments half)).input.line ≡ i.line) (sym none) refl
-line-nothing_ended k (StringText name appends is_front) i none =
-    subst (λ (half : List OpenEscape). (read_in k (StringText name appends is_front) i (reading_ended AboveCopy half)).input.line ≡ i.line) (sym none) refl
-line-nothing_ended k (Defining name appends end matched) i none =
-    subst (λ (half : List OpenEscape). (read_in k (Defining name appends end matched) i (reading_ended AboveCopy half)).input.line ≡ i.line) (sym none) refl
-line-nothing_ended k (Telling aborts is_front) i none =
-    subst (λ (half : List OpenEscape). (read_in k (Telling aborts is_front) i (reading_ended AboveCopy half)).input.line ≡ i.line) (sym none) refl
-line-nothing_ended k (Told aborts) i none = refl
-line-nothing_ended k Exiting i none = refl
-line-nothing_ended k (Skipping opened closed behind) i none = refl
-line-nothing_ended k Dropped i none = refl
-line-nothing_ended k TitleFront i none =
-    subst (λ (half : List OpenEscape). (read_in k TitleFront i (reading_ended AboveArguments half)).input.line ≡ i.line) (sym none) refl
-line-nothing_ended k (InTitle delimiter) i none =
-    subst (λ (half : List OpenEscape). (read_in k (InTitle delimiter) i (reading_ended (AboveText (pos 0)) half)).input.line ≡ i.line) (sym none) refl
+-- the line and what stands ahead stay
+abbrev Unmoved : PageInput → PageInput → Type 0
+Unmoved i j = (j.line ≡ i.line) × (j.ahead ≡ i.ahead)
+
+-- so they do where a half read item ends with nothing half read
+nothing_ended : (k : Known) (reading : LineState) (i : PageInput) → i.escapes ≡ []
+    → Unmoved i (escape_ended k reading i).input
+nothing_ended k LineStart i none = subst (λ (half : List OpenEscape). Unmoved i (read_in k LineStart i (reading_ended (at_start k) half)).input) (sym none) (refl, refl)
+nothing_ended k Branch i none = subst (λ (half : List OpenEscape). Unmoved i (read_in k Branch i (reading_ended (at_start k) half)).input) (sym none) (refl, refl)
+nothing_ended k Braced i none = subst (λ (half : List OpenEscape). Unmoved i (read_in k Braced i (reading_ended (at_start k) half)).input) (sym none) (refl, refl)
+nothing_ended k (InText line) i none = subst (λ (half : List OpenEscape). Unmoved i (read_in k (InText line) i (reading_ended (on_line k line) half)).input) (sym none) (refl, refl)
+nothing_ended k (Control breaks) i none = (refl, refl)
+nothing_ended k (Name breaks byte) i none = (refl, refl)
+nothing_ended k (InArguments breaks request) i none =
+    subst (λ (half : List OpenEscape). Unmoved i (read_in k (InArguments breaks request) i (reading_ended AboveArguments half)).input) (sym none) (refl, refl)
+nothing_ended k (Deciding keeping) i none =
+    subst (λ (half : List OpenEscape). Unmoved i (read_in k (Deciding keeping) i (reading_ended AboveArguments half)).input) (sym none) (refl, refl)
+nothing_ended k (StringName appends) i none =
+    subst (λ (half : List OpenEscape). Unmoved i (read_in k (StringName appends) i (reading_ended AboveArguments half)).input) (sym none) (refl, refl)
+nothing_ended k (Calling name) i none =
+    subst (λ (half : List OpenEscape). Unmoved i (read_in k (Calling name) i (reading_ended AboveArguments half)).input) (sym none) (refl, refl)
+nothing_ended k (StringText name appends is_front) i none =
+    subst (λ (half : List OpenEscape). Unmoved i (read_in k (StringText name appends is_front) i (reading_ended AboveCopy half)).input) (sym none) (refl, refl)
+nothing_ended k (Defining name appends end matched) i none =
+    subst (λ (half : List OpenEscape). Unmoved i (read_in k (Defining name appends end matched) i (reading_ended AboveCopy half)).input) (sym none) (refl, refl)
+nothing_ended k (Telling aborts is_front) i none =
+    subst (λ (half : List OpenEscape). Unmoved i (read_in k (Telling aborts is_front) i (reading_ended AboveCopy half)).input) (sym none) (refl, refl)
+nothing_ended k (Told aborts) i none = (refl, refl)
+nothing_ended k Exiting i none = (refl, refl)
+nothing_ended k (Skipping opened closed behind) i none = (refl, refl)
+nothing_ended k Dropped i none = (refl, refl)
+nothing_ended k TitleFront i none =
+    subst (λ (half : List OpenEscape). Unmoved i (read_in k TitleFront i (reading_ended AboveArguments half)).input) (sym none) (refl, refl)
+nothing_ended k (InTitle delimiter) i none =
+    subst (λ (half : List OpenEscape). Unmoved i (read_in k (InTitle delimiter) i (reading_ended (AboveText (pos 0)) half)).input) (sym none) (refl, refl)
 
 -- the line stays where what is half read ends
 pub line-escape_ended : (k : Known) (reading : LineState) (i : PageInput) → (escape_ended k reading i).input.line ≡ i.line
 line-escape_ended k reading i =
     let by : (half : List OpenEscape) → i.escapes ≡ half → (escape_ended k reading i).input.line ≡ i.line = λ half. elim half as (λ h. i.escapes ≡ h → (escape_ended k reading i).input.line ≡ i.line) [
-      | [] ↦ λ is. line-nothing_ended k reading i is
+      | [] ↦ λ is. (nothing_ended k reading i is).0
       | first ∷ others ↦ λ is. (Keeps-escape_ended k reading i first others is).line
+    ] in
+    by i.escapes refl
+
+-- and as few events stand in front
+pub few-escape_ended : (k : Known) (reading : LineState) (i : PageInput) → StaysFew i.ahead (escape_ended k reading i).input.ahead
+few-escape_ended k reading i =
+    let P : List OpenEscape → Type 0 = λ half. i.escapes ≡ half → StaysFew i.ahead (escape_ended k reading i).input.ahead in
+    let by : (half : List OpenEscape) → P half = λ half. elim half as P [
+      | [] ↦ λ is. λ room most few. subst (λ (items : List (Ahead PageEvent)). AreFewFrom room items) (sym (nothing_ended k reading i is).1) few
+      | first ∷ others ↦ λ is. (Keeps-escape_ended k reading i first others is).few
     ] in
     by i.escapes refl
 

@@ -1,5 +1,5 @@
--- An event that was put back is performed as a step of the definition: as the taking of nothing, with that event to perform.
-use Rattle.std.proofs.Common.{◌≡◌, ℕ, ◌+◌, ◌-◌, List, [], ◌∷◌, ◌++◌, length, Option, None, Result, Ok, Err, OnOk, refl, subst, sym, ap, append-nil, ◌∙◌}
+-- What the code does with an event that was put back.
+use Rattle.std.proofs.Common.{◌≡◌, ℕ, ◌+◌, ◌-◌, List, [], ◌∷◌, ◌++◌, length, Option, None, Result, Ok, Err, OnOk, refl, sym, ap, append-nil, ◌∙◌}
 use Rattle.roff_num.specs.declared.limit.Limit.{Limit}
 use Rattle.roff_num.specs.declared.limit.Limit.TheVariants.{Names, Line, Stack, Depth, Store, Diversions, Conditions}
 use Rattle.roff_num.specs.declared.limits.Limits.{Limits}
@@ -9,16 +9,13 @@ use Rattle.roff_engine.specs.declared.formatter.Formatter.{Formatter}
 use Rattle.roff_engine.specs.declared.halt.Halt.{Halt}
 use Rattle.roff_engine.specs.declared.halt.Halt.TheVariants.{Limit as Limited, Refused, Over, Output, Messages}
 use Rattle.roff_engine.specs.declared.running.Running.{Running as Coded}
-use Rattle.roff_engine.specs.Engine.Outcome.{Beginning, Seen, Reaches}
-use Rattle.roff_engine.specs.Formatter.Performing.{ComesTo, TakingDone, DoesTaking, PerformedOne, PerformsOne, acting, behind_event, going, sinks}
-use Rattle.roff_engine.specs.Formatter.Sprung.{sprung_last}
+use Rattle.roff_engine.specs.Engine.Outcome.{Beginning, Seen}
+use Rattle.roff_engine.specs.Formatter.Performing.{ComesTo, TakingDone, DoesTaking, PerformsAll, going, sinks}
 use Rattle.roff_engine.specs.declared.sprung.Sprung.{Sprung}
-use Rattle.roff_num.specs.declared.short_name.ShortName.{ShortName}
 use Rattle.roff_engine.specs.Running.Turning.{state_at}
 use Rattle.roff_sinks.specs.Sinks.{Sunk}
 use Rattle.roff_requests.specs.declared.composer.Composer.{Composer as ComposerOf}
 use Rattle.roff_run.specs.Output.{PageHistory}
-use Rattle.roff_reader.specs.Reader.State.{ReaderState}
 use Rattle.roff_run.specs.Reading.Items.{PageUnread}
 use Rattle.roff_run.specs.Reading.{interrupted}
 use Rattle.roff_run.specs.Reading.Items.{PageInput, Taking, going_on}
@@ -33,8 +30,6 @@ use Rattle.roff_run.proofs.InputCounts.{pushed-settling}
 use Rattle.roff_run.proofs.Keeping.{Keeps-interrupted}
 use Rattle.roff_run.proofs.Leads.{Leads-to}
 use Rattle.roff_run.specs.TitleTexts.{title_length}
-use Rattle.roff_engine.proofs.LinesLeft.{last_left}
-use Rattle.roff_engine.proofs.Springing.{last-none, sprung-last}
 use Rattle.roff_engine.proofs.Acting.{IsTaking}
 
 -- nothing that is counted grows where no quote follows the quote before
@@ -75,27 +70,7 @@ within-interrupted l rs reading i within = ap (first_passed l) (counts_in-interr
 abbrev pub event_taking : LineState → PageInput → Known → Taking
 event_taking reading i k = going_on (interrupted reading i) reading
 
--- the answer of an event, as that of a step's
-abbrev pub last_of : Result (Option ShortName) Halt → Result (Option Sprung) Halt
-last_of (Ok name) = Ok (sprung_last name)
-last_of (Err halt) = Err halt
-
--- what is performed of it, by the answer
-pub TakingDone-performed : (l : Limits) (t : Beginning) (start now : Seen) (from done : State) (e : PageEvent) (h : PageHistory) (kept rest : List PageEvent) (r : Result (Option ShortName) Halt) (es : ComposerOf)
-    → PerformedOne l t start now done e (behind_event done.registers e h) rest r es → TakingDone l t start now from done (e ∷ []) h kept rest (last_of r) es
-TakingDone-performed l t start now from done e h kept rest (Ok name) es p = record {
-  history = behind_event done.registers e h;
-  reaches = subst (λ (there : State). Reaches l t start now there) (sprung-last name kept rest (acting done [] (behind_event done.registers e h))) p.reaches;
-  stands = p.stands;
-  few = last_left done.registers e [] h;
-  last = λ counts. last-none name kept;
-}
-TakingDone-performed l t start now from done e h kept rest (Err (Limited limit)) es p = p
-TakingDone-performed l t start now from done e h kept rest (Err Output) es p = p
-TakingDone-performed l t start now from done e h kept rest (Err Over) es p = p
-TakingDone-performed l t start now from done e h kept rest (Err Messages) es p = absurd p
-TakingDone-performed l t start now from done e h kept rest (Err (Refused limit)) es p = absurd p
-
+-- how far the code came with events is how far it did what means them
 pub TakingDone-came : (l : Limits) (t : Beginning) (start now : Seen) (from done : State) (events : List PageEvent) (h : PageHistory) (kept rest : List PageEvent) (r : Result (Option Sprung) Halt) (es : ComposerOf)
     → ComesTo l t start now done events h kept rest r es → TakingDone l t start now from done events h kept rest r es
 TakingDone-came l t start now from done events h kept rest (Ok sprung) es p = p
@@ -111,15 +86,15 @@ OnOk-fact (Ok x) P fact = fact
 OnOk-fact (Err e) P fact = tt
 
 -- what is performed of an event that was put back is done of its taking
-pub event_does : (event : PageEvent) (old new : Formatter) (before behind : PageUnread) (out_old out_new err : Sunk) (r : Result (Option ShortName) Halt)
+pub event_does : (event : PageEvent) (old new : Formatter) (before behind : PageUnread) (out_old out_new err : Sunk) (r : Result (Option Sprung) Halt)
     → behind ≡ record before { input = interrupted old.reader.reading before.input }
-    → PerformsOne event old new out_old out_new r
-    → DoesTaking (event_taking old.reader.reading before.input) (event ∷ []) old new before behind (sinks out_old err) (sinks out_new err) (last_of r)
+    → PerformsAll (event ∷ []) old new out_old out_new r
+    → DoesTaking (event_taking old.reader.reading before.input) (event ∷ []) old new before behind (sinks out_old err) (sinks out_new err) r
 event_does event old new before behind out_old out_new err r input performs = record {
-  became = λ l h stands ready. OnOk-fact (last_of r) _ (record {
+  became = λ l h stands ready. OnOk-fact r _ (record {
     input = input;
-    reading = ap (λ (s : ReaderState). s.reading) performs.reader;
-    registers = ap (λ (s : ReaderState). s.registers) performs.reader;
+    reading = performs.reader.reading;
+    registers = performs.reader.registers;
     within = within-interrupted before.limits old.reader.registers.all old.reader.reading before.input ready.within;
   });
   does = λ t0 start failures from tape h messages phase closed rest stands ready reaches opens.
@@ -129,8 +104,8 @@ event_does event old new before behind out_old out_new err r input performs = re
       let allowed : first_passed before.limits (grown done) ≡ None =
       within-interrupted before.limits old.reader.registers.all old.reader.reading before.input ready.within in
       let step_is : step before.limits from ≡ done = opens.opens ∙ ap (λ (o : Option Limit). unless_refused before.limits o from done) allowed in
-      TakingDone-performed before.limits t0 start _ from done event h new.reader.meaning.events rest r new.composer
-      (performs.one before.limits t0 start failures err done h rest stands refl (record {
+      TakingDone-came before.limits t0 start _ from done (event ∷ []) h new.reader.meaning.events rest r new.composer
+      (performs.all before.limits t0 start failures err done h rest stands refl (record {
         comes = Leads-to before.limits (initial before.limits t0.start t0.tape) from done reaches.comes step_is;
         text = rw (← opens.wrote) reaches.text;
         messages = rw (append-nil (messages ++ []), append-nil messages, ← opens.said) reaches.messages;

@@ -1,5 +1,5 @@
 -- The first page, which begins in front of the first event that needs one.
-use Rattle.std.proofs.Common.{◌∙◌, ◌≡◌, ◌<◌, ℕ, Bool, true, false, not, ◌||◌, ◌&&◌, List, [], ◌∷◌, Option, Some, None, ap, arith, refl, subst, sym, if◌then◌else◌}
+use Rattle.std.proofs.Common.{◌∙◌, ◌≡◌, ◌<◌, ℕ, Bool, true, false, not, ◌||◌, ◌&&◌, List, [], ◌∷◌, ◌++◌, length, Option, Some, None, ap, arith, refl, subst, sym, if◌then◌else◌}
 use Rattle.std.specs.Prelude.{is_some, nat_le, option_map}
 use Rattle.std.proofs.lemmas.Bool.{ne_eqb}
 use Rattle.roff_num.specs.declared.limits.Limits.{Limits}
@@ -17,20 +17,26 @@ use Rattle.roff_pages.specs.declared.layout_event.LayoutEvent.TheVariants.{Begin
 use Rattle.roff_requests.specs.Composer.Standing.{StandFor}
 use Rattle.roff_engine.specs.declared.formatter.Formatter.{Formatter}
 use Rattle.roff_engine.specs.Engine.Outcome.{Beginning, Seen, Reaches, seen}
-use Rattle.roff_engine.specs.Formatter.Performing.{acting, behind_next, behind_word}
+use Rattle.roff_engine.specs.Formatter.Performing.{SprungAt, acting, behind_next, behind_word}
+use Rattle.roff_engine.specs.Formatter.Sprung.{may_be_left, sprung_before}
 use Rattle.roff_engine.specs.Formatter.Paging.{BeginsPage, BeginsFor, ReadyFor}
-use Rattle.roff_run.specs.Environments.{PageHistory, text_of}
+use Rattle.roff_run.specs.Environments.{PageHistory, interrupted_line, text_of}
 use Rattle.roff_run.specs.Layouts.{laid_out}
 use Rattle.roff_run.specs.Output.{layout_of, written_by}
-use Rattle.roff_run.specs.Springs.{begins, needs_page, next, own_word_end, page_begin_or, word_end_of}
+use Rattle.roff_run.specs.Springs.{begins, left_of, needs_page, next, own_word_end, page_begin_or, word_end_of}
 use Rattle.roff_run.specs.PageEvents.{PageEvent}
 use Rattle.roff_run.specs.Registers.{AllRegisters}
 use Rattle.roff_run.specs.Titles.{told}
 use Rattle.roff_run.specs.declared.event.PageEvent.TheVariants.{Text, Interrupt, Environment, Back, InputTrap as SetsTrap, Page, Title}
-use Rattle.roff_run.specs.Run.{State, performed, performing, step, unless_refused}
+use Rattle.roff_run.specs.Run.{State, performed, performing, sprung_at, step, unless_refused}
+use Rattle.roff_run.specs.TurnsToCome.{left_by, lines_left}
+use Rattle.roff_run.proofs.LinesLeft.{lines_left-event}
+use Rattle.roff_num.specs.declared.short_name.ShortName.{ShortName}
 use Rattle.roff_run.specs.Run.Counts.{refusal}
 use Rattle.roff_sinks.specs.Sinks.{Sunk, Writes}
 use Rattle.roff_sinks.proofs.Appending.{Writes-nothing}
+use Rattle.roff_engine.proofs.EventsLeft.{most-left}
+use Rattle.roff_engine.proofs.LinesLeft.{left-leaves}
 use Rattle.roff_engine.proofs.Performed.{event_performed}
 use Rattle.roff_engine.proofs.Placed.{nothing_allowed, nothing_written, stands_set}
 
@@ -130,11 +136,14 @@ pub record DoneFirst (e x : PageEvent) (rest left : List PageEvent) (h : PageHis
       → step l (acting s (e ∷ rest) h)
       ≡ unless_refused l (refusal l h (told s.registers x)) (acting s (e ∷ rest) h) (performed (told s.registers x) left (acting s (e ∷ rest) h))
 
--- the event itself, where no word end comes before it
-pub done_alone : (e : PageEvent) (rest : List PageEvent) (h : PageHistory) → word_end_of h e ≡ None → DoneFirst e e rest rest h
-done_alone e rest h none = record {
+-- the event itself, where no word end comes before it: what goes on of it is left
+pub done_alone : (e : PageEvent) (left rest : List PageEvent) (h : PageHistory) → ((rs : AllRegisters) → left_of h (told rs e) ≡ left) → word_end_of h e ≡ None
+    → DoneFirst e e rest (left ++ rest) h
+done_alone e left rest h leaves none = record {
   page = λ is. next-alone h e true none is;
-  itself = λ l s is. ap (λ (first : Option PageEvent). performing l first e rest (acting s (e ∷ rest) h)) (next-alone h e false none is);
+  itself = λ l s is.
+      ap (λ (first : Option PageEvent). performing l first e rest (acting s (e ∷ rest) h)) (next-alone h e false none is)
+      ∙ ap (λ (left : List PageEvent). unless_refused l (refusal l h (told s.registers e)) (acting s (e ∷ rest) h) (performed (told s.registers e) (left ++ rest) (acting s (e ∷ rest) h))) (leaves s.registers);
 }
 
 -- the word end that comes before it
@@ -151,67 +160,92 @@ pub record Begun (l : Limits) (t : Beginning) (before now : Seen) (s : State) (h
   pub none : begins (begun_for x h) x ≡ false
   pub text : text_of (begun_for x h) ≡ text_of h
 
-module _ (l : Limits) (t : Beginning) (before : Seen) (failures : ℕ) (err : Sunk) (s : State) (h : PageHistory) (e x : PageEvent) (rest left : List PageEvent) (out : Sunk)
-    (first : DoneFirst e x rest left h) (old mid : Formatter) (ready : ReadyFor x old mid) (stood : StandFor l h old.composer)
+module _ (l : Limits) (t : Beginning) (before : Seen) (failures : ℕ) (err : Sunk) (s : State) (h : PageHistory) (e x : PageEvent) (rest : List PageEvent) (out : Sunk)
+    (first : begins h x ≡ true → next h e ≡ Some (Page Begin)) (old mid : Formatter) (name : Option ShortName) (ready : ReadyFor x old mid name) (stood : StandFor l h old.composer)
     (reached : Reaches l t before (seen failures out err) (acting s (e ∷ rest) h)) where
   -- the page began
-  page_stands : BeginsPage old mid → StandFor l (Page Begin ∷ h) mid.composer
+  page_stands : BeginsPage old mid name → StandFor l (Page Begin ∷ h) mid.composer
   page_stands page =
       let now : StandFor l (Page Begin ∷ h) (record old.composer { pages = mid.composer.pages }) =
       stands_set l h (Page Begin) (Does Begin) old.composer (record old.composer { pages = mid.composer.pages }) stood refl stood.environments
       (page.begins.stands (layout_of h) stood.pages) (nothing_written (Does Begin) (layout_of h) refl) page.begins.written page.begins.limits stood.goes_on in
       subst (λ (f : Formatter). StandFor l (Page Begin ∷ h) f.composer) (sym page.others) now
 
-  begun_where : (b : Bool) → begins h x ≡ b → Begun l t before (seen failures out err) s h x (e ∷ rest) mid
-  begun_where false is =
+  -- with what it sprang
+  page_reaches : BeginsPage old mid name → begins h x ≡ true → Reaches l t before (seen failures out err) (sprung_at name (e ∷ rest) (acting s [] (Page Begin ∷ h)))
+  page_reaches page is =
+      let steps : step l (acting s (e ∷ rest) h)
+      ≡ unless_refused l (refusal l h (Page Begin)) (acting s (e ∷ rest) h) (performed (Page Begin) (e ∷ rest) (acting s (e ∷ rest) h))
+      = ap (λ (own : Option PageEvent). performing l own e rest (acting s (e ∷ rest) h)) (first is) in
+      let wrote : written_by h (Page Begin) ≡ [] = nothing_written (Does Begin) (layout_of h) refl in
+      event_performed l t before failures err s h e rest out reached (Page Begin) (e ∷ rest) steps name (sym (page.springs (layout_of h) stood.pages)) out
+      (nothing_allowed l h (Does Begin) old.composer stood wrote) stood.goes_on
+      (subst (λ (bytes : List ℕ). Writes out out bytes) (sym wrote) (Writes-nothing out))
+
+  begun_where : name ≡ None → (b : Bool) → begins h x ≡ b → Begun l t before (seen failures out err) s h x (e ∷ rest) mid
+  begun_where none false is =
       let same : begun_by false h ≡ begun_for x h = ap (λ (b : Bool). begun_by b h) (sym is) in
-      let there : mid ≡ old = ready.stays l h stood is in record {
+      let there : mid ≡ old = (ready.stays l h stood is).0 in record {
         reaches = subst (λ (g : PageHistory). Reaches l t before (seen failures out err) (acting s (e ∷ rest) g)) same reached;
         stands = subst (λ (g : PageHistory). StandFor l g mid.composer) same (subst (λ (f : Formatter). StandFor l h f.composer) (sym there) stood);
         none = subst (λ (g : PageHistory). begins g x ≡ false) same is;
         text = ap text_of (sym same);
       }
-  begun_where true is =
+  begun_where none true is =
       let same : begun_by true h ≡ begun_for x h = ap (λ (b : Bool). begun_by b h) (sym is) in
-      let page : BeginsPage old mid = ready.page l h stood is in
-      let steps : step l (acting s (e ∷ rest) h)
-      ≡ unless_refused l (refusal l h (Page Begin)) (acting s (e ∷ rest) h) (performed (Page Begin) (e ∷ rest) (acting s (e ∷ rest) h))
-      = ap (λ (own : Option PageEvent). performing l own e rest (acting s (e ∷ rest) h)) (first.page is) in
-      let wrote : written_by h (Page Begin) ≡ [] = nothing_written (Does Begin) (layout_of h) refl in
+      let page : BeginsPage old mid name = ready.page l h stood is in
       record {
         reaches = subst (λ (g : PageHistory). Reaches l t before (seen failures out err) (acting s (e ∷ rest) g)) same
-            (event_performed l t before failures err s h e rest out reached (Page Begin) (e ∷ rest) steps None refl out
-            (nothing_allowed l h (Does Begin) old.composer stood wrote) stood.goes_on
-            (subst (λ (bytes : List ℕ). Writes out out bytes) (sym wrote) (Writes-nothing out)));
+            (subst (λ (o : Option ShortName). Reaches l t before (seen failures out err) (sprung_at o (e ∷ rest) (acting s [] (Page Begin ∷ h)))) none (page_reaches page is));
         stands = subst (λ (g : PageHistory). StandFor l g mid.composer) same (page_stands page);
         none = subst (λ (g : PageHistory). begins g x ≡ false) same (begins-taken (Page Begin ∷ h) x (begun-takes h));
         text = ap text_of (sym same);
       }
 
-  pub begun : Begun l t before (seen failures out err) s h x (e ∷ rest) mid
-  begun = begun_where (begins h x) refl
+  pub begun : name ≡ None → Begun l t before (seen failures out err) s h x (e ∷ rest) mid
+  begun none = begun_where none (begins h x) refl
+
+  -- it sprang something: the event is left
+  sprang_where : (found : ShortName) → name ≡ Some found → (begins h x ≡ true → may_be_left e ≡ true) → (b : Bool) → begins h x ≡ b
+      → SprungAt l t before (seen failures out err) s (e ∷ []) h (sprung_before found) rest mid.composer
+  sprang_where found some may false is = absurd (let none = (ready.stays l h stood is).1 in cc)
+  sprang_where found some may true is =
+      let page : BeginsPage old mid name = ready.page l h stood is in
+      let left : left_by e (lines_left (interrupted_line h)) ≡ lines_left (interrupted_line h) = left-leaves e (lines_left (interrupted_line h)) (may is) in
+      record {
+        history = Page Begin ∷ h;
+        reaches = subst (λ (o : Option ShortName). Reaches l t before (seen failures out err) (sprung_at o (e ∷ rest) (acting s [] (Page Begin ∷ h)))) some (page_reaches page is);
+        stands = page_stands page;
+        lines = omega (arith, left, lines_left-event s.registers (Page Begin) h);
+        among = omega arith;
+        few = λ more. omega (arith, most-left e more (may is));
+      }
+
+  pub page_sprang : (found : ShortName) → name ≡ Some found → (begins h x ≡ true → may_be_left e ≡ true)
+      → SprungAt l t before (seen failures out err) s (e ∷ []) h (sprung_before found) rest mid.composer
+  page_sprang found some may = sprang_where found some may (begins h x) refl
 
 -- a formatter is ready for an event that needs no page
-pub ready_always : (e : PageEvent) (f : Formatter) → ((h : PageHistory) → needs_page h e ≡ false) → ReadyFor e f f
+pub ready_always : (e : PageEvent) (f : Formatter) → ((h : PageHistory) → needs_page h e ≡ false) → ReadyFor e f f None
 ready_always e f needless = record {
   page = λ l h stood is. absurd (let wrong = begins-needless h e (needless h) in cc);
-  stays = λ l h stood is. refl;
+  stays = λ l h stood is. (refl, refl);
   reader = refl;
 }
 
 -- and where text is taken
 pub ready_taking : (e : PageEvent) (f : Formatter) → ((l : Limits) (h : PageHistory) → StandFor l h f.composer → takes_text (layout_of h) ≡ true)
-    → ReadyFor e f f
+    → ReadyFor e f f None
 ready_taking e f takes = record {
   page = λ l h stood is. absurd (let wrong = begins-taken h e (takes l h stood) in cc);
-  stays = λ l h stood is. refl;
+  stays = λ l h stood is. (refl, refl);
   reader = refl;
 }
 
 -- where it isn't, the page begins if the event needs it
-pub ready_needing : (e : PageEvent) (old new : Formatter) → ((l : Limits) (h : PageHistory) → StandFor l h old.composer → takes_text (layout_of h) ≡ false)
-    → BeginsFor e old new → ReadyFor e old new
-ready_needing e old new takes needs = record {
+pub ready_needing : (e : PageEvent) (old new : Formatter) (name : Option ShortName) → ((l : Limits) (h : PageHistory) → StandFor l h old.composer → takes_text (layout_of h) ≡ false)
+    → BeginsFor e old new name → ReadyFor e old new name
+ready_needing e old new name takes needs = record {
   page = λ l h stood is. needs.page l h stood (needs-where (takes_text (layout_of h)) (needs_page h e) is).1;
   stays = λ l h stood is. needs.stays l h stood (by (takes_text (layout_of h)) (needs_page h e) (takes l h stood) is);
   reader = needs.reader;
@@ -220,6 +254,15 @@ ready_needing e old new takes needs = record {
     by : (takes needs : Bool) → takes ≡ false → (not takes && needs) ≡ false → needs ≡ false
     by false needs none is = is
     by true needs none is = absurd (cc)
+
+-- and where it does always
+pub begins_always : (e : PageEvent) (old new : Formatter) (name : Option ShortName) → ((h : PageHistory) → needs_page h e ≡ true) → BeginsPage old new name
+    → BeginsFor e old new name
+begins_always e old new name needs page = record {
+  page = λ l h stood is. page;
+  stays = λ l h stood is. absurd (let wrong = needs h in cc);
+  reader = ap (λ (f : Formatter). f.reader) page.others;
+}
 
 -- the history behind an event and what comes before it: the page's beginning, where no word end does
 pub behind-alone : (rs : AllRegisters) (e : PageEvent) (h : PageHistory) → word_end_of h e ≡ None → behind_next rs 2 e h ≡ begun_for e h

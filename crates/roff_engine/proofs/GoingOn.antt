@@ -1,16 +1,18 @@
 -- A run that goes on behind events, of which one may have sprung a macro that is read.
-use Rattle.std.proofs.Common.{◌∙◌, ◌≡◌, ◌≤◌, ℕ, List, length, Option, Some, None, Result, Ok, Err, ap, append-nil, arith, refl, subst, sym}
+use Rattle.std.proofs.Common.{◌∙◌, ◌≡◌, ◌≤◌, ℕ, List, length, Option, Some, None, Result, Ok, Err, ap, append-nil, arith, refl, subst, sym, []}
 use Rattle.std.specs.Prelude.{false, is_some, map, nat_lt}
 use Rattle.std.proofs.lemmas.Bool.{le-ltb}
 use Rattle.std.proofs.lemmas.Bool.Decides.{nat_tests}
 use Rattle.roff_ahead.specs.Input.{putting_all_back}
+use Rattle.roff_engine.specs.Running.Room.{FewFor}
+use Rattle.roff_ahead.proofs.FewEvents.{few-called}
 use Rattle.roff_ahead.specs.Input.Calls.{called_text}
 use Rattle.roff_ahead.specs.Input.Names.{body_named}
 use Rattle.roff_num.specs.ShortNames.{name_bytes}
 use Rattle.roff_num.specs.declared.limit.Limit.{Limit}
 use Rattle.roff_num.specs.declared.limits.Limits.{Limits}
 use Rattle.roff_num.specs.declared.short_name.ShortName.{ShortName}
-use Rattle.roff_scan.specs.Unread.{input_refusal, unless_passed}
+use Rattle.roff_ahead.specs.Unread.{input_refusal, unless_passed}
 use Rattle.roff_source.specs.Tape.{Tape}
 use Rattle.roff_reader.proofs.TakesAs.{few_names, short_title}
 use Rattle.roff_reader.specs.Reader.Springs.{Springs, SpringsBody, SpringsNothing, sprung_input}
@@ -42,10 +44,11 @@ use Rattle.roff_engine.specs.declared.halt.Halt.TheVariants.{Limit as Limited}
 use Rattle.roff_engine.specs.declared.running.Running.{Running as Coded}
 use Rattle.roff_engine.specs.declared.sprung.Sprung.{Sprung}
 use Rattle.roff_engine.specs.Engine.Outcome.{Beginning, OutcomeOf, Reaches, Seen}
-use Rattle.roff_engine.specs.Formatter.Sprung.{left_of}
+use Rattle.roff_engine.specs.Formatter.Sprung.{left_behind}
 use Rattle.roff_engine.specs.Running.Springing.{GoesOn, IsBehind, PutsBack}
 use Rattle.roff_engine.specs.Running.Turning.{Halts, IsAt, line_turns, lines_left_in, state_at, turns_of_run}
 use Rattle.roff_engine.proofs.Acting.{IsLeftOf-looked_then}
+use Rattle.roff_engine.proofs.Fronts.{few-none}
 use Rattle.roff_engine.proofs.PuttingBack.{is-back, with_back}
 use Rattle.roff_engine.proofs.TurnsLeft.{lines_left_in-few}
 
@@ -60,6 +63,7 @@ goes_on_quietly run now = record {
     stands = at.stands;
     ready = at.ready;
     limits = at.limits;
+    few = at.few;
   };
   turns = λ t tape start at. omega arith;
 }
@@ -141,11 +145,12 @@ pub record IsSprung (t : Beginning) (tape : Tape) (start now : Seen) (name : Sho
   pub stands : StandFor run.limits history run.formatter.composer
   pub ready : IsReady run.formatter.reader.registers run.unread
   pub limits : run.unread.limits ≡ run.limits
+  pub few : FewFor [] run.formatter.reader.reading run.unread.input.escapes run.unread.input.ahead
 
 is_sprung : (t : Beginning) (tape : Tape) (start now : Seen) (sprung : Sprung) (run : Coded) → IsBehind t tape start now (Some sprung) run
-    → IsSprung t tape start now sprung.name (with_back (left_of sprung.left run.formatter.reader.meaning.events) run)
+    → IsSprung t tape start now sprung.name (with_back (left_behind sprung run.formatter.reader.meaning.events) run)
 is_sprung t tape start now sprung run at =
-    let left : List PageEvent = left_of sprung.left run.formatter.reader.meaning.events in record {
+    let left : List PageEvent = left_behind sprung run.formatter.reader.meaning.events in record {
       history = at.history;
       messages = at.messages;
       reaches = subst (λ (es : List PageEvent). Reaches run.limits t start now (sprung_at (Some sprung.name) es (state_at tape run at.history at.messages)))
@@ -158,6 +163,7 @@ is_sprung t tape start now sprung run at =
             (few_names run.formatter.reader.registers run.unread at.ready) (short_title run.formatter.reader.registers run.unread at.ready);
       };
       limits = at.limits;
+      few = at.few;
     }
 
 -- it is read in a step, by what its name stands for
@@ -202,6 +208,7 @@ module _ (run : Coded) (name : ShortName) (reader : ReaderState) (unread : PageU
         stands = at.stands;
         ready = at.ready;
         limits = at.limits;
+        few = at.few;
       }))
 
   -- the body of a name is read
@@ -233,6 +240,8 @@ module _ (run : Coded) (name : ShortName) (reader : ReaderState) (unread : PageU
         stands = at.stands;
         ready = record { cap = at.ready.cap; line = at.ready.line; within = passed };
         limits = at.limits;
+        few = few-none [] (in_sprung run.formatter.reader.reading) i.escapes i.ahead
+            (few-called 0 (called_text (body_named (name_bytes body) run.unread.input)) (back_of run.formatter.reader.reading) run.unread.input.ahead at.few.few) (λ keeps is. refl);
       }))
 
   -- or a limit refuses it: the run stops there
@@ -305,11 +314,11 @@ turns-read Unknown events old reader unread springs = turns-nothing events old r
 
 -- the run goes on in what sprang
 pub goes_on_sprung : (sprung : Sprung) (old mid : Coded) (reader : ReaderState) (unread : PageUnread) (now : Seen)
-    → PutsBack (left_of sprung.left old.formatter.reader.meaning.events) old mid
+    → PutsBack (left_behind sprung old.formatter.reader.meaning.events) old mid
     → Springs (called_by sprung.name mid.unread.input.names) mid.formatter.reader reader mid.unread unread (Ok tt)
     → GoesOn (Some sprung) old (with_read mid reader unread) now now (Ok tt)
 goes_on_sprung sprung old mid reader unread now puts springs =
-    let left : List PageEvent = left_of sprung.left old.formatter.reader.meaning.events in record {
+    let left : List PageEvent = left_behind sprung old.formatter.reader.meaning.events in record {
       limits = ap (λ (run : Coded). run.limits) puts.others;
       goes = λ t tape start at.
           let P : Coded → Type 0 = λ run. Springs (called_by sprung.name run.unread.input.names) run.formatter.reader reader run.unread unread (Ok tt)
@@ -325,13 +334,13 @@ goes_on_sprung sprung old mid reader unread now puts springs =
 
 -- or a limit refuses that
 pub stops_sprung : (sprung : Sprung) (old mid new : Coded) (limit : Limit) (line : ℕ) (now behind : Seen) (status : Status)
-    → PutsBack (left_of sprung.left old.formatter.reader.meaning.events) old mid
+    → PutsBack (left_behind sprung old.formatter.reader.meaning.events) old mid
     → Springs (called_by sprung.name mid.unread.input.names) mid.formatter.reader new.formatter.reader mid.unread new.unread (Err limit)
     → new.limits ≡ mid.limits → line ≡ mid.unread.input.line
     → ((t : Beginning) (tape : Tape) (start : Seen) → Halts new.limits t tape line (Limited limit) start now → OutcomeOf new.limits t tape status start behind)
     → GoesOn (Some sprung) old new now behind (Err status)
 stops_sprung sprung old mid new limit line now behind status puts springs same line_is ends =
-    let left : List PageEvent = left_of sprung.left old.formatter.reader.meaning.events in record {
+    let left : List PageEvent = left_behind sprung old.formatter.reader.meaning.events in record {
       limits = same ∙ ap (λ (run : Coded). run.limits) puts.others;
       goes = λ t tape start at.
           let P : Coded → Type 0 = λ run. Springs (called_by sprung.name run.unread.input.names) run.formatter.reader new.formatter.reader run.unread new.unread (Err limit)

@@ -1,13 +1,13 @@
 -- What a run of the code has come to behind each item of its input, where the definition takes one step.
-use Rattle.std.proofs.Common.{◌≡◌, ℕ, ◌≤◌, List, [], ◌∷◌, ◌++◌, Result, Ok, Err, None, inl, inr, refl, sym, ap, ◌∙◌, arith, append-nil}
+use Rattle.std.proofs.Common.{◌≡◌, ℕ, ◌-◌, ◌≤◌, List, [], ◌∷◌, ◌++◌, Result, Ok, Err, None, inl, inr, refl, sym, ap, ◌∙◌, arith, append-nil}
 use Rattle.std.specs.Prelude.{IsOkUnless}
 use Rattle.roff_num.specs.declared.limit.Limit.{Limit}
 use Rattle.roff_num.specs.declared.limits.Limits.{Limits}
 use Rattle.roff_source.specs.Tape.{Tape, Item, Failed, Stopped, items_then}
 use Rattle.roff_num.specs.Faults.{Rises}
-use Rattle.roff_scan.specs.Looking.{looked_then}
-use Rattle.roff_scan.specs.declared.looked.Looked.{Looked}
-use Rattle.roff_scan.specs.declared.looked.Looked.TheVariants.{Nothing, Byte, Closed}
+use Rattle.roff_ahead.specs.Looking.{looked_then}
+use Rattle.roff_ahead.specs.declared.looked.Looked.{Looked}
+use Rattle.roff_ahead.specs.declared.looked.Looked.TheVariants.{Nothing, Byte, Closed}
 use Rattle.roff_run.specs.declared.message.Message.TheVariants.{ReadFailed}
 use Rattle.roff_run.specs.declared.status.Status.{Status}
 use Rattle.roff_run.specs.declared.status.Status.TheVariants.{Device, Limit as Limited}
@@ -24,6 +24,7 @@ use Rattle.roff_engine.specs.Running.Turning.{Continues, IsAt, LimitStops, TookF
 use Rattle.roff_sinks.specs.Sinks.{Sunk, Writes, Fails, Puts}
 use Rattle.roff_engine.proofs.Acting.{IsLeftOf-looked_then}
 use Rattle.roff_sinks.proofs.Appending.{Appends-append}
+use Rattle.roff_engine.specs.Running.Room.{FewFor}
 use Rattle.roff_engine.proofs.Calls.{EndsThere, Leaves}
 use Rattle.roff_engine.proofs.Performed.{between, faults_of_err}
 use Rattle.roff_run.proofs.Leads.{Leads-to}
@@ -81,8 +82,9 @@ module _ {gave gives : Tape → Type 0} {old : Coded} {left : PageUnread} {taken
 
   -- an item was taken
   pub took : (does : State → State) → step old.limits from ≡ made old.limits from (does behind)
+      → FewFor (does behind).to_do (does behind).reading (does behind).input.escapes left.input.ahead
       → TookFrom t tape start (seen failures out err) old.unread.input.line does from (moved old left)
-  took does goes = record {
+  took does goes room = record {
     history = at.history;
     messages = at.messages;
     reaches = reached;
@@ -93,6 +95,7 @@ module _ {gave gives : Tape → Type 0} {old : Coded} {left : PageUnread} {taken
     quiet = refl;
     line_is = refl;
     rest = leaves.rest tape may;
+    few = room;
   }
 
   -- no count is above its limit behind it
@@ -100,8 +103,8 @@ module _ {gave gives : Tape → Type 0} {old : Coded} {left : PageUnread} {taken
   allowed = rw (← at.limits) (leaves.within old.formatter.reader.registers.all at.ready.within)
 
   -- the end of a text is only taken
-  pub end_passed : step old.limits from ≡ made old.limits from behind → IsAt t tape start (seen failures out err) (moved old left)
-  end_passed goes =
+  pub end_passed : step old.limits from ≡ made old.limits from behind → FewFor [] behind.reading left.input.escapes left.input.ahead → IsAt t tape start (seen failures out err) (moved old left)
+  end_passed goes few =
       let there : step old.limits from ≡ behind = goes ∙ ap (λ r. unless_refused old.limits r from behind) allowed in record {
         history = at.history;
         messages = at.messages;
@@ -114,12 +117,13 @@ module _ {gave gives : Tape → Type 0} {old : Coded} {left : PageUnread} {taken
         stands = at.stands;
         ready = ready_behind old.formatter.reader.registers old.unread left leaves at.ready;
         limits = leaves.limits ∙ at.limits;
+        few = few;
       }
 
   -- the end of a body is only taken, and what it leads back to goes on behind it
   pub return_passed : (back : ℕ) → step old.limits from ≡ made old.limits from (record behind { reading = behind_return back behind.reading })
-      → IsAt t tape start (seen failures out err) (returned back old left)
-  return_passed back goes =
+      → FewFor [] (behind_return back behind.reading) left.input.escapes left.input.ahead → IsAt t tape start (seen failures out err) (returned back old left)
+  return_passed back goes few =
       let done : State = record behind { reading = behind_return back behind.reading } in
       let there : step old.limits from ≡ done = goes ∙ ap (λ r. unless_refused old.limits r from done) allowed in record {
         history = at.history;
@@ -133,17 +137,19 @@ module _ {gave gives : Tape → Type 0} {old : Coded} {left : PageUnread} {taken
         stands = at.stands;
         ready = ready_behind old.formatter.reader.registers old.unread left leaves at.ready;
         limits = leaves.limits ∙ at.limits;
+        few = few;
       }
 
   -- nothing of the state changed
-  abbrev pub looked_at : behind ≡ from → IsAt t tape start (seen failures out err) (moved old left)
-  looked_at same = record {
+  abbrev pub looked_at : behind ≡ from → FewFor [] behind.reading left.input.escapes left.input.ahead → IsAt t tape start (seen failures out err) (moved old left)
+  looked_at same few = record {
     history = at.history;
     messages = at.messages;
     reaches = rw same reached;
     stands = at.stands;
     ready = ready_behind old.formatter.reader.registers old.unread left leaves at.ready;
     limits = leaves.limits ∙ at.limits;
+    few = few;
   }
 
   -- a limit refuses the item in front
@@ -187,17 +193,18 @@ module _ {gave gives : Tape → Type 0} {old : Coded} {left : PageUnread} {taken
     }
 
     -- a message of the source's is written, or a beginning of it
-    pub note_told : (note : List ℕ) (r : Result (Unit {0}) Status) → step old.limits from ≡ record behind { messages = at.messages ++ note }
+    pub note_told : (note : List ℕ) (r : Result (Unit {0}) Status) → FewFor [] behind.reading left.input.escapes left.input.ahead → step old.limits from ≡ record behind { messages = at.messages ++ note }
         → Puts err new note r → IsOkUnless r Device → Continues t tape start (seen failures out new) r (moved old left)
-    note_told note (Ok done) goes puts is = record {
+    note_told note (Ok done) few goes puts is = record {
       history = at.history;
       messages = at.messages ++ note;
       reaches = one_more (record behind { messages = at.messages ++ note }) note goes refl (append-nil (at.messages ++ note)) puts.ok;
       stands = at.stands;
       ready = ready_behind old.formatter.reader.registers old.unread left leaves at.ready;
       limits = leaves.limits ∙ at.limits;
+      few = few;
     }
-    note_told note (Err status) goes puts is =
+    note_told note (Err status) few goes puts is =
         let fails = lost (record behind { messages = at.messages ++ note }) note goes (append-nil (at.messages ++ note)) (IsLeftOf-looked_then left.looked tape) puts.err in
         inr (inr (inl (rw is fails)))
 

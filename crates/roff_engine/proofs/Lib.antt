@@ -2,11 +2,18 @@ pub mod Performed
 pub mod Placed
 pub mod FirstPages
 pub mod DoneFirst
+pub mod DoneEvents
+pub mod Ejects
+pub mod Quiet
 pub mod LinesLeft
 pub mod Springing
+pub mod SoFar
 pub mod DoesTakings
 pub mod Halting
 pub mod TurnsLeft
+pub mod Room
+pub mod Fronts
+pub mod EndsUnseen
 pub mod Acting
 pub mod EventsTaken
 pub mod PuttingBack
@@ -17,6 +24,7 @@ pub mod Calls
 pub mod Items
 pub mod Turns
 pub mod Waiting
+pub mod WaitedBytes
 pub mod WholeRuns
 pub mod NumberedPages
 pub mod Starting

@@ -1,6 +1,7 @@
 -- How many interrupted lines are left in the environment in force behind some events.
 use Rattle.std.proofs.Common.{◌≡◌, ◌≤◌, ℕ, zero, suc, Bool, true, false, List, [], ◌∷◌, ◌++◌, Option, Some, None, refl, arith}
 use Rattle.roff_lines.specs.declared.event.Event.TheVariants.{Print, Tab, WordEnd, Gap, LineEnd, Count, Break, Interrupt as Interrupted, Resume, Set}
+use Rattle.roff_engine.specs.Formatter.Sprung.{may_be_left}
 use Rattle.roff_run.proofs.LinesLeft.{left_by-fewer, lines_left-event, most_left-fewer}
 use Rattle.roff_run.specs.Environments.{PageHistory, interrupted_line, text_of}
 use Rattle.roff_run.specs.PageEvents.{PageEvent}
@@ -104,3 +105,41 @@ more_left rs e others h =
 pub last_left : (rs : AllRegisters) (e : PageEvent) (others : List PageEvent) (h : PageHistory)
     → lines_left (interrupted_line (behind_event rs e h)) ≤ most_left (e ∷ others) (lines_left (interrupted_line h))
 last_left rs e others h = omega (arith, lines_left-behind rs e h)
+
+-- an event that may be left leaves all interrupted lines
+pub left-leaves : (e : PageEvent) (lines : ℕ) → may_be_left e ≡ true → left_by e lines ≡ lines
+left-leaves (Text (Print glyph)) lines may = refl
+left-leaves (Text Tab) lines may = refl
+left-leaves (Text WordEnd) lines may = refl
+left-leaves (Text (Gap columns)) lines may = refl
+left-leaves (Text LineEnd) lines may = refl
+left-leaves (Text Count) lines may = refl
+left-leaves (Text Break) lines may = refl
+left-leaves (Text Interrupted) lines may = absurd (cc)
+left-leaves (Text Resume) lines may = absurd (cc)
+left-leaves (Text (Set param)) lines may = refl
+left-leaves (Page e) lines may = refl
+left-leaves (Interrupt untold) lines may = absurd (cc)
+left-leaves (Environment number) lines may = absurd (cc)
+left-leaves Back lines may = absurd (cc)
+left-leaves (SetsTrap trap) lines may = refl
+left-leaves (Title which) lines may = refl
+
+-- one before which the end of a word comes may be
+pub owns-left : (h : PageHistory) (e own : PageEvent) → word_end_of h e ≡ Some own → may_be_left e ≡ true
+owns-left h (Text (Gap columns)) own is = refl
+owns-left h (Text LineEnd) own is = refl
+owns-left h (Text Break) own is = refl
+owns-left h (Text (Print glyph)) own is = refl
+owns-left h (Text Tab) own is = refl
+owns-left h (Text WordEnd) own is = refl
+owns-left h (Text Count) own is = refl
+owns-left h (Text Interrupted) own is = absurd (cc)
+owns-left h (Text Resume) own is = absurd (cc)
+owns-left h (Text (Set param)) own is = absurd (cc)
+owns-left h (Page e) own is = absurd (cc)
+owns-left h (Interrupt untold) own is = absurd (cc)
+owns-left h (Environment number) own is = absurd (cc)
+owns-left h Back own is = absurd (cc)
+owns-left h (SetsTrap trap) own is = absurd (cc)
+owns-left h (Title which) own is = refl

@@ -8,7 +8,6 @@ use Rattle.roff_run.specs.Events.Lines.{print_event}
 use Rattle.roff_run.specs.Reading.TextLines.{leading_glyph}
 use Rattle.roff_run.specs.declared.event.PageEvent.TheVariants.{Text}
 use Rattle.roff_engine.specs.Formatter.Performing.{Flows, behind_event}
-use Rattle.roff_engine.specs.Formatter.Sprung.{quiet_events}
 use Rattle.roff_run.specs.Events.Steps.{events_of, messages_of}
 use Rattle.roff_run.specs.PageEvents.{PageEvent}
 use Rattle.roff_run.specs.Registers.{AllRegisters}
@@ -38,32 +37,21 @@ named-events LineEnd kept named = refl
 named-events BlankLine kept named = refl
 named-events Meaning kept named = absurd (named refl)
 
--- the events of one that springs nothing
-pub quiet-events : (step : Step) → (step ≡ LineEnd → ⊥) → quiet_events step ≡ events_of [] step
-quiet-events Nothing others = refl
-quiet-events (Glyph b leading) others = refl
-quiet-events (Tab leading) others = refl
-quiet-events Gap others = refl
-quiet-events Break others = refl
-quiet-events LineEnd others = absurd (others refl)
-quiet-events BlankLine others = refl
-quiet-events Meaning others = refl
-
--- before which no word end comes
+-- before none of their events the end of a word comes
 flows-leading : (rs : AllRegisters) (leading : ℕ) (e : PageEvent) (h : PageHistory) → ((g : PageHistory) → Flows rs (e ∷ []) g)
     → Flows rs (leading_glyph leading ++ e ∷ []) h
 flows-leading rs leading e h flows = by_test (leading == 0)
   where
     by_test : (b : Bool) → Flows rs ((if b then [] else Text (Print (Blanks leading)) ∷ []) ++ e ∷ []) h
     by_test true = flows h
-    by_test false = (refl, refl, flows (behind_event rs (Text (Print (Blanks leading))) h))
+    by_test false = (refl, flows (behind_event rs (Text (Print (Blanks leading))) h))
 
-pub quiet-flows : (rs : AllRegisters) (step : Step) (h : PageHistory) → Flows rs (quiet_events step) h
-quiet-flows rs Nothing h = tt
-quiet-flows rs (Glyph b leading) h = flows-leading rs leading (print_event b) h (λ g. (refl, refl, tt))
-quiet-flows rs (Tab leading) h = flows-leading rs leading (Text PageTab) h (λ g. (refl, refl, tt))
-quiet-flows rs Gap h = (refl, refl, (refl, refl, tt))
-quiet-flows rs Break h = (refl, refl, (refl, refl, tt))
-quiet-flows rs LineEnd h = tt
-quiet-flows rs BlankLine h = (refl, refl, (refl, refl, (refl, refl, tt)))
-quiet-flows rs Meaning h = tt
+pub named-flows : (rs : AllRegisters) (step : Step) (h : PageHistory) → Flows rs (events_of [] step) h
+named-flows rs Nothing h = tt
+named-flows rs (Glyph b leading) h = flows-leading rs leading (print_event b) h (λ g. (refl, tt))
+named-flows rs (Tab leading) h = flows-leading rs leading (Text PageTab) h (λ g. (refl, tt))
+named-flows rs Gap h = (refl, (refl, tt))
+named-flows rs Break h = (refl, (refl, tt))
+named-flows rs LineEnd h = (refl, (refl, (refl, tt)))
+named-flows rs BlankLine h = (refl, (refl, (refl, tt)))
+named-flows rs Meaning h = tt

@@ -1,19 +1,28 @@
 -- Runs that go past bytes: the run of the definition leads on, and the code is at its place behind them.
-use Rattle.std.proofs.Common.{◌≡◌, ℕ, ◌≤◌, List, [], ◌∷◌, ◌++◌, sym, subst, arith}
+use Rattle.std.proofs.Common.{◌≡◌, ℕ, ◌≤◌, List, [], ◌∷◌, ◌++◌, ◌∙◌, ap, map, refl, sym, subst, arith}
 use Rattle.std.specs.Io.KnownBytes.{Appends}
 use Rattle.std.specs.List.{AllByRecursion}
 use Rattle.roff_source.specs.Tape.{Tape, items_then}
 use Rattle.roff_requests.specs.Composer.Standing.{StandFor}
 use Rattle.roff_run.specs.Output.{PageHistory, written}
 use Rattle.roff_reader.specs.Reader.Taken.{IsReady}
-use Rattle.roff_run.specs.Reading.Items.{PageUnread}
+use Rattle.roff_run.specs.Reading.Items.{PageInput, PageUnread}
+use Rattle.roff_run.specs.declared.line_state.LineState.{LineState}
+use Rattle.roff_run.proofs.PlainRuns.{behind_byte, behind_bytes}
+use Rattle.roff_engine.specs.Running.Room.{FewFor, decides_next}
+use Rattle.roff_engine.proofs.Fronts.{few-undecided}
 use Rattle.roff_run.specs.Run.{Leads, initial}
 use Rattle.roff_run.specs.declared.start.Start.{Start}
 use Rattle.roff_engine.specs.declared.formatter.Formatter.{Formatter}
 use Rattle.roff_engine.specs.declared.running.Running.{Running as Coded}
+use Rattle.roff_ahead.specs.Input.{Ahead, ByteAhead}
+use Rattle.roff_ahead.specs.Input.Few.{AreFew, AreFewFrom}
+use Rattle.roff_ahead.proofs.FewEvents.{few-more}
 use Rattle.roff_engine.specs.Engine.Outcome.{Beginning, Seen}
 use Rattle.roff_engine.specs.Running.Turning.{GoesPast, HasCome, IsAt, state_at}
 use Rattle.roff_engine.proofs.Waiting.{items_then-append}
+use Rattle.roff_run.specs.PageEvents.{PageEvent}
+use Rattle.roff_run.proofs.ItemsTaken.{FromAhead, FromSource, Origin, ahead_at}
 use Rattle.roff_run.proofs.Leads.{Leads-trans}
 
 -- what is so of each of these bytes, where something else is
@@ -24,9 +33,9 @@ all_by P Q makes (b ∷ bytes) are = (makes b are.0, all_by P Q makes bytes are.
 -- the code is at its place where the run of the definition leads on, and nothing is written or reported
 pub IsAt-leads : (whole : Beginning) (before behind : Tape) (start now : Seen) (old : Coded) (f : Formatter) (u : PageUnread) (h : PageHistory) (at : IsAt whole before start now old)
     → Leads old.limits (state_at before old at.history at.messages) (state_at behind (record old { formatter = f; unread = u }) h at.messages)
-    → written h ≡ written at.history → StandFor old.limits h f.composer → IsReady f.reader.registers u → u.limits ≡ old.limits
+    → written h ≡ written at.history → StandFor old.limits h f.composer → IsReady f.reader.registers u → u.limits ≡ old.limits → FewFor [] f.reader.reading u.input.escapes u.input.ahead
     → IsAt whole behind start now (record old { formatter = f; unread = u })
-IsAt-leads whole before behind start now old f u h at leads nothing stands ready limits = record {
+IsAt-leads whole before behind start now old f u h at leads nothing stands ready limits few = record {
   history = h;
   messages = at.messages;
   reaches = record {
@@ -39,6 +48,7 @@ IsAt-leads whole before behind start now old f u h at leads nothing stands ready
   stands = stands;
   ready = ready;
   limits = limits;
+  few = few;
 }
 
 -- past bytes, where fewer notes may come
@@ -63,3 +73,35 @@ come-past {given} {first} noted notes start now behind old new come goes = recor
       subst (λ (whole : Tape). IsAt (record { start = given; tape = whole }) t start behind new) (sym (items_then-append come.taken goes.taken t))
       (goes.past (record { start = given; tape = items_then come.taken tape }) t start may (come.at tape (goes.before t may)));
 }
+
+-- behind bytes that stood in front few events do
+few-bytes : (room : ℕ) (bytes : List ℕ) (items : List (Ahead PageEvent)) → room ≤ 5 → AreFewFrom room (map ByteAhead bytes ++ items) → AreFew items
+few-bytes room [] items most few = few-more room 5 items most few
+few-bytes room (b ∷ bytes) items most few = few-bytes 0 bytes items (omega arith) few
+
+pub few-read : (from : Origin) (bytes : List ℕ) → AreFew (ahead_at from bytes) → AreFew (ahead_at from [])
+few-read (FromSource tape) bytes few = tt
+few-read (FromAhead items) bytes few = few-bytes 5 bytes items (omega arith) few
+
+-- behind one at the least none does before an end
+pub none-read : (from : Origin) (b : ℕ) (bytes : List ℕ) → AreFew (ahead_at from (b ∷ bytes)) → AreFewFrom 0 (ahead_at from [])
+none-read (FromSource tape) b bytes few = tt
+none-read (FromAhead items) b bytes few = none-bytes bytes items few
+  where
+    none-bytes : (bytes : List ℕ) (items : List (Ahead PageEvent)) → AreFewFrom 0 (map ByteAhead bytes ++ items) → AreFewFrom 0 items
+    none-bytes [] items few = few
+    none-bytes (b ∷ bytes) items few = none-bytes bytes items few
+
+-- bytes leave what is half read
+escapes-behind : (from : Origin) (bytes : List ℕ) (i : PageInput) → (behind_bytes from bytes i).escapes ≡ i.escapes
+escapes-behind from [] i = refl
+escapes-behind from (b ∷ bytes) i = escapes-behind from bytes (behind_byte from b i)
+
+-- where nothing is half read
+pub few-alone : (from : Origin) (bytes : List ℕ) (reading : LineState) (old new : PageInput) → old.escapes ≡ [] → FewFor [] reading old.escapes old.ahead → old.ahead ≡ ahead_at from bytes
+    → record (behind_bytes from bytes old) { ahead = ahead_at from [] } ≡ new → FewFor [] reading new.escapes new.ahead
+few-alone from bytes reading old new none few front same =
+    let there : PageInput = record (behind_bytes from bytes old) { ahead = ahead_at from [] } in
+    subst (λ (j : PageInput). FewFor [] reading j.escapes j.ahead) same
+    (few-undecided [] reading there.escapes there.ahead (few-read from bytes (subst (λ (items : List (Ahead PageEvent)). AreFew items) front few.few))
+    (ap decides_next (escapes-behind from bytes old ∙ none)))

@@ -13,7 +13,7 @@ use Rattle.roff_run.specs.Reading.Waiting.{line_waits, waiting_above, waiting_in
 use Rattle.roff_ahead.specs.Input.{Ahead, EndAhead, ReturnAhead, is_none_ahead, item_taken}
 use Rattle.roff_source.specs.Tape.{Tape}
 use Rattle.roff_scan.proofs.Asking.{takes_ahead}
-use Rattle.roff_scan.specs.Unread.{IsWithin, taking_first}
+use Rattle.roff_ahead.specs.Unread.{IsWithin, taking_first}
 use Rattle.roff_ahead.specs.Shown.{ShowsEnd, ShowsRefusal}
 use Rattle.roff_scan.specs.Unread.Calls.{PassesEnd, PassesReturn, Takes}
 use Rattle.roff_run.specs.Reading.Items.{PageUnread}
@@ -35,6 +35,9 @@ use Rattle.roff_engine.specs.declared.running.Running.{Running as Coded}
 use Rattle.roff_engine.specs.Engine.Outcome.{Beginning, Seen}
 use Rattle.roff_engine.specs.Running.Turning.{GoesFurther, IsAt, state_at, turns_left}
 use Rattle.roff_engine.proofs.Passing.{IsAt-leads}
+use Rattle.roff_ahead.specs.Input.Few.{AreFew}
+use Rattle.roff_engine.proofs.Fronts.{few-undecided}
+use Rattle.roff_engine.proofs.Waiting.{takes-next}
 use Rattle.roff_engine.proofs.TurnsLeft.{turns_of_run-fewer}
 use Rattle.roff_engine.proofs.PassingOn.{goes_further_none, goes_past_none}
 
@@ -45,6 +48,7 @@ record IsEnd (item : Ahead PageEvent) (reads_on : LineState → LineState) : Typ
       → let there : State = record s { input = item_taken item behind s.input; reading = reads_on s.reading } in
       in_front_taken l (item ∷ behind) s ≡ (if nat_lt l.bytes (s.input.charge + 1) then stopped_by l Bytes s else made l s there)
   begun_behind : (reading : LineState) → begun (reads_on reading) ≤ begun reading
+  few : (behind : List (Ahead PageEvent)) → AreFew (item ∷ behind) → AreFew behind
   fewer : (most : ℕ) (i : PageInput) (behind : List (Ahead PageEvent)) → i.ahead ≡ item ∷ behind → i.charge < most
       → turns_within most (item_taken item behind i) < turns_within most i
 
@@ -53,6 +57,7 @@ end_of_text : IsEnd EndAhead (λ reading. reading)
 end_of_text = record {
   taken = λ l s behind. refl;
   begun_behind = λ reading. omega arith;
+  few = λ behind few. few;
   fewer = λ most i behind front allowed. omega (arith, allowed, ap free_ahead front);
 }
 
@@ -60,6 +65,7 @@ end_of_call : IsEnd (ReturnAhead 0) (λ reading. behind_return 0 reading)
 end_of_call = record {
   taken = λ l s behind. refl;
   begun_behind = λ reading. omega (arith, begun-behind_return 0 reading);
+  few = λ behind few. few;
   fewer = λ most i behind front allowed. omega (arith, allowed, ap free_ahead front);
 }
 
@@ -102,7 +108,9 @@ module _ (item : Ahead PageEvent) (reads_on : LineState → LineState) (ends : I
       } in
       subst (λ (u : PageUnread). IsAt whole tape start now (record old { formatter = over; unread = u })) (sym is)
       (IsAt-leads whole tape tape start now old over there at.history at
-      (subst (λ (k : Limits). Leads k s t) at.limits leads) refl at.stands (record { cap = at.ready.cap; line = at.ready.line; within = fits }) at.limits)
+      (subst (λ (k : Limits). Leads k s t) at.limits leads) refl at.stands (record { cap = at.ready.cap; line = at.ready.line; within = fits }) at.limits
+      (few-undecided [] (reads_on old.formatter.reader.reading) i.escapes behind (ends.few behind (subst (λ (items : List (Ahead PageEvent)). AreFew items) front at.few.few))
+      (takes-next old.formatter.reader.reading old.unread.input.arguments.place old.unread.input.escapes takes)))
 
   -- fewer turns are to come
   fewer-end : turns_left (record old { formatter = over; unread = after }) < turns_left old

@@ -1,5 +1,5 @@
 -- Events that are performed, one by one, over the states of the definition.
-use Rattle.std.proofs.Common.{◌∙◌, ◌≡◌, ℕ, Bool, true, false, List, [], ◌∷◌, ◌++◌, Option, Some, None, Result, Ok, Err, ap, refl, subst, sym}
+use Rattle.std.proofs.Common.{◌∙◌, ◌≡◌, ◌≤◌, ◌+◌, ℕ, Bool, true, false, List, [], ◌∷◌, ◌++◌, length, arith, Option, Some, None, Result, Ok, Err, ap, refl, subst, sym}
 use Rattle.std.specs.Io.KnownBytes.{Appends}
 use Rattle.roff_num.specs.declared.limit.Limit.{Limit}
 use Rattle.roff_num.specs.declared.limits.Limits.{Limits}
@@ -10,7 +10,8 @@ use Rattle.roff_engine.specs.declared.halt.Halt.{Halt}
 use Rattle.roff_engine.specs.declared.halt.Halt.TheVariants.{Limit as Limited, Refused, Over, Output, Messages}
 use Rattle.roff_engine.specs.declared.sprung.Sprung.{Sprung}
 use Rattle.roff_engine.specs.Engine.Outcome.{Beginning, Seen, AppendsBetween, NoSinkFault, Reaches, seen}
-use Rattle.roff_engine.specs.Formatter.Performing.{StoppedAt, FailedAt, LostAt, OverAt, ComesTo, PerformedOne, Performs, PerformsAll, PerformsOnly, Means, MeaningDone, DoesMeaning, acting, behind_event, behind_events, sinks}
+use Rattle.roff_engine.specs.Formatter.Performing.{AllPerformed, StoppedAt, FailedAt, LostAt, OverAt, ComesTo, Performs, PerformsAll, PerformsOnly, SprungAt, Means, MeaningDone, DoesMeaning, acting, behind_event, behind_events, sinks}
+use Rattle.roff_engine.specs.Formatter.Sprung.{HasFew, further, further_by, left_behind}
 use Rattle.roff_run.specs.Messages.{message_lines}
 use Rattle.roff_run.specs.declared.message.Message.{Message}
 use Rattle.roff_run.specs.Output.{PageHistory, layout_of, written, written_by}
@@ -21,6 +22,9 @@ use Rattle.roff_run.specs.Run.Counts.{refusal}
 use Rattle.roff_sinks.specs.Sinks.{Sunk, Writes, AppendsFront, Fails, Puts}
 use Rattle.roff_sinks.proofs.Appending.{Appends-append}
 use Rattle.roff_run.proofs.Leads.{Leads-to}
+use Rattle.roff_engine.proofs.EventsLeft.{left-front, left-further, most-behind, reach-further, reach-least}
+use Rattle.roff_engine.proofs.LinesLeft.{more_left}
+use Rattle.std.proofs.lemmas.List.{append_assoc}
 
 -- a beginning of a piece was written behind a text
 pub between : (old mid new : Option (List ℕ)) (least piece : List ℕ)
@@ -164,52 +168,74 @@ does_events l t before now from s events h kept rest (Err Output) es p = p
 does_events l t before now from s events h kept rest (Err Over) es p = p
 does_events l t before now from s events h kept rest (Err Messages) es p = absurd p
 
--- where the code halted, what would have been left to do makes no difference
-pub performs_halted : (l : Limits) (t : Beginning) (before now : Seen) (s : State) (behind other : PageHistory) (rest left : List PageEvent) (halt : Halt) (es others : ComposerOf)
-    → Performs l t before now s behind rest (Err halt) es → Performs l t before now s other left (Err halt) others
-performs_halted l t before now s behind other rest left (Limited limit) es others p = p
-performs_halted l t before now s behind other rest left (Refused limit) es others p = p
-performs_halted l t before now s behind other rest left Output es others p = p
-performs_halted l t before now s behind other rest left Over es others p = p
-performs_halted l t before now s behind other rest left Messages es others p = p
+module _ (l : Limits) (t : Beginning) (before now : Seen) (s : State) (first : PageEvent) (others : List PageEvent) (h : PageHistory) (rest : List PageEvent) (es : ComposerOf) where
+  -- what one of the events behind the first sprang
+  sprang_behind : (sprung : Sprung) → SprungAt l t before now s others (behind_event s.registers first h) sprung rest es
+      → SprungAt l t before now s (first ∷ others) h (further 1 sprung) rest es
+  sprang_behind sprung p = record {
+    history = p.history;
+    reaches = subst (λ (left : List PageEvent). Reaches l t before now (sprung_at (Some sprung.name) (left ++ rest) (acting s [] p.history)))
+        (sym (left-further sprung first others)) p.reaches;
+    stands = p.stands;
+    lines = omega (arith, p.lines, more_left s.registers first others h);
+    among = omega (arith, reach-further sprung.goes_on sprung.left 1 (length others) p.among);
+    few = λ more. omega (arith, ap length (left-further sprung first (others ++ more)), p.few more, most-behind first (others ++ more));
+  }
 
--- nor for one event, or up to one that springs something
-pub one_halted : (l : Limits) (t : Beginning) (before now : Seen) (s : State) (e : PageEvent) (behind other : PageHistory) (rest left : List PageEvent) (halt : Halt) (es others : ComposerOf)
-    → Performs l t before now s behind rest (Err halt) es → PerformedOne l t before now s e other left (Err halt) others
-one_halted l t before now s e behind other rest left (Limited limit) es others p = p
-one_halted l t before now s e behind other rest left (Refused limit) es others p = p
-one_halted l t before now s e behind other rest left Output es others p = p
-one_halted l t before now s e behind other rest left Over es others p = p
-one_halted l t before now s e behind other rest left Messages es others p = p
+  -- what the first one sprang
+  pub sprang_first : (sprung : Sprung) → SprungAt l t before now s (first ∷ []) h sprung (others ++ rest) es
+      → SprungAt l t before now s (first ∷ others) h sprung rest es
+  sprang_first sprung p = record {
+    history = p.history;
+    reaches = subst (λ (left : List PageEvent). Reaches l t before now (sprung_at (Some sprung.name) left (acting s [] p.history)))
+        (sym (append_assoc (left_behind sprung (first ∷ [])) others rest) ∙ ap (λ (left : List PageEvent). left ++ rest) (sym (left-front sprung (first ∷ []) others p.among))) p.reaches;
+    stands = p.stands;
+    lines = omega (arith, p.lines);
+    among = omega (arith, p.among);
+    few = λ more. p.few (others ++ more);
+  }
 
-pub comes_halted : (l : Limits) (t : Beginning) (before now : Seen) (s : State) (behind : PageHistory) (rest : List PageEvent) (events : List PageEvent) (h : PageHistory) (kept left : List PageEvent) (halt : Halt) (es others : ComposerOf)
-    → Performs l t before now s behind rest (Err halt) es → ComesTo l t before now s events h kept left (Err halt) others
-comes_halted l t before now s behind rest events h kept left (Limited limit) es others p = p
-comes_halted l t before now s behind rest events h kept left (Refused limit) es others p = p
-comes_halted l t before now s behind rest events h kept left Output es others p = p
-comes_halted l t before now s behind rest events h kept left Over es others p = p
-comes_halted l t before now s behind rest events h kept left Messages es others p = p
-
-pub comes_one_halted : (l : Limits) (t : Beginning) (before now : Seen) (s : State) (e : PageEvent) (behind : PageHistory) (rest : List PageEvent) (events : List PageEvent) (h : PageHistory) (kept left : List PageEvent) (halt : Halt) (es others : ComposerOf)
-    → PerformedOne l t before now s e behind rest (Err halt) es → ComesTo l t before now s events h kept left (Err halt) others
-comes_one_halted l t before now s e behind rest events h kept left (Limited limit) es others p = p
-comes_one_halted l t before now s e behind rest events h kept left (Refused limit) es others p = p
-comes_one_halted l t before now s e behind rest events h kept left Output es others p = p
-comes_one_halted l t before now s e behind rest events h kept left Over es others p = p
-comes_one_halted l t before now s e behind rest events h kept left Messages es others p = p
+  -- how far the events behind the first one were performed, by the answer
+  behind_first : (r result : Result (Option Sprung) Halt) → length others ≤ 99 → (HasFew r 1 → result ≡ further_by 1 r)
+      → Performs l t before now s others (behind_event s.registers first h) (behind_events s.registers (first ∷ others) h) rest r es
+      → Performs l t before now s (first ∷ others) h (behind_events s.registers (first ∷ others) h) rest result es
+  behind_first (Ok None) result short is p =
+      subst (λ (r : Result (Option Sprung) Halt). Performs l t before now s (first ∷ others) h (behind_events s.registers (first ∷ others) h) rest r es) (sym (is tt)) p
+  behind_first (Ok (Some sprung)) result short is p =
+      let few : sprung.left + 1 ≤ 255 = omega (arith, short, p.among, reach-least sprung.goes_on sprung.left) in
+      subst (λ (r : Result (Option Sprung) Halt). Performs l t before now s (first ∷ others) h (behind_events s.registers (first ∷ others) h) rest r es) (sym (is few))
+      (sprang_behind sprung p)
+  behind_first (Err halt) result short is p =
+      subst (λ (r : Result (Option Sprung) Halt). Performs l t before now s (first ∷ others) h (behind_events s.registers (first ∷ others) h) rest r es) (sym (is tt)) p
 
 -- an event and others behind it, of which the first was performed
-pub performs_both : (first : PageEvent) (others : List PageEvent) (old mid new : Formatter) (told told_mid told_new : Sunk) (r : Result (Unit {0}) Halt)
-    → PerformsOnly (first ∷ []) old mid told told_mid (Ok tt) → PerformsOnly others mid new told_mid told_new r
-    → PerformsOnly (first ∷ others) old new told told_new r
-performs_both first others old mid new told told_mid told_new r one more = record {
-  events_performed = record {
-    performs = λ l t before failures err s h rest stood flows reached.
-        let now = one.events_performed.performs l t before failures err s h (others ++ rest) stood (flows.0, flows.1, tt) reached in
-        more.events_performed.performs l t before failures err s (behind_event s.registers first h) rest now.stands flows.2 now.reaches;
-  };
-  reader = more.reader ∙ one.reader;
-}
+pub performs_both : (first : PageEvent) (others : List PageEvent) (old mid new : Formatter) (told told_mid told_new : Sunk) (done r result : Result (Option Sprung) Halt)
+    → done ≡ Ok None → PerformsOnly (first ∷ []) old mid told told_mid done → PerformsOnly others mid new told_mid told_new r
+    → length others ≤ 99 → (HasFew r 1 → result ≡ further_by 1 r)
+    → PerformsOnly (first ∷ others) old new told told_new result
+performs_both first others old mid new told told_mid told_new done r result quiet ended more short is =
+    let one : PerformsOnly (first ∷ []) old mid told told_mid (Ok None) = subst (λ (r : Result (Option Sprung) Halt). PerformsOnly (first ∷ []) old mid told told_mid r) quiet ended in record {
+      events_performed = record {
+        performs = λ l t before failures err s h rest stood flows reached.
+            let now = one.events_performed.performs l t before failures err s h (others ++ rest) stood (flows.0, tt) reached in
+            behind_first l t before (seen failures told_new err) s first others h rest new.composer r result short is
+            (more.events_performed.performs l t before failures err s (behind_event s.registers first h) rest now.stands flows.1 now.reaches);
+      };
+      reader = more.reader ∙ one.reader;
+    }
+
+-- or sprang something
+pub performs_first_sprung : (first : PageEvent) (others : List PageEvent) (old new : Formatter) (told told_new : Sunk) (sprung : Sprung) (done : Result (Option Sprung) Halt)
+    → done ≡ Ok (Some sprung) → PerformsOnly (first ∷ []) old new told told_new done → PerformsOnly (first ∷ others) old new told told_new (Ok (Some sprung))
+performs_first_sprung first others old new told told_new sprung done found ended =
+    let one : PerformsOnly (first ∷ []) old new told told_new (Ok (Some sprung)) = subst (λ (r : Result (Option Sprung) Halt). PerformsOnly (first ∷ []) old new told told_new r) found ended in record {
+      events_performed = record {
+        performs = λ l t before failures err s h rest stood flows reached.
+            sprang_first l t before (seen failures told_new err) s first others h rest new.composer sprung
+            (one.events_performed.performs l t before failures err s h (others ++ rest) stood (flows.0, tt) reached);
+      };
+      reader = one.reader;
+    }
 
 -- or in which the code halted
 pub performs_first_halted : (first : PageEvent) (others : List PageEvent) (old new : Formatter) (told told_new : Sunk) (halt : Halt)
@@ -217,8 +243,7 @@ pub performs_first_halted : (first : PageEvent) (others : List PageEvent) (old n
 performs_first_halted first others old new told told_new halt one = record {
   events_performed = record {
     performs = λ l t before failures err s h rest stood flows reached.
-        performs_halted l t before _ s (behind_event s.registers first h) (behind_events s.registers others (behind_event s.registers first h)) (others ++ rest) rest halt _ _
-        (one.events_performed.performs l t before failures err s h (others ++ rest) stood (flows.0, flows.1, tt) reached);
+        one.events_performed.performs l t before failures err s h (others ++ rest) stood (flows.0, tt) reached;
   };
   reader = one.reader;
 }
@@ -229,7 +254,7 @@ pub told_then_performed : (line : ℕ) (messages : List Message) (events : List 
     → DoesMeaning line messages events old new (sinks out err) (sinks out_new err_new) r
 told_then_performed line messages events old new out out_new err err_new r puts performed = record {
   does = λ l t before failures from s h rest stood same reached means.
-      does_events l t before _ from s events h old.reader.meaning.events rest r _
+      does_events l t before _ from s events h new.reader.meaning.events rest r _
       (performed.all l t before failures err_new s h rest stood same
       (messages_told l t before failures out err err_new from s h line messages events rest reached means puts.ok));
   reader = performed.reader;
@@ -242,11 +267,20 @@ pub not_told : (line : ℕ) (messages : List Message) (events : List PageEvent) 
 not_told line messages events f out err err_new halt puts is_messages = record {
   does = λ l t before failures from s h rest stood same reached means.
       rw is_messages (messages_lost l t before failures out err err_new from s h line messages events rest reached means puts.err);
-  reader = refl;
+  reader = record { reading = refl; registers = refl };
 }
 
+-- what was performed where the answer is that nothing sprang, or this
+pub performed_quietly : (l : Limits) (t : Beginning) (before now : Seen) (s : State) (events : List PageEvent) (h behind : PageHistory) (rest : List PageEvent) (r : Result (Option Sprung) Halt) (es : ComposerOf)
+    → r ≡ Ok None → Performs l t before now s events h behind rest r es → AllPerformed l t before now s behind rest es
+performed_quietly l t before now s events h behind rest r es is p = subst (λ (r : Result (Option Sprung) Halt). Performs l t before now s events h behind rest r es) is p
+
+pub performed_sprung : (l : Limits) (t : Beginning) (before now : Seen) (s : State) (events : List PageEvent) (h behind : PageHistory) (rest : List PageEvent) (r : Result (Option Sprung) Halt) (sprung : Sprung) (es : ComposerOf)
+    → r ≡ Ok (Some sprung) → Performs l t before now s events h behind rest r es → SprungAt l t before now s events h sprung rest es
+performed_sprung l t before now s events h behind rest r sprung es is p = subst (λ (r : Result (Option Sprung) Halt). Performs l t before now s events h behind rest r es) is p
+
 -- no event is performed by doing nothing
-pub performs_nothing : (f : Formatter) (out : Sunk) → PerformsOnly [] f f out out (Ok tt)
+pub performs_nothing : (f : Formatter) (out : Sunk) → PerformsOnly [] f f out out (Ok None)
 performs_nothing f out = record {
   events_performed = record {
     performs = λ l t before failures err s h rest stood flows reached. record { reaches = reached; stands = stood };

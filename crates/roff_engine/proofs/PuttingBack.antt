@@ -1,5 +1,5 @@
 -- Events that are put back: what was left of those that the reader keeps.
-use Rattle.std.proofs.Common.{◌∙◌, ◌≡◌, ◌≤◌, ◌<◌, ◌+◌, ℕ, List, [], ◌∷◌, ◌++◌, length, Some, None, ap, arith, refl, subst, sym}
+use Rattle.std.proofs.Common.{◌∙◌, ◌≡◌, ◌≤◌, ◌<◌, ◌+◌, ℕ, Bool, true, false, List, [], ◌∷◌, ◌++◌, length, Some, None, ap, arith, refl, subst, sym}
 use Rattle.std.specs.Prelude.{drop, map, slice_get, ◌-◌}
 use Rattle.std.proofs.lemmas.List.{length-map}
 use Rattle.roff_ahead.specs.Input.{Ahead, DoAhead, events_ahead, most_events, putting_all_back, putting_back}
@@ -13,7 +13,9 @@ use Rattle.roff_run.specs.Titles.{keeping, put_back, with_title_kept}
 use Rattle.roff_engine.specs.declared.formatter.Formatter.{Formatter}
 use Rattle.roff_engine.specs.declared.running.Running.{Running as Coded}
 use Rattle.roff_engine.specs.Running.Springing.{HasRoom, PutsBack}
-use Rattle.roff_engine.proofs.EventsLeft.{drop-at, drop-past, drop-past-next}
+use Rattle.roff_engine.specs.Formatter.Sprung.{event_going_on, first_going_on, left_behind}
+use Rattle.roff_engine.specs.declared.sprung.Sprung.{Sprung}
+use Rattle.roff_engine.proofs.EventsLeft.{drop-at, drop-past, drop-past-next, going-none}
 
 -- the reader where these events are put back: a title among them is kept
 abbrev pub reader_keeping : List PageEvent → ReaderState → ReaderState
@@ -121,4 +123,38 @@ puts_past old mid index some puts at =
     subst (λ (es : List PageEvent). slice_get es (index - 1) ≡ None) (kept_same (drop index events) old mid puts) at in
     let none : drop (index - 1) events ≡ drop index events =
     drop-past events (index - 1) stands ∙ sym (subst (λ (n : ℕ). drop n events ≡ []) next (drop-past-next events (index - 1) stands)) in
+    subst (λ (es : List PageEvent). PutsBack es old mid) (sym none) puts
+
+-- What is left of those that the reader keeps was put back: those from an index on, where none goes on.
+pub puts_left : (sprung : Sprung) (old mid : Coded) → sprung.goes_on ≡ false → PutsBack (drop sprung.left old.formatter.reader.meaning.events) old mid
+    → PutsBack (left_behind sprung old.formatter.reader.meaning.events) old mid
+puts_left sprung old mid is puts =
+    let left : List PageEvent = drop sprung.left old.formatter.reader.meaning.events in
+    subst (λ (events : List PageEvent). PutsBack events old mid) (sym (ap (λ (b : Bool). first_going_on b left) is ∙ going-none left)) puts
+
+-- and in front of those behind it the one that goes on
+pub puts_going_on : (sprung : Sprung) (old mid : Coded) (reader : ReaderState) (left : PageUnread) (event : PageEvent) → sprung.goes_on ≡ true
+    → PutsBack (drop (sprung.left + 1) old.formatter.reader.meaning.events) old mid
+    → slice_get mid.formatter.reader.meaning.events sprung.left ≡ Some event
+    → reader ≡ reader_keeping (event_going_on event ∷ []) mid.formatter.reader
+    → (events_ahead mid.unread.input.ahead < most_events mid.unread.limits.depth → left ≡ record mid.unread { input = putting_back (put_back (event_going_on event)) mid.unread.input })
+    → PutsBack (left_behind sprung old.formatter.reader.meaning.events) old (with_both mid reader left)
+puts_going_on sprung old mid reader left event is puts at kept put =
+    let events : List PageEvent = old.formatter.reader.meaning.events in
+    let others : List PageEvent = drop (sprung.left + 1) events in
+    let stands : slice_get events sprung.left ≡ Some event =
+    subst (λ (es : List PageEvent). slice_get es sprung.left ≡ Some event) (kept_same others old mid puts) at in
+    let opened : left_behind sprung events ≡ event_going_on event ∷ others =
+    ap (λ (b : Bool). first_going_on b (drop sprung.left events)) is ∙ ap (λ (es : List PageEvent). first_going_on true es) (drop-at events sprung.left event stands) in
+    subst (λ (es : List PageEvent). PutsBack es old (with_both mid reader left)) (sym opened) (puts_one (event_going_on event) others old mid reader left puts kept put)
+
+-- where there is none, nothing is left
+pub puts_gone : (sprung : Sprung) (old mid : Coded) → PutsBack (drop (sprung.left + 1) old.formatter.reader.meaning.events) old mid
+    → slice_get mid.formatter.reader.meaning.events sprung.left ≡ None → PutsBack (left_behind sprung old.formatter.reader.meaning.events) old mid
+puts_gone sprung old mid puts at =
+    let events : List PageEvent = old.formatter.reader.meaning.events in
+    let stands : slice_get events sprung.left ≡ None =
+    subst (λ (es : List PageEvent). slice_get es sprung.left ≡ None) (kept_same (drop (sprung.left + 1) events) old mid puts) at in
+    let none : left_behind sprung events ≡ drop (sprung.left + 1) events =
+    ap (λ (es : List PageEvent). first_going_on sprung.goes_on es) (drop-past events sprung.left stands) ∙ sym (drop-past-next events sprung.left stands) in
     subst (λ (es : List PageEvent). PutsBack es old mid) (sym none) puts

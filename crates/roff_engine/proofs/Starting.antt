@@ -8,6 +8,7 @@ use Rattle.roff_num.specs.declared.num.Num.{Num}
 use Rattle.roff_engine.specs.Engine.Outcome.{Outcome, Seen}
 use Rattle.roff_engine.specs.Formatter.Performing.{going}
 use Rattle.roff_engine.specs.Formatter.Setting.{Gives}
+use Rattle.roff_engine.specs.Running.Room.{FewFor}
 use Rattle.roff_engine.specs.Running.Starting.{Begins, HasRoom, IsRefused, SetsSome}
 use Rattle.roff_engine.specs.Running.Turning.{StartStops, state_at}
 use Rattle.roff_engine.specs.declared.formatter.Formatter.{Formatter}
@@ -28,9 +29,9 @@ use Rattle.roff_run.specs.Run.{State, initial, stopped_by, unless_refused, with_
 use Rattle.roff_run.specs.Starts.{given_change, history_given, pages_given}
 use Rattle.roff_run.specs.declared.start.Start.{Start}
 use Rattle.roff_run.specs.declared.status.Status.{Status}
-use Rattle.roff_scan.specs.Looking.{is_closed, looked_then}
-use Rattle.roff_scan.specs.declared.looked.Looked.{Looked}
-use Rattle.roff_scan.specs.declared.looked.Looked.TheVariants.{Nothing}
+use Rattle.roff_ahead.specs.Looking.{is_closed, looked_then}
+use Rattle.roff_ahead.specs.declared.looked.Looked.{Looked}
+use Rattle.roff_ahead.specs.declared.looked.Looked.TheVariants.{Nothing}
 use Rattle.roff_source.specs.Tape.{Tape}
 
 -- what asking for a change answers, by whether more names than may would have a register behind it
@@ -150,6 +151,7 @@ module _ (first : PageHistory) (old now : Coded) (given rest : List (ℕ × Num)
       room = λ had. record {
         ready = subst (λ (r : ReaderState). IsReady r.registers now.unread) (sym is) (ready had);
         limits = (far.some.room had).limits;
+        few = subst (λ (r : ReaderState). FewFor [] r.reading now.unread.input.escapes now.unread.input.ahead) (sym is) (far.some.room had).few;
       };
       quiet = quiet;
     }

@@ -16,8 +16,8 @@ use Rattle.roff_source.proofs.PlainBytes.{take_while-plain}
 use Rattle.roff_source.specs.Bytes.{is_text_byte}
 use Rattle.roff_ahead.specs.Input.{Ahead, bytes_taken, lines_taken}
 use Rattle.roff_source.specs.Tape.{Tape, OneByte, items_then}
-use Rattle.roff_scan.specs.Looking.{is_closed, looked_then}
-use Rattle.roff_scan.specs.declared.looked.Looked.{Looked}
+use Rattle.roff_ahead.specs.Looking.{is_closed, looked_then}
+use Rattle.roff_ahead.specs.declared.looked.Looked.{Looked}
 use Rattle.roff_scan.specs.Unread.Calls.{OfSource, OfTexts, PassesFront, front_bytes}
 use Rattle.roff_run.specs.Environments.{Environments, environments, text_of}
 use Rattle.roff_requests.specs.Composer.Standing.{StandFor}
@@ -51,7 +51,8 @@ use Rattle.roff_engine.specs.Formatter.Performing.{going}
 use Rattle.roff_engine.specs.Formatter.Telling.{TellsFront}
 use Rattle.roff_engine.specs.Running.Turning.{GoesPast, IsAt, line_turns, lines_left_in, state_at, turns_of_run}
 use Rattle.roff_sinks.specs.Sinks.{Sunk}
-use Rattle.roff_engine.proofs.Passing.{IsAt-leads, all_by, goes_past_fewer}
+use Rattle.roff_engine.proofs.Passing.{IsAt-leads, all_by, few-alone, goes_past_fewer}
+use Rattle.roff_engine.specs.Running.Room.{FewFor}
 use Rattle.roff_engine.proofs.TurnsLeft.{turns_of_run-no_more}
 use Rattle.roff_run.specs.Reading.Items.{Taking}
 use Rattle.roff_run.specs.Registers.{no_registers}
@@ -241,14 +242,14 @@ module _ (old : Coded) (f : Formatter) (front : List ℕ) (count : ℕ) (told : 
   -- the run is at its place where the definition's leads on over them
   IsAt-told : (whole : Beginning) (tape t : Tape) (start now : Seen) (input : PageInput) (at : IsAt whole tape start now old)
       → Leads old.unread.limits (state_at tape old at.history at.messages) (state_at t (behind input) (page_told bytes at.history) at.messages)
-      → first_passed old.unread.limits (counts_in rs input) ≡ None → IsAt whole t start now (behind input)
-  IsAt-told whole tape t start now input at leads within =
+      → first_passed old.unread.limits (counts_in rs input) ≡ None → FewFor [] reading input.escapes input.ahead → IsAt whole t start now (behind input)
+  IsAt-told whole tape t start now input at leads within few =
       let from : State = state_at tape old at.history at.messages in
       let there : State = state_at t (behind input) (page_told bytes at.history) at.messages in
       IsAt-leads whole tape t start now old formatter_behind (record old.unread { input = input }) (page_told bytes at.history) at
       (subst (λ (l : Limits). Leads l from there) at.limits leads)
       (written-told old.unread.limits.line bytes at.history (quiet whole tape start now at))
-      (told.stands old.limits at.history at.stands) (record { cap = at.ready.cap; line = at.ready.line; within = within }) at.limits
+      (told.stands old.limits at.history at.stands) (record { cap = at.ready.cap; line = at.ready.line; within = within }) at.limits few
 
   -- from there
   IsAt-from : (from : Origin) (whole : Beginning) (t taken : Tape) (start now : Seen) (input : PageInput) → IsOpenFor from (is_closed old.unread.looked) → old.unread.input.ahead ≡ ahead_at from bytes
@@ -275,6 +276,7 @@ module _ (old : Coded) (f : Formatter) (front : List ℕ) (count : ℕ) (told : 
       (subst (λ (from : State). Leads l from (here (looked_then old.unread.looked t) input h)) stands
       (subst (λ (there : State). Leads l (here (tape_at from bytes tape) (record i { ahead = ahead_at from bytes }) at.history) there) comes led.0))
       (subst (λ (j : PageInput). first_passed l (counts_in rs j) ≡ None) same led.1)
+      (few-alone from bytes reading i input none_half at.few front same)
 
   -- no more turns are to come
   turns-told : (from : Origin) (input : PageInput) → old.unread.input.ahead ≡ ahead_at from bytes → input ≡ counted from bytes old.unread.input

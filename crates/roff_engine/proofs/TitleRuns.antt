@@ -20,9 +20,9 @@ use Rattle.roff_escape.specs.declared.open_escape.CopyUnit.TheVariants.{Byte}
 use Rattle.roff_escape.specs.declared.open_escape.Found.TheVariants.{GoesOn, Unit as GivesUnit}
 use Rattle.roff_escape.specs.declared.open_escape.Surroundings.TheVariants.{Text as AboveText}
 use Rattle.roff_ahead.specs.Input.{Ahead, ByteAhead, bytes_taken, lines_taken}
-use Rattle.roff_scan.specs.Looking.{is_closed, looked_then}
+use Rattle.roff_ahead.specs.Looking.{is_closed, looked_then}
 use Rattle.roff_scan.specs.Unread.Calls.{OfSource, OfTexts, PassesFront}
-use Rattle.roff_scan.specs.declared.looked.Looked.{Looked}
+use Rattle.roff_ahead.specs.declared.looked.Looked.{Looked}
 use Rattle.roff_run.proofs.InputCounts.{NoMore-item_taken, first_passed-few_names, first_passed-no_more}
 use Rattle.roff_run.proofs.ItemsTaken.{FromAhead, FromSource, IsOpenFor, Origin, ahead_at, byte_ahead_is_taken, bytes_of_the_source_are_taken, tape_at}
 use Rattle.roff_run.proofs.Leads.{Leads-refl, Leads-trans}
@@ -56,7 +56,7 @@ use Rattle.roff_engine.specs.declared.running.Running.{Running as Coded}
 use Rattle.roff_engine.specs.Engine.Outcome.{Beginning, Seen, seen}
 use Rattle.roff_engine.specs.Formatter.Performing.{going}
 use Rattle.roff_engine.specs.Running.Turning.{GoesPast, IsAt, turns_of_run}
-use Rattle.roff_engine.proofs.Passing.{IsAt-leads, goes_past_fewer}
+use Rattle.roff_engine.proofs.Passing.{IsAt-leads, few-alone, goes_past_fewer}
 use Rattle.roff_engine.proofs.TurnsLeft.{turns_of_run-no_more}
 
 -- what a byte is that stands for the page number, a blank or itself
@@ -255,6 +255,7 @@ module _ (old : Coded) (delimiter : ℕ) (bytes : List ℕ) (in_title : old.form
       IsAt-leads whole taken t start now old formatter_behind (record old.unread { input = input }) at.history at
       (subst (λ (l : Limits). Leads l (here tape i rs) (here (looked_then old.unread.looked t) input new)) at.limits leads) refl at.stands
       (record { cap = at.ready.cap; line = at.ready.line; within = subst (λ (j : PageInput). first_passed l (counts_in new j) ≡ None) same led.1 }) at.limits
+      (few-alone from bytes old.formatter.reader.reading i input none_half at.few front same)
 
   -- no more turns are to come
   turns-title : (from : Origin) (input : PageInput) → old.unread.input.ahead ≡ ahead_at from bytes → input ≡ counted from bytes old.unread.input

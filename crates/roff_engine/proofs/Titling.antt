@@ -1,5 +1,5 @@
 -- Titles that are placed: they are the definition's, with the text, the title length and the number of then.
-use Rattle.std.proofs.Common.{◌≡◌, ◌∙◌, ℕ, ◌+◌, ◌*◌, ◌<◌, ◌≤◌, ◌^◌, List, length, Option, Some, Result, ap, arith, subst, sym}
+use Rattle.std.proofs.Common.{◌≡◌, ◌∙◌, ℕ, ◌+◌, ◌*◌, ◌<◌, ◌≤◌, ◌^◌, true, false, List, [], ◌∷◌, length, Option, Some, None, Result, ap, arith, refl, subst, sym}
 use Rattle.std.proofs.lemmas.Nat.{mul-le}
 use Rattle.roff_num.specs.RegisterText.{register_text}
 use Rattle.roff_num.specs.declared.limits.Limits.{Limits}
@@ -16,20 +16,25 @@ use Rattle.roff_requests.specs.declared.environments.Environments.{Environments 
 use Rattle.roff_reader.specs.Reader.State.{ReaderState}
 use Rattle.roff_run.specs.Environments.{PageHistory, environments}
 use Rattle.roff_run.specs.Layouts.{happens, layout_of}
-use Rattle.roff_run.specs.PageEvents.{PastEvent}
+use Rattle.roff_run.specs.PageEvents.{PageEvent, PastEvent}
 use Rattle.roff_run.specs.Registers.{AllRegisters}
 use Rattle.roff_run.specs.Run.Counts.{first_passed, written_counted}
 use Rattle.roff_run.specs.TitleTexts.{TitleText}
-use Rattle.roff_run.specs.Titles.{title_of, title_told}
+use Rattle.roff_run.specs.Titles.{title_of, title_told, told}
 use Rattle.roff_run.specs.declared.event.PageEvent.TheVariants.{Title}
 use Rattle.roff_run.specs.declared.title.WhichTitle.{WhichTitle}
 use Rattle.roff_engine.specs.declared.formatter.Formatter.{Formatter}
 use Rattle.roff_engine.specs.declared.halt.Halt.{Halt}
 use Rattle.roff_engine.specs.Formatter.Paging.{PutsOnPage, ReadyFor}
-use Rattle.roff_engine.specs.Formatter.Performing.{PerformsOne}
-use Rattle.roff_engine.specs.Formatter.Sprung.{none_sprung}
+use Rattle.roff_engine.specs.Formatter.Performing.{PerformsOne, PlacesTitle, acting, behind_event}
+use Rattle.roff_engine.specs.Engine.Outcome.{seen}
+use Rattle.roff_engine.specs.declared.sprung.Sprung.{Sprung}
+use Rattle.roff_run.proofs.LinesLeft.{lines_left-event}
+use Rattle.roff_run.specs.Run.{performing}
 use Rattle.roff_engine.specs.Formatter.Titling.{title_at}
-use Rattle.roff_engine.proofs.DoneFirst.{PerformsHere, put_here, ready_then, title_first}
+use Rattle.roff_engine.proofs.DoneFirst.{PerformsHere, one_here, put_here}
+use Rattle.roff_engine.proofs.FirstPages.{begun, begun_for, behind-alone, next-alone}
+use Rattle.roff_engine.proofs.Springing.{lines-begun, performs_from}
 use Rattle.roff_engine.proofs.TitleNumbers.{part-width}
 
 -- a part is so wide with a number of so many bytes
@@ -55,27 +60,40 @@ title-happens f which number is l h stood =
     ap (λ (s : Settings). made s.title_length (register_text rs.page_format (layout_of h).number.0)) (sym stood.environments.in_force.lines.settings)
     ∙ ap (made f.composer.environments.in_force.lines.settings.title_length) (sym (is (layout_of h) stood.pages))
 
--- it is performed where it is done first
-title_here : (which : WhichTitle) (number : List ℕ) (old new : Formatter) (out out_new : Sunk) (r : Result (Unit {0}) Halt)
+-- it is placed where no page begins in front of it
+pub title_here : (which : WhichTitle) (number : List ℕ) (old new : Formatter) (out out_new : Sunk) (r : Result (Option Sprung) Halt)
     → ((L : Layout) → StandsAs L old.composer.pages → number ≡ register_text old.reader.registers.all.page_format L.number.0)
     → PutsOnPage (Titles (title_at old which number)) old.composer.pages new.composer.pages out out_new r
     → new ≡ record old { composer = record old.composer { pages = new.composer.pages } }
-    → PerformsHere (Title (title_told old.reader.registers.all which)) old new out out_new r
+    → PlacesTitle which old new out out_new r
 title_here which number old new out out_new r is put others =
     let x : PastEvent = Title (title_told old.reader.registers.all which) in
-    put_here x (Titles (title_at old which number)) old new out out_new r put (title-happens old which number is)
+    let performs : PerformsHere x old new out out_new r =
+    put_here x (Titles (title_at old which number)) old new out out_new r put (title-happens old which number is) (λ h. refl)
     (λ l h stood. ap (λ (o : Option Happening). first_passed l (written_counted h o)) (title-happens old which number is l h stood))
     (λ l h stood. subst (λ (es : EnvironmentsOf). StandBy l (environments h) es) (sym (ap (λ (f : Formatter). f.composer.environments) others)) stood.environments)
-    (ap (λ (f : Formatter). f.reader) others)
+    (ap (λ (f : Formatter). f.reader) others) in record {
+      places = λ l t before failures err s h rest stood same none reached.
+          let there : PerformsHere (Title (title_told s.registers which)) old new out out_new r =
+          subst (λ (rs : AllRegisters). PerformsHere (Title (title_told rs which)) old new out out_new r) (sym same) performs in
+          one_here l t before (seen failures out_new err) s (Title which) h h (Title (title_told s.registers which)) rest r new.composer
+          (Title (title_told s.registers which) ∷ h) (λ sprung is. refl) refl (lines_left-event s.registers (Title which) h)
+          (there.here l t before failures err s h (Title which) rest rest stood
+          (ap (λ (first : Option PageEvent). performing l first (Title which) rest (acting s (Title which ∷ rest) h)) none) reached);
+      reader = performs.reader;
+    }
 
 -- so it is performed by a formatter that was ready for it
-pub title_placed : (which : WhichTitle) (number : List ℕ) (old mid new : Formatter) (out out_new : Sunk) (r : Result (Unit {0}) Halt) → ReadyFor (Title which) old mid
-    → ((L : Layout) → StandsAs L mid.composer.pages → number ≡ register_text mid.reader.registers.all.page_format L.number.0)
-    → PutsOnPage (Titles (title_at mid which number)) mid.composer.pages new.composer.pages out out_new r
-    → new ≡ record mid { composer = record mid.composer { pages = new.composer.pages } }
-    → PerformsOne (Title which) old new out out_new (none_sprung r)
-title_placed which number old mid new out out_new r ready is put others =
-    let here : PerformsHere (Title (title_told old.reader.registers.all which)) mid new out out_new r =
-    subst (λ (reader : ReaderState). PerformsHere (Title (title_told reader.registers.all which)) mid new out out_new r) ready.reader
-    (title_here which number mid new out out_new r is put others) in
-    title_first which old new out out_new r (ready_then (Title which) (Title (title_told old.reader.registers.all which)) old mid new out out_new r ready here)
+pub title_placed : (which : WhichTitle) (old mid new : Formatter) (out out_new : Sunk) (r : Result (Option Sprung) Halt) → ReadyFor (Title which) old mid None
+    → PlacesTitle which mid new out out_new r → PerformsOne (Title which) old new out out_new r
+title_placed which old mid new out out_new r ready placed = record {
+  one = λ l t before failures err s h rest stood same reached.
+      let x : PageEvent = Title which in
+      let g : PageHistory = begun_for x h in
+      let now = begun l t before failures err s h x x rest out (λ is. next-alone h x true refl is) old mid None ready stood reached refl in
+      performs_from l t before (seen failures out_new err) s (x ∷ []) h g (told s.registers x ∷ g) (behind_event s.registers x h) rest r new.composer
+      (lines-begun s.registers x h) (ap (λ (g : PageHistory). told s.registers x ∷ g) (sym (behind-alone s.registers x h refl)))
+      (placed.places l t before failures err s g rest now.stands (same ∙ ap (λ (reader : ReaderState). reader.registers.all) (sym ready.reader))
+      (next-alone g x false refl now.none) now.reaches);
+  reader = placed.reader ∙ ready.reader;
+}

@@ -4,10 +4,10 @@ use Rattle.std.specs.Prelude.{map}
 use Rattle.roff_num.specs.declared.limits.Limits.{Limits}
 use Rattle.roff_ahead.specs.Input.{Ahead}
 use Rattle.roff_source.specs.Tape.{Tape, OneByte, items_then}
-use Rattle.roff_scan.specs.Looking.{is_closed, looked_then}
-use Rattle.roff_scan.specs.declared.looked.Looked.{Looked}
-use Rattle.roff_scan.specs.declared.looked.Looked.TheVariants.{Nothing}
-use Rattle.roff_scan.specs.Unread.{Stays, input_refusal}
+use Rattle.roff_ahead.specs.Looking.{is_closed, looked_then}
+use Rattle.roff_ahead.specs.declared.looked.Looked.{Looked}
+use Rattle.roff_ahead.specs.declared.looked.Looked.TheVariants.{Nothing}
+use Rattle.roff_ahead.specs.Unread.{Stays, input_refusal}
 use Rattle.roff_scan.specs.Unread.Calls.{OfSource, OfTexts, PassesFront, PassesSource, PassesTexts}
 use Rattle.roff_reader.specs.Reader.State.{MeaningKept, ReaderState}
 use Rattle.roff_reader.specs.Reader.Taken.{IsReady}
@@ -32,7 +32,10 @@ use Rattle.roff_engine.specs.declared.running.Running.{Running as Coded}
 use Rattle.roff_engine.specs.Engine.Outcome.{Beginning, Seen, seen}
 use Rattle.roff_engine.specs.Running.Turning.{GoesPast, IsAt, line_turns, lines_left_in, state_at, turns_left, turns_of_run}
 use Rattle.roff_sinks.specs.Sinks.{Sunk}
-use Rattle.roff_engine.proofs.Passing.{IsAt-leads, goes_past_fewer}
+use Rattle.roff_engine.proofs.Fronts.{few-none}
+use Rattle.roff_engine.proofs.Passing.{IsAt-leads, goes_past_fewer, none-read}
+use Rattle.roff_engine.specs.Running.Room.{FewFor}
+use Rattle.roff_ahead.specs.Input.Few.{AreFew, AreFewFrom}
 use Rattle.roff_engine.proofs.TurnsLeft.{turns_of_run-fewer, turns_of_run-no_more}
 
 -- the code where this is read
@@ -49,6 +52,18 @@ pub record ReadFrom (from : Origin) (bytes : List ℕ) (old : Coded) (reading : 
   pub leads : stage_input old.unread.input.names (stage_of reading input) from [] (behind_bytes from bytes old.unread.input) ≡ input
   pub charged : old.unread.input.charge + length bytes ≤ old.unread.limits.bytes
   pub within : input_refusal old.unread.limits input ≡ None
+
+-- so few events stand in front behind them
+few-turned : (from : Origin) (bytes : List ℕ) (old : Coded) (reading : LineState) (input : PageInput) → ReadFrom from bytes old reading input
+    → FewFor [] old.formatter.reader.reading old.unread.input.escapes old.unread.input.ahead → FewFor [] reading input.escapes input.ahead
+few-turned from [] old reading input read few =
+    let none : stage_of old.formatter.reader.reading old.unread.input ≡ stage_of reading input = Turned-none _ _ _ [] refl read.turned in
+    subst (λ (p : Stage). FewFor [] p.reading p.escapes input.ahead) none
+    (subst (FewFor [] old.formatter.reader.reading old.unread.input.escapes) (read.ahead ∙ ap (λ (j : PageInput). j.ahead) read.leads) few)
+few-turned from (b ∷ bytes) old reading input read few =
+    few-none [] reading input.escapes input.ahead
+    (subst (λ (items : List (Ahead PageEvent)). AreFewFrom 0 items) (ap (λ (j : PageInput). j.ahead) read.leads)
+    (none-read from b bytes (subst (λ (items : List (Ahead PageEvent)). AreFew items) read.ahead few.few))) (λ keeps is. refl)
 
 -- so the run is at its place behind them, over what is left of the tape
 IsAt-turned : (whole : Beginning) (t taken : Tape) (start now : Seen) (old : Coded) (reading : LineState) (input : PageInput) (from : Origin) (bytes : List ℕ)
@@ -79,6 +94,7 @@ IsAt-turned whole t taken start now old reading input from bytes is_open read as
     let leads : Leads l s there = record { steps = length bytes; there = ap (after l (length bytes)) (sym stands) ∙ comes ∙ is } in
     IsAt-leads whole taken t start now old (record old.formatter { reader = record old.formatter.reader { reading = reading } }) (record old.unread { input = input }) at.history at
     (subst (λ (k : Limits). Leads k s there) at.limits leads) refl at.stands (record { cap = ready.cap; line = ready.line; within = fits }) at.limits
+    (few-turned from bytes old reading input read at.few)
 
 -- fewer turns are to come, by one for each byte
 turns-read : (old : Coded) (reading : LineState) (input : PageInput) (from : Origin) (bytes : List ℕ) → ReadFrom from bytes old reading input

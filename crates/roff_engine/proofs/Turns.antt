@@ -1,12 +1,12 @@
 -- Turns of a run of the code: a call of the unread input, and what is done with what it shows.
-use Rattle.std.proofs.Common.{◌≡◌, inl, ℕ, ◌+◌, ◌<◌, ◌≤◌, List, [], ◌∷◌, Result, Ok, Err, OnOk, refl, sym, ap, subst, ◌∙◌, arith}
+use Rattle.std.proofs.Common.{◌≡◌, inl, ℕ, ◌-◌, ◌+◌, ◌<◌, ◌≤◌, List, [], ◌∷◌, Result, Ok, Err, OnOk, refl, sym, ap, subst, ◌∙◌, arith}
 use Rattle.std.specs.Prelude.{IsOkUnless}
 use Rattle.roff_num.specs.declared.limit.Limit.{Limit}
 use Rattle.roff_num.specs.declared.limits.Limits.{Limits}
 use Rattle.roff_ahead.specs.Input.{DoAhead}
 use Rattle.roff_source.specs.Tape.{Tape, Item, Ending, Ended, Failed, Stopped, items_then}
 use Rattle.roff_num.specs.Faults.{Rises}
-use Rattle.roff_scan.specs.Unread.{asks_to_take, taking}
+use Rattle.roff_ahead.specs.Unread.{asks_to_take, taking}
 use Rattle.roff_ahead.specs.Shown.{Shown, ShowsByte, ShowsEnd, ShowsReturn, ShowsDo, ShowsNote, ShowsEnding, ShowsRefusal}
 use Rattle.roff_scan.specs.Unread.Calls.{Takes}
 use Rattle.roff_escape.specs.OpenEscape.{OpenEscape}
@@ -17,7 +17,7 @@ use Rattle.roff_run.specs.declared.status.Status.TheVariants.{Device, Limit as L
 use Rattle.roff_run.specs.Messages.{message_line}
 use Rattle.roff_run.specs.Output.{PageHistory}
 use Rattle.roff_run.specs.Reading.Items.{PageUnread}
-use Rattle.roff_run.specs.Reading.{interrupted}
+use Rattle.roff_run.specs.Reading.{interrupted, taking as byte_taking}
 use Rattle.roff_run.specs.Reading.Ends.{is_unfinished}
 use Rattle.roff_run.specs.Reading.Items.{PageInput}
 use Rattle.roff_run.specs.declared.line_state.LineState.{LineState}
@@ -29,7 +29,12 @@ use Rattle.roff_engine.specs.declared.running.Running.{Running as Coded}
 use Rattle.roff_engine.specs.Engine.Outcome.{Beginning, Seen, OutcomeOf, seen}
 use Rattle.roff_engine.specs.Running.Turning.{DoesItem, Continues, Halts, IsAt, MayEnd, MayGoOn, StepDoes, TookFrom, TurnsBy, input_ends, state_at, turns_at, turns_of_run, turns_with}
 use Rattle.roff_sinks.specs.Sinks.{Sunk, Puts}
-use Rattle.roff_engine.proofs.Calls.{EndsThere, EndsThere-takes, Leaves, Leaves-takes}
+use Rattle.roff_ahead.specs.Input.Few.{AreFew}
+use Rattle.roff_engine.specs.Running.Room.{FewFor, SeesOn}
+use Rattle.roff_engine.proofs.Fronts.{few-ends, few-interrupted, few-taken}
+use Rattle.roff_run.proofs.CalmConditions.{Calm-taking}
+use Rattle.roff_run.specs.Reading.Returns.{behind_return}
+use Rattle.roff_engine.proofs.Calls.{EndsThere, EndsThere-takes, FewBehind, Leaves, Leaves-takes, few-taking, none-taking}
 use Rattle.roff_engine.proofs.Items.{end_passed, moved, return_passed, returned, note_told, refused, source_failed, source_stopped, took}
 use Rattle.roff_run.proofs.InFront.{Given-asked, IsEnding, in_front, items_asked, over_unread, over_unread-ending, shown_step}
 use Rattle.roff_run.proofs.Behind.{begun-behind_return}
@@ -103,15 +108,17 @@ module _ {gave gives : Tape → Type 0} {old : Coded} {left : PageUnread} {taken
       → (old.unread.limits ≡ old.limits → (tape : Tape) → gives tape → (h : PageHistory) (ms : List ℕ)
       → let from : State = state_at (items_then taken tape) old h ms in does from ≡ made old.limits from (doing (state_at tape (moved old left) h ms)))
       → LeavesFewer doing old left r
+      → ((tape : Tape) (h : PageHistory) (ms : List ℕ) → FewFor [] old.formatter.reader.reading old.unread.input.escapes old.unread.input.ahead
+      → let done : State = doing (state_at tape (moved old left) h ms) in FewFor done.to_do done.reading done.input.escapes left.input.ahead)
       → DoesItem line doing (moved old left) new (seen failures out err) after r
       → TurnsBy does gave gives noted notes old new (seen failed out err) after r
-  acted doing line new failed failures out err after r more less line_is shows fewer acts =
+  acted doing line new failed failures out err after r more less line_is shows fewer room acts =
       turned new (seen failed out err) after r acts.limits (λ t tape start may at goes.
       let from : State = state_at (items_then taken tape) old at.history at.messages in
       let own : DoesItem old.unread.input.line doing (moved old left) new (seen failures out err) after r =
       subst (λ (n : ℕ). DoesItem n doing (moved old left) new (seen failures out err) after r) line_is acts in
       let took_it : TookFrom t tape start (seen failures out err) old.unread.input.line doing from (moved old left) =
-      took leaves failed failures out err more t tape start may at doing (goes ∙ shows at.limits tape may at.history at.messages) in (
+      took leaves failed failures out err more t tape start may at doing (goes ∙ shows at.limits tape may at.history at.messages) (room tape at.history at.messages at.few) in (
         own.acts t tape start from took_it,
         fewer_behind doing old.unread.input.line new (seen failures out err) after r less fewer at.limits own t tape start from took_it,
       ))
@@ -142,6 +149,15 @@ module _ {gave gives : Tape → Type 0} {left : PageUnread} {item : Shown PageEv
 
   ends_front : (ending : Ending) → item ≡ ShowsEnding ending → EndsThere ending old.unread left taken
   ends_front ending = subst (λ (c : Shown PageEvent × PageUnread). c.0 ≡ ShowsEnding ending → EndsThere ending old.unread c.1 taken) left_is (EndsThere-takes old.unread call.answer ending)
+
+  -- so few events stand in front behind it
+  pub few_front : (reading : LineState) → AreFew old.unread.input.ahead → FewBehind old.unread.input reading item left.input
+  few_front reading = subst (λ (c : Shown PageEvent × PageUnread). AreFew old.unread.input.ahead → FewBehind old.unread.input reading c.0 c.1.input) left_is
+      (few-taking old.unread.input.ahead call.answer old.unread.input reading old.unread.looked old.unread)
+
+  pub none_front : (ending : Ending) → item ≡ ShowsEnding ending → left.input.ahead ≡ []
+  none_front ending = subst (λ (c : Shown PageEvent × PageUnread). c.0 ≡ ShowsEnding ending → c.1.input.ahead ≡ []) left_is
+      (none-taking old.unread.input.ahead call.answer old.unread.input old.unread.looked old.unread ending)
 
   pub falls_front : IsTaken item → turns_to_come left + 5 ≤ turns_to_come old.unread
   falls_front = subst (λ (c : Shown PageEvent × PageUnread). IsTaken c.0 → turns_to_come c.1 + 5 ≤ turns_to_come old.unread) left_is (turns_to_come-taking call.answer old.unread)
@@ -183,44 +199,52 @@ module _ {gave gives : Tape → Type 0} {left : PageUnread} (old : Coded) (faile
         omega (arith, turns_within-byte old.unread.limits.bytes (known s) s.reading s.input b, turns_of left old.unread.limits s.input leaves.limits (sym is), falls_front old call tt),
         refl,
       )) in
-      acted leaves _ noted notes (byte_taken b) line new failed failures out err after r more less line_is (shown_front old call) fewer acts
+      acted leaves _ noted notes (byte_taken b) line new failed failures out err after r more less line_is (shown_front old call) fewer
+      (λ tape h ms few.
+      let s : State = state_at tape (moved old left) h ms in
+      few-taken (byte_taking (known s) s.reading left.input b) left.input.ahead (few_front old call s.reading few.few) (Calm-taking (known s) s.reading left.input b)) acts
 
   -- an event that was put back
-  pub front_event : (event : PageEvent) (line : ℕ) (new : Coded) (after : Seen) (r : Result (Unit {0}) Status) → Takes gave gives old.unread left (ShowsDo event)
+  pub front_event : SeesOn old.unread.input → (event : PageEvent) (line : ℕ) (new : Coded) (after : Seen) (r : Result (Unit {0}) Status) → Takes gave gives old.unread left (ShowsDo event)
       → line ≡ old.unread.input.line → DoesItem line (ahead_taken (DoAhead event)) (moved old left) new (seen failures out err) after r → FrontTurn gave gives noted notes old new (seen failed out err) after r
-  front_event event line new after r call line_is acts =
+  front_event sees event line new after r call line_is acts =
       let leaves = leaves_front old call in
       let fewer : LeavesFewer (ahead_taken (DoAhead event)) old left r = leaves_fewer (ahead_taken (DoAhead event)) old left r (λ s is same. (
         omega (arith, turns-interrupted old.unread.limits.bytes s.reading s.input, turns_of left old.unread.limits s.input leaves.limits (sym is), falls_front old call tt),
         refl,
       )) in
-      acted leaves _ noted notes (ahead_taken (DoAhead event)) line new failed failures out err after r more less line_is (shown_front old call) fewer acts
+      acted leaves _ noted notes (ahead_taken (DoAhead event)) line new failed failures out err after r more less line_is (shown_front old call) fewer
+      (λ tape h ms few.
+      let reading : LineState = old.formatter.reader.reading in
+      few-interrupted (event ∷ []) reading left.input (few_front old call reading few.few sees)) acts
 
   -- the end of a text
-  pub front_end : Takes gave gives old.unread left ShowsEnd → FrontTurn gave gives noted notes old (moved old left) (seen failed out err) (seen failures out err) (Ok tt)
-  front_end call =
+  pub front_end : SeesOn old.unread.input → Takes gave gives old.unread left ShowsEnd → FrontTurn gave gives noted notes old (moved old left) (seen failed out err) (seen failures out err) (Ok tt)
+  front_end sees call =
       turned (leaves_front old call) _ noted notes (moved old left) (seen failed out err) (seen failures out err) (Ok tt) refl (λ t tape start may at goes. (
-        end_passed (leaves_front old call) failed failures out err more t tape start may at (goes ∙ shown_front old call at.limits tape may at.history at.messages),
+        end_passed (leaves_front old call) failed failures out err more t tape start may at (goes ∙ shown_front old call at.limits tape may at.history at.messages)
+            (few_front old call old.formatter.reader.reading at.few.few sees),
         (let behind = turns_of_run-fewer old (moved old left) (omega (arith, falls_front old call tt)) refl in omega (arith, less, behind)),
       ))
 
   -- the end of a body
-  pub front_return : (back : ℕ) → Takes gave gives old.unread left (ShowsReturn back)
+  pub front_return : SeesOn old.unread.input → (back : ℕ) → Takes gave gives old.unread left (ShowsReturn back)
       → FrontTurn gave gives noted notes old (returned back old left) (seen failed out err) (seen failures out err) (Ok tt)
-  front_return back call =
+  front_return sees back call =
       turned (leaves_front old call) _ noted notes (returned back old left) (seen failed out err) (seen failures out err) (Ok tt) refl (λ t tape start may at goes. (
-        return_passed (leaves_front old call) failed failures out err more t tape start may at back (goes ∙ shown_front old call at.limits tape may at.history at.messages),
+        return_passed (leaves_front old call) failed failures out err more t tape start may at back (goes ∙ shown_front old call at.limits tape may at.history at.messages)
+            (few_front old call (behind_return back old.formatter.reader.reading) at.few.few sees),
         (let behind = turns_of_run-fewer old (returned back old left) (omega (arith, falls_front old call tt, begun-behind_return back old.formatter.reader.reading)) refl in
             omega (arith, less, behind)),
       ))
 
   -- a message of the source's
-  pub front_note : (note : List ℕ) (told : Sunk) (r : Result (Unit {0}) Status) → Takes gave gives old.unread left (ShowsNote note) → notes < noted
+  pub front_note : SeesOn old.unread.input → (note : List ℕ) (told : Sunk) (r : Result (Unit {0}) Status) → Takes gave gives old.unread left (ShowsNote note) → notes < noted
       → Puts err told note r → IsOkUnless r Device → FrontTurn gave gives noted notes old (moved old left) (seen failed out err) (seen failures out told) r
-  front_note note told r call fewer puts is =
+  front_note sees note told r call fewer puts is =
       let leaves = leaves_front old call in
       turned leaves _ noted notes (moved old left) (seen failed out err) (seen failures out told) r refl (λ t tape start may at goes. (
-        note_told leaves failed failures out err more t tape start may at told note r (goes ∙ shown_front old call at.limits tape may at.history at.messages) puts is,
+        note_told leaves failed failures out err more t tape start may at told note r (few_front old call old.formatter.reader.reading at.few.few sees) (goes ∙ shown_front old call at.limits tape may at.history at.messages) puts is,
         on_ok r (omega (arith, fewer, leaves.turns)),
       ))
 
@@ -243,7 +267,8 @@ module _ {gave gives : Tape → Type 0} {left : PageUnread} (old : Coded) (faile
       shown_front old call limits tape may h ms
       ∙ ending_input-made old.limits from.input.escapes from
       ∙ ap (λ (s : State). made old.limits from (input_ends s)) (sym (unmoved_front old call tt tape may h ms)))
-      fewer (acts (subst (λ (u : PageUnread). MayEnd (moved old u)) (sym ends.same) ends.looked))
+      fewer (λ tape h ms few. few-ends (state_at tape (moved old left) h ms) refl left.input.ahead (none_front old call Ended refl))
+      (acts (subst (λ (u : PageUnread). MayEnd (moved old u)) (sym ends.same) ends.looked))
 
   -- a fault of the source
   pub front_failed : {F : Type 0} (report : Result (Unit {0}) F) (told : Sunk) (status : Status) → Takes gave gives old.unread left (ShowsEnding Failed)

@@ -1,6 +1,8 @@
 -- A turn in which what is half read waits for a byte: what is seen, and what is done with it.
-use Rattle.roff_escape.specs.OpenEscape.{OpenEscape}
-use Rattle.std.proofs.Common.{◌≡◌, ℕ, ◌<◌, ◌≤◌, Bool, true, false, List, ◌++◌, length, Option, Some, None, Result, Err, refl, sym, ap, subst, ◌∙◌, arith, append_assoc, ◌∷◌, []}
+use Rattle.roff_escape.specs.Conditions.{is_decided}
+use Rattle.roff_escape.specs.OpenEscape.{OpenEscape, Backslash, Comment, Name, Size, Delimited, Width, Condition}
+use Rattle.roff_escape.specs.declared.open_escape.ConditionPart.TheVariants.{Choice, Expression, Compared, Decided}
+use Rattle.std.proofs.Common.{◌≡◌, ℕ, ◌-◌, ◌<◌, ◌≤◌, Bool, true, false, List, ◌++◌, length, Option, Some, None, Result, Err, refl, sym, ap, subst, ◌∙◌, arith, append_assoc, ◌∷◌, []}
 use Rattle.std.specs.Prelude.{IsOkUnless, if◌then◌else◌}
 use Rattle.roff_num.specs.declared.limit.Limit.{Limit}
 use Rattle.roff_num.specs.declared.limits.Limits.{Limits}
@@ -8,35 +10,37 @@ use Rattle.roff_arguments.specs.declared.arguments.Place.{Place}
 use Rattle.roff_escape.specs.Waiting.{decides as decides_by, is_ended_by}
 use Rattle.roff_escape.specs.declared.open_escape.Waiting.{Waiting}
 use Rattle.roff_escape.specs.declared.open_escape.Waiting.TheVariants.{Takes as TakesAny, Decides, Waits}
-use Rattle.roff_ahead.specs.Input.{Ahead, ByteAhead, FreeAhead, EndAhead, ReturnAhead, DoAhead}
-use Rattle.roff_source.specs.Tape.{Tape, Item, Answer, Gives, Ends, OneByte, OneNote, Ending, Ended, Failed, Stopped, items_then}
+use Rattle.roff_source.specs.Tape.{Tape, Item, Ending, Ended, Failed, Stopped, items_then}
 use Rattle.roff_num.specs.Faults.{Rises}
-use Rattle.roff_scan.specs.Unread.{asks_to_look, asks_to_take, looking, taking}
-use Rattle.roff_scan.specs.declared.looked.Looked.{Looked}
-use Rattle.roff_scan.specs.declared.looked.Looked.TheVariants.{Nothing, Byte, Closed}
-use Rattle.roff_ahead.specs.Shown.{Shown, ShowsByte, ShowsDo, ShowsEnd, ShowsRefusal, ShowsReturn, Sighted, SeesByte, SeesNothing, SeesNote, SeesEnding, seen_ahead}
-use Rattle.roff_scan.specs.Unread.Calls.{Looks, Takes}
-use Rattle.roff_run.specs.PageEvents.{PageEvent}
+use Rattle.roff_ahead.specs.Unread.{asks_to_look, looking, looking_past}
+use Rattle.roff_ahead.specs.Shown.{Sighted, SeesByte, SeesNothing, SeesNote, SeesEnding, seen_ahead}
+use Rattle.roff_scan.specs.Unread.Calls.{Looks}
 use Rattle.roff_run.specs.declared.message.Message.TheVariants.{ReadFailed}
 use Rattle.roff_run.specs.declared.status.Status.{Status}
 use Rattle.roff_run.specs.declared.status.Status.TheVariants.{Device, Limit as Limited}
 use Rattle.roff_run.specs.Messages.{message_line}
 use Rattle.roff_run.specs.Output.{PageHistory}
 use Rattle.roff_run.specs.Reading.Items.{PageUnread}
-use Rattle.roff_run.specs.Reading.Items.{PageInput}
-use Rattle.roff_run.specs.Run.{State, awaited, awaited_of_source, byte_taken, front_seen, escape_ends, in_front_taken, known, made, read_waiting, item_read, step}
-use Rattle.roff_run.specs.Reading.Waiting.{waiting_in}
+use Rattle.roff_run.specs.Reading.Items.{PageInput, Taking}
+use Rattle.roff_run.specs.Run.{State, awaited, escape_ends, in_front_taken, known, made, read_waiting, item_read, step}
+use Rattle.roff_run.specs.Reading.{escape_ended}
+use Rattle.roff_run.specs.Registers.{Known}
+use Rattle.roff_run.specs.Reading.Waiting.{waiting_above, waiting_in}
 use Rattle.roff_run.specs.declared.line_state.LineState.{LineState}
 use Rattle.roff_engine.specs.declared.running.Running.{Running as Coded}
 use Rattle.roff_engine.specs.Engine.Outcome.{Beginning, Seen, seen}
 use Rattle.roff_engine.specs.Running.Turning.{DoesItem, IsAt, StepDoes, TurnsBy, state_at, turns_with}
 use Rattle.roff_sinks.specs.Sinks.{Sunk, Puts}
+use Rattle.roff_ahead.proofs.FewEvents.{few-behind}
+use Rattle.roff_engine.specs.Running.Room.{FewFor, SeesOn, decides_next}
+use Rattle.roff_engine.proofs.EndsUnseen.{few-unseen}
+use Rattle.roff_engine.proofs.Fronts.{few-appended, few-seen_ended}
 use Rattle.roff_engine.proofs.Calls.{EndsThere, EndsThere-looks, Leaves, Leaves-looks, Leaves-deciding}
 use Rattle.roff_engine.proofs.Items.{looked_at, moved, note_told, source_failed, source_stopped}
-use Rattle.roff_engine.proofs.Turns.{LeavesFewer, acted, falls_front, leaves_fewer, leaves_front, on_ok, on_ok-then, shown_front, turned, turns_of}
-use Rattle.roff_run.proofs.InFront.{Given, WasAsked, WasNot, Given-asked, IsNoNote, Looks-looking, items_asked, over_unread, over_unread-looking, front_step, seen as seen_step, sighted_step}
-use Rattle.roff_run.proofs.TurnsToCome.{turns_within-byte, turns_within-escape_ended}
-use Rattle.roff_run.proofs.Waiting.{ended-deciding, length-is_ended_by, undecided}
+use Rattle.roff_engine.proofs.Turns.{LeavesFewer, acted, leaves_fewer, on_ok, on_ok-then, turned, turns_of}
+use Rattle.roff_run.proofs.InFront.{Given-asked, IsNoNote, Looks-looking, items_asked, over_unread, over_unread-looking, front_step, seen as seen_step, sighted_step}
+use Rattle.roff_run.proofs.TurnsToCome.{turns_within-escape_ended}
+use Rattle.roff_run.proofs.Waiting.{ended-deciding, length-is_ended_by}
 
 -- a look shows this in front, a byte or nothing that can be read: no message, fault or limit of the source's
 abbrev pub ShowsFront : Option ℕ → Sighted → Type 0
@@ -90,6 +94,16 @@ module _ {gave gives : Tape → Type 0} {left : PageUnread} {sight : Sighted} (o
   pub input_look : left.input ≡ old.unread.input
   input_look = subst (λ (c : Sighted × PageUnread). c.1.input ≡ old.unread.input) left_is (Looks-looking call.answer old.unread).input
 
+  -- as few events stand in front
+  pub few_look : FewFor [] old.formatter.reader.reading old.unread.input.escapes old.unread.input.ahead → FewFor [] old.formatter.reader.reading left.input.escapes left.input.ahead
+  few_look = subst (λ (i : PageInput). FewFor [] old.formatter.reader.reading i.escapes i.ahead) (sym input_look)
+
+  -- where nothing that can be read is in front it shows that
+  pub nothing_look : seen_ahead left.input.ahead ≡ Some SeesNothing → sight ≡ SeesNothing
+  nothing_look none =
+      let seen : seen_ahead old.unread.input.ahead ≡ Some SeesNothing = subst (λ (i : PageInput). seen_ahead i.ahead ≡ Some SeesNothing) input_look none in
+      ap (λ (c : Sighted × PageUnread). c.0) (sym left_is) ∙ ap (λ (o : Option Sighted). (looking_past o call.answer old.unread).0) seen
+
   -- the step is what the look shows
   sighted_look : (tape : Tape) → gives tape → (h : PageHistory) (ms : List ℕ) → let from : State = state_at (items_then taken tape) old h ms in
       awaited old.limits (seen_ahead old.unread.input.ahead) from ≡ sighted_step old.limits sight from (state_at tape (moved old left) h ms)
@@ -106,6 +120,65 @@ module _ {gave gives : Tape → Type 0} {left : PageUnread} {sight : Sighted} (o
       let given = Given-asked gave gives (asks_to_look old.unread) call.answer call.asked tape may in
       subst (λ (c : Sighted × PageUnread). IsNoNote c.0 → over_unread c.1 tape from ≡ from) left_is
       (over_unread-looking old.unread call.answer (items_then taken tape) tape from given) quiet
+
+-- where a condition that decided is next it ends before what can't be read, or what stands above it does
+ended-next : (half : List OpenEscape) → decides_next half ≡ true → is_ended_by half None ≡ true
+ended-next [] next = absurd (cc)
+ended-next (Backslash ∷ rest) next = absurd (cc)
+ended-next (Comment ∷ rest) next = absurd (cc)
+ended-next (Name purpose part ∷ rest) next = absurd (cc)
+ended-next (Size part ∷ rest) next = refl
+ended-next (Delimited purpose d text ∷ rest) next = absurd (cc)
+ended-next (Width d width is_deep ∷ rest) next = absurd (cc)
+ended-next (Condition (Choice negated) text ∷ rest) next = absurd (cc)
+ended-next (Condition (Expression negated) text ∷ rest) next = absurd (cc)
+ended-next (Condition (Compared negated d first) text ∷ rest) next = absurd (cc)
+ended-next (Condition (Decided decision freed) text ∷ rest) next = refl
+
+-- none is where the item in front is taken, whatever it is
+takes-none : (b : Bool) → (if b then Decides else Waits) ≡ TakesAny → b ≡ false
+takes-none true takes = cc
+takes-none false takes = cc
+
+pub takes-next : (reading : LineState) (place : Place) (half : List OpenEscape) → waiting_above reading place half ≡ TakesAny → decides_next half ≡ false
+takes-next reading place [] takes = refl
+takes-next reading place (Backslash ∷ rest) takes = refl
+takes-next reading place (Comment ∷ rest) takes = refl
+takes-next reading place (Name purpose part ∷ rest) takes = refl
+takes-next reading place (Size part ∷ rest) takes = cc
+takes-next reading place (Delimited purpose d text ∷ rest) takes = refl
+takes-next reading place (Width d width is_deep ∷ rest) takes = refl
+takes-next reading place (Condition part text ∷ rest) takes = takes-none (is_decided part) takes
+
+-- so nothing is asked of what is seen in front there
+pub sees-taking : (reading : LineState) (i : PageInput) → waiting_in reading i ≡ TakesAny → SeesOn i
+sees-taking reading i takes = λ next none. let goes_on = takes-next reading i.arguments.place i.escapes takes in cc
+
+pub sees-alone : (i : PageInput) → i.escapes ≡ [] → SeesOn i
+sees-alone i none = λ next seen. let goes_on : decides_next i.escapes ≡ false = ap decides_next none in cc
+
+-- there is room for what is left where what is half read ends before what is seen
+few-ended_by : (k : Known) (reading : LineState) (i : PageInput) (seen_byte : Option ℕ) (sight : Sighted) → ShowsFront seen_byte sight → is_ended_by i.escapes seen_byte ≡ true
+    → (seen_ahead i.ahead ≡ Some SeesNothing → sight ≡ SeesNothing) → FewFor [] reading i.escapes i.ahead
+    → let t : Taking = escape_ended k reading i in FewFor t.effect.events t.reading t.input.escapes i.ahead
+few-ended_by k reading i seen_byte (SeesByte b) is stays seen few = few-seen_ended k reading i (few-behind 5 i.ahead few.few (λ none. let wrong = seen none in cc))
+few-ended_by k reading i seen_byte SeesNothing is stays seen few = few-unseen k reading i (subst (λ (o : Option ℕ). is_ended_by i.escapes o ≡ true) is stays) few
+few-ended_by k reading i seen_byte (SeesNote message) is stays seen few = absurd is
+few-ended_by k reading i seen_byte (SeesEnding ending) is stays seen few = few-seen_ended k reading i (few-behind 5 i.ahead few.few (λ none. let wrong = seen none in cc))
+
+-- what is seen and stays shows that
+sees-front : (i : PageInput) (seen_byte : Option ℕ) (sight : Sighted) → ShowsFront seen_byte sight → is_ended_by i.escapes seen_byte ≡ false
+    → (seen_ahead i.ahead ≡ Some SeesNothing → sight ≡ SeesNothing) → SeesOn i
+sees-front i seen_byte (SeesByte b) is goes_on seen = λ next none. let wrong = seen none in cc
+sees-front i seen_byte SeesNothing is goes_on seen = λ next none.
+    let ends = ended-next i.escapes next in
+    let stays : is_ended_by i.escapes None ≡ false = subst (λ (o : Option ℕ). is_ended_by i.escapes o ≡ false) is goes_on in cc
+sees-front i seen_byte (SeesNote message) is goes_on seen = absurd is
+sees-front i seen_byte (SeesEnding ending) is goes_on seen = λ next none. let wrong = seen none in cc
+
+pub sees-look : {gave gives : Tape → Type 0} {left : PageUnread} {sight : Sighted} (old : Coded) (call : Looks gave gives old.unread left sight) (seen_byte : Option ℕ)
+    → ShowsFront seen_byte sight → is_ended_by left.input.escapes seen_byte ≡ false → SeesOn left.input
+sees-look {gave} {gives} {left} {sight} old call seen_byte is goes_on = sees-front left.input seen_byte sight is goes_on (nothing_look old call)
 
 -- a turn in which what is half read waits
 abbrev WaitingTurn : (gave gives : Tape → Type 0) → ℕ → ℕ → Coded → Coded → Seen → Seen → Result (Unit {0}) Status → Type 0
@@ -130,7 +203,12 @@ module _ {gave gives : Tape → Type 0} {left : PageUnread} (old : Coded) (faile
       let from : State = state_at (items_then (taken old call) tape) old h ms in
       let behind : State = state_at tape (moved old left) h ms in
       sighted_look old call tape may h ms ∙ sighted_step-front old.limits seen_byte sight from behind is ∙ front_step-by old.limits seen_byte from behind true stays)
-      fewer acts
+      fewer
+      (λ tape h ms few.
+      let s : State = state_at tape (moved old left) h ms in
+      few-appended (escape_ended (known s) s.reading left.input) left.input.ahead
+      (few-ended_by (known s) s.reading left.input seen_byte sight is stays (nothing_look old call) (subst (λ (i : PageInput). FewFor [] s.reading i.escapes i.ahead) (sym same) few)))
+      acts
 
   -- a message of the source's
   pub waiting_note : (note : List ℕ) (told : Sunk) (r : Result (Unit {0}) Status) → Looks gave gives old.unread left (SeesNote note) → notes < noted
@@ -139,7 +217,7 @@ module _ {gave gives : Tape → Type 0} {left : PageUnread} (old : Coded) (faile
   waiting_note note told r call fewer puts is =
       let leaves = leaves_look old call in
       turned leaves _ noted notes (moved old left) (seen failed out err) (seen failures out told) r refl (λ t tape start may at goes. (
-        note_told leaves failed failures out err more t tape start may at told note r (goes ∙ sighted_look old call tape may at.history at.messages) puts is,
+        note_told leaves failed failures out err more t tape start may at told note r (few_look old call at.few) (goes ∙ sighted_look old call tape may at.history at.messages) puts is,
         on_ok r (omega (arith, fewer, leaves.turns)),
       ))
 
@@ -194,7 +272,11 @@ waiting_decides gives old new failures out err notes after r decides acts =
     (λ limits tape may h ms.
     let s : State = state_at tape old h ms in
     ap (λ (w : Waiting). read_waiting old.limits w s) decides)
-    fewer acts
+    fewer
+    (λ tape h ms few.
+    let s : State = state_at tape old h ms in
+    few-appended (escape_ended (known s) s.reading old.unread.input) old.unread.input.ahead (few-unseen (known s) s.reading old.unread.input stays few))
+    acts
 
 -- items, and then others, are both in this order
 pub items_then-append : (first others : List Item) (tape : Tape) → items_then (first ++ others) tape ≡ items_then first (items_then others tape)
@@ -225,7 +307,7 @@ module _ {gave mid gives : Tape → Type 0} {left : PageUnread} {sight : Sighted
       let from : State = state_at (items_then (taken old call) whole) old at.history at.messages in
       let behind : State = state_at whole (moved old left) at.history at.messages in
       let same : behind ≡ from = unmoved_look old call (no_note_in_front seen_byte sight is_front) whole may at.history at.messages in (
-        looked_at (leaves_look old call) failed failures out err more t whole start may at same,
+        looked_at (leaves_look old call) failed failures out err more t whole start may at same (few_look old call at.few),
         ap (λ (s : State). step old.limits s) same ∙ stands.1 ∙ sighted_look old call whole may at.history at.messages
             ∙ sighted_step-front old.limits seen_byte sight from behind is_front ∙ front_step-by old.limits seen_byte from behind false goes_on,
       )
@@ -249,89 +331,3 @@ module _ {gave mid gives : Tape → Type 0} {left : PageUnread} {sight : Sighted
         on_ok-then r (λ (falls : turns_with new notes < turns_with (moved old left) kept). omega (arith, falls, less, (leaves_look old call).turns))
         (turn.falls t tape start may behind.0 behind.1);
   }
-
--- an item is shown, or refused by a limit: what is shown then is this byte alone
-shows_byte : (refuses : Bool) (limit : Limit) (u left : PageUnread) (item : Shown PageEvent) (b : ℕ)
-    → let call : Shown PageEvent × PageUnread = if refuses then (ShowsRefusal limit, u) else (item, left) in
-    call.0 ≡ ShowsByte b → item ≡ ShowsByte b
-shows_byte true limit u left item b is = cc
-shows_byte false limit u left item b is = is
-
--- what is half read waits for this byte: where it is seen, the item in front is taken
-front_seen-taken : (l : Limits) (b seen_byte : ℕ) (s : State) → is_ended_by s.input.escapes (Some b) ≡ false
-    → (item : Shown PageEvent) → item ≡ ShowsByte seen_byte → item ≡ ShowsByte b → front_seen l (Some seen_byte) s ≡ in_front_taken l s.input.ahead s
-front_seen-taken l b seen_byte s goes_on item shows is =
-    let same : b ≡ seen_byte = cc in
-    ap (λ (stays : Bool). if stays then made l s (escape_ends s) else in_front_taken l s.input.ahead s)
-    (subst (λ (n : ℕ). is_ended_by s.input.escapes (Some n) ≡ false) same goes_on)
-
--- the call that takes the item in front shows the byte that is waited for: the step in which it is seen takes the item
-awaited_byte : (l limits : Limits) (i : PageInput) (s : State) (b : ℕ) → is_ended_by i.escapes (Some b) ≡ false
-    → (ahead : List (Ahead PageEvent)) (looked : Looked) (a : Answer) (tape behind : Tape)
-    → let u : PageUnread = record { input = record i { ahead = ahead }; looked = looked; limits = limits } in
-    Given a (asks_to_take u) tape behind → (taking a u).0 ≡ ShowsByte b
-    → awaited l (seen_ahead ahead) (over_unread u tape s) ≡ in_front_taken l ahead (over_unread u tape s)
-awaited_byte l limits i s b goes_on [] Nothing (Gives (OneByte c)) tape behind (WasAsked t gives) shows =
-    let from : State = over_unread (record { input = record i { ahead = [] }; looked = Nothing; limits = limits }) t s in
-    ap (λ (a : Answer). awaited_of_source l a from) gives ∙ front_seen-taken l b c from goes_on (ShowsByte c) refl (shows_byte _ _ _ _ _ b shows)
-awaited_byte l limits i s b goes_on [] Nothing (Gives (OneNote message)) tape behind given shows = cc
-awaited_byte l limits i s b goes_on [] Nothing (Ends ending) tape behind given shows = cc
-awaited_byte l limits i s b goes_on [] (Closed kept) a tape behind (WasNot t) shows = cc
-awaited_byte l limits i s b goes_on [] (Byte c) a tape behind (WasNot t) shows =
-    let from : State = over_unread (record { input = record i { ahead = [] }; looked = Byte c; limits = limits }) t s in
-    front_seen-taken l b c from goes_on (ShowsByte c) refl (shows_byte _ _ _ _ _ b shows)
-awaited_byte l limits i s b goes_on (ByteAhead c ∷ items) looked a tape behind given shows =
-    let from : State = over_unread (record { input = record i { ahead = ByteAhead c ∷ items }; looked = looked; limits = limits }) tape s in
-    front_seen-taken l b c from goes_on (ShowsByte c) refl (shows_byte _ _ _ _ _ b shows)
-awaited_byte l limits i s b goes_on (FreeAhead c ∷ items) looked a tape behind given shows =
-    let from : State = over_unread (record { input = record i { ahead = FreeAhead c ∷ items }; looked = looked; limits = limits }) tape s in
-    front_seen-taken l b c from goes_on (ShowsByte c) refl (shows_byte _ _ _ _ _ b shows)
-awaited_byte l limits i s b goes_on (EndAhead ∷ items) looked a tape behind given shows =
-    let wrong : ShowsEnd ≡ ShowsByte b = shows_byte _ _ _ _ _ b shows in cc
-awaited_byte l limits i s b goes_on (ReturnAhead back ∷ items) looked a tape behind given shows =
-    let wrong : ShowsReturn back ≡ ShowsByte b = shows_byte _ _ _ _ _ b shows in cc
-awaited_byte l limits i s b goes_on (DoAhead event ∷ items) looked a tape behind given shows =
-    let wrong : ShowsDo event ≡ ShowsByte b = shows_byte _ _ _ _ _ b shows in cc
-
--- the byte that is shown is taken, whether it is waited for or not
-read_byte : (l limits : Limits) (w : Waiting) (i : PageInput) (s : State) (b : ℕ) → is_ended_by i.escapes (Some b) ≡ false → decides_by w ≡ false
-    → (looked : Looked) (a : Answer) (tape behind : Tape)
-    → let u : PageUnread = record { input = i; looked = looked; limits = limits } in
-    Given a (asks_to_take u) tape behind → (taking a u).0 ≡ ShowsByte b
-    → read_waiting l w (over_unread u tape s) ≡ in_front_taken l i.ahead (over_unread u tape s)
-read_byte l limits TakesAny i s b goes_on undecided looked a tape behind given shows = refl
-read_byte l limits Decides i s b goes_on undecided looked a tape behind given shows = absurd (cc)
-read_byte l limits Waits i s b goes_on undecided looked a tape behind given shows =
-    awaited_byte l limits i s b goes_on i.ahead looked a tape behind given shows
-
--- a byte was taken, whether it is waited for or not
-module _ {gave gives : Tape → Type 0} {left : PageUnread} (old : Coded) (failed failures : ℕ) (out err : Sunk) (noted notes : ℕ) (more : failed ≤ failures) (less : notes ≤ noted) where
-  pub byte_by : (w : Waiting) → decides_by w ≡ false → (b line : ℕ) (new : Coded) (after : Seen) (r : Result (Unit {0}) Status)
-      → Takes gave gives old.unread left (ShowsByte b) → is_ended_by old.unread.input.escapes (Some b) ≡ false → line ≡ old.unread.input.line
-      → DoesItem line (byte_taken b) (moved old left) new (seen failures out err) after r
-      → TurnsBy (λ s. read_waiting old.limits w s) gave gives noted notes old new (seen failed out err) after r
-  byte_by w undecided b line new after r call goes_on line_is acts =
-      let u : PageUnread = old.unread in
-      let leaves = leaves_front old call in
-      let asked : List Item = items_asked (asks_to_take u) call.answer in
-      let fewer : LeavesFewer (byte_taken b) old left r = leaves_fewer (byte_taken b) old left r (λ s is same. (
-        omega (arith, turns_within-byte u.limits.bytes (known s) s.reading s.input b, turns_of left u.limits s.input leaves.limits (sym is), falls_front old call tt),
-        refl,
-      )) in
-      acted leaves _ noted notes (byte_taken b) line new failed failures out err after r more less line_is
-      (λ limits tape may h ms.
-      let from : State = state_at (items_then asked tape) old h ms in
-      read_byte old.limits u.limits w u.input from b goes_on undecided u.looked call.answer (items_then asked tape) tape
-      (Given-asked gave gives (asks_to_take u) call.answer call.asked tape may) (ap (λ (c : Shown PageEvent × PageUnread). c.0) (sym call.taken))
-      ∙ shown_front old call limits tape may h ms)
-      fewer acts
-
-  -- where nothing is half read, whatever the line waits for
-  pub byte_alone : (b line : ℕ) (new : Coded) (after : Seen) (r : Result (Unit {0}) Status) → Takes gave gives old.unread left (ShowsByte b)
-      → old.unread.input.escapes ≡ [] → line ≡ old.unread.input.line → DoesItem line (byte_taken b) (moved old left) new (seen failures out err) after r
-      → TurnsBy (λ s. item_read old.limits s) gave gives noted notes old new (seen failed out err) after r
-  byte_alone b line new after r call none line_is acts =
-      let goes_on : is_ended_by old.unread.input.escapes (Some b) ≡ false = ap (λ (half : List OpenEscape). is_ended_by half (Some b)) none in
-      let w : Waiting = waiting_in old.formatter.reader.reading old.unread.input in
-      turn_as (λ s. item_read old.limits s) (λ s. read_waiting old.limits w s) noted notes old new (seen failed out err) after r (λ tape h ms. refl)
-      (byte_by w (undecided old.formatter.reader.reading old.unread.input.arguments.place old.unread.input.escapes (Some b) goes_on) b line new after r call goes_on line_is acts)

@@ -6,7 +6,7 @@ use Rattle.roff_num.specs.declared.limits.Limits.{Limits}
 use Rattle.std.specs.Io.KnownBytes.{Appends}
 use Rattle.roff_source.specs.BlockRead.{SomeTape}
 use Rattle.roff_source.specs.Tape.{Tape, items_then}
-use Rattle.roff_scan.specs.Looking.{is_closed, looked_then}
+use Rattle.roff_ahead.specs.Looking.{is_closed, looked_then}
 use Rattle.roff_run.specs.declared.status.Status.{Status}
 use Rattle.roff_requests.specs.Composer.Standing.{StandFor}
 use Rattle.roff_run.specs.Output.{PageHistory}
@@ -28,6 +28,7 @@ use Rattle.roff_engine.specs.Engine.Outcome.{Seen, Outcome, Runs, seen}
 use Rattle.roff_engine.specs.Formatter.Performing.{going}
 use Rattle.roff_engine.specs.Running.Turning.{HasCome, IsAt, IsFresh, DoesDue, TurnsBy, state_at, turns_with}
 use Rattle.roff_engine.specs.Running.Starting.{Begins, HasRoom}
+use Rattle.roff_engine.proofs.Fronts.{few-nothing}
 use Rattle.roff_sinks.proofs.Appending.{Appends-nothing}
 use Rattle.roff_engine.proofs.Waiting.{items_then-append}
 use Rattle.roff_run.proofs.Leads.{Leads-refl}
@@ -69,6 +70,7 @@ HasRoom-fresh run fresh =
     let first : P (first_unread l) (fresh_reader l.names l.line) = record { cap = refl; line = refl; within = none_passed-fresh l } in record {
       ready = subst (λ (u : PageUnread). P u run.formatter.reader) (sym fresh.unread) (subst (λ (r : ReaderState). P (first_unread l) r) (sym fresh.reader) first);
       limits = ap (λ (u : PageUnread). u.limits) fresh.unread;
+      few = few-nothing run.formatter.reader.reading run.unread.input (ap (λ (u : PageUnread). u.input.ahead) fresh.unread);
     }
 
 -- and stands at the definition's state in which the pages are given
@@ -126,6 +128,7 @@ started old new given failures out err gives first stands fresh begins =
             stands = subst (λ (l : Limits). StandFor l h new.formatter.composer) (sym same) (begins.stands old.limits stands);
             ready = room.ready;
             limits = room.limits;
+            few = room.few;
           };
     }
 

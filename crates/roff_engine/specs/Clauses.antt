@@ -1,9 +1,8 @@
 -- The words of the clauses in `src/`, each with the file that it stands in.
 pub use Rattle.roff_engine.specs.Engine.Outcome.{Beginning, Outcome, OutcomeOf, Seen, seen, Runs}
-pub use Rattle.roff_engine.specs.Formatter.Performing.{DoesMeaning, DoesTaking, EndsOpenWord, EndsWordFirst, PerformsAll, PerformsEvents, PerformsOne, PerformsOnly, sinks}
+pub use Rattle.roff_engine.specs.Formatter.Performing.{DoesMeaning, DoesTaking, EndsOpenWord, EndsWordFirst, PerformsAll, PerformsEvents, PerformsOne, PerformsOnly, PlacesTitle, sinks}
 pub use Rattle.roff_engine.specs.Formatter.Paging.{BeginsFor, BeginsPage, ReadyFor, halted_by, PutsBy, PutsFinished, PutsOnPage}
 pub use Rattle.roff_engine.specs.Formatter.Setting.{DoesOnPage, Gives, IsOfTraps, PutsNothing, SetsOnPage}
-pub use Rattle.roff_engine.specs.Formatter.Sprung.{none_sprung, quiet_events}
 pub use Rattle.roff_run.specs.Starts.{pages_given}
 pub use Rattle.roff_run.specs.Messages.{message_line, message_lines, text_told, told_line}
 pub use Rattle.roff_run.specs.Events.Lines.{closing_events}
@@ -12,7 +11,7 @@ pub use Rattle.roff_run.specs.Reading.{escape_ended, interrupted, taking}
 pub use Rattle.roff_run.specs.Reading.Returns.{behind_return}
 pub use Rattle.roff_run.specs.Reading.Ends.{due, end_taking}
 pub use Rattle.roff_run.specs.Reading.Waiting.{waiting_in}
-pub use Rattle.roff_run.specs.declared.line_state.Due.TheVariants.{Tells}
+pub use Rattle.roff_run.specs.declared.line_state.Due.TheVariants.{Leaves, Tells}
 pub use Rattle.roff_run.specs.declared.line_state.LineState.TheVariants.{LineStart}
 pub use Rattle.roff_run.specs.declared.event.PageEvent.TheVariants.{Text, Environment, Page}
 pub use Rattle.roff_engine.specs.Running.Turning.{Halts, IsFresh}

@@ -1,4 +1,6 @@
 -- A run of the code under way.
+pub mod Room
 pub mod Turning
 pub mod Starting
 pub mod Springing
+pub mod Leaving

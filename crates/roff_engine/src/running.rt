@@ -16,7 +16,6 @@ mod starting;
 
 use crate::formatter::Formatter;
 use crate::halt::Halt;
-use crate::sprung::Sprung;
 use roff_num::Limits;
 use roff_run::{PageEvent, Phase, Status};
 use roff_scan::{ByteSource, Item, Note, Sight, Unread, Waiting};
@@ -32,6 +31,7 @@ pub(crate) struct Running {
 }
 
 impl Running {
+    ghost use Rattle.roff_engine.specs.Running.Room.{SeesOn};
     ghost use Rattle.roff_engine.specs.Running.Turning.{DoesItem, TurnsBy};
 
     /// Takes an item of the input, or ends what is half read; nothing is due. An `Err` is the
@@ -182,6 +182,7 @@ impl Running {
         out: &mut O,
         err: &mut E,
     ) -> Result<(), Status>
+        requires { SeesOn self.old.unread.input }
         ensures { TurnsBy (λ s. in_front_taken self.old.limits s.input.ahead s)
             (S.gives source.old) (S.gives source.new) (S.notes source.old) (S.notes source.new)
             self.old self.new
@@ -203,6 +204,7 @@ impl Running {
         out: &mut O,
         err: &mut E,
     ) -> Result<(), Status>
+        requires { SeesOn self.old.unread.input }
         ensures { TurnsBy (λ s. in_front_taken self.old.limits s.input.ahead s)
             (S.gives source.old) (S.gives source.new) (S.notes source.old) (S.notes source.new)
             self.old self.new
@@ -223,6 +225,7 @@ impl Running {
         out: &mut O,
         err: &mut E,
     ) -> Result<(), Status>
+        requires { SeesOn self.old.unread.input }
         ensures { TurnsBy (λ s. in_front_taken self.old.limits s.input.ahead s)
             (S.gives source.old) (S.gives source.new) (S.notes source.old) (S.notes source.new)
             self.old self.new
@@ -280,8 +283,8 @@ impl Running {
     {
         let line = self.unread.line();
         self.formatter.reader.interrupt(&mut self.unread);
-        match self.formatter.perform_event(event, out) {
-            Ok(name) => self.go_on(Sprung::last(name), err),
+        match self.formatter.perform_waiting(event, out) {
+            Ok(sprung) => self.go_on(sprung, err),
             Err(halt) => Err(self.halted(halt, line_before, line, err)),
         }
     }

@@ -1,5 +1,5 @@
--- What performing does to the pages: the first one begins, and something is put on them.
-use Rattle.std.specs.Prelude.{◌≡◌, ◌≤◌, Bool, true, false, Option, Some, None, Result, Ok, Err, if◌then◌else◌}
+-- What performing does to the pages: the first one begins, and something is put on them, which may spring a macro.
+use Rattle.std.specs.Prelude.{◌≡◌, ◌≤◌, Bool, true, false, Option, Some, None, Result, Ok, Err, if◌then◌else◌, ◌&&◌, not}
 use Rattle.roff_num.specs.declared.limit.Limit.TheVariants.{Output as OutputLimit}
 use Rattle.roff_num.specs.declared.limits.Limits.{Limits}
 use Rattle.roff_num.specs.declared.short_name.ShortName.{ShortName}
@@ -9,10 +9,16 @@ use Rattle.roff_pages.specs.Layout.{Layout}
 use Rattle.roff_pages.specs.Pages.Kept.{Kept}
 use Rattle.roff_pages.specs.Pages.Printing.{DidTo}
 use Rattle.roff_pages.specs.Pages.Stands.{Happens, SameLimits, StandsAs}
+use Rattle.roff_pages.specs.Happenings.{is_eject_event}
+use Rattle.roff_pages.specs.Queries.{nl}
+use Rattle.roff_pages.specs.Springs.{is_on_top, springs as springs_on_page}
+use Rattle.roff_pages.specs.declared.layout_event.LayoutEvent.{LayoutEvent}
 use Rattle.roff_pages.specs.declared.layout_event.LayoutEvent.TheVariants.{Begin}
 use Rattle.roff_requests.specs.Composer.Standing.{StandFor}
 use Rattle.roff_engine.specs.declared.formatter.Formatter.{Formatter}
 use Rattle.roff_engine.specs.declared.halt.Halt.{Halt}
+use Rattle.roff_engine.specs.declared.sprung.Sprung.{Sprung}
+use Rattle.roff_engine.specs.Formatter.Sprung.{sprung_by}
 use Rattle.roff_engine.specs.declared.halt.Halt.TheVariants.{Limit as Limited, Over, Output}
 use Rattle.roff_run.specs.Output.{PageHistory}
 use Rattle.roff_run.specs.Springs.{begins, needs_page}
@@ -21,27 +27,32 @@ use Rattle.roff_sinks.specs.Sinks.{Sunk}
 use Rattle.roff_sinks.specs.declared.page_fault.PageFault.{PageFault}
 use Rattle.roff_sinks.specs.declared.page_fault.PageFault.TheVariants.{Output as PastOutput, Sink as SinkFails}
 
--- what halts behind what pages answer
-abbrev pub halted_by : Result (Option ShortName) PageFault → Bool → Result (Unit {0}) Halt
-halted_by (Ok name) is_over = if is_over then Err Over else Ok tt
+-- what sprang, or halts, behind what pages answer
+abbrev pub halted_by : Result (Option ShortName) PageFault → Bool → Result (Option Sprung) Halt
+halted_by (Ok name) is_over = if is_over then Err Over else Ok (sprung_by name)
 halted_by (Err PastOutput) is_over = Err (Limited OutputLimit)
 halted_by (Err SinkFails) is_over = Err Output
 
--- a formatter began the first page, and changed nothing else
-pub record BeginsPage (old new : Formatter) : Type 0 where
+-- whether an event is an eject, and the page that it ejects hasn't ended: where that ended, the next one begins at its top
+abbrev pub ejects_still : LayoutEvent → Layout → Bool
+ejects_still e L = is_eject_event e && not (is_on_top (nl L))
+
+-- a formatter began the first page, and changed nothing else; this sprang, if anything
+pub record BeginsPage (old new : Formatter) (name : Option ShortName) : Type 0 where
   pub begins : Happens (Does Begin) old.composer.pages new.composer.pages
+  pub springs : (L : Layout) → StandsAs L old.composer.pages → name ≡ springs_on_page (Does Begin) L
   pub others : new ≡ record old { composer = record old.composer { pages = new.composer.pages } }
 
 -- and did so if an event needs a page
-pub record BeginsFor (e : PageEvent) (old new : Formatter) : Type 0 where
-  pub page : (l : Limits) (h : PageHistory) → StandFor l h old.composer → needs_page h e ≡ true → BeginsPage old new
-  pub stays : (l : Limits) (h : PageHistory) → StandFor l h old.composer → needs_page h e ≡ false → new ≡ old
+pub record BeginsFor (e : PageEvent) (old new : Formatter) (name : Option ShortName) : Type 0 where
+  pub page : (l : Limits) (h : PageHistory) → StandFor l h old.composer → needs_page h e ≡ true → BeginsPage old new name
+  pub stays : (l : Limits) (h : PageHistory) → StandFor l h old.composer → needs_page h e ≡ false → (new ≡ old) × (name ≡ None)
   pub reader : new.reader ≡ old.reader
 
 -- and did so if the first page begins in front of an event
-pub record ReadyFor (e : PageEvent) (old new : Formatter) : Type 0 where
-  pub page : (l : Limits) (h : PageHistory) → StandFor l h old.composer → begins h e ≡ true → BeginsPage old new
-  pub stays : (l : Limits) (h : PageHistory) → StandFor l h old.composer → begins h e ≡ false → new ≡ old
+pub record ReadyFor (e : PageEvent) (old new : Formatter) (name : Option ShortName) : Type 0 where
+  pub page : (l : Limits) (h : PageHistory) → StandFor l h old.composer → begins h e ≡ true → BeginsPage old new name
+  pub stays : (l : Limits) (h : PageHistory) → StandFor l h old.composer → begins h e ≡ false → (new ≡ old) × (name ≡ None)
   pub reader : new.reader ≡ old.reader
 
 -- A happening was done to pages whose output is within its limit: whatever layout they stand for, what is written and what
@@ -50,13 +61,13 @@ pub record PutsBy (x : Happening) (old new : Kept) (out_old out_new : Sunk) (ans
   pub did : (L : Layout) → StandsAs L old → old.written ≤ old.output → DidTo L x answer old new out_old out_new
   pub limits : SameLimits old new
 
--- the same, whatever it sprang; with the last page the run ends
-pub record PutsOnPage (x : Happening) (old new : Kept) (out_old out_new : Sunk) (result : Result (Unit {0}) Halt) : Type 0 where
+-- the same; with the last page the run ends
+pub record PutsOnPage (x : Happening) (old new : Kept) (out_old out_new : Sunk) (result : Result (Option Sprung) Halt) : Type 0 where
   pub answer : Result (Option ShortName) PageFault
   pub puts : PutsBy x old new out_old out_new answer
   pub halts : (L : Layout) → StandsAs L new → result ≡ halted_by answer L.is_over
 
 -- what became of a line that an event finished, if it finished one: it was placed
-abbrev pub PutsFinished : Option Finished → Kept → Kept → Sunk → Sunk → Result (Unit {0}) Halt → Type 0
-PutsFinished None old new out_old out_new result = (new ≡ old) × (out_new ≡ out_old) × (result ≡ Ok tt)
+abbrev pub PutsFinished : Option Finished → Kept → Kept → Sunk → Sunk → Result (Option Sprung) Halt → Type 0
+PutsFinished None old new out_old out_new result = (new ≡ old) × (out_new ≡ out_old) × (result ≡ Ok None)
 PutsFinished (Some line) old new out_old out_new result = PutsOnPage (Places line) old new out_old out_new result

@@ -1,5 +1,5 @@
 -- How far the code performs events, over the states of the definition.
-use Rattle.std.specs.Prelude.{◌≡◌, ◌≤◌, ℕ, zero, suc, Bool, true, false, List, [], ◌∷◌, ◌++◌, Option, Some, None, IfSome, Result, Ok, Err, OnOk}
+use Rattle.std.specs.Prelude.{◌≡◌, ◌≤◌, ℕ, zero, suc, Bool, true, false, List, [], ◌∷◌, ◌++◌, Option, Some, None, Result, Ok, Err, OnOk, length}
 use Rattle.std.specs.Io.KnownBytes.{Appends}
 use Rattle.roff_num.specs.declared.limit.Limit.{Limit}
 use Rattle.roff_num.specs.declared.limits.Limits.{Limits}
@@ -13,25 +13,24 @@ use Rattle.roff_engine.specs.Engine.Outcome.{Beginning, Seen, AppendsBetween, Ou
 use Rattle.roff_run.specs.Messages.{message_lines}
 use Rattle.roff_run.specs.Output.{text_of, written}
 use Rattle.roff_run.specs.Environments.{interrupted_line}
-use Rattle.roff_run.specs.Springs.{may_spring, next, own_word_end, springs, word_end_of}
+use Rattle.roff_run.specs.Springs.{next, own_word_end, word_end_of}
 use Rattle.roff_lines.specs.Words.{has_open_word}
 use Rattle.roff_lines.specs.declared.event.Event.TheVariants.{WordEnd}
 use Rattle.roff_run.specs.declared.status.Status.TheVariants.{Done}
-use Rattle.roff_num.specs.declared.short_name.ShortName.{ShortName}
-use Rattle.roff_run.specs.Springs.{CountsLast}
-use Rattle.roff_engine.specs.Formatter.Sprung.{behind_sprung, rest_left}
+use Rattle.roff_engine.specs.Formatter.Sprung.{IsAmong, behind_sprung, first_left, left_behind, most_back, rest_left}
 use Rattle.roff_run.specs.TurnsToCome.{most_left}
 use Rattle.roff_engine.specs.declared.sprung.Sprung.{Sprung}
-use Rattle.roff_run.specs.declared.event.PageEvent.TheVariants.{Text}
+use Rattle.roff_run.specs.declared.event.PageEvent.TheVariants.{Text, Title}
 use Rattle.roff_run.specs.TurnsToCome.{lines_left}
 use Rattle.roff_run.specs.Reading.Items.{PageInput, Taking}
 use Rattle.roff_run.specs.Registers.{AllRegisters, Known}
 use Rattle.roff_run.specs.PageEvents.{PageEvent, PageHistory}
+use Rattle.roff_run.specs.declared.title.WhichTitle.{WhichTitle}
 use Rattle.roff_run.specs.Titles.{told}
 use Rattle.roff_run.specs.declared.message.Message.{Message}
 use Rattle.roff_run.specs.declared.line_state.LineState.{LineState}
 use Rattle.roff_run.specs.declared.phase.Phase.{Phase}
-use Rattle.roff_run.specs.Run.{State, Leads, ending_as, initial, sprung_at, step, stopped_by, made, taken_as, known_at, output, reported}
+use Rattle.roff_run.specs.Run.{State, Leads, ending_as, initial, step, stopped_by, made, taken_as, known_at, output, reported}
 use Rattle.roff_reader.specs.Reader.Taken.{CameTo, IsReady}
 use Rattle.roff_run.specs.Reading.Items.{PageUnread}
 use Rattle.roff_sinks.specs.Sinks.{CountsFault, Sunk}
@@ -54,11 +53,10 @@ abbrev pub behind_events : AllRegisters → List PageEvent → PageHistory → P
 behind_events rs [] h = h
 behind_events rs (e ∷ events) h = behind_events rs events (behind_event rs e h)
 
--- one behind another, before none of these events the end of a word comes, and none springs anything
+-- one behind another, before none of these events the end of a word comes
 abbrev pub Flows : AllRegisters → List PageEvent → PageHistory → Type 0
 Flows rs [] h = Unit {0}
-Flows rs (e ∷ events) h =
-    (word_end_of h e ≡ None) × (springs (behind_next rs 2 e h) (told rs e) ≡ None) × Flows rs events (behind_event rs e h)
+Flows rs (e ∷ events) h = (word_end_of h e ≡ None) × Flows rs events (behind_event rs e h)
 
 -- and that behind the end of a word, if one was open, with what comes before it
 abbrev pub behind_word : AllRegisters → Bool → PageHistory → PageHistory
@@ -69,6 +67,16 @@ behind_word rs true h = behind_event rs (Text WordEnd) h
 pub record AllPerformed (l : Limits) (t : Beginning) (before now : Seen) (s : State) (behind : PageHistory) (rest : List PageEvent) (es : ComposerOf) : Type 0 where
   pub reaches : Reaches l t before now (acting s rest behind)
   pub stands : StandFor l behind es
+
+-- One of the events, or what comes before it, sprang this: the definition has put back what is left, and still has to read it. No more
+-- interrupted lines are left than any of the events leaves; and with others behind them no more of them are left than may be.
+pub record SprungAt (l : Limits) (t : Beginning) (before now : Seen) (s : State) (events : List PageEvent) (h : PageHistory) (sprung : Sprung) (rest : List PageEvent) (es : ComposerOf) : Type 0 where
+  pub history : PageHistory
+  pub reaches : Reaches l t before now (behind_sprung (Some sprung) events rest (acting s [] history))
+  pub stands : StandFor l history es
+  pub lines : lines_left (interrupted_line history) ≤ most_left events (lines_left (interrupted_line h))
+  pub among : IsAmong events sprung
+  pub few : (others : List PageEvent) → length (left_behind sprung (events ++ others)) ≤ most_back (events ++ others)
 
 -- the definition comes to a state whose next event a limit refuses
 pub record StoppedAt (l : Limits) (t : Beginning) (before now : Seen) (s : State) (limit : Limit) : Type 0 where
@@ -93,96 +101,101 @@ pub record OverAt (l : Limits) (t : Beginning) (before now : Seen) (s : State) :
   pub history : PageHistory
   pub reaches : Reaches l t before now (ending_as Done (acting s to_do history))
 
--- how far the code performed the events in front of `rest`, behind which the history is this, by its answer
-abbrev pub Performs : Limits → Beginning → Seen → Seen → State → PageHistory → List PageEvent → Result (Unit {0}) Halt → ComposerOf → Type 0
-Performs l t before now s behind rest (Ok done) es = AllPerformed l t before now s behind rest es
-Performs l t before now s behind rest (Err (Limited limit)) es = StoppedAt l t before now s limit
-Performs l t before now s behind rest (Err Output) es = FailedAt l t before now s
-Performs l t before now s behind rest (Err Over) es = OverAt l t before now s
-Performs l t before now s behind rest (Err Messages) es = ⊥
-Performs l t before now s behind rest (Err (Refused limit)) es = ⊥
+-- the code couldn't go on with an event: a limit refuses it, the output failed, or the run is over
+abbrev pub HaltedAt : Limits → Beginning → Seen → Seen → State → Halt → Type 0
+HaltedAt l t before now s (Limited limit) = StoppedAt l t before now s limit
+HaltedAt l t before now s Output = FailedAt l t before now s
+HaltedAt l t before now s Over = OverAt l t before now s
+HaltedAt l t before now s Messages = ⊥
+HaltedAt l t before now s (Refused limit) = ⊥
+
+-- how far the code performed these events in front of `rest`, by its answer: behind all of them the history is this
+abbrev pub Performs : Limits → Beginning → Seen → Seen → State → List PageEvent → PageHistory → PageHistory → List PageEvent → Result (Option Sprung) Halt → ComposerOf → Type 0
+Performs l t before now s events h behind rest (Ok None) es = AllPerformed l t before now s behind rest es
+Performs l t before now s events h behind rest (Ok (Some sprung)) es = SprungAt l t before now s events h sprung rest es
+Performs l t before now s events h behind rest (Err halt) es = HaltedAt l t before now s halt
+
+-- how far it performed the end of a word that comes before an event: behind that the history is this, and the event is left
+abbrev pub EndsBefore : Limits → Beginning → Seen → Seen → State → PageEvent → PageHistory → PageHistory → List PageEvent → Result (Option Sprung) Halt → ComposerOf → Type 0
+EndsBefore l t before now s e h behind rest (Ok None) es = AllPerformed l t before now s behind (e ∷ rest) es
+EndsBefore l t before now s e h behind rest (Ok (Some sprung)) es = SprungAt l t before now s (e ∷ []) h sprung rest es
+EndsBefore l t before now s e h behind rest (Err halt) es = HaltedAt l t before now s halt
 
 -- An environment, pages and a sink performed some events, each with what comes before it, as far as the answer says: for each state
--- of a run that has these events in front of others to do, of which none springs anything.
-pub record PerformsEvents (events : List PageEvent) (old new : ComposerOf) (out_old out_new : Sunk) (result : Result (Unit {0}) Halt) : Type 0 where
+-- of a run that has these events in front of others to do, before none of which the end of a word comes.
+pub record PerformsEvents (events : List PageEvent) (old new : ComposerOf) (out_old out_new : Sunk) (result : Result (Option Sprung) Halt) : Type 0 where
   pub performs : (l : Limits) (t : Beginning) (before : Seen) (failures : ℕ) (err : Sunk) (s : State) (h : PageHistory) (rest : List PageEvent)
       → StandFor l h old → Flows s.registers events h → Reaches l t before (seen failures out_old err) (acting s (events ++ rest) h)
-      → Performs l t before (seen failures out_new err) s (behind_events s.registers events h) rest result new
+      → Performs l t before (seen failures out_new err) s events h (behind_events s.registers events h) rest result new
 
 -- a formatter did that, and changed nothing else: what is read stays as it was
-pub record PerformsOnly (events : List PageEvent) (old new : Formatter) (out_old out_new : Sunk) (result : Result (Unit {0}) Halt) : Type 0 where
+pub record PerformsOnly (events : List PageEvent) (old new : Formatter) (out_old out_new : Sunk) (result : Result (Option Sprung) Halt) : Type 0 where
   pub events_performed : PerformsEvents events old.composer new.composer out_old out_new result
   pub reader : new.reader ≡ old.reader
 
--- an event was performed, and this sprang
-pub record OnePerformed (l : Limits) (t : Beginning) (before now : Seen) (s : State) (e : PageEvent) (behind : PageHistory) (sprung : Option ShortName) (rest : List PageEvent) (es : ComposerOf) : Type 0 where
-  pub reaches : Reaches l t before now (sprung_at sprung rest (acting s [] behind))
-  pub stands : StandFor l behind es
-  pub springs : IfSome sprung (λ name. may_spring e ≡ true)
-
--- how far the code performed an event
-abbrev pub PerformedOne : Limits → Beginning → Seen → Seen → State → PageEvent → PageHistory → List PageEvent → Result (Option ShortName) Halt → ComposerOf → Type 0
-PerformedOne l t before now s e behind rest (Ok sprung) es = OnePerformed l t before now s e behind sprung rest es
-PerformedOne l t before now s e behind rest (Err (Limited limit)) es = StoppedAt l t before now s limit
-PerformedOne l t before now s e behind rest (Err Output) es = FailedAt l t before now s
-PerformedOne l t before now s e behind rest (Err Over) es = OverAt l t before now s
-PerformedOne l t before now s e behind rest (Err Messages) es = ⊥
-PerformedOne l t before now s e behind rest (Err (Refused limit)) es = ⊥
-
--- A formatter performed an event, with what comes before it, and answers what sprang: for each state of a run that has it in front
+-- A formatter performed an event, with what comes before it, as far as the answer says: for each state of a run that has it in front
 -- of others to do, and has the formatter's registers, as they keep the texts of titles.
-pub record PerformsOne (e : PageEvent) (old new : Formatter) (out_old out_new : Sunk) (result : Result (Option ShortName) Halt) : Type 0 where
+pub record PerformsOne (e : PageEvent) (old new : Formatter) (out_old out_new : Sunk) (result : Result (Option Sprung) Halt) : Type 0 where
   pub one : (l : Limits) (t : Beginning) (before : Seen) (failures : ℕ) (err : Sunk) (s : State) (h : PageHistory) (rest : List PageEvent)
       → StandFor l h old.composer → s.registers ≡ old.reader.registers.all
       → Reaches l t before (seen failures out_old err) (acting s (e ∷ rest) h)
-      → PerformedOne l t before (seen failures out_new err) s e (behind_event s.registers e h) rest result new.composer
+      → Performs l t before (seen failures out_new err) s (e ∷ []) h (behind_event s.registers e h) rest result new.composer
+  pub reader : new.reader ≡ old.reader
+
+-- The same of a title before which no page begins.
+pub record PlacesTitle (which : WhichTitle) (old new : Formatter) (out_old out_new : Sunk) (result : Result (Option Sprung) Halt) : Type 0 where
+  pub places : (l : Limits) (t : Beginning) (before : Seen) (failures : ℕ) (err : Sunk) (s : State) (h : PageHistory) (rest : List PageEvent)
+      → StandFor l h old.composer → s.registers ≡ old.reader.registers.all → next h (Title which) ≡ None
+      → Reaches l t before (seen failures out_old err) (acting s (Title which ∷ rest) h)
+      → Performs l t before (seen failures out_new err) s (Title which ∷ []) h (told s.registers (Title which) ∷ h) rest result new.composer
   pub reader : new.reader ≡ old.reader
 
 -- The end of the open word, where it comes before an event, was performed, with what comes before it: for each state of a run that
--- has that event in front of others to do.
-pub record EndsWordFirst (old new : Formatter) (out_old out_new : Sunk) (result : Result (Unit {0}) Halt) : Type 0 where
+-- has that event in front of others to do. Where a macro springs the event is left.
+pub record EndsWordFirst (old new : Formatter) (out_old out_new : Sunk) (result : Result (Option Sprung) Halt) : Type 0 where
   pub first : (l : Limits) (t : Beginning) (before : Seen) (failures : ℕ) (err : Sunk) (s : State) (h : PageHistory) (e : PageEvent) (rest : List PageEvent)
       → StandFor l h old.composer → word_end_of h e ≡ Some (Text WordEnd)
       → Reaches l t before (seen failures out_old err) (acting s (e ∷ rest) h)
-      → Performs l t before (seen failures out_new err) s (behind_event s.registers (Text WordEnd) h) (e ∷ rest) result new.composer
+      → EndsBefore l t before (seen failures out_new err) s e h (behind_event s.registers (Text WordEnd) h) rest (first_left result) new.composer
   pub reader : new.reader ≡ old.reader
 
 -- The open word, if there was one, has ended where it comes before an event: for each state of a run that has that in front of
--- others to do, and before which it comes where one is open.
-pub record EndsOpenWord (old new : Formatter) (out_old out_new : Sunk) (result : Result (Unit {0}) Halt) : Type 0 where
+-- others to do, and before which it comes where one is open. Where a macro springs the event is left.
+pub record EndsOpenWord (old new : Formatter) (out_old out_new : Sunk) (result : Result (Option Sprung) Halt) : Type 0 where
   pub ends : (l : Limits) (t : Beginning) (before : Seen) (failures : ℕ) (err : Sunk) (s : State) (h : PageHistory) (e : PageEvent) (rest : List PageEvent)
       → StandFor l h old.composer → word_end_of h e ≡ own_word_end (has_open_word (text_of h))
       → Reaches l t before (seen failures out_old err) (acting s (e ∷ rest) h)
-      → Performs l t before (seen failures out_new err) s (behind_word s.registers (has_open_word (text_of h)) h) (e ∷ rest) result new.composer
+      → EndsBefore l t before (seen failures out_new err) s e h (behind_word s.registers (has_open_word (text_of h)) h) rest result new.composer
   pub reader : new.reader ≡ old.reader
 
--- The events in front were performed up to one that sprang this, or all of them; what is left of those that the reader keeps is put
--- back, with what was to be done behind them. No more interrupted lines are left than any of them leaves.
--- Where a text line that counts is the last of them, nothing is left.
+-- The events in front were performed up to one that sprang this, or all of them; what is left of those that are kept is put
+-- back, with what was to be done behind them. No more interrupted lines are left than any of them leaves, and no more is put back
+-- than may be.
 pub record CameBehind (l : Limits) (t : Beginning) (before now : Seen) (s : State) (events : List PageEvent) (h : PageHistory) (kept rest : List PageEvent) (sprung : Option Sprung) (es : ComposerOf) : Type 0 where
   pub history : PageHistory
   pub reaches : Reaches l t before now (behind_sprung sprung kept rest (acting s [] history))
   pub stands : StandFor l history es
-  pub few : lines_left (interrupted_line history) ≤ most_left events (lines_left (interrupted_line h))
-  pub last : CountsLast events → rest_left sprung kept ≡ []
+  pub lines : lines_left (interrupted_line history) ≤ most_left events (lines_left (interrupted_line h))
+  pub few : length (rest_left sprung kept) ≤ most_back events
 
 -- how far the code came with these events, by its answer
 abbrev pub ComesTo : Limits → Beginning → Seen → Seen → State → List PageEvent → PageHistory → List PageEvent → List PageEvent → Result (Option Sprung) Halt → ComposerOf → Type 0
 ComesTo l t before now s events h kept rest (Ok sprung) es = CameBehind l t before now s events h kept rest sprung es
-ComesTo l t before now s events h kept rest (Err (Limited limit)) es = StoppedAt l t before now s limit
-ComesTo l t before now s events h kept rest (Err Output) es = FailedAt l t before now s
-ComesTo l t before now s events h kept rest (Err Over) es = OverAt l t before now s
-ComesTo l t before now s events h kept rest (Err Messages) es = ⊥
-ComesTo l t before now s events h kept rest (Err (Refused limit)) es = ⊥
+ComesTo l t before now s events h kept rest (Err halt) es = HaltedAt l t before now s halt
 
--- A formatter performed all of these events, or those up to one that sprang something: for each state of a run that has them in
--- front of others to do.
+-- what a formatter keeps stays, but for the events that the reader keeps where some of them are put back
+pub record KeepsReading (old new : Formatter) : Type 0 where
+  pub reading : new.reader.reading ≡ old.reader.reading
+  pub registers : new.reader.registers ≡ old.reader.registers
+
+-- A formatter performed all of these events, or those up to one that sprang something, and then the reader keeps them: for each state
+-- of a run that has them in front of others to do.
 pub record PerformsAll (events : List PageEvent) (old new : Formatter) (out_old out_new : Sunk) (result : Result (Option Sprung) Halt) : Type 0 where
   pub all : (l : Limits) (t : Beginning) (before : Seen) (failures : ℕ) (err : Sunk) (s : State) (h : PageHistory) (rest : List PageEvent)
       → StandFor l h old.composer → s.registers ≡ old.reader.registers.all
       → Reaches l t before (seen failures out_old err) (acting s (events ++ rest) h)
-      → ComesTo l t before (seen failures out_new err) s events h old.reader.meaning.events rest result new.composer
-  pub reader : new.reader ≡ old.reader
+      → ComesTo l t before (seen failures out_new err) s events h new.reader.meaning.events rest result new.composer
+  pub reader : KeepsReading old new
 
 -- One step from a state takes an item that means these messages, which are told on this line, and these events,
 -- which stand in front of others to do, behind this history.
@@ -221,8 +234,8 @@ pub record DoesMeaning (line : ℕ) (messages : List Message) (events : List Pag
   pub does : (l : Limits) (t : Beginning) (before : Seen) (failures : ℕ) (from s : State) (h : PageHistory) (rest : List PageEvent)
       → StandFor l h old.composer → s.registers ≡ old.reader.registers.all
       → Reaches l t before (seen failures told_old.out told_old.err) from → Means l from s h line messages events rest
-      → MeaningDone l t before (seen failures told_new.out told_new.err) from s events h old.reader.meaning.events rest result new.composer
-  pub reader : new.reader ≡ old.reader
+      → MeaningDone l t before (seen failures told_new.out told_new.err) from s events h new.reader.meaning.events rest result new.composer
+  pub reader : KeepsReading old new
 
 -- a state of a run that hasn't ended, by all that it has
 abbrev pub going : Tape → PageInput → LineState → AllRegisters → PageHistory → List ℕ → Phase → Bool → List PageEvent → State

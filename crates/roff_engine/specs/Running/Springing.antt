@@ -1,7 +1,8 @@
 -- How far a run of the code has come where events were performed, of which one may have sprung a macro.
 use Rattle.std.specs.Prelude.{◌≡◌, ◌≤◌, ℕ, ◌+◌, List, [], length, map, Option, OnOk, Result}
+use Rattle.roff_engine.specs.Running.Room.{FewFor}
 use Rattle.roff_ahead.specs.Input.{events_ahead, most_events, putting_all_back}
-use Rattle.roff_run.specs.Reading.Items.{PageUnread}
+use Rattle.roff_run.specs.Reading.Items.{PageInput, PageUnread}
 use Rattle.roff_requests.specs.Composer.Standing.{StandFor}
 use Rattle.roff_reader.specs.Reader.Taken.{IsReady}
 use Rattle.roff_run.specs.Environments.{PageHistory}
@@ -29,6 +30,8 @@ pub record IsBehind (t : Beginning) (tape : Tape) (start now : Seen) (sprung : O
   pub ready : IsReady run.formatter.reader.registers run.unread
   pub limits : run.unread.limits ≡ run.limits
   pub room : HasRoom (rest_left sprung run.formatter.reader.meaning.events) run.unread
+  pub few : let back : PageInput = putting_all_back (map put_back (rest_left sprung run.formatter.reader.meaning.events)) run.unread.input in
+      FewFor [] run.formatter.reader.reading run.unread.input.escapes back.ahead
 
 -- it goes on there, or has ended; no more turns are to come
 pub record GoesOn (sprung : Option Sprung) (old new : Coded) (now behind : Seen) (r : Result (Unit {0}) Status) : Type 0 where

@@ -4,6 +4,7 @@ use Rattle.roff_num.specs.declared.limit.Limit.{Limit}
 use Rattle.roff_num.specs.declared.limits.Limits.{Limits}
 use Rattle.roff_num.specs.declared.num.Num.{Num}
 use Rattle.roff_engine.specs.declared.running.Running.{Running as Coded}
+use Rattle.roff_engine.specs.Running.Room.{FewFor}
 use Rattle.roff_engine.specs.Running.Turning.{state_at}
 use Rattle.roff_reader.specs.Reader.Taken.{IsReady}
 use Rattle.roff_requests.specs.Composer.Standing.{StandFor}
@@ -11,10 +12,11 @@ use Rattle.roff_run.specs.Output.{PageHistory, written}
 use Rattle.roff_run.specs.Run.{stopped_by, with_registers}
 use Rattle.roff_source.specs.Tape.{Tape}
 
--- no count of what is read is above its limit, and the unread input has the run's limits
+-- no count of what is read is above its limit, the unread input has the run's limits, and few events stand in front
 pub record HasRoom (run : Coded) : Type 0 where
   pub ready : IsReady run.formatter.reader.registers run.unread
   pub limits : run.unread.limits ≡ run.limits
+  pub few : FewFor [] run.formatter.reader.reading run.unread.input.escapes run.unread.input.ahead
 
 -- registers were set, and the page got numbers, behind which the history is this: nothing else changed, and nothing is written
 pub record SetsSome (old new : Coded) (history : PageHistory) : Type 0 where

@@ -7,8 +7,8 @@ use Rattle.roff_requests.specs.declared.composer.Composer.{Composer as ComposerO
 use Rattle.roff_run.specs.declared.start.Start.{Start}
 use Rattle.roff_source.specs.Tape.{Tape, Item, items_then}
 use Rattle.roff_source.specs.declared.source.ByteSource as byte_source
-use Rattle.roff_scan.specs.Looking.{is_closed, looked_then}
-use Rattle.roff_scan.specs.declared.looked.Looked.TheVariants.{Nothing}
+use Rattle.roff_ahead.specs.Looking.{is_closed, looked_then}
+use Rattle.roff_ahead.specs.declared.looked.Looked.TheVariants.{Nothing}
 use Rattle.roff_requests.specs.Composer.Standing.{StandFor}
 use Rattle.roff_engine.specs.declared.formatter.Formatter.{Formatter}
 use Rattle.roff_engine.specs.declared.running.Running.{Running as Coded}
@@ -18,6 +18,7 @@ use Rattle.roff_engine.specs.declared.halt.Halt.{Halt}
 use Rattle.roff_engine.specs.declared.halt.Halt.TheVariants.{Limit as Limited, Refused, Over, Output, Messages}
 use Rattle.roff_engine.specs.Engine.Outcome.{Beginning, Completes, Seen, seen, IsLeftOf, Reaches, OutputStops, MessagesFail, OutcomeOf}
 use Rattle.roff_engine.specs.Formatter.Performing.{Opens, going}
+use Rattle.roff_engine.specs.Running.Room.{FewFor}
 use Rattle.roff_run.specs.TurnsToCome.{most_left}
 use Rattle.roff_sinks.specs.Sinks.{Sunk}
 use Rattle.roff_reader.specs.Reader.State.{fresh_reader}
@@ -84,6 +85,7 @@ pub record IsAt (t : Beginning) (tape : Tape) (start now : Seen) (run : Coded) :
   pub stands : StandFor run.limits history run.formatter.composer
   pub ready : IsReady run.formatter.reader.registers run.unread
   pub limits : run.unread.limits ≡ run.limits
+  pub few : FewFor [] run.formatter.reader.reading run.unread.input.escapes run.unread.input.ahead
 
 -- the definition stops at a limit in the step behind a state of this line
 pub record LimitStops (l : Limits) (t : Beginning) (left : Tape) (line : ℕ) (limit : Limit) (before now : Seen) : Type 0 where
@@ -138,7 +140,8 @@ Continues t tape start now (Ok done) run = IsAt t tape start now run
 Continues t tape start now (Err status) run = OutcomeOf run.limits t tape status start now
 
 -- The code took an item, and stands behind it; the definition stands before it, at this state, and a step of it
--- leads to what is done with the item. The byte before stood on this line.
+-- leads to what is done with the item. The byte before stood on this line. There is room in front for those of its events that
+-- may be put back.
 pub record TookFrom (t : Beginning) (tape : Tape) (start now : Seen) (line : ℕ) (does : State → State) (from : State) (run : Coded) : Type 0 where
   pub history : PageHistory
   pub messages : List ℕ
@@ -150,6 +153,7 @@ pub record TookFrom (t : Beginning) (tape : Tape) (start now : Seen) (line : ℕ
   pub quiet : from.last_message ≡ []
   pub line_is : from.input.line ≡ line
   pub rest : IsLeftOf tape from.tape
+  pub few : let done : State = does (state_at tape run history messages) in FewFor done.to_do done.reading done.input.escapes run.unread.input.ahead
 
 -- The code did what is to be done with an item that it took, or has ended: for each state from which a step of the
 -- definition leads to that. Where it goes on, no more turns are to come than of the definition's state.

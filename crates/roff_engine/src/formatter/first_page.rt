@@ -9,62 +9,66 @@ ghost use Rattle.roff_run.specs.PageEvents.{PageEvent};
 
 use super::Formatter;
 use roff_lines::Event;
+use roff_num::ShortName;
 use roff_pages::LayoutEvent;
 
 impl Formatter {
-    /// Begins the first page in front of an event that needs one, unless text may be taken.
+    /// Begins the first page in front of an event that needs one, unless text may be taken. Returns
+    /// the macro that it springs, if it springs one: the event waits behind it.
     #[inline(always)]
-    pub(super) fn begin_first(&mut self)
+    pub(super) fn begin_first(&mut self) -> Option<ShortName>
         ensures { (e : PageEvent) → ((h : PageHistory) → needs_page h e ≡ true)
-            → ReadyFor e self.old self.new }
+            → ReadyFor e self.old self.new result }
     {
         if self.composer.pages.takes_text() {
-            return;
+            return None;
         }
-        self.begin_page();
+        self.begin_page()
     }
 
     /// The same in front of an event of the text, which may need one.
     #[inline(always)]
-    pub(super) fn begin_first_for(&mut self, event: Event)
-        ensures { ReadyFor (Text event) self.old self.new }
+    pub(super) fn begin_first_for(&mut self, event: Event) -> Option<ShortName>
+        ensures { ReadyFor (Text event) self.old self.new result }
     {
         if self.composer.pages.takes_text() {
-            return;
+            return None;
         }
-        self.begin_page_for(event);
+        self.begin_page_for(event)
     }
 
     /// The same in front of an event of pages.
-    pub(super) fn begin_first_on(&mut self, event: LayoutEvent)
-        ensures { ReadyFor (Page event) self.old self.new }
+    pub(super) fn begin_first_on(&mut self, event: LayoutEvent) -> Option<ShortName>
+        ensures { ReadyFor (Page event) self.old self.new result }
     {
         if self.composer.pages.takes_text() {
-            return;
+            return None;
         }
         if needs_page(event) {
-            self.begin_page();
+            return self.begin_page();
         }
+        None
     }
 
-    /// Begins the first page.
+    /// Begins the first page. Returns the macro that springs at its beginning, if one does.
     #[cold]
     #[inline(never)]
-    fn begin_page(&mut self)
-        ensures { BeginsPage self.old self.new }
+    fn begin_page(&mut self) -> Option<ShortName>
+        ensures { BeginsPage self.old self.new result }
     {
-        let _ = self.composer.pages.begin();
+        self.composer.pages.begin()
     }
 
     /// Begins it if this event of the text needs a page.
     #[cold]
     #[inline(never)]
-    fn begin_page_for(&mut self, event: Event)
-        ensures { BeginsFor (Text event) self.old self.new }
+    fn begin_page_for(&mut self, event: Event) -> Option<ShortName>
+        ensures { BeginsFor (Text event) self.old self.new result }
     {
         if self.needs_page_for(event) {
-            self.begin_page();
+            return self.begin_page();
         }
+        None
     }
 
     /// Whether an event of the text needs a page: a glyph or tab; a break, before the closing phase;

@@ -4,26 +4,37 @@ ghost use Rattle.std.specs.Prelude.{◌≡◌, [], ◌∷◌, true};
 ghost use Rattle.roff_pages.specs.Happenings.{Does};
 ghost use Rattle.roff_pages.specs.Layout.{Layout};
 ghost use Rattle.roff_pages.specs.Pages.Stands.{StandsAs};
+ghost use Rattle.roff_engine.specs.Formatter.Paging.{ejects_still};
 ghost use Rattle.roff_engine.specs.Formatter.Setting.{halted_within, may_put};
+ghost use Rattle.roff_pages.specs.Springs.{is_on_top};
 ghost use Rattle.roff_engine.specs.Clauses.{DoesOnPage, IsOfTraps, PutsBy, PutsNothing};
 ghost use Rattle.roff_engine.specs.Clauses.{Page, PerformsOnly, SetsOnPage, Sunk, halted_by};
 ghost use Rattle.roff_pages.specs.declared.layout_event.LayoutEvent.TheVariants.{Need, Space};
 
 use super::Formatter;
 use crate::halt::Halt;
+use crate::sprung::{Sprung, left_going_on};
 use roff_num::{Limit, ShortName};
 use roff_pages::{LayoutEvent, PageFault, Pages};
 use roff_sinks::ByteSink;
 
 impl Formatter {
     /// Spaces so many lines.
-    pub(super) fn space<O: ByteSink>(&mut self, lines: u32, out: &mut O) -> Result<(), Halt>
+    pub(super) fn space<O: ByteSink>(
+        &mut self,
+        lines: u32,
+        out: &mut O,
+    ) -> Result<Option<Sprung>, Halt>
         ensures { PerformsOnly (Page (Space lines) ∷ []) self.old self.new
             (O.sunk out.old) (O.sunk out.new) result }
     {
-        self.begin_first();
-        let spaced = space_on(&mut self.composer.pages, lines, out);
-        done_on(&self.composer.pages, spaced)
+        match self.begin_first() {
+            Some(name) => Ok(Some(Sprung::in_front(name))),
+            None => {
+                let spaced = space_on(&mut self.composer.pages, lines, out);
+                done_on(&self.composer.pages, spaced)
+            }
+        }
     }
 
     /// Performs an event of the pages.
@@ -31,24 +42,55 @@ impl Formatter {
         &mut self,
         event: LayoutEvent,
         out: &mut O,
-    ) -> Result<(), Halt>
+    ) -> Result<Option<Sprung>, Halt>
         ensures { PerformsOnly (Page event ∷ []) self.old self.new
             (O.sunk out.old) (O.sunk out.new) result }
     {
-        self.begin_first_on(event);
-        do_on_page(&mut self.composer.pages, event, out)
+        match self.begin_first_on(event) {
+            Some(name) => Ok(Some(Sprung::in_front(name))),
+            None => do_on_page(&mut self.composer.pages, event, out),
+        }
     }
 }
 
 /// Does an event to pages of which one was begun, where it needs one.
-fn do_on_page<O: ByteSink>(pages: &mut Pages, event: LayoutEvent, out: &mut O) -> Result<(), Halt>
+fn do_on_page<O: ByteSink>(
+    pages: &mut Pages,
+    event: LayoutEvent,
+    out: &mut O,
+) -> Result<Option<Sprung>, Halt>
     ensures { DoesOnPage event pages.old pages.new (O.sunk out.old) (O.sunk out.new) result }
 {
     if !may_put(event) {
         return set_on_page(pages, event);
     }
-    let done = put_on_page(pages, event, out);
-    done_on(pages, done)
+    let put = put_on_page(pages, event, out);
+    let done = done_on(pages, put);
+    left_going_on(done, ejects_still(pages, event))
+}
+
+/// Whether an event is an eject, and the page that it ejects hasn't ended: where that ended, the next
+/// one begins at its top.
+fn ejects_still(pages: &Pages, event: LayoutEvent) -> bool
+    ensures { (L : Layout) → StandsAs L pages.now → result ≡ ejects_still event L }
+{
+    match event {
+        LayoutEvent::Eject(_) => !is_on_top(pages.nl()),
+        LayoutEvent::EjectTo(..) => !is_on_top(pages.nl()),
+        LayoutEvent::EjectOn(_) => !is_on_top(pages.nl()),
+        LayoutEvent::EjectLast => !is_on_top(pages.nl()),
+        _ => false,
+    }
+}
+
+/// Whether a place is at the top of a page.
+fn is_on_top(place: Option<u64>) -> bool
+    ensures { result ≡ is_on_top place }
+{
+    match place {
+        Some(place) => place == 0,
+        None => false,
+    }
 }
 
 /// Whether an event may put something.
@@ -116,16 +158,14 @@ fn need_on<O: ByteSink>(
     pages.need(lines, out)
 }
 
-/// Sets something of the pages: an event that puts nothing.
-fn set_on_page(pages: &mut Pages, event: LayoutEvent) -> Result<(), Halt>
+/// Sets something of the pages: an event that puts nothing. A page may begin with it.
+fn set_on_page(pages: &mut Pages, event: LayoutEvent) -> Result<Option<Sprung>, Halt>
     requires { PutsNothing event }
     ensures { SetsOnPage event pages.old pages.new result }
 {
     match event {
         LayoutEvent::ListPages(first, last) => pages.list_pages(first, last),
-        LayoutEvent::Begin => {
-            let _ = pages.begin();
-        }
+        LayoutEvent::Begin => return Ok(Sprung::by(pages.begin())),
         LayoutEvent::Close => pages.close(),
         LayoutEvent::Length(lines) => pages.set_length(lines),
         LayoutEvent::Offset(columns) => pages.set_offset(columns),
@@ -134,11 +174,11 @@ fn set_on_page(pages: &mut Pages, event: LayoutEvent) -> Result<(), Halt>
         LayoutEvent::NoSpace(on) => pages.set_no_space(on),
         _ => return set_trap(pages, event),
     }
-    Ok(())
+    Ok(None)
 }
 
 /// The same of traps and diversions.
-fn set_trap(pages: &mut Pages, event: LayoutEvent) -> Result<(), Halt>
+fn set_trap(pages: &mut Pages, event: LayoutEvent) -> Result<Option<Sprung>, Halt>
     requires { IsOfTraps event }
     ensures { SetsOnPage event pages.old pages.new result }
 {
@@ -147,53 +187,56 @@ fn set_trap(pages: &mut Pages, event: LayoutEvent) -> Result<(), Halt>
         LayoutEvent::Divert(name, appends) => within_limit(pages.divert(name, appends)),
         LayoutEvent::Uproot(place) => {
             pages.uproot(place);
-            Ok(())
+            Ok(None)
         }
         LayoutEvent::MoveTrap(name, place) => {
             pages.move_trap(name, place);
-            Ok(())
+            Ok(None)
         }
         LayoutEvent::RemoveTrap(name) => {
             pages.remove_trap(name);
-            Ok(())
+            Ok(None)
         }
         LayoutEvent::DiversionTrap(trap) => {
             pages.diversion_trap(Some(trap));
-            Ok(())
+            Ok(None)
         }
         LayoutEvent::NoDiversionTrap => {
             pages.diversion_trap(None);
-            Ok(())
+            Ok(None)
         }
         LayoutEvent::EndDivert => {
             pages.end_divert();
-            Ok(())
+            Ok(None)
         }
-        _ => Ok(()),
+        _ => Ok(None),
     }
 }
 
 /// What was set, or the limit that refused it.
-fn within_limit(done: Result<(), Limit>) -> Result<(), Halt>
+fn within_limit(done: Result<(), Limit>) -> Result<Option<Sprung>, Halt>
     ensures { result ≡ halted_within done }
 {
     match done {
-        Ok(()) => Ok(()),
+        Ok(()) => Ok(None),
         Err(limit) => Err(Halt::Limit(limit)),
     }
 }
 
-/// What was put on pages was done: with the last page the run ends.
+/// What was put on pages was done, and sprang this, if anything: with the last page the run ends.
 #[inline(always)]
-pub(super) fn done_on(pages: &Pages, done: Result<Option<ShortName>, PageFault>) -> Result<(), Halt>
+pub(super) fn done_on(
+    pages: &Pages,
+    done: Result<Option<ShortName>, PageFault>,
+) -> Result<Option<Sprung>, Halt>
     ensures { (L : Layout) → StandsAs L pages.now → result ≡ halted_by done L.is_over }
 {
     match done {
-        Ok(_) => {
+        Ok(name) => {
             if pages.is_over() {
                 return Err(Halt::Over);
             }
-            Ok(())
+            Ok(Sprung::by(name))
         }
         Err(PageFault::Output) => Err(Halt::Limit(Limit::Output)),
         Err(PageFault::Sink) => Err(Halt::Output),

@@ -3,15 +3,14 @@
 ghost use Rattle.std.specs.Prelude.{[], ◌≡◌, ◌∷◌, IsOkUnless};
 ghost use Rattle.roff_run.specs.Events.Steps.{events_of, messages_of};
 ghost use Rattle.roff_engine.specs.Clauses.{option_to_list, message_lines, DoesMeaning};
-ghost use Rattle.roff_engine.specs.Clauses.{PerformsAll, PerformsOne, PerformsOnly, none_sprung};
-ghost use Rattle.roff_engine.specs.Clauses.{quiet_events, sinks, Text, Puts, Sunk, Environment};
+ghost use Rattle.roff_engine.specs.Clauses.{PerformsAll, PerformsOne, PerformsOnly};
+ghost use Rattle.roff_engine.specs.Clauses.{sinks, Text, Puts, Sunk, Environment};
 
 use super::Formatter;
 use crate::halt::Halt;
 use crate::report::report;
 use crate::sprung::Sprung;
 use roff_lines::{Event, Glyph};
-use roff_num::ShortName;
 use roff_run::{EnvironmentNumber, Message, PageEvent, Step};
 use roff_sinks::ByteSink;
 
@@ -66,17 +65,16 @@ impl Formatter {
         let mut index = 0;
         while let Some(event) = self.reader.event(index) {
             match self.perform_event(event, out) {
-                Ok(sprung) => match sprung {
-                    None => index += 1,
-                    Some(name) => return Ok(Some(Sprung::behind(name, index))),
-                },
+                Ok(None) => index += 1,
+                Ok(Some(sprung)) => return Ok(Some(sprung.further(index as u8))),
                 Err(halt) => return Err(halt),
             }
         }
         Ok(None)
     }
 
-    /// Performs the events of a step that has a name of its own.
+    /// Performs the events of a step that has a name of its own, up to one that springs a macro: then
+    /// the reader keeps them.
     #[inline(always)]
     pub(super) fn perform_line<O: ByteSink>(
         &mut self,
@@ -86,37 +84,59 @@ impl Formatter {
         ensures { PerformsAll (events_of [] step) self.old self.new
             (O.sunk out.old) (O.sunk out.new) result }
     {
-        match step {
-            Step::LineEnd => self.end_text_line(out),
-            _ => none_sprung(self.perform_quietly(step, out)),
+        match self.perform_step(step, out) {
+            Ok(None) => Ok(None),
+            Ok(Some(sprung)) => {
+                self.reader.keep_step(step);
+                Ok(Some(sprung))
+            }
+            Err(halt) => Err(halt),
         }
     }
 
-    /// The same of one that springs nothing: of any but the end of a text line.
+    /// Performs the events of a step that has a name of its own, up to one that springs a macro.
     #[inline(always)]
-    fn perform_quietly<O: ByteSink>(&mut self, step: Step, out: &mut O) -> Result<(), Halt>
-        ensures { PerformsOnly (quiet_events step) self.old self.new
+    fn perform_step<O: ByteSink>(&mut self, step: Step, out: &mut O) -> Result<Option<Sprung>, Halt>
+        ensures { PerformsOnly (events_of [] step) self.old self.new
             (O.sunk out.old) (O.sunk out.new) result }
     {
         match step {
-            Step::Nothing => Ok(()),
+            Step::Nothing => Ok(None),
             Step::Glyph(byte, leading) => self.glyph_behind(leading, Glyph::Printed(byte)),
             Step::Tab(leading) => self.tab_behind(leading),
             Step::Gap => self.gap_behind_word(out),
             Step::Break => self.break_behind_word(out),
-            Step::LineEnd => Ok(()),
+            Step::LineEnd => self.end_text_line(out),
             Step::BlankLine => self.blank_line(out),
-            Step::Meaning => Ok(()),
+            Step::Meaning => Ok(None),
         }
     }
 
-    /// Performs an event, and before it what comes before it. Returns the macro that it springs, if it
-    /// springs one.
-    pub(crate) fn perform_event<O: ByteSink>(
+    /// Performs an event that was put back: where it is left once more the reader keeps it.
+    pub(crate) fn perform_waiting<O: ByteSink>(
         &mut self,
         event: PageEvent,
         out: &mut O,
-    ) -> Result<Option<ShortName>, Halt>
+    ) -> Result<Option<Sprung>, Halt>
+        ensures { PerformsAll (event ∷ []) self.old self.new
+            (O.sunk out.old) (O.sunk out.new) result }
+    {
+        match self.perform_event(event, out) {
+            Ok(None) => Ok(None),
+            Ok(Some(sprung)) => {
+                self.reader.keep_event(event);
+                Ok(Some(sprung))
+            }
+            Err(halt) => Err(halt),
+        }
+    }
+
+    /// Performs an event, and before it what comes before it.
+    fn perform_event<O: ByteSink>(
+        &mut self,
+        event: PageEvent,
+        out: &mut O,
+    ) -> Result<Option<Sprung>, Halt>
         ensures { PerformsOne event self.old self.new
             (O.sunk out.old) (O.sunk out.new) result }
     {
@@ -126,7 +146,7 @@ impl Formatter {
                 self.composer.environments.interrupt(untold);
                 Ok(None)
             }
-            PageEvent::Environment(number) => none_named(self.switch_to(number)),
+            PageEvent::Environment(number) => self.switch_to(number),
             PageEvent::Back => {
                 self.composer.environments.switch_back();
                 Ok(None)
@@ -135,8 +155,8 @@ impl Formatter {
                 self.composer.environments.set_input_trap(trap);
                 Ok(None)
             }
-            PageEvent::Page(event) => none_named(self.perform_on_page(event, out)),
-            PageEvent::Title(which) => none_named(self.place_title(which, out)),
+            PageEvent::Page(event) => self.perform_on_page(event, out),
+            PageEvent::Title(which) => self.place_title(which, out),
         }
     }
 
@@ -145,18 +165,18 @@ impl Formatter {
         &mut self,
         event: Event,
         out: &mut O,
-    ) -> Result<Option<ShortName>, Halt>
+    ) -> Result<Option<Sprung>, Halt>
         ensures { PerformsOne (Text event) self.old self.new
             (O.sunk out.old) (O.sunk out.new) result }
     {
         match event {
-            Event::Print(glyph) => none_named(self.glyph(glyph)),
-            Event::Tab => none_named(self.tab()),
-            Event::WordEnd => none_named(self.end_word(out)),
-            Event::Gap(blanks) => none_named(self.gap_behind_own(blanks, out)),
-            Event::LineEnd => none_named(self.line_end_behind_own(out)),
-            Event::Count => Ok(self.composer.environments.count()),
-            Event::Break => none_named(self.break_behind_own(out)),
+            Event::Print(glyph) => self.glyph(glyph),
+            Event::Tab => self.tab(),
+            Event::WordEnd => self.end_word(out),
+            Event::Gap(blanks) => self.gap_behind_own(blanks, out),
+            Event::LineEnd => self.line_end_behind_own(out),
+            Event::Count => self.count(),
+            Event::Break => self.break_behind_own(out),
             Event::Interrupt => {
                 self.composer.environments.in_force.lines.interrupt();
                 Ok(None)
@@ -173,36 +193,14 @@ impl Formatter {
     }
 
     /// Leaves the environment in force for another.
-    fn switch_to(&mut self, number: EnvironmentNumber) -> Result<(), Halt>
+    fn switch_to(&mut self, number: EnvironmentNumber) -> Result<Option<Sprung>, Halt>
         ensures { (told : Sunk) →
             PerformsOnly (Environment number ∷ []) self.old self.new told told result }
     {
         match self.composer.environments.switch_to(number) {
-            Ok(()) => Ok(()),
+            Ok(()) => Ok(None),
             Err(limit) => Err(Halt::Limit(limit)),
         }
-    }
-}
-
-/// What was performed sprang nothing.
-#[inline(always)]
-fn none_sprung(done: Result<(), Halt>) -> Result<Option<Sprung>, Halt>
-    ensures { result ≡ none_sprung done }
-{
-    match done {
-        Ok(()) => Ok(None),
-        Err(halt) => Err(halt),
-    }
-}
-
-/// The same of an event.
-#[inline(always)]
-fn none_named(done: Result<(), Halt>) -> Result<Option<ShortName>, Halt>
-    ensures { result ≡ none_sprung done }
-{
-    match done {
-        Ok(()) => Ok(None),
-        Err(halt) => Err(halt),
     }
 }
 

@@ -10,12 +10,13 @@ ghost use Rattle.roff_sinks.specs.TitleLeft.{title_of};
 ghost use Rattle.roff_sinks.specs.TitleParts.{HasNoBlank};
 ghost use Rattle.roff_sinks.specs.Titles.{part_text};
 ghost use Rattle.roff_run.specs.declared.event.PageEvent.TheVariants.{Title};
-ghost use Rattle.roff_engine.specs.Clauses.{PerformsOne, PutsOnPage, none_sprung};
+ghost use Rattle.roff_engine.specs.Clauses.{PerformsOne, PlacesTitle, PutsOnPage};
 ghost use Rattle.roff_engine.specs.Formatter.Titling.{title_at};
 
 use super::Formatter;
 use super::paging::done_on;
 use crate::halt::Halt;
+use crate::sprung::Sprung;
 use roff_num::{NumText, write_num};
 use roff_pages::Pages;
 use roff_run::WhichTitle;
@@ -27,11 +28,24 @@ impl Formatter {
         &mut self,
         which: WhichTitle,
         out: &mut O,
-    ) -> Result<(), Halt>
+    ) -> Result<Option<Sprung>, Halt>
         ensures { PerformsOne (Title which) self.old self.new
-            (O.sunk out.old) (O.sunk out.new) (none_sprung result) }
+            (O.sunk out.old) (O.sunk out.new) result }
     {
-        self.begin_first();
+        match self.begin_first() {
+            Some(name) => Ok(Some(Sprung::in_front(name))),
+            None => self.place_title_here(which, out),
+        }
+    }
+
+    /// The same where no page begins in front of it.
+    fn place_title_here<O: ByteSink>(
+        &mut self,
+        which: WhichTitle,
+        out: &mut O,
+    ) -> Result<Option<Sprung>, Halt>
+        ensures { PlacesTitle which self.old self.new (O.sunk out.old) (O.sunk out.new) result }
+    {
         let number = self.page_number();
         self.put_title(which, number.as_slice(), out)
     }
@@ -52,13 +66,13 @@ impl Formatter {
         number
     }
 
-    /// Puts a title with this number of the page, behind the first page's beginning.
+    /// Puts a title with this number of the page.
     fn put_title<O: ByteSink>(
         &mut self,
         which: WhichTitle,
         number: &[u8],
         out: &mut O,
-    ) -> Result<(), Halt>
+    ) -> Result<Option<Sprung>, Halt>
         requires some { 0 < length number.now }
         requires shown { HasNoBlank number.now }
         requires short { length number.now ≤ 48 }
@@ -84,7 +98,11 @@ impl Formatter {
 }
 
 /// Puts a title, in the innermost open diversion or on the page. With it the last page may end.
-fn put_on<O: ByteSink>(pages: &mut Pages, title: TitleLine<'_>, out: &mut O) -> Result<(), Halt>
+fn put_on<O: ByteSink>(
+    pages: &mut Pages,
+    title: TitleLine<'_>,
+    out: &mut O,
+) -> Result<Option<Sprung>, Halt>
     requires some { 0 < length title.number.now }
     requires shown { HasNoBlank title.number.now }
     requires width { let number = title.number.now in

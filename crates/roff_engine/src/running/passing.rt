@@ -7,7 +7,7 @@ ghost use Rattle.roff_scan.specs.declared.run_kind.RunKind.TheVariants.{Dropped 
 ghost use Rattle.roff_run.specs.Reading.Returns.{behind_return};
 ghost use Rattle.roff_run.specs.Stages.{EndsLine};
 ghost use Rattle.roff_escape.specs.declared.open_escape.Waiting.TheVariants.{Takes};
-ghost use Rattle.roff_scan.specs.Unread.{IsWithin};
+ghost use Rattle.roff_ahead.specs.Unread.{IsWithin};
 ghost use Rattle.roff_scan.specs.Unread.Calls.{PassesEnd, PassesReturn};
 ghost use Rattle.roff_engine.specs.Clauses.{due, waiting_in};
 

@@ -1,15 +1,16 @@
 //! What is due before anything more is taken.
 
 ghost use Rattle.std.specs.Prelude.{◌≡◌, ℕ, Some};
-ghost use Rattle.roff_engine.specs.Clauses.{Sunk, seen, due, Tells};
+ghost use Rattle.roff_engine.specs.Clauses.{LineStart, Sunk, seen, due, Leaves, Tells};
 
 use super::Running;
 use crate::report::report_text;
-use roff_run::{Due, Status};
+use roff_run::{Due, Phase, Status};
 use roff_sinks::ByteSink;
 
 impl Running {
     ghost use Rattle.roff_engine.specs.Running.Turning.{DoesDue};
+    ghost use Rattle.roff_engine.specs.Running.Leaving.{DropsAhead, LeavesInput};
 
     /// Does what is due before anything more is taken. An `Err` is the status of a run that ended.
     #[inline(always)]
@@ -33,11 +34,34 @@ impl Running {
         match what {
             Due::Tells { aborts } => self.report_held_text(aborts, err),
             Due::Leaves => {
-                self.unread.leave();
-                self.formatter.reader.begin_next_line();
+                self.leave_input();
                 Ok(())
             }
         }
+    }
+
+    /// Leaves the input, and reads what all ends of bodies lead back to. As the run closes nothing is
+    /// left, and a line begins.
+    fn leave_input(&mut self)
+        requires { due self.old.formatter.reader.reading ≡ Some Leaves }
+        ensures { LeavesInput self.old self.new }
+    {
+        self.formatter.reader.begin_next_line();
+        match self.phase {
+            Phase::Closing => {}
+            Phase::Reading => self.drop_ahead(),
+            Phase::LastMacro => self.drop_ahead(),
+        }
+    }
+
+    /// Drops what stands ahead of the source, of which nothing more is taken, and reads what all ends of
+    /// bodies lead back to.
+    fn drop_ahead(&mut self)
+        requires { self.old.formatter.reader.reading ≡ LineStart }
+        ensures { DropsAhead self.old self.new }
+    {
+        let back = self.unread.leave();
+        self.formatter.reader.end_call(back);
     }
 
     /// Tells a message, which may end the run.

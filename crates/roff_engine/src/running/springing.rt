@@ -2,12 +2,13 @@
 
 ghost use Rattle.roff_engine.specs.Clauses.{Sunk, seen};
 ghost use Rattle.std.specs.Prelude.{ℕ, ◌≡◌, ◌≤◌, [], Some, drop};
-ghost use Rattle.roff_engine.specs.Formatter.Sprung.{left_of};
+ghost use Rattle.roff_engine.specs.Formatter.Sprung.{event_going_on, left_behind};
 
 use super::Running;
 use crate::halt::Halt;
 use crate::sprung::Sprung;
-use roff_run::Status;
+use roff_pages::LayoutEvent;
+use roff_run::{PageEvent, Status};
 use roff_sinks::ByteSink;
 
 impl Running {
@@ -36,7 +37,7 @@ impl Running {
         ensures { (failures : ℕ) (out : Sunk) → GoesOn (Some sprung) self.old self.new
             (seen failures out (E.sunk err.old)) (seen failures out (E.sunk err.new)) result }
     {
-        self.put_left_back(sprung.left);
+        self.put_left_back(sprung);
         let line = self.unread.line();
         match self.formatter.reader.spring(sprung.name, &mut self.unread) {
             Ok(()) => Ok(()),
@@ -44,13 +45,21 @@ impl Running {
         }
     }
 
-    /// Puts the events back that the reader keeps from an index on, if there is one.
-    fn put_left_back(&mut self, left: Option<u8>)
-        ensures { PutsBack (left_of left self.old.formatter.reader.meaning.events) self.old self.new }
+    /// Puts the events back that are left of those that the reader keeps: the last one first. An eject
+    /// in front of them may go on.
+    fn put_left_back(&mut self, sprung: Sprung)
+        ensures { PutsBack (left_behind sprung self.old.formatter.reader.meaning.events)
+            self.old self.new }
     {
-        match left {
-            None => {}
-            Some(first) => self.put_back(first as usize),
+        let first = sprung.left as usize;
+        if !sprung.goes_on {
+            self.put_back(first);
+            return;
+        }
+        self.put_back(first + 1);
+        if let Some(event) = self.formatter.reader.event(first) {
+            let event = self.formatter.reader.keep_title_of(going_on(event));
+            self.unread.put_back(event);
         }
     }
 
@@ -79,5 +88,18 @@ impl Running {
             index += 1;
         }
         index
+    }
+}
+
+/// How an event goes on behind a macro that it sprang, if it is an eject.
+fn going_on(event: PageEvent) -> PageEvent
+    ensures { result ≡ event_going_on event }
+{
+    match event {
+        PageEvent::Page(LayoutEvent::Eject(asked)) => PageEvent::Page(LayoutEvent::EjectOn(asked)),
+        PageEvent::Page(LayoutEvent::EjectTo(asked, _)) => {
+            PageEvent::Page(LayoutEvent::EjectOn(asked))
+        }
+        _ => event,
     }
 }

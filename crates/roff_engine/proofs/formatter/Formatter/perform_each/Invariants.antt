@@ -21,4 +21,4 @@ invariant-loop-event g l = record {
 }
 
 abbrev pub decreases-loop-event : goal.decreases-loop-event
-decreases-loop-event g l = 35 - l.index
+decreases-loop-event g l = 36 - l.index

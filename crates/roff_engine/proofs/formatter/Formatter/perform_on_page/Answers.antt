@@ -1,8 +1,12 @@
-use Rattle.std.proofs.Common.{refl, rules}
+use Rattle.std.proofs.Common.{rules}
 use Rattle.roff_run.specs.declared.event.PageEvent.TheVariants.{Page}
-use Rattle.roff_engine.proofs.DoneFirst.{only_first, page_here, ready_then}
+use Rattle.roff_engine.proofs.DoneEvents.{page_only}
+use Rattle.roff_engine.proofs.DoneFirst.{only_begun}
+use Rattle.roff_engine.proofs.EventsLeft.{paged-left}
 use Rattle.roff_engine.proofs.formatter.Formatter.perform_on_page.Goals as goal
 
-pub returns : goal.returns
-returns g c = only_first (Page c.args.event) (Page c.args.event) _ _ _ _ _ (λ rs. refl) (ready_then _ _ _ c.begin_first_on.new.self _ _ _ _ c.begin_first_on.ensures
-    (page_here c.args.event _ _ _ _ _ c.do_on_page.ensures (search rules) (search rules)))
+pub returns-in-Some : goal.returns-in-Some
+returns-in-Some g c = rw c.in_front.ensures (only_begun (Page c.args.event) _ _ _ c.in-Some.name (paged-left c.args.event) c.in-Some.ensures)
+
+pub returns-in-None : goal.returns-in-None
+returns-in-None g c = page_only c.args.event _ c.begin_first_on.new.self _ _ _ _ c.in-None.ensures c.do_on_page.ensures (search rules) (search rules)

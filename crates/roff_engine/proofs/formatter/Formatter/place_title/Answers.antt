@@ -1,17 +1,13 @@
-use Rattle.std.proofs.Common.{◌∙◌, refl, subst, sym}
-use Rattle.std.specs.Prelude.{◌<◌, ℕ, List, length}
+use Rattle.std.proofs.Common.{refl}
 use Rattle.roff_run.specs.declared.event.PageEvent.TheVariants.{Title}
-use Rattle.roff_sinks.specs.TitleParts.{HasNoBlank}
+use Rattle.roff_engine.proofs.DoneFirst.{only_page}
+use Rattle.roff_engine.proofs.Springing.{one_alone}
 use Rattle.roff_engine.proofs.Titling.{title_placed}
 use Rattle.roff_engine.proofs.formatter.Formatter.place_title.Goals as goal
 
-pub put_title-requires-clause-some : goal.put_title-requires-clause-some
-put_title-requires-clause-some g c = subst (λ (bytes : List ℕ). 0 < length bytes) (sym c.as_slice.ensures.value) c.page_number-number.ensures.some
+pub returns-in-Some : goal.returns-in-Some
+returns-in-Some g c = rw c.in_front.ensures (one_alone (Title c.args.which) _ _ _ _ _ (λ h. refl)
+    (only_page (Title c.args.which) _ _ _ c.in-Some.name refl (c.in-Some.ensures (Title c.args.which) (λ h. refl))))
 
-pub put_title-requires-clause-shown : goal.put_title-requires-clause-shown
-put_title-requires-clause-shown g c = subst HasNoBlank (sym c.as_slice.ensures.value) c.page_number-number.ensures.shown
-
-pub returns : goal.returns
-returns g c =
-    title_placed c.args.which c.as_slice.result.now _ c.begin_first.new.self _ _ _ _ (c.begin_first.ensures (Title c.args.which) (λ h. refl))
-    (λ L stands. c.as_slice.ensures.value ∙ c.page_number-number.ensures.number L stands) c.put_title.ensures.puts c.put_title.ensures.others
+pub returns-in-None : goal.returns-in-None
+returns-in-None g c = title_placed c.args.which _ c.begin_first.new.self _ _ _ _ (c.in-None.ensures (Title c.args.which) (λ h. refl)) c.place_title_here.ensures

@@ -2,10 +2,10 @@ use Rattle.std.proofs.Common.{[], refl}
 use Rattle.roff_run.specs.Run.{escape_ends}
 use Rattle.roff_run.specs.Reading.{escape_ended}
 use Rattle.roff_run.specs.Registers.{Known}
-use Rattle.roff_engine.proofs.EventsLeft.{CountsLast-none}
-use Rattle.roff_run.proofs.CountsLast.{CountsLast-escape_ended}
+use Rattle.roff_engine.proofs.EventsLeft.{few-none}
+use Rattle.roff_run.proofs.WaitingEvents.{AreFewBehind-escape_ended}
 use Rattle.roff_engine.proofs.Acting.{taking_acts, halted_acts}
-use Rattle.roff_engine.proofs.Ending.{line-escape_ended}
+use Rattle.roff_engine.proofs.Ending.{few-escape_ended, line-escape_ended}
 use Rattle.roff_engine.proofs.running.Running.end_escape.Goals as goal
 
 pub returns-in-Ok : goal.returns-in-Ok
@@ -13,7 +13,8 @@ returns-in-Ok g c = λ failures.
     let old = c.args.self.now in
     taking_acts (λ (k : Known). escape_ended k old.formatter.reader.reading old.unread.input)
     escape_ends old.phase [] _ old _ c.go_on.new.self failures c.in-Ok.sprung _ _ (λ tape h messages. refl) refl refl c.in-Ok.ensures
-    (λ k. CountsLast-none (escape_ended k old.formatter.reader.reading old.unread.input).effect.events (CountsLast-escape_ended k old.formatter.reader.reading old.unread.input)) (c.go_on.ensures failures _)
+    (λ k. few-none (escape_ended k old.formatter.reader.reading old.unread.input).effect.events (AreFewBehind-escape_ended k old.formatter.reader.reading old.unread.input))
+    (λ k. few-escape_ended k old.formatter.reader.reading old.unread.input) (c.go_on.ensures failures _)
 
 pub returns-in-Err : goal.returns-in-Err
 returns-in-Err g c = λ failures.

@@ -5,4 +5,4 @@ abbrev pub invariant-loop-index : goal.invariant-loop-index
 invariant-loop-index l = l.first ≤ l.index
 
 abbrev pub decreases-loop-index : goal.decreases-loop-index
-decreases-loop-index l = 35 - l.index
+decreases-loop-index l = 36 - l.index

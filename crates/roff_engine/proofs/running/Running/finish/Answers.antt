@@ -1,10 +1,11 @@
-use Rattle.std.proofs.Common.{[], refl}
+use Rattle.std.proofs.Common.{arith, [], refl}
 use Rattle.roff_run.specs.Events.Lines.{closing_events}
 use Rattle.roff_run.specs.Run.{phase_ended}
 use Rattle.roff_run.specs.Reading.Items.{meaning_events}
 use Rattle.roff_run.specs.Registers.{Known}
 use Rattle.roff_run.specs.declared.line_state.LineState.TheVariants.{LineStart}
 use Rattle.roff_run.specs.declared.phase.Phase.TheVariants.{Closing, LastMacro}
+use Rattle.roff_engine.proofs.EventsLeft.{few-short}
 use Rattle.roff_engine.proofs.Acting.{taking_acts, halted_acts}
 use Rattle.roff_engine.proofs.running.Running.finish.Goals as goal
 
@@ -13,7 +14,7 @@ returns-in-Ok g c = λ failures.
     let old = c.args.self.now in
     taking_acts (λ (k : Known). meaning_events old.unread.input LineStart closing_events)
     (phase_ended LastMacro) Closing [] _ old _ c.go_on.new.self failures c.in-Ok.sprung _ _ (λ tape h messages. refl) refl refl (c.in-Ok.ensures old.unread _)
-    (λ k. tt) (c.go_on.ensures failures _)
+    (λ k. few-short closing_events (omega arith)) (λ k room most few. few) (c.go_on.ensures failures _)
 
 pub returns-in-Err : goal.returns-in-Err
 returns-in-Err g c = λ failures.

@@ -1,8 +1,7 @@
-use Rattle.std.proofs.Common.{[], ◌∷◌, refl, sym, ◌∙◌}
+use Rattle.std.proofs.Common.{[], ◌∷◌, arith, refl, sym, ◌∙◌}
 use Rattle.roff_ahead.specs.Input.{DoAhead}
 use Rattle.roff_run.specs.Run.{ahead_taken}
-use Rattle.roff_engine.specs.Formatter.Sprung.{sprung_last}
-use Rattle.roff_engine.proofs.EventsLeft.{counts_last-one}
+use Rattle.roff_run.proofs.Keeping.{Keeps-interrupted}
 use Rattle.roff_engine.proofs.Acting.{taking_acts, halted_acts}
 use Rattle.roff_engine.proofs.EventsTaken.{event_taking, event_does, event_meant, line-interrupted}
 use Rattle.roff_engine.proofs.running.Running.perform.Goals as goal
@@ -11,8 +10,9 @@ pub returns-in-Ok : goal.returns-in-Ok
 returns-in-Ok g c = λ failures.
     let old = c.args.self.now in
     taking_acts (event_taking old.formatter.reader.reading old.unread.input)
-    (ahead_taken (DoAhead c.args.event)) old.phase (c.args.event ∷ []) _ old _ c.go_on.new.self failures (sprung_last c.in-Ok.name) _ _ (event_meant c.args.event old) refl refl
-    (event_does c.args.event _ _ _ _ _ _ _ _ c.interrupt.ensures c.in-Ok.ensures) (λ k. counts_last-one c.args.event) (rw c.last.ensures at c.go_on.ensures failures _)
+    (ahead_taken (DoAhead c.args.event)) old.phase (c.args.event ∷ []) _ old _ c.go_on.new.self failures c.in-Ok.sprung _ _ (event_meant c.args.event old) refl refl
+    (event_does c.args.event _ _ _ _ _ _ _ _ c.interrupt.ensures c.in-Ok.ensures) (λ k. ((λ may. omega arith), tt))
+    (λ k. (Keeps-interrupted old.formatter.reader.reading old.unread.input).few) (c.go_on.ensures failures _)
 
 pub returns-in-Err : goal.returns-in-Err
 returns-in-Err g c = λ failures.

@@ -14,7 +14,7 @@ returns-in-Ok g c = λ failures out.
     let old = c.args.self.now in
     taking_acts (λ (k : Known). going_on (last_called old.formatter.reader.registers.all.last_macro old.unread.input) LineStart)
     (phase_ended Reading) LastMacro [] _ old _ c.go_on.new.self failures c.in-Ok.sprung _ _ (λ tape h messages. refl) refl refl (c.in-Ok.ensures out _)
-    (λ k. tt) (c.go_on.ensures failures out)
+    (λ k. tt) (λ k. (Keeps-last_called old.formatter.reader.registers.all.last_macro old.unread.input).few) (c.go_on.ensures failures out)
 
 pub returns-in-Err : goal.returns-in-Err
 returns-in-Err g c = λ failures out.

@@ -1,4 +1,6 @@
-use Rattle.std.proofs.Common.{arith}
+use Rattle.std.proofs.Common.{arith, subst, sym}
+use Rattle.roff_run.specs.Reading.Items.{PageUnread}
+use Rattle.roff_engine.specs.Running.Room.{SeesOn}
 use Rattle.roff_engine.proofs.PassingEnds.{takes_end}
 use Rattle.roff_engine.proofs.Turns.{TurnsBy-same, front_end}
 use Rattle.roff_engine.proofs.running.Running.turn_above.Goals as goal
@@ -6,7 +8,10 @@ use Rattle.roff_engine.proofs.running.Running.turn_above.Goals as goal
 pub returns-then-pass_end : goal.returns-then-pass_end
 returns-then-pass_end g c =
     let old = c.args.self.now in
-    front_end old _ _ _ _ _ _ (omega arith) (omega arith) (takes_end _ old.unread _ (c.pass_end.ensures.passes c.if-pass_end.true))
+    front_end old _ _ _ _ _ _ (omega arith) (omega arith) c.requires (takes_end _ old.unread _ (c.pass_end.ensures.passes c.if-pass_end.true))
+
+pub turn_in_front-requires : goal.turn_in_front-requires
+turn_in_front-requires g c = subst (λ (u : PageUnread). SeesOn u.input) (sym (c.pass_end.ensures.unchanged c.if-pass_end.false)) c.requires
 
 pub returns : goal.returns
 returns g c =

@@ -1,5 +1,5 @@
 use Rattle.roff_engine.proofs.Turns.{TurnsBy-same}
-use Rattle.roff_engine.proofs.Waiting.{byte_alone}
+use Rattle.roff_engine.proofs.WaitedBytes.{byte_alone}
 use Rattle.roff_engine.proofs.running.Running.turn_alone.Goals as goal
 
 pub returns-in-Some : goal.returns-in-Some

@@ -2,8 +2,12 @@ use Rattle.std.proofs.Common.{ap, sym, ◌∙◌}
 use Rattle.roff_escape.specs.declared.open_escape.Waiting.{Waiting}
 use Rattle.roff_run.specs.Run.{read_waiting}
 use Rattle.roff_engine.specs.Running.Turning.{state_at}
-use Rattle.roff_engine.proofs.Waiting.{turn_as, waiting_decides}
+use Rattle.roff_engine.proofs.Waiting.{sees-taking, turn_as, waiting_decides}
 use Rattle.roff_engine.proofs.running.Running.turn_half_read.Goals as goal
+
+pub turn_in_front-requires : goal.turn_in_front-requires
+turn_in_front-requires g c =
+    let old = c.args.self.now in sees-taking old.formatter.reader.reading old.unread.input (sym c.waiting.ensures ∙ c.in-Takes.is)
 
 pub returns-in-Takes : goal.returns-in-Takes
 returns-in-Takes g c =

@@ -1,3 +1,6 @@
+use Rattle.std.proofs.Common.{subst, sym}
+use Rattle.roff_run.specs.Reading.Items.{PageUnread}
+use Rattle.roff_engine.specs.Running.Room.{SeesOn}
 use Rattle.roff_engine.proofs.Turns.{TurnsBy-same, front_byte}
 use Rattle.roff_engine.proofs.running.Running.turn_in_front.Goals as goal
 
@@ -5,6 +8,9 @@ pub returns-in-Some : goal.returns-in-Some
 returns-in-Some g c =
     let shown = c.in-Some.ensures in
     front_byte c.args.self.now _ _ _ _ _ _ shown.failures shown.notes c.in-Some.byte c.line-line.result c.take.new.self _ _ shown.takes c.line-line.ensures (c.take.ensures _)
+
+pub turn_item-requires : goal.turn_item-requires
+turn_item-requires g c = subst (λ (u : PageUnread). SeesOn u.input) (sym (c.take_ready.ensures.unchanged c.in-None.is).0) c.requires
 
 pub returns-in-None : goal.returns-in-None
 returns-in-None g c =

@@ -10,22 +10,22 @@ returns-in-Byte g c =
 pub returns-in-End : goal.returns-in-End
 returns-in-End g c =
     let shown = c.in-End.ensures in
-    front_end c.args.self.now _ _ _ _ _ _ shown.failures shown.notes shown.takes
+    front_end c.args.self.now _ _ _ _ _ _ shown.failures shown.notes c.requires shown.takes
 
 pub returns-in-Return : goal.returns-in-Return
 returns-in-Return g c =
     let shown = c.in-Return.ensures in
-    rw c.end_call.ensures (front_return c.args.self.now _ _ _ _ _ _ shown.failures shown.notes c.in-Return.back shown.takes)
+    rw c.end_call.ensures (front_return c.args.self.now _ _ _ _ _ _ shown.failures shown.notes c.requires c.in-Return.back shown.takes)
 
 pub returns-in-Do : goal.returns-in-Do
 returns-in-Do g c =
     let shown = c.in-Do.ensures in
-    front_event c.args.self.now _ _ _ _ _ _ shown.failures shown.notes c.in-Do.event c.line-line.result c.perform.new.self _ _ shown.takes c.line-line.ensures (c.perform.ensures _)
+    front_event c.args.self.now _ _ _ _ _ _ shown.failures shown.notes c.requires c.in-Do.event c.line-line.result c.perform.new.self _ _ shown.takes c.line-line.ensures (c.perform.ensures _)
 
 pub returns-in-Note : goal.returns-in-Note
 returns-in-Note g c =
     let shown = c.in-Note.ensures in
-    front_note c.args.self.now _ _ _ _ _ _ shown.failures shown.notes _ _ _ shown.takes (shown.note _ refl) c.report_note.ensures.puts c.report_note.ensures.status
+    front_note c.args.self.now _ _ _ _ _ _ shown.failures shown.notes c.requires _ _ _ shown.takes (shown.note _ refl) c.report_note.ensures.puts c.report_note.ensures.status
 
 pub returns-in-SourceEnd : goal.returns-in-SourceEnd
 returns-in-SourceEnd g c =

@@ -4,8 +4,11 @@ use Rattle.roff_escape.specs.declared.open_escape.Waiting.{Waiting}
 use Rattle.roff_escape.specs.declared.open_escape.Waiting.TheVariants.{Takes, Waits}
 use Rattle.roff_run.specs.Run.{read_waiting}
 use Rattle.roff_engine.specs.Running.Turning.{state_at}
-use Rattle.roff_engine.proofs.Waiting.{turn_as}
+use Rattle.roff_engine.proofs.Waiting.{sees-alone, turn_as}
 use Rattle.roff_engine.proofs.running.Running.turn_line.Goals as goal
+
+pub turn_item-requires : goal.turn_item-requires
+turn_item-requires g c = sees-alone c.args.self.now.unread.input c.requires.none_half
 
 pub returns-then-waits_alone : goal.returns-then-waits_alone
 returns-then-waits_alone g c =

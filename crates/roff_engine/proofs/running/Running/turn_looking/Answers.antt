@@ -1,6 +1,6 @@
 use Rattle.std.proofs.Common.{refl, sym, ◌∙◌}
 use Rattle.roff_ahead.specs.Shown.{sighted}
-use Rattle.roff_engine.proofs.Waiting.{ShowsFront, waiting_ends, waiting_failed, waiting_in_front, waiting_note, waiting_stopped}
+use Rattle.roff_engine.proofs.Waiting.{ShowsFront, sees-look, waiting_ends, waiting_failed, waiting_in_front, waiting_note, waiting_stopped}
 use Rattle.roff_engine.proofs.running.Running.turn_looking.Goals as goal
 use Rattle.roff_engine.proofs.running.Running.turn_looking.Goals.{in-Byte, in-Nothing, in-SourceEnd}
 
@@ -30,6 +30,15 @@ returns-then-is_ended_by g c =
     let look = c.look.ensures in
     waiting_ends c.args.self.now _ _ _ _ _ _ look.failures look.notes c.match-look.seen (sighted c.look.result) c.end_escape.new.self _ _ is_front look.looks
     (sym c.is_ended_by.ensures ∙ c.if-is_ended_by.true) (c.end_escape.ensures _)
+
+pub turn_above-requires : goal.turn_above-requires
+turn_above-requires g c =
+    let is_front : ShowsFront c.match-look.seen (sighted c.look.result) = elim c.match-look.branch [
+      | in-Byte w ↦ rw w.in-Byte.is w.seen-is
+      | in-Nothing w ↦ rw w.in-Nothing.is w.seen-is
+      | in-SourceEnd w ↦ rw w.in-SourceEnd.is w.seen-is
+    ] in
+    sees-look c.args.self.now c.look.ensures.looks c.match-look.seen is_front (sym c.is_ended_by.ensures ∙ c.if-is_ended_by.false)
 
 pub returns : goal.returns
 returns g c =

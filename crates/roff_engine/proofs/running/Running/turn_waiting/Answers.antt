@@ -1,7 +1,7 @@
 use Rattle.std.proofs.Common.{refl}
 use Rattle.roff_escape.specs.declared.open_escape.Waiting.TheVariants.{Waits}
 use Rattle.roff_engine.proofs.Turns.{TurnsBy-same}
-use Rattle.roff_engine.proofs.Waiting.{byte_by}
+use Rattle.roff_engine.proofs.WaitedBytes.{byte_by}
 use Rattle.roff_engine.proofs.running.Running.turn_waiting.Goals as goal
 
 pub returns-in-Some : goal.returns-in-Some

@@ -1,0 +1,42 @@
+-- Events that are performed one after another, up to one that sprang something.
+use Rattle.std.proofs.Common.{◌∙◌, ◌≡◌, ◌≤◌, ◌+◌, ℕ, List, [], ◌∷◌, ◌++◌, length, Some, ap, append-nil, arith, subst, sym}
+use Rattle.std.specs.Prelude.{drop}
+use Rattle.roff_num.specs.declared.limits.Limits.{Limits}
+use Rattle.roff_requests.specs.declared.composer.Composer.{Composer as ComposerOf}
+use Rattle.roff_engine.specs.declared.sprung.Sprung.{Sprung}
+use Rattle.roff_engine.specs.Engine.Outcome.{Beginning, Reaches, Seen}
+use Rattle.roff_engine.specs.Formatter.Performing.{CameBehind, SprungAt, acting}
+use Rattle.roff_engine.specs.Formatter.Sprung.{first_going_on, further, left_behind, most_back}
+use Rattle.roff_run.specs.Environments.{PageHistory, interrupted_line}
+use Rattle.roff_run.specs.PageEvents.{PageEvent}
+use Rattle.roff_run.specs.Run.{State, sprung_at}
+use Rattle.roff_run.specs.TurnsToCome.{lines_left, most_left}
+use Rattle.roff_engine.proofs.EventsLeft.{drop-drop, most-drop, reach-least}
+use Rattle.roff_engine.proofs.Performed.{sprang_first}
+
+-- the event at an index, or what comes before it, sprang this, behind those in front of it
+pub came_so_far : (l : Limits) (t : Beginning) (before now : Seen) (s : State) (events : List PageEvent) (n : ℕ) (e : PageEvent) (h g : PageHistory) (rest : List PageEvent) (sprung told : Sprung) (es : ComposerOf)
+    → drop n events ≡ e ∷ drop (n + 1) events → n ≤ 99 → (sprung.left + n ≤ 255 → told ≡ further n sprung)
+    → most_left (drop n events) (lines_left (interrupted_line g)) ≤ most_left events (lines_left (interrupted_line h))
+    → SprungAt l t before now s (e ∷ []) g sprung (drop (n + 1) events ++ rest) es → CameBehind l t before now s events h events rest (Some told) es
+came_so_far l t before now s events n e h g rest sprung told es opened short is fewer p =
+    let others : List PageEvent = drop (n + 1) events in
+    let q : SprungAt l t before now s (e ∷ others) g sprung rest es = sprang_first l t before now s e others g rest es sprung p in
+    let few : sprung.left + n ≤ 255 = omega (arith, short, p.among, reach-least sprung.goes_on sprung.left) in
+    let same : left_behind (further n sprung) events ≡ left_behind sprung (e ∷ others) =
+    ap (λ (es : List PageEvent). first_going_on sprung.goes_on es) (drop-drop sprung.left n events)
+    ∙ ap (λ (es : List PageEvent). first_going_on sprung.goes_on (drop sprung.left es)) opened in
+    let whole : (e ∷ others) ++ [] ≡ e ∷ others = append-nil (e ∷ others) in
+    let at_most : lines_left (interrupted_line q.history) ≤ most_left (e ∷ others) (lines_left (interrupted_line g)) = q.lines in
+    let counted : most_left (drop n events) (lines_left (interrupted_line g)) ≡ most_left (e ∷ others) (lines_left (interrupted_line g)) =
+    ap (λ (es : List PageEvent). most_left es (lines_left (interrupted_line g))) opened in
+    subst (λ (o : Sprung). CameBehind l t before now s events h events rest (Some o) es) (sym (is few)) (record {
+      history = q.history;
+      reaches = subst (λ (left : List PageEvent). Reaches l t before now (sprung_at (Some sprung.name) (left ++ rest) (acting s [] q.history))) (sym same) q.reaches;
+      stands = q.stands;
+      lines = omega (arith, fewer, counted, at_most);
+      few =
+          let last : length (left_behind sprung (e ∷ others)) ≤ most_back (e ∷ others) =
+          subst (λ (es : List PageEvent). length (left_behind sprung es) ≤ most_back es) whole (q.few []) in
+          omega (arith, ap length same, last, ap most_back opened, most-drop n events);
+    })
