@@ -9,6 +9,7 @@
     bench/make_text.py macros MEGABYTES     running text with macros, strings and registers of its own
     bench/make_text.py springs MEGABYTES    running text in which a macro springs behind every third line
     bench/make_text.py pages MEGABYTES      the same on pages of 20 lines, with a space or a page length after every 2 to 5 lines
+    bench/make_text.py headers MEGABYTES    running text on pages with a header and a footer, each paragraph of which needs three lines
     bench/make_text.py loop MEGABYTES       macros that call each other until so many bytes of them were read; writes nothing
     bench/make_text.py tables MEGABYTES     tables of 200 rows of three columns, with a line of text before each
 """
@@ -16,7 +17,7 @@ import functools
 import random
 import sys
 
-KINDS = ("text", "requests", "registers", "code", "skipped", "macros", "springs", "pages", "loop", "tables")
+KINDS = ("text", "requests", "registers", "code", "skipped", "macros", "springs", "pages", "headers", "loop", "tables")
 
 MEGABYTE = 1_000_000
 
@@ -84,6 +85,22 @@ READINGS = ["\\na", "\\nb", "\\nc", "\\n(xy", "\\n+a", "\\n-(xy", "\\n(.l"]
 
 # What stands before text on pages, what changes these, and the escapes that read where the text stands.
 PAGED = b".pl 20\n"
+
+# The macros of pages with a header and a footer.
+HEADED = b"""\
+.de he
+'sp
+'tl 'A Report of the River Company''Page %'
+'sp 2
+..
+.de fo
+'sp
+'tl ''- % -''
+'bp
+..
+.wh 0 he
+.wh -4 fo
+"""
 
 SPACES = [".sp", ".sp 2", ".sp 3", ".sp 1i", ".sp 20", ".pl 20", ".pl 24", ".pl +1", ".pl -1", ".nr % 1", ".af % i", ".af % 1"]
 
@@ -256,6 +273,8 @@ class Writer:
                 lines = self.with_requests([f"{line} {self.one_of(READINGS)}" for line in lines], SETTINGS)
             elif kind == "pages":
                 lines = self.with_requests([f"{line} {self.one_of(PLACES)}" for line in lines], SPACES)
+            elif kind == "headers":
+                lines = [".ne 3", *lines]
             elif kind == "macros":
                 lines = self.with_requests([f"{line} {self.one_of(STRINGS)}" for line in lines], CALLS)
             part = "\n".join(lines) + "\n\n"
@@ -307,6 +326,7 @@ def write_document(kind, size, file, number=0):
         "macros": (MACROS.encode(), b""),
         "springs": (SPRINGING, b""),
         "pages": (PAGED, b""),
+        "headers": (HEADED, b""),
         "code": (UNFILLED, b""),
     }
     front, behind = around.get(kind, (b"", b""))

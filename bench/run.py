@@ -127,6 +127,8 @@ WORKS = (
          Aim(times("9base"), "times as fast as 9base", least=6)),
     Work("Springs", "springs", 5,
          Aim(times("9base"), "times as fast as 9base", least=2)),
+    Work("Pages", "headers", 5,
+         Aim(times("9base"), "times as fast as 9base", least=4)),
     Work("Loop", "loop", 30,
          Aim(times_fastest, "times as fast as the fastest peer", least=2)),
     Work("Skipped", "skipped", 50,

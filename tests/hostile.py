@@ -269,6 +269,49 @@ LONG.update({
     "macro_sprung_and_removed_while_it_is_read": (b"", b".de X\n.rm X\nx\n..\n.it 1 X\na\n", b"", MEGABYTE),
     "macro_sprung_and_renamed_before": (b".de X\nx\n..\n", b".it 1 X\n.rn X Y\na\n.rn Y X\n", b"", MEGABYTE),
 })
+# As many traps as there may be, each at a line of its own, and all at one line: each by the name of a macro of its own.
+TRAPS = [b"%c%c" % (first, second) for first in b"abcdefgh" for second in b"stuvwxyz"]
+ON_EACH_LINE = b"".join(b".wh %d %s\n" % (line + 1, name) for line, name in enumerate(TRAPS))
+ON_ONE_LINE = ON_EACH_LINE + b"".join(b".ch %s 5\n" % name for name in TRAPS)
+# Macros at the top of each page and near its end.
+HEADER_AND_FOOTER = b".pl 9\n.de H\n'sp\n'tl 'left'- % -'right'\n'sp\n..\n.de F\n'bp\n..\n.wh 0 H\n.wh -2 F\n"
+LONG.update({
+    "headers_and_footers": (HEADER_AND_FOOTER, b"A line of text between headers and footers.\n", b"", 10 * MEGABYTE),
+    "headers_and_footers_without_filling": (HEADER_AND_FOOTER + b".nf\n", b"a line\n", b"", 5 * MEGABYTE),
+    "headers_and_footers_of_blank_lines": (HEADER_AND_FOOTER, b"\n", b"", MEGABYTE),
+    "footers_between_words": (b".pl 3\n.ll 9n\n.de F\nfoot\n..\n.wh 1 F\n", b"a b c d e f g h i\n", b"", 5 * MEGABYTE),
+    "footers_that_leave_a_word_open": (b".pl 3\n.ll 9n\n.de F\nfoot\\\\\n..\n.wh 1 F\n", b"a b c d e f g h i\n", b"", 5 * MEGABYTE),
+    "footers_that_leave_a_name_open": (b".pl 3\n.ll 9n\n.de F\n\\\\n(\\\\\n..\n.wh 1 F\n", b"a b c d e f g h i\n", b"", 5 * MEGABYTE),
+    "footers_that_space": (b".pl 9\n.nf\n.de F\n.sp 9\n..\n.wh 2 F\n", b"a line\n", b"", 5 * MEGABYTE),
+    "footers_without_macros": (b".pl 3\n.nf\n.wh 0 H\n.wh 1 F\n", b"a line\n", b"", 10 * MEGABYTE),
+    "footer_that_is_long": (b".pl 3\n.nf\n.wh 1 F\n.de F\n.ch F\n", b"A line of a macro.\n", b"..\na\nb\n", MEGABYTE // 4),
+    "footer_that_is_too_long": (b".pl 3\n.nf\n.wh 1 F\n.de F\n", b"A line of a macro.\n", b"..\na\nb\n", MEGABYTE // 2),
+    "top_macro_that_ejects": (b".pl 1\n.de T\n.bp\n..\n.wh 0 T\n", b"x\n", b"", 100),
+    "top_macro_that_spaces": (b".pl 1\n.de T\n'sp\n..\n.wh 0 T\n", b"x\n", b"", 100),
+    "top_macro_of_pages_of_one_line": (b".pl 1\n'nf\n.de T\n.nr x 1\n..\n.wh 0 T\n", b"a line\n", b"", 5 * MEGABYTE),
+    "top_macro_that_exits": (b".pl 9\n.de T\n.ex\n..\n.wh 0 T\n", b"a line\n", b"", 50 * MEGABYTE),
+    "top_macro_that_ignores": (b".pl 9\n.de T\n.ig\n..\n.wh 0 T\n", b"a line\n", b"", 10 * MEGABYTE),
+    "titles_that_reach_the_next_trap": (
+        b".pl 66\n.de as\n'tl 'a''b'\n..\n" + b"".join(b".wh %d as\n" % line for line in range(1, 65)), b".tl 'c''d'\n", b"", MEGABYTE // 4),
+    "traps_on_each_line": (b".pl 66\n.nf\n" + ON_EACH_LINE, b"a line\n", b"", 5 * MEGABYTE),
+    "traps_on_one_line": (b".pl 66\n.nf\n" + ON_ONE_LINE, b"a line\n", b"", 5 * MEGABYTE),
+    "traps_planted_and_removed": (b"", b".wh 5 X\n.wh 5\n", b"a\n", 5 * MEGABYTE),
+    "traps_planted_again": (ON_EACH_LINE, b".wh 64 X\n", b"a\n", 5 * MEGABYTE),
+    "traps_moved": (ON_EACH_LINE, b".ch hz 9\n.ch hz 64\n", b"a\n", 5 * MEGABYTE),
+    "traps_past_the_limit": (b".pl 999\n.nf\n", b".wh \\n(nlu+1v X\na\n", b"", 100_000),
+    "traps_planted_by_each_that_springs": (b".pl 999\n.nf\n.de X\n.wh \\\\n(nlu+1v X\n..\n.wh 1 X\n", b"a line\n", b"", 5 * MEGABYTE),
+    "ejects": (b".pl 9\n", b".bp\n", b"", 5 * MEGABYTE),
+    "ejects_of_pages_with_text": (b".pl 9\n", b"a\n.bp\n", b"", 5 * MEGABYTE),
+    "ejects_with_numbers": (b".pl 2\n", b".bp +1\n.bp 2147483647\n.bp -2147483647\n", b"", 5 * MEGABYTE),
+    "ejects_out_of_range": (b".pl 1\n.bp 9\n", b".bp +2147483647\n", b"a\n", 12 + 17 * 9_000 + 2),
+    "ejects_in_no_space_mode": (b".ns\n", b".bp\n", b"a\n", 5 * MEGABYTE),
+    "ejects_over_many_traps": (
+        b".pl 66\n" + b"".join(b".de %s\n..\n" % name for name in TRAPS) + ON_EACH_LINE, b".bp\n", b"", 400_000),
+    "needs": (b".pl 9\n", b".ne 5\na\n.br\n", b"", 5 * MEGABYTE),
+    "needs_farthest": (b"", b".ne 2147483647u\n", b"a\n", MEGABYTE),
+    "needs_from_here": (b".pl 9\n", b".ne |9\na\n.br\n", b"", 5 * MEGABYTE),
+    "no_space_mode": (b"", b".ns\n.sp\n.rs\n", b"a\n", 5 * MEGABYTE),
+})
 # Documents for which fewer bytes are allowed. A call costs many times what a byte of text does, and in these there is one
 # for each few bytes. Their time is bounded for each byte that is read, those of strings and macros too, and not by the
 # document's length.
@@ -320,6 +363,11 @@ STOPPED_BY = {
     "input_trap_that_sets_itself": "depth",
     "input_traps_that_set_each_other": "depth",
     "macro_sprung_past_the_stack": "stack",
+    "footer_that_is_too_long": "stack",
+    "top_macro_that_ejects": "depth",
+    "top_macro_that_spaces": "depth",
+    "traps_past_the_limit": "traps",
+    "traps_planted_by_each_that_springs": "traps",
 }
 # What long documents begin with, where the program's answer is short to say.
 BEGINS = {
@@ -380,6 +428,26 @@ BEGINS = {
     "macro_sprung": b"a A line of a macro.",
     "macro_sprung_and_removed_while_it_is_read": b"a x a x ",
     "macro_sprung_and_renamed_before": b"a a a ",
+    "headers_and_footers": b"\nleft" + b" " * 26 + b"- 1 -" + b" " * 25 + b"right\n\nA ",
+    "headers_and_footers_of_blank_lines": b"\nleft",
+    "footers_between_words": b"a b c d e\nf foot  g\nh i a b c\nd e f g h\n",
+    "footers_that_space": b"a line\na line" + b"\n" * 8 + b"a line\na line\n",
+    "footer_that_is_long": b"a\nA line of a macro.\nA line of a macro.\n",
+    "top_macro_that_ejects": b"\n" * 199,
+    "top_macro_of_pages_of_one_line": b"a line\n" * 5,
+    "top_macro_that_exits": b"",
+    "top_macro_that_ignores": b"",
+    "titles_that_reach_the_next_trap": b"c",
+    "traps_planted_and_removed": b"a\n",
+    "traps_planted_by_each_that_springs": 64 * b"a line\n",
+    "ejects": b"\n" * 99,
+    "ejects_of_pages_with_text": (b"a" + b"\n" * 9) * 9,
+    "ejects_out_of_range": b"\na\n",
+    "ejects_in_no_space_mode": b"a\n",
+    "ejects_over_many_traps": b"\n" * 660,
+    "needs": b"a\n" * 5 + b"\n" * 4 + b"a\n" * 5,
+    "needs_farthest": b"\n" * 66,
+    "no_space_mode": b"a\n",
 }
 
 # Long documents with tables: what stands in front, what is repeated, what stands behind, the bytes of it all, the options,
@@ -441,6 +509,11 @@ FAR = {
     "page_longest": (b".pl 2147483647u\na\n", None, b"a\n\n\n", 1 + LONGEST),
     "space_farthest": (b".pl 2147483647u\n.sp 2147483647u\na\n", None, b"\n\n\n", LONGEST + 1 + LONGEST),
     "spacing_on_the_longest_page": (b".pl 2147483647u\n.ls 2147483647\na\n", None, b"a\n\n\n", 1 + LONGEST),
+    "eject_of_the_longest_page": (b".pl 2147483647u\n.bp\na\n", None, b"\n\n\n", 1 + 2 * LONGEST),
+    "ejects_of_the_longest_page": (b".pl 2147483647u\n" + 1000 * b".bp\n", ("output", 5), b"\n\n\n", 3 * LONGEST),
+    "need_of_the_longest_page": (b".pl 2147483647u\na\n.br\n.ne 2147483647u\nb\n", None, b"a\n\n", 2 + 2 * LONGEST),
+    "traps_farthest": (
+        b".pl 2147483647u\n.wh 2147483647u X\n.wh -2147483648u X\n.sp 2147483647u\na\n", None, b"\n\n\n", LONGEST + 1 + LONGEST),
     "indent_farthest": (b".in 2147483647u\na b\n", None, b" " * 9, 2 * (FARTHEST + 2) + 64),
     "temporary_indent_farthest": (b".ti 2147483647u\na b\n", None, b" " * 9, FARTHEST + 2 + 2 + 64),
     "centre_farthest": (b".ll 2147483647u\n.ce\na\n", None, b" " * 9, (FARTHEST - 1) // 2 + 2 + 65),
@@ -532,6 +605,11 @@ AROUND = (
     b".lt 9%s",
     b".pc %s\n.tl 'a%sb\\%s'",
     b".pc \\%s\n.tl 'a%sb\\%s'\n.pc",
+    b".wh 1%s m%s",
+    b".wh %s1 m\n.ch m%s2\n.ch \\%s",
+    b".de m\nx%s\n%s..\n.wh 1 m\na%s\nb\n.wh 1%s\n",
+    b".bp%s5%s\n'bp \\%s\n.bp +%s",
+    b".ne %s1\n.ns%s\n.sp\n.rs\\%s",
 )
 
 # What random documents are made of, how many there are of each kind, and the options with which each is formatted.
@@ -581,6 +659,13 @@ PIECES_OF_SPRINGS = (
     + [b"\n.it 1\n", b"\n.it\n", b"\n.it ", b"\n.it 1 br\n", b"\n.it 1 s\n", b"\n.it 0 m\n", b"\n.rm m\n", b"\n.rn m n\n"]
     + 2 * [b"\n.de m\n", b"\n.de n\n", b"\n..\n", b"\n.ds s ", b"a word\n", b"\\c\n", b"\\{", b"\\}", b"\n.if 1 ", b"\n \\c\n"]
 )
+PIECES_OF_TRAPS = (
+    2 * [b"\n.wh 0 m\n", b"\n.wh 1 n\n", b"\n.wh -2 m\n", b"\n.wh -1v n\n"]
+    + [b"\n.wh 1\n", b"\n.wh ", b"\n.ch m 2\n", b"\n.ch n\n", b"\n.ch m ", b"\n.wh |1 m\n", b"\n.wh 2 br\n", b"\n.rm m\n", b"\n.em n\n"]
+    + 2 * [b"\n.bp\n", b"\n'bp\n", b"\n.bp 7\n", b"\n.bp +1\n", b"\n.bp ", b"\n.ne 2\n", b"\n.ne ", b"\n.ns\n", b"\n.rs\n", b"\n.sp\n", b"\n'sp 9\n"]
+    + 3 * [b"\n.de m\n", b"\n.de n\n", b"\n..\n", b"\n.tl 'a'%'b'\n", b"a word\n", b"a b c d e f\n", b"\\\n", b"\\c\n", b"\n.pl 3\n", b"\n.pl 6\n"]
+    + [b"\n.ll 9n\n", b"\n.ex\n", b"\n.it 1 m\n", b"\n.ev 1\n", b"\n.ev\n", b"\\n(\\\n", b"\n.tm \\\n", b"\n.ds s \\\n", b"\n.if 'a\\\n", b"\n.if 1 \\\n"]
+)
 RANDOM = {
     "random": PIECES,
     "random_conditions": PIECES + 12 * PIECES_OF_CONDITIONS,
@@ -590,6 +675,7 @@ RANDOM = {
     "random_pages": PIECES + 20 * PIECES_OF_PAGES + 4 * PIECES_OF_ENVIRONMENTS,
     "random_titles": PIECES + 20 * PIECES_OF_TITLES + 6 * PIECES_OF_PAGES + 2 * PIECES_OF_ENVIRONMENTS,
     "random_ends": PIECES + 20 * PIECES_OF_ENDS + 5 * PIECES_OF_CONDITIONS,
+    "random_traps": PIECES + 20 * PIECES_OF_TRAPS + 4 * PIECES_OF_PAGES + 2 * PIECES_OF_ENVIRONMENTS,
     "random_springs": PIECES + 20 * PIECES_OF_SPRINGS + 4 * PIECES_OF_ENVIRONMENTS + 4 * PIECES_OF_ENDS,
 }
 RANDOM_DOCUMENTS = 100
@@ -614,7 +700,7 @@ TABLES_AROUND = (
     b".TS%s\nl.\na\n.TE\n.TS\nl.\na\\\n%s\n.TE",
 )
 OPTIONS = ((), ("--stack=9", "--depth=2"), ("--line=30", "--bytes=900"), ("--conditions=1", "--environments=2"),
-           ("--store=9", "--names=2"), ("--output=90",))
+           ("--store=9", "--names=2"), ("--output=90", "--traps=1"))
 
 
 class Run:

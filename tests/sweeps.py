@@ -22,10 +22,10 @@ import tempfile
 TOP = pathlib.Path(__file__).resolve().parent.parent
 PROGRAM = TOP / "crates" / "roff" / "out" / "roff"
 DATA = TOP / "crates" / "roff_rows" / "data"
-OF_TEXT = ("bytes", "store", "stack", "depth", "names", "line", "environments", "conditions", "output")
+OF_TEXT = ("bytes", "store", "stack", "depth", "names", "line", "environments", "conditions", "traps", "output")
 OF_TABLES = ("rows", "columns", "text", "width")
 # The folders of rows about pages.
-OF_PAGES = ("pl", "sp")
+OF_PAGES = ("pl", "sp", "wh", "bp", "ne")
 LIMITS = {"nroff": OF_TEXT, "tbl": OF_TABLES + ("bytes", "output"), "both": OF_TEXT + OF_TABLES}
 
 
