@@ -1,8 +1,12 @@
 -- The bytes of glyphs in front of a text, and of what is written of it.
-use Rattle.std.proofs.Common.{◌≡◌, ℕ, zero, suc, ◌<◌, ◌≤◌, true, false, inl, inr, List, [], ◌∷◌, ◌++◌, take, drop, replicate, refl, sym, ap, ◌∙◌, arith, ne_eqb, append_assoc}
+use Rattle.std.proofs.Common.{◌≡◌, ℕ, zero, suc, ◌+◌, ◌<◌, ◌≤◌, true, false, inl, inr, List, [], ◌∷◌, ◌++◌, length, take, drop, slice_index_or, replicate, refl, sym, ap, ap₂, ◌∙◌, arith, ne_eqb, append_assoc, append-nil}
+use Rattle.std.specs.List.{prefix_len}
+use Rattle.std.specs.Simd.Lanes.{chunk}
+use Rattle.std.proofs.Math.Seq.{drop-cons, take-add}
+use Rattle.std.proofs.lemmas.Bool.Decides.{nat_tests}
 use Rattle.std.specs.Prelude.{◌==◌, ◌||◌, nat_lt}
 use Rattle.std.proofs.lemmas.Bool.{cases_Bool, ltb-true}
-use Rattle.std.proofs.lemmas.List.{take-append-drop}
+use Rattle.std.proofs.lemmas.List.{drop-drop, take-append-drop, take_more}
 use Rattle.std.proofs.lemmas.List.Sums.{take_while-cons}
 use Rattle.roff_lines.specs.Glyphs.{gap_blank, further_blank, glyph_blank}
 use Rattle.roff_lines.specs.Columns.{spread}
@@ -72,3 +76,57 @@ take-append-spread spare gaps i n count text behind front =
     let whole : spread spare gaps i text ≡ take count text ++ spread spare gaps i rest =
     ap (spread spare gaps i) (sym (take-append-drop count text)) ∙ rw front (spread-glyphs_in_front spare gaps i n text rest) in
     rw (whole, append_assoc) refl
+
+-- those of a step, and of what is behind them
+glyphs_in_front-behind : (n r : ℕ) (text : List ℕ) → r ≡ prefix_len (nat_lt 32) (take n text)
+    → take r text ++ glyphs_in_front (drop r text) ≡ glyphs_in_front text
+glyphs_in_front-behind zero r text counted = rw counted refl
+glyphs_in_front-behind (suc n) r [] counted = rw counted refl
+glyphs_in_front-behind (suc n) r (b ∷ text) counted =
+    elim (cases_Bool (nat_lt 32 b)) [
+      | inl e ↦
+          let more : r ≡ suc (prefix_len (nat_lt 32) (take n text)) = counted ∙ rw e (omega arith) in
+          rw (more, front-glyph b text e) (ap (λ bytes. b ∷ bytes) (glyphs_in_front-behind n (prefix_len (nat_lt 32) (take n text)) text refl))
+      | inr e ↦ let none : r ≡ 0 = counted ∙ rw e refl in rw none refl
+    ]
+
+-- none stands behind those of a step that hasn't so many
+glyphs_in_front-ended : (n r : ℕ) (text : List ℕ) → r ≡ prefix_len (nat_lt 32) (take n text) → r < n → glyphs_in_front (drop r text) ≡ []
+glyphs_in_front-ended zero r text counted less = absurd (omega (arith, less))
+glyphs_in_front-ended (suc n) r [] counted less = rw counted refl
+glyphs_in_front-ended (suc n) r (b ∷ text) counted less =
+    elim (cases_Bool (nat_lt 32 b)) [
+      | inl e ↦
+          let more : r ≡ suc (prefix_len (nat_lt 32) (take n text)) = counted ∙ rw e (omega arith) in
+          rw more (glyphs_in_front-ended n (prefix_len (nat_lt 32) (take n text)) text refl (omega (arith, more, less)))
+      | inr e ↦ let none : r ≡ 0 = counted ∙ rw e refl in rw none (front-blank b text e)
+    ]
+
+module _ (text : List ℕ) (count : ℕ) (so_far : take count text ++ glyphs_in_front (drop count text) ≡ glyphs_in_front text) where
+  -- those of a step behind some
+  pub glyphs_in_front-step : (n r : ℕ) → r ≡ prefix_len (nat_lt 32) (chunk count n text)
+      → take (count + r) text ++ glyphs_in_front (drop (count + r) text) ≡ glyphs_in_front text
+  glyphs_in_front-step n r counted =
+      let rest : List ℕ = drop count text in
+      ap₂ (λ (xs ys : List ℕ). xs ++ glyphs_in_front ys) (take-add count r text) (sym (drop-drop r count text))
+      ∙ append_assoc (take count text) (take r rest) (glyphs_in_front (drop r rest))
+      ∙ ap (λ (xs : List ℕ). take count text ++ xs) (glyphs_in_front-behind n r rest counted) ∙ so_far
+
+  -- another glyph behind some
+  pub glyphs_in_front-more : count < length text → 32 < slice_index_or text count 0
+      → take (count + 1) text ++ glyphs_in_front (drop (count + 1) text) ≡ glyphs_in_front text
+  glyphs_in_front-more within above =
+      let b : ℕ = slice_index_or text count 0 in
+      let rest : List ℕ = drop (count + 1) text in
+      let high : nat_lt 32 b ≡ true = grind (arith, nat_tests) in
+      let next : suc count ≡ count + 1 = omega arith in
+      let split : drop count text ≡ b ∷ rest = drop-cons text count 0 within ∙ ap (λ m. b ∷ drop m text) next in
+      ap (λ (xs : List ℕ). xs ++ glyphs_in_front rest) (take_more text count 0 within) ∙ append_assoc (take count text) (b ∷ []) (glyphs_in_front rest)
+      ∙ ap (λ (xs : List ℕ). take count text ++ xs) (sym (ap glyphs_in_front split ∙ front-glyph b rest high)) ∙ so_far
+
+  -- where a step hasn't so many, these are all
+  pub glyphs_in_front-all : (n r : ℕ) → r ≡ prefix_len (nat_lt 32) (chunk count n text) → r < n → take (count + r) text ≡ glyphs_in_front text
+  glyphs_in_front-all n r counted less =
+      let none : glyphs_in_front (drop (count + r) text) ≡ [] =
+      ap glyphs_in_front (sym (drop-drop r count text)) ∙ glyphs_in_front-ended n r (drop count text) counted less in
+      sym (append-nil (take (count + r) text)) ∙ ap (λ (xs : List ℕ). take (count + r) text ++ xs) (sym none) ∙ glyphs_in_front-step n r counted

@@ -4,6 +4,8 @@ pub mod BlanksInFront
 pub mod SharedColumns
 pub mod SpreadsOver
 pub mod Copied
+pub mod Steps
+pub mod StepsCopied
 pub mod Widths
 pub mod Sentences
 pub mod PendingLine

@@ -1,11 +1,11 @@
--- A text that is written over blanks, byte by byte.
-use Rattle.std.proofs.Common.{◌≡◌, ℕ, zero, suc, ◌+◌, ◌-◌, ◌*◌, ◌<◌, ◌≤◌, List, [], ◌∷◌, ◌++◌, length, take, drop, slice_index_or, slice_set, replicate, refl, sym, ap, ◌∙◌, arith, append_assoc}
+-- A text that is written with its blanks spread, step by step.
+use Rattle.std.proofs.Common.{◌≡◌, ℕ, zero, suc, ◌+◌, ◌-◌, ◌*◌, ◌<◌, ◌≤◌, List, [], ◌∷◌, ◌++◌, length, take, drop, slice_index_or, replicate, refl, sym, ap, ◌∙◌, arith, append_assoc, append-nil}
 use Rattle.std.specs.Prelude.{◌%◌}
-use Rattle.std.proofs.Math.Seq.{drop-cons, set-append_seam, take-append_seam, take-append-add}
-use Rattle.std.proofs.lemmas.List.{length-append, length-replicate, length-take, replicate-append-replicate, take_all}
+use Rattle.std.proofs.Math.Seq.{drop-cons, take-append-add}
+use Rattle.std.proofs.lemmas.List.{drop-drop, length-append, length-drop, length-replicate, length-take, take_all}
 use Rattle.roff_lines.specs.Columns.{spaces, spread}
-use Rattle.roff_lines.specs.LineBytes.Fronts.{Moves, SpreadsOver, WritesOver}
-use Rattle.roff_lines.proofs.GlyphsInFront.{spread-glyph}
+use Rattle.roff_lines.specs.LineBytes.Fronts.{glyphs_in_front, Moves, SpreadsOver, WritesOver}
+use Rattle.roff_lines.proofs.GlyphsInFront.{take-append-spread}
 use Rattle.roff_lines.proofs.SharedColumns.{added-behind}
 
 -- a text from a place on is its byte there, and the others
@@ -27,60 +27,46 @@ spread-mark spare gaps i zero rest low = refl
 spread-mark spare gaps i (suc zero) rest low = refl
 spread-mark spare gaps i (suc (suc b)) rest low = absurd (omega arith)
 
-module _ (spare gaps passed passed_then taken start end : ℕ) (text out out_then : List ℕ)
-    (s : SpreadsOver spare gaps passed passed_then taken start end text out out_then) (more : taken < length text) where
-  -- how long what is in front of the place is
-  length-front : length (take start out ++ s.moved) ≡ end
-  length-front = omega (arith, length-append (take start out) s.moved, length-take start out, s.place, s.within)
+module _ (spare gaps passed passed_then taken start end : ℕ) (text out mid out_then : List ℕ)
+    (s : SpreadsOver spare gaps passed passed_then taken start end text out mid) where
+  -- more was written behind it
+  pub SpreadsOver-more : (n long behind taken_then end_then : ℕ) (more : List ℕ) → length more ≡ n → end + n ≤ length mid → length out_then ≡ length mid
+      → take (end + n) out_then ≡ take end mid ++ more
+      → spread spare gaps passed_then (drop taken text) ≡ more ++ spread spare gaps behind (drop taken_then text)
+      → taken_then ≡ taken + long → end_then ≡ end + n
+      → SpreadsOver spare gaps passed behind taken_then start end_then text out out_then
+  SpreadsOver-more n long behind taken_then end_then more counted room same written rest takes ends = record {
+    moved = s.moved ++ more;
+    place = omega (arith, ends, s.place, counted, length-append s.moved more);
+    within = omega (arith, ends, room, same);
+    written =
+        ap (λ m. take m out_then) ends ∙ written ∙ ap (λ (xs : List ℕ). xs ++ more) s.written ∙ append_assoc (take start out) s.moved more;
+    rest =
+        append_assoc s.moved more (spread spare gaps behind (drop taken_then text)) ∙ ap (λ (xs : List ℕ). s.moved ++ xs) (sym rest) ∙ s.rest;
+  }
 
-  -- a glyph is written as itself
-  pub SpreadsOver-glyph : end < length out → 32 < slice_index_or text taken 0
-      → SpreadsOver spare gaps passed passed_then (taken + 1) start (end + 1) text out (slice_set out_then end (slice_index_or text taken 0))
-  SpreadsOver-glyph room above =
-      let b : ℕ = slice_index_or text taken 0 in
-      let rest : List ℕ = drop (taken + 1) text in
-      let front : List ℕ = take start out ++ s.moved in
-      let left : ℕ = length out - (end + 1) in
-      let one_less : length out - end ≡ suc left = omega arith in
-      let blanks : spaces (length out - end) ≡ 32 ∷ spaces left = ap spaces one_less in
-      let joined : (take start out ++ (s.moved ++ b ∷ [])) ++ spaces left ≡ front ++ b ∷ spaces left =
-      ap (λ (xs : List ℕ). xs ++ spaces left) (sym (append_assoc (take start out) s.moved (b ∷ []))) ∙ append_assoc front (b ∷ []) (spaces left) in
-      let first : spread spare gaps passed_then (drop taken text) ≡ b ∷ spread spare gaps passed_then rest =
-      ap (spread spare gaps passed_then) (drop-more text taken more) ∙ spread-glyph spare gaps passed_then b rest above in
-      record {
-        moved = s.moved ++ b ∷ [];
-        place = omega (arith, s.place, length-append s.moved (b ∷ []));
-        within = omega arith;
-        written =
-            ap (λ (xs : List ℕ). slice_set xs end b) (s.written ∙ ap (λ (xs : List ℕ). front ++ xs) blanks)
-            ∙ ap (λ n. slice_set (front ++ 32 ∷ spaces left) n b) (sym length-front) ∙ set-append_seam front 32 (spaces left) b ∙ sym joined;
-        rest =
-            append_assoc s.moved (b ∷ []) (spread spare gaps passed_then rest) ∙ ap (λ (xs : List ℕ). s.moved ++ xs) (sym first) ∙ s.rest;
-      }
+  -- glyphs are written as themselves
+  pub SpreadsOver-glyphs : (n : ℕ) → taken + n ≤ length text → end + n ≤ length mid → length out_then ≡ length mid
+      → take n (drop taken text) ≡ take n (glyphs_in_front (drop taken text)) → take (end + n) out_then ≡ take end mid ++ take n (drop taken text)
+      → SpreadsOver spare gaps passed passed_then (taken + n) start (end + n) text out out_then
+  SpreadsOver-glyphs n within room same glyphs written =
+      let rest : List ℕ = drop taken text in
+      let nothing = append-nil (spread spare gaps passed_then rest) in
+      let first : spread spare gaps passed_then rest ≡ take n rest ++ spread spare gaps passed_then (drop (taken + n) text) =
+      sym nothing ∙ sym (take-append-spread spare gaps passed_then n n rest [] glyphs)
+      ∙ ap (λ (xs : List ℕ). take n rest ++ xs) (append-nil (spread spare gaps passed_then (drop n rest)))
+      ∙ ap (λ (xs : List ℕ). take n rest ++ spread spare gaps passed_then xs) (drop-drop n taken text) in
+      SpreadsOver-more n n passed_then (taken + n) (end + n) (take n rest)
+      (omega (arith, length-take n rest, length-drop taken text, within)) room same written first refl refl
 
-  -- blanks stand there already
-  pub SpreadsOver-blanks : (n behind end_then : ℕ) → end + n ≤ length out → end_then ≡ end + n
+  -- so is a blank, with those that are added to it
+  pub SpreadsOver-blanks : (n behind end_then : ℕ) → taken < length text → end + n ≤ length mid → length out_then ≡ length mid
+      → take (end + n) out_then ≡ take end mid ++ spaces n → end_then ≡ end + n
       → spread spare gaps passed_then (slice_index_or text taken 0 ∷ drop (taken + 1) text) ≡ spaces n ++ spread spare gaps behind (drop (taken + 1) text)
       → SpreadsOver spare gaps passed behind (taken + 1) start end_then text out out_then
-  SpreadsOver-blanks n behind end_then room ends written =
-      let rest : List ℕ = drop (taken + 1) text in
-      let front : List ℕ = take start out ++ s.moved in
-      let left : ℕ = length out - end_then in
-      let parts : n + left ≡ length out - end = omega (arith, ends, room) in
-      let split : spaces (length out - end) ≡ spaces n ++ spaces left =
-      sym (replicate-append-replicate n left 32 ∙ ap spaces parts) in
-      let joined : (take start out ++ (s.moved ++ spaces n)) ++ spaces left ≡ front ++ (spaces n ++ spaces left) =
-      ap (λ (xs : List ℕ). xs ++ spaces left) (sym (append_assoc (take start out) s.moved (spaces n))) ∙ append_assoc front (spaces n) (spaces left) in
-      let first : spread spare gaps passed_then (drop taken text) ≡ spaces n ++ spread spare gaps behind rest =
-      ap (spread spare gaps passed_then) (drop-more text taken more) ∙ written in
-      record {
-        moved = s.moved ++ spaces n;
-        place = omega (arith, ends, s.place, length-append s.moved (spaces n), length-replicate {A = ℕ} n 32);
-        within = omega (arith, ends, room);
-        written = s.written ∙ ap (λ (xs : List ℕ). front ++ xs) split ∙ sym joined;
-        rest =
-            append_assoc s.moved (spaces n) (spread spare gaps behind rest) ∙ ap (λ (xs : List ℕ). s.moved ++ xs) (sym first) ∙ s.rest;
-      }
+  SpreadsOver-blanks n behind end_then more room same written ends spreads =
+      SpreadsOver-more n 1 behind (taken + 1) end_then (spaces n) (length-replicate {A = ℕ} n 32) room same written
+      (ap (spread spare gaps passed_then) (drop-more text taken more) ∙ spreads) refl ends
 
 -- what was written of a text was written of the bytes to come
 pub WritesOver-spread : (spare gaps passed passed_then taken start end blanks : ℕ) (text behind newlines out out_then : List ℕ)
@@ -88,20 +74,17 @@ pub WritesOver-spread : (spare gaps passed passed_then taken start end blanks : 
     → WritesOver start end out out_then (spaces blanks ++ (spread spare gaps passed text ++ newlines))
     (spaces blanks ++ (spread spare gaps passed_then behind ++ newlines))
 WritesOver-spread spare gaps passed passed_then taken start end blanks text behind newlines out out_then s none is_behind =
-    let front : List ℕ = take start out ++ s.moved in
-    let left : List ℕ = spaces (length out - end) in
-    let long : length front ≡ end = omega (arith, length-append (take start out) s.moved, length-take start out, s.place, s.within) in
     rw (none, is_behind) (record {
       moved = s.moved;
-      within = omega (arith, ap length s.written, length-append front left, long);
-      written = ap (take end) s.written ∙ ap (λ n. take n (front ++ left)) (sym long) ∙ take-append_seam front left;
+      within = s.within;
+      written = s.written;
       taken =
           sym (append_assoc s.moved (spread spare gaps passed_then (drop taken text)) newlines)
           ∙ ap (λ (xs : List ℕ). xs ++ newlines) s.rest;
     })
 
 -- the first of some blanks
-take-spaces : (n all : ℕ) → n ≤ all → take n (spaces all) ≡ spaces n
+pub take-spaces : (n all : ℕ) → n ≤ all → take n (spaces all) ≡ spaces n
 take-spaces zero all few = refl
 take-spaces (suc n) zero few = absurd (omega arith)
 take-spaces (suc n) (suc all) few = ap (λ (xs : List ℕ). 32 ∷ xs) (take-spaces n all (omega arith))

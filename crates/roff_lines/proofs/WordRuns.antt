@@ -23,6 +23,13 @@ module _ (bytes : List ℕ) where
       let less : k ≡ k + 1 - 1 = omega arith in
       subst (IsRun bytes) less run
 
+  -- some bytes less
+  pub IsRun-front : (k d : ℕ) → IsRun bytes (k + d) → IsRun bytes k
+  IsRun-front k zero run = let same : k + 0 ≡ k = omega arith in subst (IsRun bytes) same run
+  IsRun-front k (suc d) run =
+      let less : k + suc d - 1 ≡ k + d = omega arith in
+      IsRun-front k d (subst (IsRun bytes) less (IsRun-less (k + suc d) run))
+
   -- one byte more of a step
   pub IsRun-more : (start place : ℕ) → 0 < start → IsRun bytes (start + place)
       → GoesOn (slice_index_or bytes (start + place - 1) 0) (slice_index_or bytes (start + place) 0) → IsRun bytes (start + (place + 1))

@@ -10,6 +10,7 @@ mod env;
 mod event;
 mod fill;
 mod glyph;
+mod lanes;
 pub mod laws;
 mod line;
 mod line_bytes;

@@ -9,6 +9,7 @@ mod escaping;
 mod pieces;
 mod spreading;
 
+use crate::lanes::{STEP, glyphs_of_step};
 use crate::line::{FURTHER_BLANK, GAP, Line, UNPADDABLE};
 use std::marker::Model;
 
@@ -155,10 +156,17 @@ pub(crate) fn count_of_glyphs(text: &[u8], most: usize) -> usize
 {
     let end = most.min(text.len());
     let mut count = 0;
+    while count < end && text.len() - count >= STEP {
+        let run = glyphs_of_step(text, count);
+        count += run;
+        if run < STEP {
+            return count.min(end);
+        }
+    }
     while count < end && text[count] > b' ' {
         count += 1;
     }
-    count
+    count.min(end)
 }
 
 /// A text up to its last glyph that is no blank.

@@ -97,18 +97,16 @@ impl Stretch {
         }
     }
 
-    /// Adds bytes above the blank, and says how wide they are, in columns.
+    /// Adds bytes above the blank, which are so many columns wide.
     #[tactic(auto, using(crate::proofs::Widths::text_width_le))]
-    pub(crate) fn extend(&mut self, bytes: &[u8]) -> u64
+    pub(crate) fn extend(&mut self, bytes: &[u8], width: u64)
         requires room { length self.old.text + length bytes.now ≤ self.old.room }
         requires above { AllByRecursion (λ b. 32 < b) bytes.now }
-        ensures text { self.new ≡ record self.old { text = self.old.text ++ bytes.now } }
-        ensures width { result ≡ text_width bytes.now }
+        requires width { text_width bytes.now ≡ width }
+        ensures { self.new ≡ record self.old { text = self.old.text ++ bytes.now } }
     {
-        let width = width_of_bytes(bytes);
         self.width += width;
         self.bytes.extend_from_slice(bytes).unwrap();
-        width
     }
 
     /// Adds words with so many gaps. Each of their bytes is a column wide.
@@ -145,16 +143,4 @@ impl Stretch {
         self.width = 0;
         self.gaps = 0;
     }
-}
-
-/// How wide bytes are, in columns.
-#[tactic(auto, using(crate::proofs::Widths::byte_width_le))]
-fn width_of_bytes(bytes: &[u8]) -> u64
-    ensures { result ≡ text_width bytes.now }
-{
-    let mut width = 0;
-    for byte in bytes {
-        width += width_of_byte(*byte);
-    }
-    width
 }

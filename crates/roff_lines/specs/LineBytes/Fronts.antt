@@ -41,17 +41,17 @@ pub record Moves (held held_then to_come to_come_then : List ℕ) : Type 0 where
   pub added : held_then ≡ held ++ moved
   pub taken : moved ++ to_come_then ≡ to_come
 
--- the first of the bytes to come were written over blanks, from a place on to another one
+-- the first of the bytes to come were written, from a place on to another one
 pub record WritesOver (start end : ℕ) (out out_then to_come to_come_then : List ℕ) : Type 0 where
   pub moved : List ℕ
   pub within : end ≤ length out_then
   pub written : take end out_then ≡ take start out ++ moved
   pub taken : moved ++ to_come_then ≡ to_come
 
--- so many bytes of a text were written over blanks so, behind so many gaps, and so many gaps are behind them
+-- so many bytes of a text were written so from a place on, behind so many gaps, and so many gaps are behind them
 pub record SpreadsOver (spare gaps passed passed_then taken start end : ℕ) (text out out_then : List ℕ) : Type 0 where
   pub moved : List ℕ
   pub place : end ≡ start + length moved
-  pub within : end ≤ length out
-  pub written : out_then ≡ (take start out ++ moved) ++ spaces (length out - end)
+  pub within : end ≤ length out_then
+  pub written : take end out_then ≡ take start out ++ moved
   pub rest : moved ++ spread spare gaps passed_then (drop taken text) ≡ spread spare gaps passed text

@@ -10,10 +10,9 @@ ghost use Rattle.roff_lines.specs.Clauses.{may_be_wide};
 use super::Env;
 use super::words::{moved, push_gap};
 use crate::glyph::{ends_sentence_behind, ends_sentence_behind_words};
-use crate::line_bytes::count_of_glyphs;
 use crate::settings::Settings;
 use crate::stretch::Stretch;
-use crate::words::whole_words;
+use crate::words::{measured_glyphs, whole_words};
 
 /// More columns than the pending line has, its indent among them.
 const MOST_COLUMNS: u64 = 1 << 35;
@@ -38,6 +37,9 @@ impl Env {
             → result < length bytes.now
             → QuietlyTold line_cap (take (result + 1) bytes.now) h → ⊥ }
     {
+        if bytes.is_empty() {
+            return 0;
+        }
         let mut rest = self.text_in_front(bytes);
         while let Some(behind) = self.blank_in_front(rest) {
             rest = self.text_in_front(behind);
@@ -114,12 +116,12 @@ impl Env {
         ensures told { TellsFront bytes.now result.now self.old self.new }
         ensures ends { EndsGlyphs result.now self.new }
     {
-        let count = count_of_glyphs(bytes, self.glyph_room());
+        let (count, width) = measured_glyphs(bytes, self.glyph_room());
         if count == 0 {
             return bytes;
         }
         let (front, rest) = bytes.split_at(count);
-        self.glyphs(front);
+        self.glyphs(front, width);
         rest
     }
 
@@ -136,15 +138,16 @@ impl Env {
         (self.cap as u64).saturating_sub(bytes) as usize
     }
 
-    /// Adds glyphs of these bytes to the open word, or opens one with them.
-    fn glyphs(&mut self, bytes: &[u8])
+    /// Adds glyphs of these bytes, so many columns wide, to the open word, or opens one with them.
+    fn glyphs(&mut self, bytes: &[u8], width: u64)
         requires some { 0 < length bytes.now }
         requires room { length bytes.now ≤ glyph_room self.old }
         requires above { AllByRecursion (λ b. 32 < b) bytes.now }
+        requires width { text_width bytes.now ≡ width }
         ensures { self.new ≡ with_glyphs bytes.now self.old }
     {
         self.begin_gap();
-        let width = self.word.extend(bytes);
+        self.word.extend(bytes, width);
         self.is_open = true;
         self.has_glyph = true;
         self.ends_sentence = ends_sentence_behind(bytes, self.ends_sentence);

@@ -1,16 +1,20 @@
 //! A text that is written at once, with its blanks spread.
 
 ghost use Rattle.std.specs.Prelude.{◌≡◌, ◌+◌, ◌*◌, ◌<◌, ◌≤◌, ◌^◌, ◌++◌, length, take, ◌-◌, ◌%◌};
-ghost use Rattle.std.specs.Prelude.{drop, map, vec_capacity, true};
+ghost use Rattle.std.specs.Prelude.{drop, map, slice_index_or, vec_capacity, true};
 ghost use Rattle.roff_lines.specs.Columns.{spaces};
-ghost use Rattle.roff_lines.specs.LineBytes.Fronts.{written_mark, Moves, SpreadsOver, WritesOver};
+ghost use Rattle.roff_lines.specs.LineBytes.Fronts.{glyphs_in_front, written_mark, Moves, SpreadsOver};
+ghost use Rattle.roff_lines.specs.LineBytes.Fronts.{WritesOver};
 
 use super::{LineBytes, Sharing, Written};
+use crate::lanes::{
+    HALF_STEP, STEP, blank_step, copy_half_step, copy_step, glyphs_of_half_step, glyphs_of_step,
+};
 use crate::line::{FURTHER_BLANK, GAP};
 
 impl<'a> LineBytes<'a> {
     /// Adds the bytes in front, as far as the text goes, to a block of at most so many bytes. Adds
-    /// nothing where it hasn't room for all of them.
+    /// nothing where it hasn't room for all of them and sixteen more.
     #[inline(always)]
     pub fn add_text(&mut self, block: &mut Vec<u8>, most: usize)
         requires capacity { most ≤ vec_capacity block.old }
@@ -26,7 +30,8 @@ impl<'a> LineBytes<'a> {
             .saturating_add(self.rest);
         let needed = (self.text.len() as u128)
             .saturating_add(self.blanks)
-            .saturating_add(u128::from(spare));
+            .saturating_add(u128::from(spare))
+            .saturating_add(STEP as u128);
         if needed > (most - start) as u128 {
             return;
         }
@@ -37,11 +42,10 @@ impl<'a> LineBytes<'a> {
         block.truncate(end);
     }
 
-    /// Writes the text over blanks from a place on, as far as it goes. Tells where it ends.
+    /// Writes the text from a place on, as far as it goes. Tells where it ends.
     #[inline(always)]
     fn write_text(&mut self, out: &mut [u8], start: usize) -> usize
-        requires start { start ≤ length out.old }
-        requires blank { drop start out.old ≡ spaces (length out.old - start) }
+        requires { start ≤ length out.old }
         ensures { WritesOver start result out.old out.new self.old self.new }
     {
         if self.blanks > 0 {
@@ -99,11 +103,11 @@ fn written_byte(byte: u8) -> u8
     if byte <= FURTHER_BLANK { b' ' } else { byte }
 }
 
-/// Writes a text with its blanks spread over blanks, from a place on, as far as there is room for it.
+/// Writes a text with its blanks spread, from a place on, as far as there is room for it and a step
+/// more. What is behind it may change too.
 #[inline(always)]
 fn spread_over(text: &[u8], shares: Sharing, out: &mut [u8], start: usize) -> Written
     requires start { start ≤ length out.old }
-    requires blank { drop start out.old ≡ spaces (length out.old - start) }
     requires passed { shares.passed + length text.now < 2 ^ 64 }
     requires spare { shares.each * shares.gaps + shares.rest < 2 ^ 64 }
     requires rest { shares.rest < shares.gaps }
@@ -122,7 +126,7 @@ fn spread_over(text: &[u8], shares: Sharing, out: &mut [u8], start: usize) -> Wr
     let mut end = start;
     let mut passed = shares.passed;
     let mut over = shares.over;
-    if room < text.len() {
+    if room < STEP || room - STEP < text.len() {
         return Written {
             taken,
             end,
@@ -130,30 +134,36 @@ fn spread_over(text: &[u8], shares: Sharing, out: &mut [u8], start: usize) -> Wr
             over,
         };
     }
-    let mut left = (room - text.len()) as u64;
+    let mut left = (room - STEP - text.len()) as u64;
     while taken < text.len() {
-        let byte = text[taken];
-        if byte > b' ' {
-            out[end] = byte;
-            taken += 1;
-            end += 1;
-            continue;
+        let run = copy_glyphs(text, taken, out, end);
+        taken += run;
+        end += run;
+        if taken == text.len() {
+            break;
         }
+        let byte = text[taken];
         if byte == GAP {
             let (added, behind) = added_to_gap(shares.each, shares.rest, shares.gaps, over);
             if added > left {
                 break;
             }
             left -= added;
+            let columns = 1 + added as usize;
+            write_blanks(out, end, columns);
             taken += 1;
-            end += 1 + added as usize;
+            end += columns;
             passed += 1;
             over = behind;
+            continue;
+        }
+        if byte > b' ' {
             continue;
         }
         if byte > FURTHER_BLANK {
             break;
         }
+        write_blanks(out, end, 1);
         taken += 1;
         end += 1;
     }
@@ -162,6 +172,72 @@ fn spread_over(text: &[u8], shares: Sharing, out: &mut [u8], start: usize) -> Wr
         end,
         passed,
         over,
+    }
+}
+
+/// Copies the glyphs of a text behind a place, as many as stand in one step, to a place of a
+/// buffer. Tells how many these are. What is behind them may change too.
+#[inline(always)]
+fn copy_glyphs(text: &[u8], taken: usize, out: &mut [u8], end: usize) -> usize
+    requires text { taken < length text.now }
+    requires room { end + 16 ≤ length out.old }
+    ensures text { taken + result ≤ length text.now }
+    ensures some { 32 < slice_index_or text.now taken 0 → 0 < result }
+    ensures same { length out.new ≡ length out.old }
+    ensures glyphs { take result (drop taken text.now)
+        ≡ take result (glyphs_in_front (drop taken text.now)) }
+    ensures written { take (end + result) out.new
+        ≡ take end out.old ++ take result (drop taken text.now) }
+{
+    let left = text.len() - taken;
+    if left >= STEP {
+        let count = glyphs_of_step(text, taken);
+        copy_step(text, taken, out, end);
+        return count;
+    }
+    if left >= HALF_STEP {
+        let count = glyphs_of_half_step(text, taken);
+        copy_half_step(text, taken, out, end);
+        return count;
+    }
+    copy_last_glyphs(text, taken, out, end)
+}
+
+/// The same, byte by byte, up to the end of the text.
+#[inline(always)]
+fn copy_last_glyphs(text: &[u8], taken: usize, out: &mut [u8], end: usize) -> usize
+    requires text { taken < length text.now }
+    requires room { end + (length text.now - taken) ≤ length out.old }
+    ensures text { taken + result ≤ length text.now }
+    ensures some { 32 < slice_index_or text.now taken 0 → 0 < result }
+    ensures same { length out.new ≡ length out.old }
+    ensures glyphs { take result (drop taken text.now)
+        ≡ take result (glyphs_in_front (drop taken text.now)) }
+    ensures written { take (end + result) out.new
+        ≡ take end out.old ++ take result (drop taken text.now) }
+{
+    let mut count = 0;
+    while taken + count < text.len() && text[taken + count] > b' ' {
+        out[end + count] = text[taken + count];
+        count += 1;
+    }
+    count
+}
+
+/// Writes so many blanks to a place of a buffer. What is behind them may change too.
+#[inline(always)]
+fn write_blanks(out: &mut [u8], place: usize, count: usize)
+    requires blanks { place + count ≤ length out.old }
+    requires step { place + 16 ≤ length out.old }
+    ensures same { length out.new ≡ length out.old }
+    ensures written { take (place + count) out.new ≡ take place out.old ++ spaces count }
+{
+    if count <= STEP {
+        blank_step(out, place);
+        return;
+    }
+    for written in 0..count {
+        out[place + written] = b' ';
     }
 }
 

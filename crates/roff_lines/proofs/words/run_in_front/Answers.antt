@@ -11,6 +11,6 @@ loop-count-preserved c = record {
   some = omega arith;
   few = omega (arith, c.loop-count-test.true);
   less = search rules;
-  run = Further c.loop-count.count c.loop-count.invariant.some c.loop-count.invariant.run (c.follows.ensures c.if-follows.true);
+  run = Further c.loop-count.count c.loop-count.invariant.some c.loop-count.invariant.run (c.goes_on-in-loop-count.ensures c.if-goes_on.true);
   blanks = grind (arith, common_steps);
 }

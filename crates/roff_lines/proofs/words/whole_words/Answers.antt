@@ -1,6 +1,19 @@
-use Rattle.std.proofs.Common.{arith, ◌∙◌}
-use Rattle.roff_lines.proofs.WordRuns.{IsRun-less, WholeWords-run, gaps_in-less}
+use Rattle.std.proofs.Common.{◌≡◌, ◌+◌, ◌-◌, arith, subst, ◌∙◌}
+use Rattle.roff_lines.specs.Env.Tells.{IsRun}
+use Rattle.roff_lines.proofs.WordRuns.{IsRun-front, IsRun-less, WholeWords-run, gaps_in-less}
 use Rattle.roff_lines.proofs.words.whole_words.Goals as goal
+
+pub loop-told-init : goal.loop-told-init
+loop-told-init c =
+    let place = c.near_last_blank-told in
+    let count = c.run_in_front-count.result.0 in
+    let whole : count ≡ place.result + (count - place.result) = omega (arith, place.ensures.few) in
+    record {
+      text = omega (arith, place.ensures.few, c.run_in_front-count.ensures.few, c.min.ensures);
+      most = omega (arith, place.ensures.few, c.run_in_front-count.ensures.few, c.min.ensures);
+      run = IsRun-front c.args.bytes.now place.result (count - place.result) (subst (IsRun c.args.bytes.now) whole c.run_in_front-count.ensures.run);
+      gaps = place.ensures.others ∙ c.run_in_front-count.ensures.blanks;
+    }
 
 pub loop-told-preserved : goal.loop-told-preserved
 loop-told-preserved c =

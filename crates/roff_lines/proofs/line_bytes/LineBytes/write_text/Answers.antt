@@ -12,7 +12,7 @@ returns-then-is_copied c =
     rw (← c.self.view_is)
     (WritesOver-copied left.each left.rest (spare_columns left) left.gaps left.passed c.args.start left.blanks left.text.now c.split_at.result.1.now
     (replicate left.newlines 10) c.args.out.now c.copy_over.new.out copied.0 copied.1.0 refl c.self.invariant.rest none c.split_at.ensures.back
-    (omega (arith, copied.1.1, c.requires.start)) c.copy_over.ensures.same c.copy_over.ensures.written)
+    (omega (arith, copied.1.1, c.requires)) c.copy_over.ensures.same c.copy_over.ensures.written)
 
 pub returns : goal.returns
 returns c =

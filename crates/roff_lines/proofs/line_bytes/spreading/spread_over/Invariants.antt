@@ -10,7 +10,7 @@ invariant-loop-taken l =
       same : length l.out ≡ length l.initial.out;
       passed : l.passed ≤ l.shares.passed + l.taken;
       over : l.over ≡ l.passed * spare % l.shares.gaps;
-      room : l.end + (length l.text - l.taken) + l.left ≤ length l.initial.out;
+      room : l.end + (length l.text - l.taken) + l.left + 16 ≤ length l.initial.out;
       written : SpreadsOver spare l.shares.gaps l.shares.passed l.passed l.taken l.start l.end l.text l.initial.out l.out;
     }
 

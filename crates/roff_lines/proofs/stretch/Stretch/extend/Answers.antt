@@ -8,12 +8,11 @@ pub invariant_of-self : goal.invariant_of-self
 invariant_of-self c =
     let text = c.self.inside.bytes.items in
     let bytes = c.args.bytes.now in
-    let items : c.extend_from_slice.new.self.items ≡ text ++ bytes = search rules in
-    let width = c.width_of_bytes-width in record {
+    let items : c.extend_from_slice.new.self.items ≡ text ++ bytes = search rules in record {
       reserved = search rules;
       within = search rules;
       width =
-          ap (λ n. n + width.result) c.self.invariant.width ∙ ap (λ n. text_width text + n) width.ensures
+          ap (λ n. n + c.args.width) c.self.invariant.width ∙ ap (λ n. text_width text + n) (sym c.requires.width)
           ∙ sym (sum_by-append byte_width text bytes) ∙ ap text_width (sym items);
       gaps = c.self.invariant.gaps ∙ sym (gaps_in-append_above text bytes c.requires.above) ∙ ap gaps_in (sym items);
     }

@@ -1,6 +1,6 @@
 use Rattle.std.proofs.Common.{◌≡◌, ◌≤◌, take}
 use Rattle.roff_lines.specs.Glyphs.{text_width}
-use Rattle.roff_lines.proofs.stretch.width_of_bytes.Given as goal
+use Rattle.roff_lines.proofs.words.width_of_bytes.Given as goal
 
 abbrev pub invariant-loop-byte : goal.invariant-loop-byte
 invariant-loop-byte l = record {
