@@ -247,6 +247,7 @@ impl ArgumentTexts {
     }
 
     /// One byte more of the line.
+    #[inline(always)]
     fn take_byte(&mut self, byte: u8)
         requires { held (with_argument_byte self.old.arguments byte) ≤ self.old.room }
         ensures { self.new ≡ keeping self.old (with_argument_byte self.old.arguments byte) }

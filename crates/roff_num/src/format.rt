@@ -129,6 +129,7 @@ fn decimal_field(size: u32, digits: u8) -> NumText
 
 /// Puts a number in decimal, with zeros in front up to so many digits, at a text's end, where there
 /// is room for it.
+#[inline(always)]
 fn push_decimal(size: u32, digits: u8, text: &mut NumText)
     requires { array_vec_len text.old ≤ 16 }
     ensures text { text.new.items ≡ text.old.items ++ decimal_field (min digits 32) size }

@@ -21,6 +21,7 @@ pub mod WaitingTitles
 pub mod WaitingEvents
 pub mod NoConditions
 pub mod TitlesOver
+pub mod CalmFound
 pub mod CalmConditions
 pub mod UnseenEnds
 pub mod InFront

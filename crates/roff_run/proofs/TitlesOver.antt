@@ -1,5 +1,5 @@
 -- A title leads to no condition: see `NoConditions`.
-use Rattle.std.proofs.Common.{ℕ, false, List, Option, Some, None}
+use Rattle.std.proofs.Common.{ℕ, List, Option, Some, None}
 use Rattle.std.specs.Prelude.{◌==◌}
 use Rattle.roff_source.specs.Bytes.{newline, blank}
 use Rattle.roff_escape.specs.Characters.{character}
@@ -13,9 +13,7 @@ use Rattle.roff_escape.specs.declared.open_escape.CopyUnit.{CopyUnit}
 use Rattle.roff_escape.specs.declared.open_escape.CopyUnit.TheVariants.{Byte, Kept}
 use Rattle.roff_escape.specs.declared.open_escape.Found.{Found}
 use Rattle.roff_escape.specs.declared.open_escape.Found.TheVariants.{GoesOn, Unit as GivesUnit, Holds, Escape, Asks, Motion, Measures, Tells, Decides}
-use Rattle.roff_ahead.specs.Input.Calls.{arguments_given}
 use Rattle.roff_run.specs.declared.line_state.LineState.TheVariants.{Title as InTitle, TitleFront}
-use Rattle.roff_run.specs.declared.request.Request.TheVariants.{Title as TitleRequest}
 use Rattle.roff_run.specs.Reading.Items.{PageInput}
 use Rattle.roff_run.specs.Reading.Titles.{behind_part, character_put, escape_in_title, title_character, title_ended, title_found, title_front_found, title_front_unit, title_name}
 use Rattle.roff_run.specs.Registers.{Known}

@@ -6,10 +6,8 @@ use Rattle.roff_escape.specs.OpenEscape.{OpenEscape, Backslash, Comment, Name as
 use Rattle.roff_escape.specs.OpenEscapes.{escape_given, reading_ended}
 use Rattle.roff_escape.specs.Conditions.{is_decided}
 use Rattle.roff_escape.specs.Waiting.{is_ended_by, takes_backslash_alone}
-use Rattle.roff_escape.specs.declared.open_escape.ConditionPart.{ConditionPart}
 use Rattle.roff_escape.specs.declared.open_escape.ConditionPart.TheVariants.{Choice, Expression, Compared, Decided}
 use Rattle.roff_escape.specs.declared.open_escape.CopyUnit.TheVariants.{Kept}
-use Rattle.roff_escape.specs.declared.open_escape.Found.{Found}
 use Rattle.roff_escape.specs.declared.open_escape.Found.TheVariants.{GoesOn, Escape}
 use Rattle.roff_run.specs.Definitions.{end_mark, front_of, line_from, line_with}
 use Rattle.roff_run.specs.Reading.{escape_ended}

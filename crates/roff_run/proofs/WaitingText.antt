@@ -1,7 +1,7 @@
 -- Of the events of a text line, and of what begins one, few wait behind a macro that one of them springs.
 --
 -- Each function f of reading has its lemma Waits-f here, with a line for each of its cases.
-use Rattle.std.proofs.Common.{ℕ, Bool, true, false, List, [], ◌∷◌, ◌++◌, map, Option, Some, None, refl}
+use Rattle.std.proofs.Common.{ℕ, Bool, true, false, List, [], ◌∷◌, ◌++◌, map, Option, Some, None}
 use Rattle.std.specs.Prelude.{option_map, find, bytes_eq, ◌||◌, if◌then◌else◌, ◌==◌}
 use Rattle.roff_lines.specs.declared.event.Event.TheVariants.{Print, WordEnd, LineEnd, Count, Break, Tab}
 use Rattle.roff_lines.specs.declared.glyph.Glyph.{Glyph}

@@ -259,6 +259,7 @@ impl Request {
 
     /// Its row.
     #[rattlefmt::skip]
+    #[inline(always)]
     pub fn row(self) -> Row
         ensures { result ≡ coded_row self }
     {

@@ -143,6 +143,7 @@ impl Chunks {
     }
 
     /// Takes a strand away: a chunk that no other strand has serves again.
+    #[inline(always)]
     pub(crate) fn release(&mut self, strand: Strand)
         requires strand { IsStrand self.old strand }
         requires shared { IsShared self.old strand }

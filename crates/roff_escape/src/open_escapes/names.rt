@@ -54,6 +54,7 @@ impl OpenEscapes {
     }
 
     /// The first byte of a name, which is off already: a sign, a parenthesis, or all of it.
+    #[inline(always)]
     fn read_first(&mut self, purpose: NameUse, byte: u8) -> Found
         requires { IsNested (OpenName purpose NamePart.Nothing ∷ self.old.escapes) }
         ensures { (result, self.new) ≡ leaving (name_begun self.old.escapes purpose byte) self.old }

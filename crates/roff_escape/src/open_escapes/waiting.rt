@@ -43,6 +43,7 @@ impl OpenEscapes {
     }
 
     /// Whether what it sees there stays, and ends it: a byte, or nothing that can be read.
+    #[inline(always)]
     pub fn is_ended_by(&self, seen: Option<u8>) -> bool
         ensures { result ≡ is_ended_by self.now.escapes seen }
     {

@@ -22,6 +22,7 @@ impl<E: Copy> Unread<E> {
     /// # Errors
     ///
     /// As for [`push`](Unread::push).
+    #[inline(always)]
     pub fn call(&mut self, name: &Name) -> Result<(), Limit>
         ensures change { (result, self.new)
             ≡ changing (calling_body (body_named name.now self.old.input) self.old.input) self.old }

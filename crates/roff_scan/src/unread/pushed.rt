@@ -26,6 +26,7 @@ impl<E: Copy> Unread<E> {
     /// # Errors
     ///
     /// [`Limit::Stack`] if its bytes don't fit, and then [`Limit::Depth`] if its end doesn't.
+    #[inline(always)]
     pub fn push(&mut self, text: &[u8]) -> Result<(), Limit>
         ensures change { (result, self.new) ≡ changing (pushing text.now self.old.input) self.old }
     {

@@ -113,7 +113,7 @@ impl TextStore {
     }
 
     /// Bytes that a lease gives next: at least one, if it has one.
-    #[inline]
+    #[inline(always)]
     pub fn lease_front(&self, id: LeaseId) -> &[u8]
         requires { IsSome (lease_of id.0 self.now) }
         ensures bytes { result.now
@@ -168,6 +168,7 @@ impl TextStore {
     }
 
     /// Ends a lease.
+    #[inline(always)]
     pub fn release(&mut self, id: LeaseId)
         requires { IsSome (lease_of id.0 self.old) }
         ensures { self.new ≡ after (Release id.0) self.old }
