@@ -21,4 +21,5 @@ pub mod WordsApart
 pub mod WordEnds
 pub mod StandsAhead
 pub mod LinesGoOn
+pub mod GapsPutBack
 pub mod MacroEnds

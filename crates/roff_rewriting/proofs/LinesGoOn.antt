@@ -26,7 +26,7 @@ use Rattle.roff_rewriting.proofs.StandsAhead.{EndWith, Ends, IsLost, IsTaken, St
 use Rattle.roff_rewriting.proofs.WordsApart.{no_word_in_front, own-same, own-step, text_in-force}
 
 -- such an event is put back as it is, and has a word's end of its own
-back_same : (e : PageEvent) → EndsOpenWord e → put_back e ≡ e
+pub back_same : (e : PageEvent) → EndsOpenWord e → put_back e ≡ e
 back_same (Text (Gap n)) ends = refl
 back_same (Text LineEnd) ends = refl
 back_same (Text Break) ends = refl

@@ -8,7 +8,7 @@ use Rattle.roff_num.specs.declared.limits.Limits.{Limits}
 use Rattle.roff_lines.specs.Events.{History, settings_after}
 use Rattle.roff_lines.specs.Fitting.{Word}
 use Rattle.roff_lines.specs.Lines.{Finished}
-use Rattle.roff_lines.specs.Words.{begun_gap, blanks, ends_sentence, has_open_word, is_empty, line_end_gap, line_glyphs, open_glyphs, open_word}
+use Rattle.roff_lines.specs.Words.{begun_gap, blanks, ends_sentence, has_open_word, is_empty, line_end_gap, line_glyphs, open_glyphs, open_word, words}
 use Rattle.roff_lines.specs.declared.event.Event.{Event}
 use Rattle.roff_lines.specs.declared.event.Event.TheVariants.{Print, Tab, WordEnd, Gap, LineEnd, Count, Break, Interrupt as Interrupted, Resume, Set}
 use Rattle.roff_lines.specs.declared.glyph.Glyph.{Glyph}
@@ -35,12 +35,35 @@ use Rattle.roff_laws.proofs.EnvironmentTurns.{text-environment_of}
 use Rattle.roff_laws.proofs.PerformedOrStopped.{PerformedOrStopped, Performed, Sprang, EndsOver, StoppedAt, performed_or_stopped}
 use Rattle.roff_laws.proofs.SpringLaws.{springing-step}
 use Rattle.roff_laws.proofs.Stages.{history-read}
-use Rattle.roff_rewriting.specs.WordsApart.{FootersBeginWords, InWordsOfItsOwn, OpenWordsGoOn, WordsBeginWhereNoneIsOpen, WordsStandApart, ended_words, glyphs_in, glyphs_of}
+use Rattle.roff_rewriting.specs.WordsApart.{AreNewest, EndsLeaveNoWordOpen, FootersBeginWords, InWordsOfItsOwn, LinesAreOfEndedWords, OnlyGlyphsOpenWords, OpenWordsGoOn, WordsBeginWhereNoneIsOpen, WordsStandApart, ended_words, glyphs_in, glyphs_of}
 
 -- where no word is open there are no glyphs of one
 no_glyphs : (glyphs : List Glyph) → not (is_empty glyphs) ≡ false → glyphs ≡ []
 no_glyphs [] none = refl
 no_glyphs (g ∷ glyphs) none = absurd (cc)
+
+-- the words since the last break are the newest that have ended: by whether a word ends, or a line's end is a break
+newest-word : (is_open : Bool) (w : Word) (ws all : List Word) → AreNewest ws all
+    → AreNewest (if is_open then w ∷ ws else ws) (if is_open then w ∷ all else all)
+newest-word true w ws all newest = record { others = newest.others; is = ap (λ (xs : List Word). w ∷ xs) newest.is }
+newest-word false w ws all newest = newest
+
+newest-line : (filled : Bool) (ws all : List Word) → AreNewest ws all → AreNewest (if filled then ws else []) all
+newest-line true ws all newest = newest
+newest-line false ws all newest = record { others = all; is = refl }
+
+pub lines_are_of_ended_words : LinesAreOfEndedWords
+lines_are_of_ended_words [] = record { others = []; is = refl }
+lines_are_of_ended_words (Print g ∷ h) = lines_are_of_ended_words h
+lines_are_of_ended_words (Tab ∷ h) = lines_are_of_ended_words h
+lines_are_of_ended_words (WordEnd ∷ h) = newest-word (has_open_word h) (open_word h) (words h) (ended_words h) (lines_are_of_ended_words h)
+lines_are_of_ended_words (Gap n ∷ h) = lines_are_of_ended_words h
+lines_are_of_ended_words (LineEnd ∷ h) = newest-line (fills (settings_after h)) (words h) (ended_words h) (lines_are_of_ended_words h)
+lines_are_of_ended_words (Count ∷ h) = lines_are_of_ended_words h
+lines_are_of_ended_words (Break ∷ h) = record { others = ended_words h; is = refl }
+lines_are_of_ended_words (Interrupted ∷ h) = lines_are_of_ended_words h
+lines_are_of_ended_words (Resume ∷ h) = lines_are_of_ended_words h
+lines_are_of_ended_words (Set p ∷ h) = lines_are_of_ended_words h
 
 -- nothing was told yet
 pub own-same : (h : History) → has_open_word h ≡ false → InWordsOfItsOwn h h
@@ -222,12 +245,38 @@ pub no_word_in_front : (h : PageHistory) (e : PageEvent) → word_end_of h e ≡
     → has_open_word (text_of h) ≡ false
 no_word_in_front h e ends none = none_open (has_open_word (text_of h)) (sym ends ∙ none_before h e (word_end_of h e) none)
 
+-- behind what ends a word no word is open
+pub ends_leave_no_word_open : EndsLeaveNoWordOpen
+ends_leave_no_word_open h WordEnd ends none = refl
+ends_leave_no_word_open h LineEnd ends none = no_word_in_front h (Text LineEnd) refl none
+ends_leave_no_word_open h Break ends none = no_word_in_front h (Text Break) refl none
+ends_leave_no_word_open h (Print g) ends none = absurd ends
+ends_leave_no_word_open h Tab ends none = absurd ends
+ends_leave_no_word_open h (Gap n) ends none = absurd ends
+ends_leave_no_word_open h Count ends none = absurd ends
+ends_leave_no_word_open h Interrupted ends none = absurd ends
+ends_leave_no_word_open h Resume ends none = absurd ends
+ends_leave_no_word_open h (Set p) ends none = absurd ends
+
+-- until a glyph is told
+pub only_glyphs_open_words : OnlyGlyphsOpenWords
+only_glyphs_open_words h (Print g) none is = tt
+only_glyphs_open_words h Tab none is = tt
+only_glyphs_open_words h WordEnd none is = absurd (cc)
+only_glyphs_open_words h (Gap n) none is = absurd (cc)
+only_glyphs_open_words h LineEnd none is = absurd (cc)
+only_glyphs_open_words h Count none is = absurd (cc)
+only_glyphs_open_words h Break none is = absurd (cc)
+only_glyphs_open_words h Interrupted none is = absurd (cc)
+only_glyphs_open_words h Resume none is = absurd (cc)
+only_glyphs_open_words h (Set p) none is = absurd (cc)
+
 -- an event that finishes a line leaves none open: a word's end, or a line's end or a break with no word in front
 finishing : (rs : AllRegisters) (h : PageHistory) (e : PageEvent) (line : Finished) → next h e ≡ None → happens h (told rs e) ≡ Some (Places line)
     → has_open_word (text_in (environments h).number (told rs e ∷ h)) ≡ false
 finishing rs h (Text WordEnd) line none places = ap has_open_word (text_in-force (Text WordEnd ∷ h))
-finishing rs h (Text LineEnd) line none places = ap has_open_word (text_in-force (Text LineEnd ∷ h)) ∙ no_word_in_front h (Text LineEnd) refl none
-finishing rs h (Text Break) line none places = ap has_open_word (text_in-force (Text Break ∷ h)) ∙ no_word_in_front h (Text Break) refl none
+finishing rs h (Text LineEnd) line none places = ap has_open_word (text_in-force (Text LineEnd ∷ h)) ∙ ends_leave_no_word_open h LineEnd tt none
+finishing rs h (Text Break) line none places = ap has_open_word (text_in-force (Text Break ∷ h)) ∙ ends_leave_no_word_open h Break tt none
 finishing rs h (Text (Print g)) line none places = absurd (cc)
 finishing rs h (Text Tab) line none places = absurd (cc)
 finishing rs h (Text (Gap n)) line none places = absurd (cc)

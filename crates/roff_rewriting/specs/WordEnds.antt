@@ -1,5 +1,8 @@
 -- What a text line tells behind each word's end (manual, section 4.1).
-use Rattle.std.specs.Prelude.{List, [], ◌∷◌}
+use Rattle.std.specs.Prelude.{◌≡◌, List, [], ◌∷◌}
+use Rattle.roff_num.specs.declared.limits.Limits.{Limits}
+use Rattle.roff_num.specs.declared.short_name.ShortName.{ShortName}
+use Rattle.roff_ahead.specs.Input.{Ahead, DoAhead}
 use Rattle.roff_lines.specs.declared.event.Event.TheVariants.{WordEnd}
 use Rattle.roff_escape.specs.declared.open_escape.Found.{Found}
 use Rattle.roff_run.specs.PageEvents.{PageEvent}
@@ -7,9 +10,11 @@ use Rattle.roff_run.specs.Reading.Beginnings.{beginning_found}
 use Rattle.roff_run.specs.Reading.Items.{PageInput}
 use Rattle.roff_run.specs.Reading.TextLines.{text_found}
 use Rattle.roff_run.specs.Registers.{Known}
+use Rattle.roff_run.specs.Run.{State, step}
 use Rattle.roff_run.specs.declared.event.PageEvent.TheVariants.{Text}
 use Rattle.roff_run.specs.declared.line_state.LineState.TheVariants.{LineStart, Branch, Braced}
 use Rattle.roff_run.specs.declared.line_state.TextLine.{TextLine}
+use Rattle.roff_laws.specs.SpringLaws.{Springs, happening, with_rest_back}
 use Rattle.roff_rewriting.specs.WordsApart.{EndsOpenWord}
 
 -- the first of some events is a gap, a line's end or a break
@@ -33,3 +38,21 @@ pub record EndsWordsSo (k : Known) (i : PageInput) (found : Found) : Type 0 wher
 -- Behind each word's end a text line tells a gap, the line's end or a break.
 abbrev pub TextLinesEndWordsSo : Type 0
 TextLinesEndWordsSo = (k : Known) (i : PageInput) (found : Found) → EndsWordsSo k i found
+
+-- and it stays so, as they are performed one after another
+abbrev pub WordEndsStayFollowed : Type 0
+WordEndsStayFollowed =
+    (l : Limits) (s : State) (e : PageEvent) (rest : List PageEvent) → s.to_do ≡ e ∷ rest → AreFollowed (e ∷ rest) → AreFollowed (step l s).to_do
+
+-- one of these stands in front of what is put back
+pub record PutsBackGap (e : PageEvent) (rest : List PageEvent) (s : State) : Type 0 where
+  pub first : PageEvent
+  pub behind : List (Ahead PageEvent)
+  pub ends_word : EndsOpenWord first
+  pub stands : (with_rest_back e rest s).input.ahead ≡ DoAhead first ∷ behind
+
+-- So where a word's end springs a macro, its own or that of an event behind it, one of these is put back first.
+abbrev pub WordEndsPutBackAGap : Type 0
+WordEndsPutBackAGap =
+    (l : Limits) (s : State) (e : PageEvent) (rest : List PageEvent) (name : ShortName) → Springs l s e rest name → AreFollowed (e ∷ rest)
+    → happening e s ≡ Text WordEnd → PutsBackGap e rest s

@@ -5,11 +5,12 @@ use Rattle.roff_num.specs.declared.limits.Limits.{Limits}
 use Rattle.roff_num.specs.declared.short_name.ShortName.{ShortName}
 use Rattle.roff_ahead.specs.Input.{Ahead, DoAhead}
 use Rattle.roff_lines.specs.Events.{History}
+use Rattle.roff_lines.specs.declared.event.Event.{Event}
 use Rattle.roff_lines.specs.declared.event.Event.TheVariants.{Print, Tab, WordEnd, Gap, LineEnd, Break}
 use Rattle.roff_lines.specs.Fitting.{Word}
 use Rattle.roff_lines.specs.Lines.{Finished}
 use Rattle.roff_lines.specs.Places.{tab_width}
-use Rattle.roff_lines.specs.Words.{has_open_word, open_glyphs, open_word}
+use Rattle.roff_lines.specs.Words.{has_open_word, open_glyphs, open_word, words}
 use Rattle.roff_lines.specs.declared.glyph.Glyph.{Glyph}
 use Rattle.roff_lines.specs.declared.glyph.Glyph.TheVariants.{Blanks}
 use Rattle.roff_pages.specs.Happenings.{Places}
@@ -17,7 +18,7 @@ use Rattle.roff_run.specs.Environments.{environments, text_of}
 use Rattle.roff_run.specs.declared.environment_number.EnvironmentNumber.{EnvironmentNumber}
 use Rattle.roff_run.specs.declared.event.PageEvent.TheVariants.{Text}
 use Rattle.roff_run.specs.Layouts.{happens}
-use Rattle.roff_run.specs.PageEvents.{PageEvent}
+use Rattle.roff_run.specs.PageEvents.{PageEvent, PageHistory}
 use Rattle.roff_run.specs.Run.{Leads, State, after}
 use Rattle.roff_run.specs.Springs.{next}
 use Rattle.roff_laws.specs.EnvironmentLaws.{text_in}
@@ -29,6 +30,14 @@ abbrev pub ended_words : History → List Word
 ended_words [] = []
 ended_words (WordEnd ∷ h) = if has_open_word h then open_word h ∷ ended_words h else ended_words h
 ended_words (_ ∷ h) = ended_words h
+
+-- those of which lines are made are among them: the words since the last break are the newest ones
+pub record AreNewest (ws all : List Word) : Type 0 where
+  pub others : List Word
+  pub is : all ≡ ws ++ others
+
+abbrev pub LinesAreOfEndedWords : Type 0
+LinesAreOfEndedWords = (h : History) → AreNewest (words h) (ended_words h)
 
 -- all glyphs that were told, the newest first
 abbrev pub glyphs_of : History → List Glyph
@@ -59,6 +68,28 @@ OpenWordsGoOn =
     (h : History) (g : Glyph) → has_open_word h ≡ true →
     ((open_word (Print g ∷ h)).glyphs ≡ (open_word h).glyphs ++ g ∷ []) × ((open_word (Print g ∷ h)).gap ≡ (open_word h).gap)
     × (ended_words (Print g ∷ h) ≡ ended_words h)
+
+-- whether an event of the text ends a word, or a line of the input or of the output with it
+abbrev pub EndsWord : Event → Type 0
+EndsWord WordEnd = Unit {0}
+EndsWord LineEnd = Unit {0}
+EndsWord Break = Unit {0}
+EndsWord (_) = ⊥
+
+-- Behind each of these no word is open, once nothing comes before it any more: so it is behind a text line that is whole.
+abbrev pub EndsLeaveNoWordOpen : Type 0
+EndsLeaveNoWordOpen =
+    (h : PageHistory) (e : Event) → EndsWord e → next h (Text e) ≡ None → has_open_word (text_of (Text e ∷ h)) ≡ false
+
+-- whether an event tells a glyph
+abbrev pub TellsGlyph : Event → Type 0
+TellsGlyph (Print g) = Unit {0}
+TellsGlyph Tab = Unit {0}
+TellsGlyph (_) = ⊥
+
+-- and none is open until a glyph is told
+abbrev pub OnlyGlyphsOpenWords : Type 0
+OnlyGlyphsOpenWords = (h : History) (e : Event) → has_open_word h ≡ false → has_open_word (e ∷ h) ≡ true → TellsGlyph e
 
 -- where no word is open in an environment, all that is told there later stands in words of its own
 abbrev pub WordsBeginWhereNoneIsOpen : Type 0

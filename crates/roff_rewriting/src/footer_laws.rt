@@ -4,10 +4,13 @@
 ghost use Rattle.std.specs.Prelude.{◌≡◌, [], ◌++◌, codes};
 ghost use Rattle.roff_laws.specs.Rows.{formatted, gives};
 ghost use Rattle.roff_rewriting.specs.MacroEnds.{MacrosAreReadToTheirEnd, MacrosBeginALine};
-ghost use Rattle.roff_rewriting.specs.WordEnds.{TextLinesEndWordsSo};
-ghost use Rattle.roff_rewriting.specs.WordsApart.{FootersBeginWords, LinesGoOnWithAnotherWord};
-ghost use Rattle.roff_rewriting.specs.WordsApart.{OpenWordsGoOn, WordsBeginWhereNoneIsOpen};
-ghost use Rattle.roff_rewriting.specs.WordsApart.{WordsStandApart};
+ghost use Rattle.roff_rewriting.specs.WordEnds.{TextLinesEndWordsSo, WordEndsPutBackAGap};
+ghost use Rattle.roff_rewriting.specs.WordEnds.{WordEndsStayFollowed};
+ghost use Rattle.roff_rewriting.specs.WordsApart.{EndsLeaveNoWordOpen, FootersBeginWords};
+ghost use Rattle.roff_rewriting.specs.WordsApart.{LinesGoOnWithAnotherWord};
+ghost use Rattle.roff_rewriting.specs.WordsApart.{LinesAreOfEndedWords, OnlyGlyphsOpenWords};
+ghost use Rattle.roff_rewriting.specs.WordsApart.{OpenWordsGoOn};
+ghost use Rattle.roff_rewriting.specs.WordsApart.{WordsBeginWhereNoneIsOpen, WordsStandApart};
 ghost use Rattle.roff_run.specs.declared.status.Status.TheVariants.{Done};
 
 /// A footer's text and the text around it don't share a word.
@@ -16,21 +19,29 @@ ghost use Rattle.roff_run.specs.declared.status.Status.TheVariants.{Done};
 /// of its own: the word in front has ended, and no glyph of one is in the other. Where the macro
 /// springs between two words of a text line, that line goes on with another word, whatever the
 /// macro is: also where its text leaves a word open, by `\c` or by a backslash at its last line's
-/// end, as the gap, the line's end or the break that was put back ends that word first.
+/// end, as the gap, the line's end or the break that was put back ends that word first. Behind each
+/// word's end a text line tells one of these, and so one is left to do where that end is performed.
 pub fn footers()
     ensures front { FootersBeginWords }
     ensures behind { LinesGoOnWithAnotherWord }
     ensures ends { TextLinesEndWordsSo }
+    ensures stay { WordEndsStayFollowed }
+    ensures put_back { WordEndsPutBackAGap }
 {}
 
 /// Where no word is open in an environment, all that is told there later stands in words of its
-/// own, as behind a macro whose last line is whole. In front of each word stands a blank at least.
-/// Where a word is open, a glyph is one of that word: so it is where a macro that leaves one open
-/// sprang at a line's end, and the next line begins behind it.
+/// own. Behind the end of a word or of a line, and behind a break, none is open until a glyph is
+/// told: so it is behind a macro whose last line is whole. In front of each word stands a blank at
+/// least. Where a word is open, a glyph is one of that word: so it is where a macro that leaves one
+/// open sprang at a line's end, and the next line begins behind it. The words that lines are made
+/// of, those since the last break, are the newest of all that have ended.
 pub fn words()
     ensures begun { WordsBeginWhereNoneIsOpen }
+    ensures ended { EndsLeaveNoWordOpen }
+    ensures only_glyphs { OnlyGlyphsOpenWords }
     ensures apart { WordsStandApart }
     ensures left_open { OpenWordsGoOn }
+    ensures of_lines { LinesAreOfEndedWords }
 {}
 
 /// A macro that sprang begins a line of its own. Whatever its lines are, and whatever springs

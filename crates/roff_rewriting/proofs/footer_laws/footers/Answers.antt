@@ -1,3 +1,4 @@
+use Rattle.roff_rewriting.proofs.GapsPutBack.{word_ends_put_back_a_gap, word_ends_stay_followed}
 use Rattle.roff_rewriting.proofs.LinesGoOn.{lines_go_on_with_another_word}
 use Rattle.roff_rewriting.proofs.WordEnds.{text_lines_end_words_so}
 use Rattle.roff_rewriting.proofs.WordsApart.{footers_begin_words}
@@ -11,3 +12,9 @@ returns-clause-behind c = lines_go_on_with_another_word
 
 pub returns-clause-ends : goal.returns-clause-ends
 returns-clause-ends c = text_lines_end_words_so
+
+pub returns-clause-put_back : goal.returns-clause-put_back
+returns-clause-put_back c = word_ends_put_back_a_gap
+
+pub returns-clause-stay : goal.returns-clause-stay
+returns-clause-stay c = word_ends_stay_followed

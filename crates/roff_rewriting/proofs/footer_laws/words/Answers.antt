@@ -1,4 +1,4 @@
-use Rattle.roff_rewriting.proofs.WordsApart.{open_words_go_on, words_begin_where_none_is_open, words_stand_apart}
+use Rattle.roff_rewriting.proofs.WordsApart.{ends_leave_no_word_open, lines_are_of_ended_words, only_glyphs_open_words, open_words_go_on, words_begin_where_none_is_open, words_stand_apart}
 use Rattle.roff_rewriting.proofs.footer_laws.words.Goals as goal
 
 pub returns-clause-begun : goal.returns-clause-begun
@@ -9,3 +9,12 @@ returns-clause-apart c = words_stand_apart
 
 pub returns-clause-left_open : goal.returns-clause-left_open
 returns-clause-left_open c = open_words_go_on
+
+pub returns-clause-of_lines : goal.returns-clause-of_lines
+returns-clause-of_lines c = lines_are_of_ended_words
+
+pub returns-clause-ended : goal.returns-clause-ended
+returns-clause-ended c = ends_leave_no_word_open
+
+pub returns-clause-only_glyphs : goal.returns-clause-only_glyphs
+returns-clause-only_glyphs c = only_glyphs_open_words
