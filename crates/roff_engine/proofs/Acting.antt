@@ -8,24 +8,25 @@ use Rattle.roff_source.specs.Tape.{Tape}
 use Rattle.roff_ahead.specs.Looking.{is_closed, looked_then}
 use Rattle.roff_ahead.specs.declared.looked.Looked.{Looked}
 use Rattle.roff_ahead.specs.declared.looked.Looked.TheVariants.{Nothing, Byte, Closed}
-use Rattle.roff_engine.specs.declared.formatter.Formatter.{Formatter}
-use Rattle.roff_engine.specs.declared.halt.Halt.{Halt}
-use Rattle.roff_engine.specs.declared.halt.Halt.TheVariants.{Limit as Limited, Refused, Over, Output, Messages}
+use Rattle.roff_engine.specs.declared.interpreter.Interpreter.{Interpreter}
+use Rattle.roff_formatter.specs.declared.halt.Halt.{Halt}
+use Rattle.roff_formatter.specs.declared.halt.Halt.TheVariants.{Limit as Limited, Refused, Over, Output, Messages}
 use Rattle.roff_engine.specs.declared.running.Running.{Running as Coded}
 use Rattle.roff_engine.specs.Engine.Outcome.{Beginning, Seen, IsLeftOf, Reaches, OutcomeOf, seen}
-use Rattle.roff_engine.specs.Formatter.Performing.{CameBehind, TakingDone, DoesTaking, Opens, acting, going, sinks}
+use Rattle.roff_formatter.specs.Formatter.Performing.{acting}
+use Rattle.roff_engine.specs.Interpreter.Performing.{CameBehind, TakingDone, DoesTaking, Opens, going, sinks}
 use Rattle.roff_run.specs.Springs.{AreFewBehind}
 use Rattle.roff_run.proofs.KeepingText.{StaysFew}
 use Rattle.roff_ahead.specs.Input.Few.{AreFewFrom}
-use Rattle.roff_engine.specs.Formatter.Sprung.{most_back, rest_left}
+use Rattle.roff_formatter.specs.Formatter.Sprung.{most_back, rest_left}
 use Rattle.roff_run.specs.TurnsToCome.{most_left}
 use Rattle.roff_engine.specs.Running.Room.{FewFor}
 use Rattle.roff_engine.specs.Running.Springing.{GoesOn, IsBehind}
-use Rattle.roff_engine.specs.declared.sprung.Sprung.{Sprung}
+use Rattle.roff_formatter.specs.declared.sprung.Sprung.{Sprung}
 use Rattle.roff_engine.specs.Running.Turning.{DoesItem, Halts, TookFrom, line_told, line_turns, lines_left_in, state_at, turns_at, turns_of_run}
 use Rattle.roff_sinks.specs.Sinks.{Sunk}
-use Rattle.roff_requests.specs.Composer.Standing.{StandFor}
-use Rattle.roff_requests.specs.declared.composer.Composer.{Composer as ComposerOf}
+use Rattle.roff_composer.specs.Composer.Standing.{StandFor}
+use Rattle.roff_composer.specs.declared.composer.Composer.{Composer as ComposerOf}
 use Rattle.roff_run.specs.Output.{PageHistory}
 use Rattle.roff_reader.specs.Reader.Taken.{CameTo, IsReady}
 use Rattle.roff_run.specs.Reading.Items.{PageUnread}
@@ -42,7 +43,7 @@ use Rattle.roff_run.specs.declared.status.Status.TheVariants.{Done}
 use Rattle.roff_run.specs.Environments.{interrupted_line}
 use Rattle.roff_run.specs.TurnsToCome.{begun, lines_left, phases_left, turns_to_come, turns_within}
 use Rattle.roff_engine.proofs.Halting.{rest_over}
-use Rattle.roff_engine.proofs.EventsLeft.{few-most}
+use Rattle.roff_formatter.proofs.EventsLeft.{few-most}
 use Rattle.roff_engine.proofs.Fronts.{few-put_back}
 use Rattle.roff_engine.proofs.Room.{ends-within, room_left}
 use Rattle.roff_engine.proofs.TurnsLeft.{line_turns-more, lines_left-stands}
@@ -125,12 +126,12 @@ module _ (l : Limits) (t : Beginning) (left : Tape) (line_before line : ℕ) (st
 -- the state of the definition in which an item was taken, in this phase, with more to perform
 abbrev pub ready_to_take : Tape → Coded → PageHistory → List ℕ → Phase → List PageEvent → State
 ready_to_take tape run h messages phase more =
-    going (looked_then run.unread.looked tape) run.unread.input run.formatter.reader.reading run.formatter.reader.registers.all h messages phase
+    going (looked_then run.unread.looked tape) run.unread.input run.interpreter.reader.reading run.interpreter.reader.registers.all h messages phase
     (is_closed run.unread.looked) (more ++ [])
 
 -- what is taken, as the definition has it of a run that has performed this
 abbrev pub taken_of : (Known → Taking) → Coded → PageHistory → Taking
-taken_of f run h = f (known_at h run.formatter.reader.registers.all run.unread.input)
+taken_of f run h = f (known_at h run.interpreter.reader.registers.all run.unread.input)
 
 -- what is done with the item is this taking, in this phase, with more to perform
 abbrev pub IsTaking : (Known → Taking) → (State → State) → Phase → List PageEvent → Coded → Type 0
@@ -140,17 +141,17 @@ IsTaking f does phase more run =
 
 -- the run stands behind the events of a taking, of which one may have sprung a macro
 IsBehind-taken : (t : Beginning) (tape : Tape) (start now : Seen) (old new : Coded) (taken : Taking) (h : PageHistory) (messages : List ℕ) (phase : Phase) (more : List PageEvent) (sprung : Option Sprung)
-    → CameTo taken old.formatter.reader.registers new.formatter.reader old.unread new.unread
-    → new.limits ≡ old.limits → new.phase ≡ phase → old.unread.limits ≡ old.limits → IsReady old.formatter.reader.registers old.unread
-    → CameBehind old.limits t start now (taken_as taken (ready_to_take tape old h messages phase more)) (taken.effect.events ++ more) h new.formatter.reader.meaning.events [] sprung new.formatter.composer
+    → CameTo taken old.interpreter.reader.registers new.interpreter.reader old.unread new.unread
+    → new.limits ≡ old.limits → new.phase ≡ phase → old.unread.limits ≡ old.limits → IsReady old.interpreter.reader.registers old.unread
+    → CameBehind old.limits t start now (taken_as taken (ready_to_take tape old h messages phase more)) (taken.effect.events ++ more) h new.interpreter.reader.meaning.events [] sprung new.interpreter.formatter.composer
     → AreFewBehind (taken.effect.events ++ more) → StaysFew old.unread.input.ahead taken.input.ahead
     → FewFor (taken.effect.events ++ more) taken.reading taken.input.escapes old.unread.input.ahead
     → IsBehind t tape start now sprung new
 IsBehind-taken t tape start now old new taken h messages phase more sprung became limits same kept ready came short stays few =
     let events : List PageEvent = taken.effect.events ++ more in
-    let rest : List PageEvent = rest_left sprung new.formatter.reader.meaning.events in
+    let rest : List PageEvent = rest_left sprung new.interpreter.reader.meaning.events in
     let room : ℕ = 5 - most_back events in
-    let is_ready : IsReady new.formatter.reader.registers new.unread = record {
+    let is_ready : IsReady new.interpreter.reader.registers new.unread = record {
       cap = rw (became.registers, became.input) ready.cap;
       line = rw (became.registers, became.input) ready.line;
       within = rw (became.registers, became.input) became.within;
@@ -158,22 +159,22 @@ IsBehind-taken t tape start now old new taken h messages phase more sprung becam
     let behind : AreFewFrom room new.unread.input.ahead =
     subst (λ (u : PageUnread). AreFewFrom room u.input.ahead) (sym became.input) (stays room (omega arith) few.few) in
     let enough : length rest + room ≤ 5 = omega (arith, came.few, few-most events short) in record {
-      room = room_left rest room new.unread behind enough (ends-within new.unread.limits new.formatter.reader.registers.all new.unread.input is_ready.within);
+      room = room_left rest room new.unread behind enough (ends-within new.unread.limits new.interpreter.reader.registers.all new.unread.input is_ready.within);
       few = subst (λ (reading : LineState). FewFor [] reading new.unread.input.escapes (putting_all_back (map put_back rest) new.unread.input).ahead) (sym became.reading)
           (subst (λ (u : PageUnread). FewFor [] taken.reading u.input.escapes (putting_all_back (map put_back rest) u.input).ahead) (sym became.input)
           (few-put_back events rest taken.reading taken.input.escapes old.unread.input.ahead taken.input few stays (omega (arith, came.few)) (few-most events short)));
       history = came.history;
       messages = (taken_as taken (state_at tape old h messages)).messages;
       reaches = rw (limits, became.input, became.reading, became.registers, same) came.reaches;
-      stands = subst (λ (l : Limits). StandFor l came.history new.formatter.composer) (sym limits) came.stands;
+      stands = subst (λ (l : Limits). StandFor l came.history new.interpreter.formatter.composer) (sym limits) came.stands;
       ready = is_ready;
       limits = rw (became.input, limits) kept;
     }
 
 -- no more turns are to come of it than of that state
 turns-behind : (l : Limits) (tape : Tape) (old new : Coded) (taken : Taking) (h behind : PageHistory) (messages : List ℕ) (phase : Phase) (more : List PageEvent)
-    → CameTo taken old.formatter.reader.registers new.formatter.reader old.unread new.unread
-    → new.phase ≡ phase → old.unread.limits ≡ old.limits → StandFor l behind new.formatter.composer
+    → CameTo taken old.interpreter.reader.registers new.interpreter.reader old.unread new.unread
+    → new.phase ≡ phase → old.unread.limits ≡ old.limits → StandFor l behind new.interpreter.formatter.composer
     → lines_left (interrupted_line behind) ≤ most_left (taken.effect.events ++ more) (lines_left (interrupted_line h))
     → turns_of_run new ≤ turns_at old.limits.bytes (taken_as taken (ready_to_take tape old h messages phase more))
 turns-behind l tape old new taken h behind messages phase more became same kept stands few =
@@ -184,9 +185,9 @@ turns-behind l tape old new taken h behind messages phase more became same kept 
     let within : Limits → List PageEvent → ℕ = λ k es.
     4 * (turns_within k.bytes taken.input + begun taken.reading) + line_turns taken.reading (most_left (events ++ es) (lines_left (interrupted_line h))) + phases_left phase in
     let first : turns_of_run new ≡ of there taken.reading left phase =
-    ap (λ (u : PageUnread). of u new.formatter.reader.reading (lines_left_in new.formatter.composer) new.phase) became.input
-    ∙ ap (λ (r : LineState). of there r (lines_left_in new.formatter.composer) new.phase) became.reading
-    ∙ ap (λ (n : ℕ). of there taken.reading n new.phase) (lines_left-stands l behind new.formatter.composer stands)
+    ap (λ (u : PageUnread). of u new.interpreter.reader.reading (lines_left_in new.interpreter.formatter.composer) new.phase) became.input
+    ∙ ap (λ (r : LineState). of there r (lines_left_in new.interpreter.formatter.composer) new.phase) became.reading
+    ∙ ap (λ (n : ℕ). of there taken.reading n new.phase) (lines_left-stands l behind new.interpreter.formatter.composer stands)
     ∙ ap (λ (p : Phase). of there taken.reading left p) same in
     let last : within old.unread.limits more ≡ within old.limits (more ++ []) =
     ap (λ (k : Limits). within k more) kept ∙ ap (λ (es : List PageEvent). within old.limits es) (sym (append-nil more)) in
@@ -210,17 +211,17 @@ module _ (f : Known → Taking) (does : State → State) (phase : Phase) (more :
       subst (λ (s : State). Opens old.limits from s took.history took.messages) (meant tape took.history took.messages) took.opens
 
   -- how far it came
-  did : {out_old err_old out_new err_new : Sunk} (formatter : Formatter) (unread : PageUnread) (r : Result (Option Sprung) Halt)
-      → DoesTaking f more old.formatter formatter old.unread unread (sinks out_old err_old) (sinks out_new err_new) r
+  did : {out_old err_old out_new err_new : Sunk} (interpreter : Interpreter) (unread : PageUnread) (r : Result (Option Sprung) Halt)
+      → DoesTaking f more old.interpreter interpreter old.unread unread (sinks out_old err_old) (sinks out_new err_new) r
       → (t : Beginning) (tape : Tape) (start : Seen) (failures : ℕ) (from : State)
       → (took : TookFrom t tape start (seen failures out_old err_old) line does from old)
-      → TakingDone old.limits t start (seen failures out_new err_new) from (done tape took.history took.messages) (events_of took.history) took.history formatter.reader.meaning.events [] r formatter.composer
-  did {out_old} {err_old} {out_new} {err_new} formatter unread r takes t tape start failures from took =
+      → TakingDone old.limits t start (seen failures out_new err_new) from (done tape took.history took.messages) (events_of took.history) took.history interpreter.reader.meaning.events [] r interpreter.formatter.composer
+  did {out_old} {err_old} {out_new} {err_new} interpreter unread r takes t tape start failures from took =
       let h : PageHistory = took.history in
-      let P : Limits → Type 0 = λ l. StandFor l h old.formatter.composer
+      let P : Limits → Type 0 = λ l. StandFor l h old.interpreter.formatter.composer
       → Reaches l t start (seen failures out_old err_old) from
       → Opens l from (done tape h took.messages) h took.messages
-      → TakingDone l t start (seen failures out_new err_new) from (done tape h took.messages) (events_of h) h formatter.reader.meaning.events [] r formatter.composer in
+      → TakingDone l t start (seen failures out_new err_new) from (done tape h took.messages) (events_of h) h interpreter.reader.meaning.events [] r interpreter.formatter.composer in
       subst P took.limits
       (λ stands reaches opens. takes.does t start failures from (looked_then old.unread.looked tape) h took.messages phase (is_closed old.unread.looked) [] stands took.ready reaches opens)
       took.stands took.reaches (opened took)
@@ -236,7 +237,7 @@ module _ (f : Known → Taking) (does : State → State) (phase : Phase) (more :
   -- what the code could not do of it halts the run
   pub halted_acts : {out_old err_old out_new err_new : Sunk} (new : Coded) (failures : ℕ) (halt : Halt) (status : Status) (behind : Seen) (line_behind : ℕ)
       → new.limits ≡ old.limits → ((k : Known) → (f k).input.line ≡ line_behind)
-      → DoesTaking f more old.formatter new.formatter old.unread new.unread (sinks out_old err_old) (sinks out_new err_new) (Err halt)
+      → DoesTaking f more old.interpreter new.interpreter old.unread new.unread (sinks out_old err_old) (sinks out_new err_new) (Err halt)
       → ((t : Beginning) (left : Tape) (start : Seen) → Halts old.limits t left (line_told halt line line_behind) halt start (seen failures out_new err_new)
       → OutcomeOf old.limits t left status start behind)
       → DoesItem line does old new (seen failures out_old err_old) behind (Err status)
@@ -247,8 +248,8 @@ module _ (f : Known → Taking) (does : State → State) (phase : Phase) (more :
         let halts : Halts old.limits t tape (line_told halt line line_behind) halt start (seen failures out_new err_new) =
         did_halt old.limits t tape line line_behind start _ from state
         (opened took).opens took.rest took.quiet took.line_is
-        (IsLeftOf-looked_then old.unread.looked tape) refl (line_is (known_at took.history old.formatter.reader.registers.all old.unread.input))
-        (events_of took.history) took.history new.formatter.reader.meaning.events [] halt new.formatter.composer (did new.formatter new.unread (Err halt) takes t tape start failures from took) in
+        (IsLeftOf-looked_then old.unread.looked tape) refl (line_is (known_at took.history old.interpreter.reader.registers.all old.unread.input))
+        (events_of took.history) took.history new.interpreter.reader.meaning.events [] halt new.interpreter.formatter.composer (did new.interpreter new.unread (Err halt) takes t tape start failures from took) in
         rw limits (ends t tape start halts);
     turns = λ t tape start from took. tt;
   }
@@ -263,7 +264,7 @@ pub taking_acts : {out_old err_old out_new err_new : Sunk} (f : Known → Taking
     (sprung : Option Sprung) (behind : Seen) (r : Result (Unit {0}) Status)
     → IsTaking f does phase more old
     → mid.limits ≡ old.limits → mid.phase ≡ phase
-    → DoesTaking f more old.formatter mid.formatter old.unread mid.unread (sinks out_old err_old) (sinks out_new err_new) (Ok sprung)
+    → DoesTaking f more old.interpreter mid.interpreter old.unread mid.unread (sinks out_old err_old) (sinks out_new err_new) (Ok sprung)
     → ((k : Known) → AreFewBehind ((f k).effect.events ++ more)) → ((k : Known) → StaysFew old.unread.input.ahead (f k).input.ahead)
     → GoesOn sprung mid new (seen failures out_new err_new) behind r
     → DoesItem line does old new (seen failures out_old err_old) behind r
@@ -272,13 +273,13 @@ taking_acts {out_old} {err_old} {out_new} {err_new} f does phase more line old m
     → IsBehind t tape start (seen failures out_new err_new) sprung mid = λ t tape start from took.
     IsBehind-taken t tape start _ old mid (taken_of f old took.history) took.history took.messages phase more sprung
     (takes.became old.limits took.history took.stands took.ready) limits same took.limits took.ready
-    (did f does phase more line old meant mid.formatter mid.unread (Ok sprung) takes t tape start failures from took)
-    (short (known_at took.history old.formatter.reader.registers.all old.unread.input)) (stays (known_at took.history old.formatter.reader.registers.all old.unread.input))
+    (did f does phase more line old meant mid.interpreter mid.unread (Ok sprung) takes t tape start failures from took)
+    (short (known_at took.history old.interpreter.reader.registers.all old.unread.input)) (stays (known_at took.history old.interpreter.reader.registers.all old.unread.input))
     (room_taken f does phase more line old meant took) in record {
       limits = goes.limits ∙ limits;
       acts = λ t tape start from took. goes.goes t tape start (there t tape start from took);
       turns = λ t tape start from took.
-          let came = did f does phase more line old meant mid.formatter mid.unread (Ok sprung) takes t tape start failures from took in
+          let came = did f does phase more line old meant mid.interpreter mid.unread (Ok sprung) takes t tape start failures from took in
           subst (λ (s : State). OnOk r (turns_of_run new ≤ turns_at old.limits.bytes s)) (sym (meant tape took.history took.messages))
           (no_more-turns r (turns_of_run new) (turns_of_run mid) _ (goes.turns t tape start (there t tape start from took))
           (turns-behind old.limits tape old mid (taken_of f old took.history) took.history came.history took.messages phase more
@@ -288,7 +289,7 @@ taking_acts {out_old} {err_old} {out_new} {err_new} f does phase more line old m
 -- two things are the same of the states that the run may be at
 abbrev pub DoTheSame : (does other : State → State) → Coded → Type 0
 DoTheSame does other old =
-    (tape : Tape) (h : PageHistory) (messages : List ℕ) → StandFor old.limits h old.formatter.composer
+    (tape : Tape) (h : PageHistory) (messages : List ℕ) → StandFor old.limits h old.interpreter.formatter.composer
     → does (state_at tape old h messages) ≡ other (state_at tape old h messages)
 
 -- a step that leads to one thing leads to another that is the same

@@ -11,7 +11,7 @@ use Rattle.roff_ahead.specs.Unread.{Asked, asks_to_take, asks_to_look, looking, 
 use Rattle.roff_ahead.specs.Input.Few.{AreFew, AreFewFrom}
 use Rattle.roff_ahead.proofs.FewEvents.{few-more}
 use Rattle.roff_engine.specs.Running.Room.{FewFor, SeesOn}
-use Rattle.roff_engine.proofs.EventsLeft.{most-length}
+use Rattle.roff_formatter.proofs.EventsLeft.{most-length}
 use Rattle.roff_engine.proofs.Fronts.{few-nothing, few-sees}
 use Rattle.roff_ahead.specs.Shown.{Shown, ShowsByte, ShowsDo, ShowsEnding, ShowsRefusal, Sighted, SeesByte, SeesNothing, SeesEnding, shown_ahead, seen_ahead}
 use Rattle.roff_engine.specs.Engine.Outcome.{IsLeftOf}

@@ -1,10 +1,10 @@
 -- What the end of a phase takes: the last macro is read, or the run closes.
 use Rattle.std.proofs.Common.{◌≡◌, [], ◌++◌, List, Option, None, Result, Ok, append-nil, arith, refl, subst, sym, ap, ◌∙◌}
 use Rattle.roff_num.specs.declared.limit.Limit.{Limit}
-use Rattle.roff_engine.specs.declared.formatter.Formatter.{Formatter}
-use Rattle.roff_engine.specs.declared.halt.Halt.{Halt}
-use Rattle.roff_engine.specs.Formatter.Performing.{DoesTaking, PerformsAll, Sinks, going, sinks}
-use Rattle.roff_engine.specs.declared.sprung.Sprung.{Sprung}
+use Rattle.roff_engine.specs.declared.interpreter.Interpreter.{Interpreter}
+use Rattle.roff_formatter.specs.declared.halt.Halt.{Halt}
+use Rattle.roff_engine.specs.Interpreter.Performing.{DoesTaking, PerformsAll, Sinks, going, sinks}
+use Rattle.roff_formatter.specs.declared.sprung.Sprung.{Sprung}
 use Rattle.roff_engine.proofs.EventsTaken.{OnOk-fact, TakingDone-came}
 use Rattle.roff_sinks.specs.Sinks.{Sunk}
 use Rattle.roff_reader.specs.Reader.State.{ReaderState}
@@ -19,8 +19,8 @@ use Rattle.roff_run.specs.declared.line_state.LineState.TheVariants.{LineStart}
 use Rattle.roff_run.specs.declared.step.Step.{Step}
 
 -- the reader took what only reads on
-pub reads_on_taking : (j : PageInput) (next : LineState) (old : Formatter) (reader : ReaderState) (before behind : PageUnread) (told : Sinks) (m : Step)
-    → TakesAs (λ k. going_on j next) old.composer old.reader reader before behind (Ok m)
+pub reads_on_taking : (j : PageInput) (next : LineState) (old : Interpreter) (reader : ReaderState) (before behind : PageUnread) (told : Sinks) (m : Step)
+    → TakesAs (λ k. going_on j next) old.formatter.composer old.reader reader before behind (Ok m)
     → DoesTaking (λ k. going_on j next) [] old (record old { reader = reader }) before behind told told (Ok None)
 reads_on_taking j next old reader before behind told m takes = record {
   became = λ l h stood ready. (takes.takes l h stood ready).became;
@@ -42,12 +42,12 @@ reads_on_taking j next old reader before behind told m takes = record {
 }
 
 -- a line begins, and the events are performed that close the run
-pub closing_taking : (old new : Formatter) (reader : ReaderState) (u : PageUnread) (out_old out_new err : Sunk) (r : Result (Option Sprung) Halt)
+pub closing_taking : (old new : Interpreter) (reader : ReaderState) (u : PageUnread) (out_old out_new err : Sunk) (r : Result (Option Sprung) Halt)
     → reader.meaning.events ≡ closing_events → reader ≡ record old.reader { reading = LineStart; meaning = reader.meaning }
     → PerformsAll reader.meaning.events (record old { reader = reader }) new out_old out_new r
     → DoesTaking (λ k. meaning_events u.input LineStart closing_events) [] old new u u (sinks out_old err) (sinks out_new err) r
 closing_taking old new reader u out_old out_new err r kept is performed =
-    let mid : Formatter = record old { reader = reader } in
+    let mid : Interpreter = record old { reader = reader } in
     let performs : PerformsAll closing_events mid new out_old out_new r =
     subst (λ (events : List PageEvent). PerformsAll events mid new out_old out_new r) kept performed in
     record {
@@ -61,7 +61,7 @@ closing_taking old new reader u out_old out_new err r kept is performed =
           let s : State =
           taken_as (meaning_events u.input LineStart closing_events) (going tape u.input old.reader.reading old.reader.registers.all h messages phase closed rest) in
           let goes : step u.limits from ≡ s = opens.opens ∙ ap (λ (r : Option Limit). unless_refused u.limits r from s) ready.within in
-          TakingDone-came u.limits t0 start _ from s closing_events h new.reader.meaning.events rest r new.composer
+          TakingDone-came u.limits t0 start _ from s closing_events h new.reader.meaning.events rest r new.formatter.composer
           (performs.all u.limits t0 start failures err s h rest stood (sym (ap (λ (s : ReaderState). s.registers.all) is)) (record {
             comes = Leads-to u.limits (initial u.limits t0.start t0.tape) from s reached.comes goes;
             text = rw (← opens.wrote) reached.text;

@@ -34,11 +34,11 @@ use Rattle.roff_engine.proofs.TurnsLeft.{lines_left_in-few}
 use Rattle.roff_ahead.specs.Looking.{closing, is_closed, looked_then}
 use Rattle.roff_ahead.specs.declared.looked.Looked.{Looked}
 use Rattle.roff_ahead.specs.declared.looked.Looked.TheVariants.{Nothing, Byte, Closed}
-use Rattle.roff_engine.specs.Formatter.Performing.{going}
+use Rattle.roff_engine.specs.Interpreter.Performing.{going}
 use Rattle.roff_run.proofs.Leads.{Leads-to}
 
 -- where nothing is due the run stays as it is
-pub nothing_due : (old : Coded) (now : Seen) → due old.formatter.reader.reading ≡ None → DoesDue old old now now (Ok tt)
+pub nothing_due : (old : Coded) (now : Seen) → due old.interpreter.reader.reading ≡ None → DoesDue old old now now (Ok tt)
 nothing_due old now none = record {
   limits = refl;
   idle = λ is. (refl, refl);
@@ -98,15 +98,15 @@ tape-message true s = refl
 tape-message false s = refl
 
 -- where its text is released no count is above its limit
-released_within : (run : Coded) → first_passed run.unread.limits (counts_in run.formatter.reader.registers.all run.unread.input) ≡ None
-    → first_passed run.unread.limits (counts_in run.formatter.reader.registers.all (record run.unread.input { arguments = no_arguments })) ≡ None
+released_within : (run : Coded) → first_passed run.unread.limits (counts_in run.interpreter.reader.registers.all run.unread.input) ≡ None
+    → first_passed run.unread.limits (counts_in run.interpreter.reader.registers.all (record run.unread.input { arguments = no_arguments })) ≡ None
 released_within run none =
-    first_passed-no_more run.unread.limits run.formatter.reader.registers.all (record run.unread.input { arguments = no_arguments }) run.unread.input (NoMore-released run.unread.input) none
+    first_passed-no_more run.unread.limits run.interpreter.reader.registers.all (record run.unread.input { arguments = no_arguments }) run.unread.input (NoMore-released run.unread.input) none
 
 -- where a message is due
-module _ (old : Coded) (aborts : Bool) (is : due old.formatter.reader.reading ≡ Some (Tells aborts)) (failures : ℕ) (out err told : Sunk) where
+module _ (old : Coded) (aborts : Bool) (is : due old.interpreter.reader.reading ≡ Some (Tells aborts)) (failures : ℕ) (out err told : Sunk) where
   -- it isn't so that nothing is
-  something_due : {A : Type 0} → due old.formatter.reader.reading ≡ None → A
+  something_due : {A : Type 0} → due old.interpreter.reader.reading ≡ None → A
   something_due none = let wrong : None ≡ Some (Tells aborts) = sym none ∙ is in absurd (cc)
 
   -- what is told
@@ -117,11 +117,11 @@ module _ (old : Coded) (aborts : Bool) (is : due old.formatter.reader.reading �
     abbrev from : State
     from = state_at tape old at.history at.messages
 
-    allowed : first_passed old.limits (counts_in old.formatter.reader.registers.all (record old.unread.input { arguments = no_arguments })) ≡ None
+    allowed : first_passed old.limits (counts_in old.interpreter.reader.registers.all (record old.unread.input { arguments = no_arguments })) ≡ None
     allowed = rw (← at.limits) (released_within old at.ready.within)
 
     -- the step tells it
-    step-of : (a : Bool) → due old.formatter.reader.reading ≡ Some (Tells a) → step old.limits from ≡ behind_message a from
+    step-of : (a : Bool) → due old.interpreter.reader.reading ≡ Some (Tells a) → step old.limits from ≡ behind_message a from
     step-of true is_due = ap (λ (what : Option Due). reading_by old.limits what from) is_due
     step-of false is_due =
         ap (λ (what : Option Due). reading_by old.limits what from) is_due
@@ -150,7 +150,7 @@ rest_aborted tape s (inl all) = inl all
 rest_aborted tape s (inr looked) = inr (tt, looked)
 
 -- a message was told that ends the run
-pub aborted_due : (old : Coded) (failures : ℕ) (out err told : Sunk) → due old.formatter.reader.reading ≡ Some (Tells true)
+pub aborted_due : (old : Coded) (failures : ℕ) (out err told : Sunk) → due old.interpreter.reader.reading ≡ Some (Tells true)
     → Writes err told (told_line true (message_text_read old.unread.input)) → DoesDue old old (seen failures out err) (seen failures out told) (Err Aborted)
 aborted_due old failures out err told is writes = record {
   limits = refl;
@@ -173,12 +173,12 @@ aborted_due old failures out err told is writes = record {
 -- the code behind a message
 abbrev pub behind_told : Coded → Coded
 behind_told old = record old {
-  formatter = record old.formatter { reader = record old.formatter.reader { reading = LineStart } };
+  interpreter = record old.interpreter { reader = record old.interpreter.reader { reading = LineStart } };
   unread = record old.unread { input = record old.unread.input { arguments = no_arguments } };
 }
 
 -- one was told, and the run goes on
-pub told_due : (old : Coded) (failures : ℕ) (out err told : Sunk) → due old.formatter.reader.reading ≡ Some (Tells false)
+pub told_due : (old : Coded) (failures : ℕ) (out err told : Sunk) → due old.interpreter.reader.reading ≡ Some (Tells false)
     → Writes err told (told_line false (message_text_read old.unread.input))
     → DoesDue old (behind_told old) (seen failures out err) (seen failures out told) (Ok tt)
 told_due old failures out err told is writes = record {
@@ -198,8 +198,8 @@ told_due old failures out err told is writes = record {
         few = few-over [] LineStart old.unread.input.escapes old.unread.input.ahead at.few.few tt;
       };
   none_due = refl;
-  turns = (let line = due-line old.formatter.reader.reading (Tells false) (lines_left_in old.formatter.composer) is in
-      let few = lines_left_in-few old.formatter.composer in
+  turns = (let line = due-line old.interpreter.reader.reading (Tells false) (lines_left_in old.interpreter.formatter.composer) is in
+      let few = lines_left_in-few old.interpreter.formatter.composer in
       omega (arith, line, few));
 }
 
@@ -230,12 +230,12 @@ resting-back back = by (back == 0) (back == 1) (back == 2)
 -- the code behind the end of all input
 abbrev pub behind_left : Coded → Coded
 behind_left old = record old {
-  formatter = record old.formatter { reader = record old.formatter.reader { reading = gone_back_to (outermost_back 0 old.unread.input.ahead) } };
+  interpreter = record old.interpreter { reader = record old.interpreter.reader { reading = gone_back_to (outermost_back 0 old.unread.input.ahead) } };
   unread = record old.unread { input = leaving old.unread.input; looked = closing old.unread.looked };
 }
 
 -- the input is left: the run goes on in what its ends lead back to, with a closed source
-left_due : (old : Coded) (now : Seen) → due old.formatter.reader.reading ≡ Some LeavesInput → ((s : State) → left_in old.phase s ≡ input_left s)
+left_due : (old : Coded) (now : Seen) → due old.interpreter.reader.reading ≡ Some LeavesInput → ((s : State) → left_in old.phase s ≡ input_left s)
     → DoesDue old (behind_left old) now now (Ok tt)
 left_due old now is leaves = record {
   limits = refl;
@@ -244,10 +244,10 @@ left_due old now is leaves = record {
       let from : State = state_at tape old at.history at.messages in
       let there : State = state_at tape (behind_left old) at.history at.messages in
       let back : LineState = gone_back_to (outermost_back 0 old.unread.input.ahead) in
-      let within : first_passed old.unread.limits (counts_in old.formatter.reader.registers.all (leaving old.unread.input)) ≡ None =
-      first_passed-no_more old.unread.limits old.formatter.reader.registers.all (leaving old.unread.input) old.unread.input (NoMore-leaving old.unread.input) at.ready.within in
-      let allowed : first_passed old.limits (counts_in old.formatter.reader.registers.all (leaving old.unread.input)) ≡ None = rw (← at.limits) within in
-      let at_tape : Tape → Bool → State = λ t closed. going t (leaving old.unread.input) back old.formatter.reader.registers.all at.history at.messages old.phase closed [] in
+      let within : first_passed old.unread.limits (counts_in old.interpreter.reader.registers.all (leaving old.unread.input)) ≡ None =
+      first_passed-no_more old.unread.limits old.interpreter.reader.registers.all (leaving old.unread.input) old.unread.input (NoMore-leaving old.unread.input) at.ready.within in
+      let allowed : first_passed old.limits (counts_in old.interpreter.reader.registers.all (leaving old.unread.input)) ≡ None = rw (← at.limits) within in
+      let at_tape : Tape → Bool → State = λ t closed. going t (leaving old.unread.input) back old.interpreter.reader.registers.all at.history at.messages old.phase closed [] in
       let same : input_left from ≡ there =
       ap (λ (t : Tape). at_tape t true) (sym (looked-closing old.unread.looked tape))
       ∙ ap (λ (closed : Bool). at_tape (looked_then (closing old.unread.looked) tape) closed) (sym (closed-closing old.unread.looked)) in
@@ -270,15 +270,15 @@ left_due old now is leaves = record {
         few = few-nothing back (leaving old.unread.input) refl;
       };
   none_due = (resting-back (outermost_back 0 old.unread.input.ahead)).2;
-  turns = (let line = due-line old.formatter.reader.reading LeavesInput (lines_left_in old.formatter.composer) is in
+  turns = (let line = due-line old.interpreter.reader.reading LeavesInput (lines_left_in old.interpreter.formatter.composer) is in
       let resting = resting-back (outermost_back 0 old.unread.input.ahead) in
-      let few = resting.1 (lines_left_in old.formatter.composer) (lines_left_in-few old.formatter.composer) in
+      let few = resting.1 (lines_left_in old.interpreter.formatter.composer) (lines_left_in-few old.interpreter.formatter.composer) in
       omega (arith, line, resting.0, few));
 }
 
 -- as the run closes nothing is left: a line begins
-closing_due : (old : Coded) (now : Seen) → due old.formatter.reader.reading ≡ Some LeavesInput → old.phase ≡ Closing
-    → let behind : Coded = record old { formatter = record old.formatter { reader = record old.formatter.reader { reading = LineStart } } } in
+closing_due : (old : Coded) (now : Seen) → due old.interpreter.reader.reading ≡ Some LeavesInput → old.phase ≡ Closing
+    → let behind : Coded = record old { interpreter = record old.interpreter { reader = record old.interpreter.reader { reading = LineStart } } } in
     DoesDue old behind now now (Ok tt)
 closing_due old now is closes = record {
   limits = refl;
@@ -286,7 +286,7 @@ closing_due old now is closes = record {
   does_due = λ t tape start at.
       let from : State = state_at tape old at.history at.messages in
       let there : State = record from { reading = LineStart } in
-      let allowed : first_passed old.limits (counts_in old.formatter.reader.registers.all old.unread.input) ≡ None = rw (← at.limits) at.ready.within in
+      let allowed : first_passed old.limits (counts_in old.interpreter.reader.registers.all old.unread.input) ≡ None = rw (← at.limits) at.ready.within in
       let goes : step old.limits from ≡ there =
       ap (λ (what : Option Due). reading_by old.limits what from) is
       ∙ ap (λ (p : Phase). made old.limits from (left_in p from)) closes
@@ -306,13 +306,13 @@ closing_due old now is closes = record {
         few = few-over [] LineStart old.unread.input.escapes old.unread.input.ahead at.few.few tt;
       };
   none_due = refl;
-  turns = (let line = due-line old.formatter.reader.reading LeavesInput (lines_left_in old.formatter.composer) is in
-      let few = lines_left_in-few old.formatter.composer in
+  turns = (let line = due-line old.interpreter.reader.reading LeavesInput (lines_left_in old.interpreter.formatter.composer) is in
+      let few = lines_left_in-few old.interpreter.formatter.composer in
       omega (arith, line, few));
 }
 
 -- either, by the phase
-pub leaves_due : (old new : Coded) (now : Seen) → due old.formatter.reader.reading ≡ Some LeavesInput → LeavesInputIn old new → DoesDue old new now now (Ok tt)
+pub leaves_due : (old new : Coded) (now : Seen) → due old.interpreter.reader.reading ≡ Some LeavesInput → LeavesInputIn old new → DoesDue old new now now (Ok tt)
 leaves_due old new now is leaves = by old.phase refl leaves
   where
     by : (phase : Phase) → old.phase ≡ phase → LeavesIn phase old new → DoesDue old new now now (Ok tt)

@@ -107,7 +107,7 @@ closed_acts line old now may_end = record {
       let s : State = state_at tape old took.history took.messages in
       let done : State = ending_as Done s in
       let allowed : first_passed old.limits (grown done) ≡ None =
-      subst (λ (l : Limits). first_passed l (counts_in old.formatter.reader.registers.all old.unread.input) ≡ None) took.limits took.ready.within in
+      subst (λ (l : Limits). first_passed l (counts_in old.interpreter.reader.registers.all old.unread.input) ≡ None) took.limits took.ready.within in
       let there : step old.limits from ≡ done = took.opens.opens ∙ ap (λ (r : Option Limit). unless_refused old.limits r from done) allowed in
       inl (record {
         state = done;

@@ -14,9 +14,9 @@ use Rattle.roff_escape.specs.declared.open_escape.CopyUnit.TheVariants.{Kept}
 use Rattle.roff_escape.specs.declared.open_escape.Decision.{Decision}
 use Rattle.roff_escape.specs.declared.open_escape.Found.TheVariants.{GoesOn, Escape, Decides}
 use Rattle.roff_escape.specs.declared.open_escape.SizePart.{SizePart}
-use Rattle.roff_engine.specs.Formatter.Sprung.{most_back}
+use Rattle.roff_formatter.specs.Formatter.Sprung.{most_back}
 use Rattle.roff_engine.specs.Running.Room.{FewFor, decides_next}
-use Rattle.roff_engine.proofs.EventsLeft.{quiet-none}
+use Rattle.roff_formatter.proofs.EventsLeft.{quiet-none}
 use Rattle.roff_engine.proofs.Fronts.{few-over}
 use Rattle.roff_run.specs.Definitions.{end_mark, front_of, line_from, line_with}
 use Rattle.roff_run.specs.PageEvents.{PageEvent}

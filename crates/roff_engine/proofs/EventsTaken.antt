@@ -5,16 +5,16 @@ use Rattle.roff_num.specs.declared.limit.Limit.TheVariants.{Names, Line, Stack, 
 use Rattle.roff_num.specs.declared.limits.Limits.{Limits}
 use Rattle.roff_ahead.specs.Input.{DoAhead, depth, result_count}
 use Rattle.roff_ahead.specs.Input.Names.{names_added, stored}
-use Rattle.roff_engine.specs.declared.formatter.Formatter.{Formatter}
-use Rattle.roff_engine.specs.declared.halt.Halt.{Halt}
-use Rattle.roff_engine.specs.declared.halt.Halt.TheVariants.{Limit as Limited, Refused, Over, Output, Messages}
+use Rattle.roff_engine.specs.declared.interpreter.Interpreter.{Interpreter}
+use Rattle.roff_formatter.specs.declared.halt.Halt.{Halt}
+use Rattle.roff_formatter.specs.declared.halt.Halt.TheVariants.{Limit as Limited, Refused, Over, Output, Messages}
 use Rattle.roff_engine.specs.declared.running.Running.{Running as Coded}
 use Rattle.roff_engine.specs.Engine.Outcome.{Beginning, Seen}
-use Rattle.roff_engine.specs.Formatter.Performing.{ComesTo, TakingDone, DoesTaking, PerformsAll, going, sinks}
-use Rattle.roff_engine.specs.declared.sprung.Sprung.{Sprung}
+use Rattle.roff_engine.specs.Interpreter.Performing.{ComesTo, TakingDone, DoesTaking, PerformsAll, going, sinks}
+use Rattle.roff_formatter.specs.declared.sprung.Sprung.{Sprung}
 use Rattle.roff_engine.specs.Running.Turning.{state_at}
 use Rattle.roff_sinks.specs.Sinks.{Sunk}
-use Rattle.roff_requests.specs.declared.composer.Composer.{Composer as ComposerOf}
+use Rattle.roff_composer.specs.declared.composer.Composer.{Composer as ComposerOf}
 use Rattle.roff_run.specs.Output.{PageHistory}
 use Rattle.roff_run.specs.Reading.Items.{PageUnread}
 use Rattle.roff_run.specs.Reading.{interrupted}
@@ -86,7 +86,7 @@ OnOk-fact (Ok x) P fact = fact
 OnOk-fact (Err e) P fact = tt
 
 -- what is performed of an event that was put back is done of its taking
-pub event_does : (event : PageEvent) (old new : Formatter) (before behind : PageUnread) (out_old out_new err : Sunk) (r : Result (Option Sprung) Halt)
+pub event_does : (event : PageEvent) (old new : Interpreter) (before behind : PageUnread) (out_old out_new err : Sunk) (r : Result (Option Sprung) Halt)
     → behind ≡ record before { input = interrupted old.reader.reading before.input }
     → PerformsAll (event ∷ []) old new out_old out_new r
     → DoesTaking (event_taking old.reader.reading before.input) (event ∷ []) old new before behind (sinks out_old err) (sinks out_new err) r
@@ -104,7 +104,7 @@ event_does event old new before behind out_old out_new err r input performs = re
       let allowed : first_passed before.limits (grown done) ≡ None =
       within-interrupted before.limits old.reader.registers.all old.reader.reading before.input ready.within in
       let step_is : step before.limits from ≡ done = opens.opens ∙ ap (λ (o : Option Limit). unless_refused before.limits o from done) allowed in
-      TakingDone-came before.limits t0 start _ from done (event ∷ []) h new.reader.meaning.events rest r new.composer
+      TakingDone-came before.limits t0 start _ from done (event ∷ []) h new.reader.meaning.events rest r new.formatter.composer
       (performs.all before.limits t0 start failures err done h rest stands refl (record {
         comes = Leads-to before.limits (initial before.limits t0.start t0.tape) from done reaches.comes step_is;
         text = rw (← opens.wrote) reaches.text;
@@ -115,7 +115,7 @@ event_does event old new before behind out_old out_new err r input performs = re
 
 -- that an event was put back is that taking
 pub event_meant : (event : PageEvent) (old : Coded)
-    → IsTaking (event_taking old.formatter.reader.reading old.unread.input) (ahead_taken (DoAhead event)) old.phase (event ∷ []) old
+    → IsTaking (event_taking old.interpreter.reader.reading old.unread.input) (ahead_taken (DoAhead event)) old.phase (event ∷ []) old
 event_meant event old tape h messages =
     ap (λ (told : List ℕ). record (ahead_taken (DoAhead event) (state_at tape old h messages)) { messages = told }) (sym (append-nil messages))
 

@@ -5,10 +5,10 @@ use Rattle.roff_ahead.specs.Input.{Ahead, putting_all_back}
 use Rattle.roff_ahead.specs.Input.Few.{AreFewFrom}
 use Rattle.roff_ahead.proofs.FewEvents.{few-behind, few-more}
 use Rattle.roff_escape.specs.OpenEscape.{OpenEscape}
-use Rattle.roff_engine.specs.Formatter.Sprung.{most_back}
+use Rattle.roff_formatter.specs.Formatter.Sprung.{most_back}
 use Rattle.roff_engine.specs.Running.Room.{FewFor, SeesOn, decides_next}
 use Rattle.roff_engine.specs.Running.Turning.{input_ends}
-use Rattle.roff_engine.proofs.EventsLeft.{calm-none}
+use Rattle.roff_formatter.proofs.EventsLeft.{calm-none}
 use Rattle.roff_engine.proofs.Room.{back_few}
 use Rattle.roff_run.specs.PageEvents.{PageEvent}
 use Rattle.roff_run.specs.Reading.{escape_ended, interrupted}
@@ -21,7 +21,8 @@ use Rattle.roff_run.specs.declared.line_state.LineState.{LineState}
 use Rattle.roff_run.specs.declared.line_state.LineState.TheVariants.{Deciding}
 use Rattle.roff_run.specs.declared.phase.Phase.{Phase}
 use Rattle.roff_run.specs.declared.phase.Phase.TheVariants.{Closing, LastMacro, Reading}
-use Rattle.roff_run.proofs.CalmConditions.{Calm-end_taking, Calm-escape_ended, CalmWhere}
+use Rattle.roff_run.proofs.CalmConditions.{Calm-end_taking, Calm-escape_ended}
+use Rattle.roff_run.proofs.CalmFound.{CalmWhere}
 use Rattle.roff_run.proofs.KeepingText.{StaysFew}
 use Rattle.roff_run.proofs.NoConditions.{NoCondition}
 

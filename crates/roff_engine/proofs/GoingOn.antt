@@ -18,7 +18,7 @@ use Rattle.roff_reader.proofs.TakesAs.{few_names, short_title}
 use Rattle.roff_reader.specs.Reader.Springs.{Springs, SpringsBody, SpringsNothing, sprung_input}
 use Rattle.roff_reader.specs.Reader.State.{ReaderState}
 use Rattle.roff_reader.specs.Reader.Taken.{IsReady}
-use Rattle.roff_requests.specs.Composer.Standing.{StandFor}
+use Rattle.roff_composer.specs.Composer.Standing.{StandFor}
 use Rattle.roff_run.specs.Environments.{PageHistory}
 use Rattle.roff_run.proofs.InputCounts.{NoMore, first_passed-few_names, first_passed-no_more}
 use Rattle.roff_run.proofs.KeepingText.{free_ahead-called}
@@ -40,11 +40,11 @@ use Rattle.roff_run.specs.declared.line_state.LineState.TheVariants.{LineStart, 
 use Rattle.roff_run.specs.declared.request.Called.{Called}
 use Rattle.roff_run.specs.declared.request.Called.TheVariants.{Request as ARequest, Body as ABody, Nothing as Unknown}
 use Rattle.roff_run.specs.declared.status.Status.{Status}
-use Rattle.roff_engine.specs.declared.halt.Halt.TheVariants.{Limit as Limited}
+use Rattle.roff_formatter.specs.declared.halt.Halt.TheVariants.{Limit as Limited}
 use Rattle.roff_engine.specs.declared.running.Running.{Running as Coded}
-use Rattle.roff_engine.specs.declared.sprung.Sprung.{Sprung}
+use Rattle.roff_formatter.specs.declared.sprung.Sprung.{Sprung}
 use Rattle.roff_engine.specs.Engine.Outcome.{Beginning, OutcomeOf, Reaches, Seen}
-use Rattle.roff_engine.specs.Formatter.Sprung.{left_behind}
+use Rattle.roff_formatter.specs.Formatter.Sprung.{left_behind}
 use Rattle.roff_engine.specs.Running.Springing.{GoesOn, IsBehind, PutsBack}
 use Rattle.roff_engine.specs.Running.Turning.{Halts, IsAt, line_turns, lines_left_in, state_at, turns_of_run}
 use Rattle.roff_engine.proofs.Acting.{IsLeftOf-looked_then}
@@ -142,15 +142,15 @@ pub record IsSprung (t : Beginning) (tape : Tape) (start now : Seen) (name : Sho
   pub history : PageHistory
   pub messages : List ℕ
   pub reaches : Reaches run.limits t start now (record (state_at tape run history messages) { sprung = Some name })
-  pub stands : StandFor run.limits history run.formatter.composer
-  pub ready : IsReady run.formatter.reader.registers run.unread
+  pub stands : StandFor run.limits history run.interpreter.formatter.composer
+  pub ready : IsReady run.interpreter.reader.registers run.unread
   pub limits : run.unread.limits ≡ run.limits
-  pub few : FewFor [] run.formatter.reader.reading run.unread.input.escapes run.unread.input.ahead
+  pub few : FewFor [] run.interpreter.reader.reading run.unread.input.escapes run.unread.input.ahead
 
 is_sprung : (t : Beginning) (tape : Tape) (start now : Seen) (sprung : Sprung) (run : Coded) → IsBehind t tape start now (Some sprung) run
-    → IsSprung t tape start now sprung.name (with_back (left_behind sprung run.formatter.reader.meaning.events) run)
+    → IsSprung t tape start now sprung.name (with_back (left_behind sprung run.interpreter.reader.meaning.events) run)
 is_sprung t tape start now sprung run at =
-    let left : List PageEvent = left_behind sprung run.formatter.reader.meaning.events in record {
+    let left : List PageEvent = left_behind sprung run.interpreter.reader.meaning.events in record {
       history = at.history;
       messages = at.messages;
       reaches = subst (λ (es : List PageEvent). Reaches run.limits t start now (sprung_at (Some sprung.name) es (state_at tape run at.history at.messages)))
@@ -159,8 +159,8 @@ is_sprung t tape start now sprung run at =
       ready = record {
         cap = at.ready.cap;
         line = at.ready.line;
-        within = within-back run.unread.limits left run.formatter.reader.registers.all run.unread.input at.ready.within
-            (few_names run.formatter.reader.registers run.unread at.ready) (short_title run.formatter.reader.registers run.unread at.ready);
+        within = within-back run.unread.limits left run.interpreter.reader.registers.all run.unread.input at.ready.within
+            (few_names run.interpreter.reader.registers run.unread at.ready) (short_title run.interpreter.reader.registers run.unread at.ready);
       };
       limits = at.limits;
       few = at.few;
@@ -175,7 +175,7 @@ step-sprung l tape run h messages name c is =
 
 -- the run of the code with this reader and unread input
 abbrev with_read : Coded → ReaderState → PageUnread → Coded
-with_read run reader unread = record run { formatter = record run.formatter { reader = reader }; unread = unread }
+with_read run reader unread = record run { interpreter = record run.interpreter { reader = reader }; unread = unread }
 
 module _ (run : Coded) (name : ShortName) (reader : ReaderState) (unread : PageUnread) (t : Beginning) (tape : Tape) (start now : Seen)
     (at : IsSprung t tape start now name run) where
@@ -184,12 +184,12 @@ module _ (run : Coded) (name : ShortName) (reader : ReaderState) (unread : PageU
 
   -- a name without a body: nothing is read
   pub nothing_read : (c : Called) → called_by name run.unread.input.names ≡ c
-      → sprung_read c from ≡ state_at tape run at.history at.messages → SpringsNothing run.formatter.reader reader run.unread unread (Ok tt)
+      → sprung_read c from ≡ state_at tape run at.history at.messages → SpringsNothing run.interpreter.reader reader run.unread unread (Ok tt)
       → IsAt t tape start now (with_read run reader unread)
   nothing_read c called reads springs =
       let there : State = state_at tape run at.history at.messages in
-      let allowed : first_passed run.limits (counts_in run.formatter.reader.registers.all run.unread.input) ≡ None =
-      subst (λ (l : Limits). first_passed l (counts_in run.formatter.reader.registers.all run.unread.input) ≡ None) at.limits at.ready.within in
+      let allowed : first_passed run.limits (counts_in run.interpreter.reader.registers.all run.unread.input) ≡ None =
+      subst (λ (l : Limits). first_passed l (counts_in run.interpreter.reader.registers.all run.unread.input) ≡ None) at.limits at.ready.within in
       let goes : step run.limits from ≡ there =
       step-sprung run.limits tape run at.history at.messages name c called
       ∙ ap (λ (done : State). made run.limits from done) reads
@@ -212,16 +212,16 @@ module _ (run : Coded) (name : ShortName) (reader : ReaderState) (unread : PageU
       }))
 
   -- the body of a name is read
-  pub body_read : (body : ShortName) → called_by name run.unread.input.names ≡ ABody body → SpringsBody body run.formatter.reader reader run.unread unread (Ok tt)
+  pub body_read : (body : ShortName) → called_by name run.unread.input.names ≡ ABody body → SpringsBody body run.interpreter.reader reader run.unread unread (Ok tt)
       → IsAt t tape start now (with_read run reader unread)
   body_read body called springs =
-      let i : PageInput = sprung_input body run.formatter.reader.reading run.unread.input in
-      let rs = run.formatter.reader.registers.all in
+      let i : PageInput = sprung_input body run.interpreter.reader.reading run.unread.input in
+      let rs = run.interpreter.reader.registers.all in
       let changed = changed-Ok (input_refusal run.unread.limits i) i run.unread unread springs.input in
       let there : PageUnread = record run.unread { input = i } in
-      let reads : ReaderState = record run.formatter.reader { reading = in_sprung run.formatter.reader.reading } in
+      let reads : ReaderState = record run.interpreter.reader { reading = in_sprung run.interpreter.reader.reading } in
       let passed : first_passed run.unread.limits (counts_in rs i) ≡ None =
-      first_passed-few_names run.unread.limits rs i (few_names run.formatter.reader.registers run.unread at.ready) (short_title run.formatter.reader.registers run.unread at.ready) ∙ changed.0 in
+      first_passed-few_names run.unread.limits rs i (few_names run.interpreter.reader.registers run.unread at.ready) (short_title run.interpreter.reader.registers run.unread at.ready) ∙ changed.0 in
       let allowed : first_passed run.limits (counts_in rs i) ≡ None = subst (λ (l : Limits). first_passed l (counts_in rs i) ≡ None) at.limits passed in
       let done : State = sprung_read (ABody body) from in
       let goes : step run.limits from ≡ done =
@@ -240,19 +240,19 @@ module _ (run : Coded) (name : ShortName) (reader : ReaderState) (unread : PageU
         stands = at.stands;
         ready = record { cap = at.ready.cap; line = at.ready.line; within = passed };
         limits = at.limits;
-        few = few-none [] (in_sprung run.formatter.reader.reading) i.escapes i.ahead
-            (few-called 0 (called_text (body_named (name_bytes body) run.unread.input)) (back_of run.formatter.reader.reading) run.unread.input.ahead at.few.few) (λ keeps is. refl);
+        few = few-none [] (in_sprung run.interpreter.reader.reading) i.escapes i.ahead
+            (few-called 0 (called_text (body_named (name_bytes body) run.unread.input)) (back_of run.interpreter.reader.reading) run.unread.input.ahead at.few.few) (λ keeps is. refl);
       }))
 
   -- or a limit refuses it: the run stops there
-  pub body_refused : (body : ShortName) (limit : Limit) → called_by name run.unread.input.names ≡ ABody body → SpringsBody body run.formatter.reader reader run.unread unread (Err limit)
+  pub body_refused : (body : ShortName) (limit : Limit) → called_by name run.unread.input.names ≡ ABody body → SpringsBody body run.interpreter.reader reader run.unread unread (Err limit)
       → Halts run.limits t tape run.unread.input.line (Limited limit) start now
   body_refused body limit called springs =
-      let i : PageInput = sprung_input body run.formatter.reader.reading run.unread.input in
-      let rs = run.formatter.reader.registers.all in
+      let i : PageInput = sprung_input body run.interpreter.reader.reading run.unread.input in
+      let rs = run.interpreter.reader.registers.all in
       let changed = changed-Err (input_refusal run.unread.limits i) limit i run.unread unread springs.input in
       let passed : first_passed run.unread.limits (counts_in rs i) ≡ Some limit =
-      first_passed-few_names run.unread.limits rs i (few_names run.formatter.reader.registers run.unread at.ready) (short_title run.formatter.reader.registers run.unread at.ready) ∙ changed.0 in
+      first_passed-few_names run.unread.limits rs i (few_names run.interpreter.reader.registers run.unread at.ready) (short_title run.interpreter.reader.registers run.unread at.ready) ∙ changed.0 in
       let done : State = sprung_read (ABody body) from in record {
         state = from;
         reaches = at.reaches;
@@ -266,13 +266,13 @@ module _ (run : Coded) (name : ShortName) (reader : ReaderState) (unread : PageU
       }
 
   -- what its name stands for is read
-  pub called_read : (c : Called) → called_by name run.unread.input.names ≡ c → Springs c run.formatter.reader reader run.unread unread (Ok tt)
+  pub called_read : (c : Called) → called_by name run.unread.input.names ≡ c → Springs c run.interpreter.reader reader run.unread unread (Ok tt)
       → IsAt t tape start now (with_read run reader unread)
   called_read (ABody body) called springs = body_read body called springs
   called_read (ARequest request) called springs = nothing_read (ARequest request) called refl springs
   called_read Unknown called springs = nothing_read Unknown called refl springs
 
-  pub called_refused : (c : Called) (limit : Limit) → called_by name run.unread.input.names ≡ c → Springs c run.formatter.reader reader run.unread unread (Err limit)
+  pub called_refused : (c : Called) (limit : Limit) → called_by name run.unread.input.names ≡ c → Springs c run.interpreter.reader reader run.unread unread (Err limit)
       → Halts run.limits t tape run.unread.input.line (Limited limit) start now
   called_refused (ABody body) limit called springs = body_refused body limit called springs
   called_refused (ARequest request) limit called springs = (let wrong = springs.goes_on in cc)
@@ -280,7 +280,7 @@ module _ (run : Coded) (name : ShortName) (reader : ReaderState) (unread : PageU
 
 -- where nothing is read no more turns are to come, with what was put back
 turns-nothing : (events : List PageEvent) (old : Coded) (reader : ReaderState) (unread : PageUnread)
-    → SpringsNothing (with_back events old).formatter.reader reader (with_back events old).unread unread (Ok tt)
+    → SpringsNothing (with_back events old).interpreter.reader reader (with_back events old).unread unread (Ok tt)
     → turns_of_run (with_read (with_back events old) reader unread) ≤ turns_of_run old
 turns-nothing events old reader unread springs =
     subst (λ (u : PageUnread). turns_of_run (with_read (with_back events old) reader u) ≤ turns_of_run old) (sym springs.input)
@@ -289,23 +289,23 @@ turns-nothing events old reader unread springs =
 
 -- nor are they where a body is read
 turns-read : (c : Called) (events : List PageEvent) (old : Coded) (reader : ReaderState) (unread : PageUnread)
-    → Springs c (with_back events old).formatter.reader reader (with_back events old).unread unread (Ok tt)
+    → Springs c (with_back events old).interpreter.reader reader (with_back events old).unread unread (Ok tt)
     → turns_of_run (with_read (with_back events old) reader unread) ≤ turns_of_run old
 turns-read (ABody body) events old reader unread springs =
     let mid : Coded = with_back events old in
-    let i : PageInput = sprung_input body old.formatter.reader.reading mid.unread.input in
+    let i : PageInput = sprung_input body old.interpreter.reader.reading mid.unread.input in
     let changed = changed-Ok (input_refusal mid.unread.limits i) i mid.unread unread springs.input in
-    let reads : ReaderState = record mid.formatter.reader { reading = in_sprung old.formatter.reader.reading } in
-    let left : ℕ = lines_left_in old.formatter.composer in
+    let reads : ReaderState = record mid.interpreter.reader { reading = in_sprung old.interpreter.reader.reading } in
+    let left : ℕ = lines_left_in old.interpreter.formatter.composer in
     let there : Coded = with_read mid reads (record mid.unread { input = i }) in
     let few : turns_of_run there ≤ turns_of_run old =
     (let text : List ℕ = called_text (body_named (name_bytes body) mid.unread.input) in
     omega (
       arith,
-      free_ahead-called text (back_of old.formatter.reader.reading) mid.unread.input.ahead,
+      free_ahead-called text (back_of old.interpreter.reader.reading) mid.unread.input.ahead,
       free_ahead-back (map put_back events) old.unread.input.ahead,
-      begun-behind_return 0 old.formatter.reader.reading,
-      line_turns-sprung old.formatter.reader.reading left (lines_left_in-few old.formatter.composer),
+      begun-behind_return 0 old.interpreter.reader.reading,
+      line_turns-sprung old.interpreter.reader.reading left (lines_left_in-few old.interpreter.formatter.composer),
     )) in
     subst (λ (u : PageUnread). turns_of_run (with_read mid reader u) ≤ turns_of_run old) (sym changed.1)
     (subst (λ (r : ReaderState). turns_of_run (with_read mid r (record mid.unread { input = i })) ≤ turns_of_run old) (sym springs.reads) few)
@@ -314,40 +314,40 @@ turns-read Unknown events old reader unread springs = turns-nothing events old r
 
 -- the run goes on in what sprang
 pub goes_on_sprung : (sprung : Sprung) (old mid : Coded) (reader : ReaderState) (unread : PageUnread) (now : Seen)
-    → PutsBack (left_behind sprung old.formatter.reader.meaning.events) old mid
-    → Springs (called_by sprung.name mid.unread.input.names) mid.formatter.reader reader mid.unread unread (Ok tt)
+    → PutsBack (left_behind sprung old.interpreter.reader.meaning.events) old mid
+    → Springs (called_by sprung.name mid.unread.input.names) mid.interpreter.reader reader mid.unread unread (Ok tt)
     → GoesOn (Some sprung) old (with_read mid reader unread) now now (Ok tt)
 goes_on_sprung sprung old mid reader unread now puts springs =
-    let left : List PageEvent = left_behind sprung old.formatter.reader.meaning.events in record {
+    let left : List PageEvent = left_behind sprung old.interpreter.reader.meaning.events in record {
       limits = ap (λ (run : Coded). run.limits) puts.others;
       goes = λ t tape start at.
-          let P : Coded → Type 0 = λ run. Springs (called_by sprung.name run.unread.input.names) run.formatter.reader reader run.unread unread (Ok tt)
+          let P : Coded → Type 0 = λ run. Springs (called_by sprung.name run.unread.input.names) run.interpreter.reader reader run.unread unread (Ok tt)
           → IsAt t tape start now (with_read run reader unread) in
           subst P (sym (is-back left old mid puts at.room))
           (λ reads. called_read (with_back left old) sprung.name reader unread t tape start now (is_sprung t tape start now sprung old at)
           (called_by sprung.name old.unread.input.names) refl reads) springs;
       turns = λ t tape start at.
-          let P : Coded → Type 0 = λ run. Springs (called_by sprung.name run.unread.input.names) run.formatter.reader reader run.unread unread (Ok tt)
+          let P : Coded → Type 0 = λ run. Springs (called_by sprung.name run.unread.input.names) run.interpreter.reader reader run.unread unread (Ok tt)
           → turns_of_run (with_read run reader unread) ≤ turns_of_run old in
           subst P (sym (is-back left old mid puts at.room)) (λ reads. turns-read (called_by sprung.name old.unread.input.names) left old reader unread reads) springs;
     }
 
 -- or a limit refuses that
 pub stops_sprung : (sprung : Sprung) (old mid new : Coded) (limit : Limit) (line : ℕ) (now behind : Seen) (status : Status)
-    → PutsBack (left_behind sprung old.formatter.reader.meaning.events) old mid
-    → Springs (called_by sprung.name mid.unread.input.names) mid.formatter.reader new.formatter.reader mid.unread new.unread (Err limit)
+    → PutsBack (left_behind sprung old.interpreter.reader.meaning.events) old mid
+    → Springs (called_by sprung.name mid.unread.input.names) mid.interpreter.reader new.interpreter.reader mid.unread new.unread (Err limit)
     → new.limits ≡ mid.limits → line ≡ mid.unread.input.line
     → ((t : Beginning) (tape : Tape) (start : Seen) → Halts new.limits t tape line (Limited limit) start now → OutcomeOf new.limits t tape status start behind)
     → GoesOn (Some sprung) old new now behind (Err status)
 stops_sprung sprung old mid new limit line now behind status puts springs same line_is ends =
-    let left : List PageEvent = left_behind sprung old.formatter.reader.meaning.events in record {
+    let left : List PageEvent = left_behind sprung old.interpreter.reader.meaning.events in record {
       limits = same ∙ ap (λ (run : Coded). run.limits) puts.others;
       goes = λ t tape start at.
-          let P : Coded → Type 0 = λ run. Springs (called_by sprung.name run.unread.input.names) run.formatter.reader new.formatter.reader run.unread new.unread (Err limit)
+          let P : Coded → Type 0 = λ run. Springs (called_by sprung.name run.unread.input.names) run.interpreter.reader new.interpreter.reader run.unread new.unread (Err limit)
           → Halts run.limits t tape run.unread.input.line (Limited limit) start now in
           let halts : Halts mid.limits t tape mid.unread.input.line (Limited limit) start now =
           subst P (sym (is-back left old mid puts at.room))
-          (λ reads. called_refused (with_back left old) sprung.name new.formatter.reader new.unread t tape start now (is_sprung t tape start now sprung old at)
+          (λ reads. called_refused (with_back left old) sprung.name new.interpreter.reader new.unread t tape start now (is_sprung t tape start now sprung old at)
           (called_by sprung.name old.unread.input.names) limit refl reads) springs in
           ends t tape start (rw (same, line_is) halts);
       turns = λ t tape start at. tt;

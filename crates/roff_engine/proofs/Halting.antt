@@ -7,8 +7,8 @@ use Rattle.roff_source.specs.Tape.{Tape, Ended, Ending, Item, behind_front}
 use Rattle.roff_run.specs.declared.status.Status.TheVariants.{Device, Done, Limit as Limited}
 use Rattle.roff_run.specs.declared.message.Message.TheVariants.{LimitReached, WriteFailed}
 use Rattle.roff_run.specs.Messages.{message_line}
-use Rattle.roff_engine.specs.declared.halt.Halt.{Halt}
-use Rattle.roff_engine.specs.declared.halt.Halt.TheVariants.{Limit as ByLimit, Refused}
+use Rattle.roff_formatter.specs.declared.halt.Halt.{Halt}
+use Rattle.roff_formatter.specs.declared.halt.Halt.TheVariants.{Limit as ByLimit, Refused}
 use Rattle.roff_engine.specs.Engine.Outcome.{AppendsBetween, Beginning, Seen, IsLeftOf, IsRest, Completes, OutputFails, MessagesFail, StartFails, seen}
 use Rattle.roff_run.specs.Results.{last_state}
 use Rattle.roff_run.specs.Run.{Leads, State, initial, reported, stopped_by}
@@ -21,7 +21,7 @@ use Rattle.std.specs.Io.KnownBytes.{Appends}
 use Rattle.std.specs.Prelude.{IsSome}
 use Rattle.roff_sinks.proofs.Appending.{Appends-append, Appends-nothing}
 use Rattle.roff_run.proofs.Leads.{Leads-refl, Leads-to}
-use Rattle.roff_engine.proofs.Performed.{between, faults_of_err}
+use Rattle.roff_formatter.proofs.Performed.{between, faults_of_err}
 
 -- what is left at a limit, by the status that names it
 rest_told : (limit : Limit) (left : Tape) (s : State) → IsLeftOf left s.tape → IsRest (Limited limit) left s

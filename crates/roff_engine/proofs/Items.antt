@@ -26,7 +26,7 @@ use Rattle.roff_engine.proofs.Acting.{IsLeftOf-looked_then}
 use Rattle.roff_sinks.proofs.Appending.{Appends-append}
 use Rattle.roff_engine.specs.Running.Room.{FewFor}
 use Rattle.roff_engine.proofs.Calls.{EndsThere, Leaves}
-use Rattle.roff_engine.proofs.Performed.{between, faults_of_err}
+use Rattle.roff_formatter.proofs.Performed.{between, faults_of_err}
 use Rattle.roff_run.proofs.Leads.{Leads-to}
 
 -- the source may have had faults more
@@ -46,7 +46,7 @@ moved run left = record run { unread = left }
 -- the same where the end of a body was taken, with the number of what it leads back to
 abbrev pub returned : ℕ → Coded → PageUnread → Coded
 returned back run left = record (moved run left) {
-  formatter = record run.formatter { reader = record run.formatter.reader { reading = behind_return back run.formatter.reader.reading } };
+  interpreter = record run.interpreter { reader = record run.interpreter.reader { reading = behind_return back run.interpreter.reader.reading } };
 }
 
 -- behind a call that raises no count, no count is above its limit
@@ -90,7 +90,7 @@ module _ {gave gives : Tape → Type 0} {old : Coded} {left : PageUnread} {taken
     reaches = reached;
     opens = record { opens = goes; goes_on = refl; wrote = refl; said = append-nil at.messages };
     stands = at.stands;
-    ready = ready_behind old.formatter.reader.registers old.unread left leaves at.ready;
+    ready = ready_behind old.interpreter.reader.registers old.unread left leaves at.ready;
     limits = leaves.limits ∙ at.limits;
     quiet = refl;
     line_is = refl;
@@ -99,8 +99,8 @@ module _ {gave gives : Tape → Type 0} {old : Coded} {left : PageUnread} {taken
   }
 
   -- no count is above its limit behind it
-  allowed : first_passed old.limits (counts_in old.formatter.reader.registers.all left.input) ≡ None
-  allowed = rw (← at.limits) (leaves.within old.formatter.reader.registers.all at.ready.within)
+  allowed : first_passed old.limits (counts_in old.interpreter.reader.registers.all left.input) ≡ None
+  allowed = rw (← at.limits) (leaves.within old.interpreter.reader.registers.all at.ready.within)
 
   -- the end of a text is only taken
   pub end_passed : step old.limits from ≡ made old.limits from behind → FewFor [] behind.reading left.input.escapes left.input.ahead → IsAt t tape start (seen failures out err) (moved old left)
@@ -115,7 +115,7 @@ module _ {gave gives : Tape → Type 0} {old : Coded} {left : PageUnread} {taken
           faults = reached.faults;
         };
         stands = at.stands;
-        ready = ready_behind old.formatter.reader.registers old.unread left leaves at.ready;
+        ready = ready_behind old.interpreter.reader.registers old.unread left leaves at.ready;
         limits = leaves.limits ∙ at.limits;
         few = few;
       }
@@ -135,7 +135,7 @@ module _ {gave gives : Tape → Type 0} {old : Coded} {left : PageUnread} {taken
           faults = reached.faults;
         };
         stands = at.stands;
-        ready = ready_behind old.formatter.reader.registers old.unread left leaves at.ready;
+        ready = ready_behind old.interpreter.reader.registers old.unread left leaves at.ready;
         limits = leaves.limits ∙ at.limits;
         few = few;
       }
@@ -147,7 +147,7 @@ module _ {gave gives : Tape → Type 0} {old : Coded} {left : PageUnread} {taken
     messages = at.messages;
     reaches = rw same reached;
     stands = at.stands;
-    ready = ready_behind old.formatter.reader.registers old.unread left leaves at.ready;
+    ready = ready_behind old.interpreter.reader.registers old.unread left leaves at.ready;
     limits = leaves.limits ∙ at.limits;
     few = few;
   }
@@ -200,7 +200,7 @@ module _ {gave gives : Tape → Type 0} {old : Coded} {left : PageUnread} {taken
       messages = at.messages ++ note;
       reaches = one_more (record behind { messages = at.messages ++ note }) note goes refl (append-nil (at.messages ++ note)) puts.ok;
       stands = at.stands;
-      ready = ready_behind old.formatter.reader.registers old.unread left leaves at.ready;
+      ready = ready_behind old.interpreter.reader.registers old.unread left leaves at.ready;
       limits = leaves.limits ∙ at.limits;
       few = few;
     }

@@ -1,12 +1,5 @@
-pub mod Performed
-pub mod Placed
-pub mod FirstPages
-pub mod DoneFirst
-pub mod DoneEvents
-pub mod Ejects
-pub mod Quiet
-pub mod LinesLeft
-pub mod Springing
+pub mod EventsKept
+pub mod MessagesTold
 pub mod SoFar
 pub mod DoesTakings
 pub mod Halting
@@ -36,8 +29,5 @@ pub mod PassingOn
 pub mod PassingEnds
 pub mod Telling
 pub mod TitleRuns
-pub mod TitleNumbers
-pub mod Titling
 pub mod DueDone
 pub mod NamedSteps
-pub mod EventsLeft

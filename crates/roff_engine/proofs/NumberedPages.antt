@@ -5,8 +5,8 @@ use Rattle.std.proofs.lemmas.Bool.{ne_eqb}
 use Rattle.roff_num.specs.declared.limit.Limit.{Limit}
 use Rattle.roff_num.specs.declared.limits.Limits.{Limits}
 use Rattle.roff_num.specs.declared.num.Num.{Num}
-use Rattle.roff_engine.specs.Formatter.Setting.{Gives}
-use Rattle.roff_engine.specs.declared.formatter.Formatter.{Formatter}
+use Rattle.roff_engine.specs.Interpreter.Giving.{Gives}
+use Rattle.roff_engine.specs.declared.interpreter.Interpreter.{Interpreter}
 use Rattle.roff_pages.proofs.PageBoxes.{either_none}
 use Rattle.roff_pages.specs.Happenings.{Happening, Does}
 use Rattle.roff_pages.specs.Layout.{Layout}
@@ -14,9 +14,9 @@ use Rattle.roff_pages.specs.Pages.Stands.{Happens}
 use Rattle.roff_pages.specs.Stops.{is_diverted}
 use Rattle.roff_pages.specs.declared.layout_event.LayoutEvent.TheVariants.{Number}
 use Rattle.roff_reader.specs.Reader.State.{ReaderState}
-use Rattle.roff_requests.proofs.GivenPages.{StandFor-quiet}
-use Rattle.roff_requests.specs.Composer.Standing.{StandFor}
-use Rattle.roff_requests.specs.declared.composer.Composer.{Composer as ComposerOf}
+use Rattle.roff_composer.proofs.GivenPages.{StandFor-quiet}
+use Rattle.roff_composer.specs.Composer.Standing.{StandFor}
+use Rattle.roff_composer.specs.declared.composer.Composer.{Composer as ComposerOf}
 use Rattle.roff_run.specs.Output.{PageHistory, layout_of, written}
 use Rattle.roff_run.specs.Registers.{is_page}
 use Rattle.roff_run.specs.Registers.Capped.{admitted, after}
@@ -65,12 +65,12 @@ pub StandFor-other : (name : ℕ) (value : Num) (old : ComposerOf) → (name ≡
     → (l : Limits) (h : PageHistory) → StandFor l h old → StandFor l (history_given (name, value) h) old
 StandFor-other name value old other l h stands = subst (λ (g : PageHistory). StandFor l g old) (sym (history-given false name value h (ne_eqb name 37 other))) stands
 
--- a formatter that gave it to its pages, and then to its reader
-pub Gives-both : (name : ℕ) (value : Num) (old mid : Formatter) (reader : ReaderState) (result : Result (Unit {0}) Limit)
-    → mid.reader ≡ old.reader → ((l : Limits) (h : PageHistory) → StandFor l h old.composer → StandFor l (history_given (name, value) h) mid.composer)
+-- an interpreter that gave it to its pages, and then to its reader
+pub Gives-both : (name : ℕ) (value : Num) (old mid : Interpreter) (reader : ReaderState) (result : Result (Unit {0}) Limit)
+    → mid.reader ≡ old.reader → ((l : Limits) (h : PageHistory) → StandFor l h old.formatter.composer → StandFor l (history_given (name, value) h) mid.formatter.composer)
     → result ≡ admitted (given_change name value) mid.reader.registers
     → reader ≡ record mid.reader { registers = after (given_change name value) mid.reader.registers }
-    → Gives name value old (record { reader = reader; composer = mid.composer }) result
+    → Gives name value old (record { reader = reader; formatter = mid.formatter }) result
 Gives-both name value old mid reader result same stands answer gave = record {
   answer = answer ∙ ap (λ (r : ReaderState). admitted (given_change name value) r.registers) same;
   reader = gave ∙ ap (λ (r : ReaderState). record r { registers = after (given_change name value) r.registers }) same;

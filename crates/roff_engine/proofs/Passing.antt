@@ -1,9 +1,8 @@
 -- Runs that go past bytes: the run of the definition leads on, and the code is at its place behind them.
 use Rattle.std.proofs.Common.{◌≡◌, ℕ, ◌≤◌, List, [], ◌∷◌, ◌++◌, ◌∙◌, ap, map, refl, sym, subst, arith}
 use Rattle.std.specs.Io.KnownBytes.{Appends}
-use Rattle.std.specs.List.{AllByRecursion}
 use Rattle.roff_source.specs.Tape.{Tape, items_then}
-use Rattle.roff_requests.specs.Composer.Standing.{StandFor}
+use Rattle.roff_composer.specs.Composer.Standing.{StandFor}
 use Rattle.roff_run.specs.Output.{PageHistory, written}
 use Rattle.roff_reader.specs.Reader.Taken.{IsReady}
 use Rattle.roff_run.specs.Reading.Items.{PageInput, PageUnread}
@@ -13,7 +12,7 @@ use Rattle.roff_engine.specs.Running.Room.{FewFor, decides_next}
 use Rattle.roff_engine.proofs.Fronts.{few-undecided}
 use Rattle.roff_run.specs.Run.{Leads, initial}
 use Rattle.roff_run.specs.declared.start.Start.{Start}
-use Rattle.roff_engine.specs.declared.formatter.Formatter.{Formatter}
+use Rattle.roff_engine.specs.declared.interpreter.Interpreter.{Interpreter}
 use Rattle.roff_engine.specs.declared.running.Running.{Running as Coded}
 use Rattle.roff_ahead.specs.Input.{Ahead, ByteAhead}
 use Rattle.roff_ahead.specs.Input.Few.{AreFew, AreFewFrom}
@@ -25,22 +24,17 @@ use Rattle.roff_run.specs.PageEvents.{PageEvent}
 use Rattle.roff_run.proofs.ItemsTaken.{FromAhead, FromSource, Origin, ahead_at}
 use Rattle.roff_run.proofs.Leads.{Leads-trans}
 
--- what is so of each of these bytes, where something else is
-pub all_by : (P Q : ℕ → Type 0) → ((b : ℕ) → P b → Q b) → (bytes : List ℕ) → AllByRecursion P bytes → AllByRecursion Q bytes
-all_by P Q makes [] are = tt
-all_by P Q makes (b ∷ bytes) are = (makes b are.0, all_by P Q makes bytes are.1)
-
 -- the code is at its place where the run of the definition leads on, and nothing is written or reported
-pub IsAt-leads : (whole : Beginning) (before behind : Tape) (start now : Seen) (old : Coded) (f : Formatter) (u : PageUnread) (h : PageHistory) (at : IsAt whole before start now old)
-    → Leads old.limits (state_at before old at.history at.messages) (state_at behind (record old { formatter = f; unread = u }) h at.messages)
-    → written h ≡ written at.history → StandFor old.limits h f.composer → IsReady f.reader.registers u → u.limits ≡ old.limits → FewFor [] f.reader.reading u.input.escapes u.input.ahead
-    → IsAt whole behind start now (record old { formatter = f; unread = u })
+pub IsAt-leads : (whole : Beginning) (before behind : Tape) (start now : Seen) (old : Coded) (f : Interpreter) (u : PageUnread) (h : PageHistory) (at : IsAt whole before start now old)
+    → Leads old.limits (state_at before old at.history at.messages) (state_at behind (record old { interpreter = f; unread = u }) h at.messages)
+    → written h ≡ written at.history → StandFor old.limits h f.formatter.composer → IsReady f.reader.registers u → u.limits ≡ old.limits → FewFor [] f.reader.reading u.input.escapes u.input.ahead
+    → IsAt whole behind start now (record old { interpreter = f; unread = u })
 IsAt-leads whole before behind start now old f u h at leads nothing stands ready limits few = record {
   history = h;
   messages = at.messages;
   reaches = record {
     comes = Leads-trans old.limits (initial old.limits whole.start whole.tape) (state_at before old at.history at.messages)
-        (state_at behind (record old { formatter = f; unread = u }) h at.messages) at.reaches.comes leads;
+        (state_at behind (record old { interpreter = f; unread = u }) h at.messages) at.reaches.comes leads;
     text = subst (λ (bytes : List ℕ). Appends start.out.contents now.out.contents bytes) (sym nothing) at.reaches.text;
     messages = at.reaches.messages;
     faults = at.reaches.faults;

@@ -30,7 +30,7 @@ use Rattle.roff_run.specs.declared.line_state.LineState.{LineState}
 use Rattle.roff_run.proofs.InputCounts.{IsWithin-allowed, first_passed-few_names}
 use Rattle.roff_run.proofs.ItemsTaken.{step-reads}
 use Rattle.roff_reader.proofs.TakesAs.{few_names, short_title}
-use Rattle.roff_engine.specs.declared.formatter.Formatter.{Formatter}
+use Rattle.roff_engine.specs.declared.interpreter.Interpreter.{Interpreter}
 use Rattle.roff_engine.specs.declared.running.Running.{Running as Coded}
 use Rattle.roff_engine.specs.Engine.Outcome.{Beginning, Seen}
 use Rattle.roff_engine.specs.Running.Turning.{GoesFurther, IsAt, state_at, turns_left}
@@ -70,12 +70,12 @@ end_of_call = record {
 }
 
 module _ (item : Ahead PageEvent) (reads_on : LineState → LineState) (ends : IsEnd item reads_on) (old : Coded) (after : PageUnread) (behind : List (Ahead PageEvent))
-    (none_due : due old.formatter.reader.reading ≡ None) (front : old.unread.input.ahead ≡ item ∷ behind) (takes : waiting_in old.formatter.reader.reading old.unread.input ≡ TakesAny)
+    (none_due : due old.interpreter.reader.reading ≡ None) (front : old.unread.input.ahead ≡ item ∷ behind) (takes : waiting_in old.interpreter.reader.reading old.unread.input ≡ TakesAny)
     (allowed : old.unread.input.charge < old.unread.limits.bytes)
     (is : after ≡ record old.unread { input = item_taken item behind old.unread.input }) (within : IsWithin after) where
   -- what reads on behind it
-  abbrev over : Formatter
-  over = record old.formatter { reader = record old.formatter.reader { reading = reads_on old.formatter.reader.reading } }
+  abbrev over : Interpreter
+  over = record old.interpreter { reader = record old.interpreter.reader { reading = reads_on old.interpreter.reader.reading } }
 
   -- it is taken in a step
   step-end : (l : Limits) (s : State) → s.ended ≡ None → s.to_do ≡ [] → s.sprung ≡ None → due s.reading ≡ None → s.input.ahead ≡ item ∷ behind → waiting_in s.reading s.input ≡ TakesAny → s.input.charge < l.bytes
@@ -91,44 +91,44 @@ module _ (item : Ahead PageEvent) (reads_on : LineState → LineState) (ends : I
       ∙ ap (λ (r : Option Limit). unless_refused l r s there) fits
 
   -- so the run is at its place behind it
-  IsAt-end : (whole : Beginning) (tape : Tape) (start now : Seen) → IsAt whole tape start now old → IsAt whole tape start now (record old { formatter = over; unread = after })
+  IsAt-end : (whole : Beginning) (tape : Tape) (start now : Seen) → IsAt whole tape start now old → IsAt whole tape start now (record old { interpreter = over; unread = after })
   IsAt-end whole tape start now at =
       let l : Limits = old.unread.limits in
-      let rs : AllRegisters = old.formatter.reader.registers.all in
+      let rs : AllRegisters = old.interpreter.reader.registers.all in
       let i : PageInput = item_taken item behind old.unread.input in
       let there : PageUnread = record old.unread { input = i } in
       let s : State = state_at tape old at.history at.messages in
       let t : State = record s { input = i; reading = reads_on s.reading } in
       let inside : IsWithin there = subst IsWithin is within in
       let fits : first_passed l (counts_in rs i) ≡ None =
-      first_passed-few_names l rs i (few_names old.formatter.reader.registers old.unread at.ready) (short_title old.formatter.reader.registers old.unread at.ready) ∙ IsWithin-allowed there inside in
+      first_passed-few_names l rs i (few_names old.interpreter.reader.registers old.unread at.ready) (short_title old.interpreter.reader.registers old.unread at.ready) ∙ IsWithin-allowed there inside in
       let leads : Leads l s t = record {
         steps = suc zero;
         there = step-end l s refl refl refl none_due front takes allowed fits;
       } in
-      subst (λ (u : PageUnread). IsAt whole tape start now (record old { formatter = over; unread = u })) (sym is)
+      subst (λ (u : PageUnread). IsAt whole tape start now (record old { interpreter = over; unread = u })) (sym is)
       (IsAt-leads whole tape tape start now old over there at.history at
       (subst (λ (k : Limits). Leads k s t) at.limits leads) refl at.stands (record { cap = at.ready.cap; line = at.ready.line; within = fits }) at.limits
-      (few-undecided [] (reads_on old.formatter.reader.reading) i.escapes behind (ends.few behind (subst (λ (items : List (Ahead PageEvent)). AreFew items) front at.few.few))
-      (takes-next old.formatter.reader.reading old.unread.input.arguments.place old.unread.input.escapes takes)))
+      (few-undecided [] (reads_on old.interpreter.reader.reading) i.escapes behind (ends.few behind (subst (λ (items : List (Ahead PageEvent)). AreFew items) front at.few.few))
+      (takes-next old.interpreter.reader.reading old.unread.input.arguments.place old.unread.input.escapes takes)))
 
   -- fewer turns are to come
-  fewer-end : turns_left (record old { formatter = over; unread = after }) < turns_left old
+  fewer-end : turns_left (record old { interpreter = over; unread = after }) < turns_left old
   fewer-end =
       let less : turns_to_come after < turns_to_come old.unread =
       subst (λ (u : PageUnread). turns_to_come u < turns_to_come old.unread) (sym is) (ends.fewer old.unread.limits.bytes old.unread.input behind front allowed) in
-      omega (arith, less, ends.begun_behind old.formatter.reader.reading)
+      omega (arith, less, ends.begun_behind old.interpreter.reader.reading)
 
-  goes_further_end : (gave : Tape → Type 0) (notes : ℕ) (now : Seen) → GoesFurther true gave gave notes notes old (record old { formatter = over; unread = after }) now now
+  goes_further_end : (gave : Tape → Type 0) (notes : ℕ) (now : Seen) → GoesFurther true gave gave notes notes old (record old { interpreter = over; unread = after }) now now
   goes_further_end gave notes now = record {
     past = record {
       limits = refl;
       taken = [];
       before = λ t given. given;
       past = λ t tape start given at. IsAt-end t tape start now at;
-      turns = (let behind = turns_of_run-fewer old (record old { formatter = over; unread = after }) fewer-end refl in omega (arith, behind));
+      turns = (let behind = turns_of_run-fewer old (record old { interpreter = over; unread = after }) fewer-end refl in omega (arith, behind));
     };
-    fewer = λ begins. (let behind = turns_of_run-fewer old (record old { formatter = over; unread = after }) fewer-end refl in omega (arith, behind));
+    fewer = λ begins. (let behind = turns_of_run-fewer old (record old { interpreter = over; unread = after }) fewer-end refl in omega (arith, behind));
   }
 
 -- so it is taken as the front item is
@@ -143,8 +143,8 @@ takes_end gave before after passes =
     (le-ltb before.limits.bytes (before.input.charge + 1) passes.within)))
 
 -- past the end of a text, or past nothing
-pub goes_further_passed : (old new : Coded) (is_passed : Bool) → (is_passed ≡ true → due old.formatter.reader.reading ≡ None)
-    → (is_passed ≡ true → waiting_in old.formatter.reader.reading old.unread.input ≡ TakesAny) → (is_passed ≡ true → PassesEnd old.unread new.unread)
+pub goes_further_passed : (old new : Coded) (is_passed : Bool) → (is_passed ≡ true → due old.interpreter.reader.reading ≡ None)
+    → (is_passed ≡ true → waiting_in old.interpreter.reader.reading old.unread.input ≡ TakesAny) → (is_passed ≡ true → PassesEnd old.unread new.unread)
     → (is_passed ≡ true → IsWithin new.unread) → (is_passed ≡ false → new ≡ old) → new ≡ record old { unread = new.unread }
     → (gave : Tape → Type 0) (notes : ℕ) (now : Seen) → GoesFurther is_passed gave gave notes notes old new now now
 goes_further_passed old new true none_due takes passed within kept others gave notes now =
@@ -156,12 +156,12 @@ goes_further_passed old new false none_due takes passed within kept others gave 
     (goes_further_none gave gave notes notes old old now now (goes_past_none gave notes old now))
 
 -- past the end of a call, or past nothing
-pub goes_further_returned : (old new : Coded) (is_passed : Bool) → due old.formatter.reader.reading ≡ None → ((place : Place) → line_waits old.formatter.reader.reading place ≡ TakesAny)
+pub goes_further_returned : (old new : Coded) (is_passed : Bool) → due old.interpreter.reader.reading ≡ None → ((place : Place) → line_waits old.interpreter.reader.reading place ≡ TakesAny)
     → old.unread.input.escapes ≡ []
     → (is_passed ≡ true → PassesReturn old.unread new.unread) → (is_passed ≡ true → IsWithin new.unread)
     → (is_passed ≡ true
     → new ≡ record old {
-      formatter = record old.formatter { reader = record old.formatter.reader { reading = behind_return 0 old.formatter.reader.reading } };
+      interpreter = record old.interpreter { reader = record old.interpreter.reader { reading = behind_return 0 old.interpreter.reader.reading } };
       unread = new.unread;
     })
     → (is_passed ≡ false → new ≡ old) → (gave : Tape → Type 0) (notes : ℕ) (now : Seen) → GoesFurther is_passed gave gave notes notes old new now now
@@ -169,7 +169,7 @@ goes_further_returned old new true none_due takes none passed within is kept gav
     let p = passed refl in
     subst (λ (run : Coded). GoesFurther true gave gave notes notes old run now now) (sym (is refl))
     (goes_further_end (ReturnAhead 0) (λ reading. behind_return 0 reading) end_of_call old new.unread p.behind none_due p.in_front
-    (ap (λ (half : List OpenEscape). waiting_above old.formatter.reader.reading old.unread.input.arguments.place half) none ∙ takes old.unread.input.arguments.place)
+    (ap (λ (half : List OpenEscape). waiting_above old.interpreter.reader.reading old.unread.input.arguments.place half) none ∙ takes old.unread.input.arguments.place)
     (omega (arith, p.within)) p.input (within refl) gave notes now)
 goes_further_returned old new false none_due takes none passed within is kept gave notes now =
     subst (λ (run : Coded). GoesFurther false gave gave notes notes old run now now) (sym (kept refl))

@@ -8,10 +8,10 @@ use Rattle.roff_reader.specs.Reader.State.{ReaderState}
 use Rattle.roff_run.specs.Reading.Items.{PageUnread}
 use Rattle.roff_run.specs.Reading.Ends.{due}
 use Rattle.roff_run.specs.Stages.{EndsLine}
-use Rattle.roff_reader.specs.Reader.Stages.{ReadsPast}
+use Rattle.roff_fronts.specs.Stages.{ReadsPast}
 use Rattle.roff_run.specs.TurnsToCome.{begun, free_ahead, turns_to_come}
 use Rattle.roff_run.specs.declared.line_state.LineState.TheVariants.{LineStart}
-use Rattle.roff_reader.proofs.LineEnds.{reads-ended}
+use Rattle.roff_fronts.proofs.LineEnds.{reads-ended}
 use Rattle.roff_engine.specs.declared.running.Running.{Running as Coded}
 use Rattle.roff_engine.specs.Engine.Outcome.{Seen, seen}
 use Rattle.roff_engine.specs.Running.Turning.{GoesFurther, GoesPast, IsAt}
@@ -78,17 +78,17 @@ fewer-newline gave gives before after (OfTexts passes) =
 
 -- past a newline behind which a line begins
 pub goes_further_ended : (gave gives : Tape → Type 0) (noted notes failed failures : ℕ) (out err : Sunk) (old : Coded) (after : PageUnread) (r : ReaderState)
-    → r ≡ record old.formatter.reader { reading = LineStart } → due old.formatter.reader.reading ≡ None
-    → EndsLine old.formatter.reader.reading → old.unread.input.escapes ≡ [] → PassesFront gave gives (newline ∷ []) old.unread after → IsWithin after
+    → r ≡ record old.interpreter.reader { reading = LineStart } → due old.interpreter.reader.reading ≡ None
+    → EndsLine old.interpreter.reader.reading → old.unread.input.escapes ≡ [] → PassesFront gave gives (newline ∷ []) old.unread after → IsWithin after
     → notes ≤ noted → failures ≡ failed
-    → GoesFurther true gave gives noted notes old (record old { unread = after; formatter = record old.formatter { reader = r } }) (seen failed out err) (seen failures out err)
+    → GoesFurther true gave gives noted notes old (record old { unread = after; interpreter = record old.interpreter { reader = r } }) (seen failed out err) (seen failures out err)
 goes_further_ended gave gives noted notes failed failures out err old after r is none_due ends none_half passes within fewer same_failures =
-    let past : ReadsPast gave gives old.formatter.reader r old.unread after =
-    reads-ended gave gives old.formatter.reader r old.unread after none_due ends none_half passes within is in
+    let past : ReadsPast gave gives old.interpreter.reader r old.unread after =
+    reads-ended gave gives old.interpreter.reader r old.unread after none_due ends none_half passes within is in
     let less : turns_to_come after < turns_to_come old.unread = fewer-newline gave gives old.unread after passes in
     let none : begun r.reading ≡ 0 = ap (λ (there : ReaderState). begun there.reading) is in
     record {
       past = goes_past_turned gave gives noted notes failed failures out err old after r past fewer same_failures;
-      fewer = λ begins. (let behind = turns_of_run-fewer old (record old { unread = after; formatter = record old.formatter { reader = r } }) (omega (arith, less, none)) refl in
+      fewer = λ begins. (let behind = turns_of_run-fewer old (record old { unread = after; interpreter = record old.interpreter { reader = r } }) (omega (arith, less, none)) refl in
           omega (arith, behind, fewer));
     }

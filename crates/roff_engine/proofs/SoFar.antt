@@ -2,17 +2,34 @@
 use Rattle.std.proofs.Common.{◌∙◌, ◌≡◌, ◌≤◌, ◌+◌, ℕ, List, [], ◌∷◌, ◌++◌, length, Some, ap, append-nil, arith, subst, sym}
 use Rattle.std.specs.Prelude.{drop}
 use Rattle.roff_num.specs.declared.limits.Limits.{Limits}
-use Rattle.roff_requests.specs.declared.composer.Composer.{Composer as ComposerOf}
-use Rattle.roff_engine.specs.declared.sprung.Sprung.{Sprung}
+use Rattle.roff_composer.specs.declared.composer.Composer.{Composer as ComposerOf}
+use Rattle.roff_formatter.specs.declared.sprung.Sprung.{Sprung}
 use Rattle.roff_engine.specs.Engine.Outcome.{Beginning, Reaches, Seen}
-use Rattle.roff_engine.specs.Formatter.Performing.{CameBehind, SprungAt, acting}
-use Rattle.roff_engine.specs.Formatter.Sprung.{first_going_on, further, left_behind, most_back}
+use Rattle.roff_formatter.specs.Formatter.Performing.{SprungAt, acting}
+use Rattle.roff_engine.specs.Interpreter.Performing.{CameBehind}
+use Rattle.roff_formatter.specs.Formatter.Sprung.{first_going_on, further, left_behind, most_back}
 use Rattle.roff_run.specs.Environments.{PageHistory, interrupted_line}
 use Rattle.roff_run.specs.PageEvents.{PageEvent}
 use Rattle.roff_run.specs.Run.{State, sprung_at}
 use Rattle.roff_run.specs.TurnsToCome.{lines_left, most_left}
-use Rattle.roff_engine.proofs.EventsLeft.{drop-drop, most-drop, reach-least}
-use Rattle.roff_engine.proofs.Performed.{sprang_first}
+use Rattle.roff_formatter.proofs.EventsLeft.{drop-drop, most-drop, reach-least}
+use Rattle.roff_formatter.proofs.Performed.{sprang_first}
+use Rattle.std.proofs.Common.{◌≡◌, ◌≤◌, ℕ, List, [], ◌∷◌, ◌++◌, Some, arith}
+use Rattle.roff_run.specs.Environments.{PageHistory, interrupted_line}
+use Rattle.roff_run.specs.TurnsToCome.{lines_left}
+use Rattle.roff_composer.specs.Composer.Standing.{StandFor}
+use Rattle.roff_run.specs.Run.{State}
+use Rattle.roff_run.specs.Titles.{told}
+use Rattle.roff_engine.specs.Engine.Outcome.{Beginning, Seen, Reaches}
+use Rattle.roff_formatter.specs.Formatter.Performing.{acting}
+use Rattle.roff_run.specs.TurnsToCome.{most_left}
+
+-- the definition has performed some of these events, and these are left
+pub record CameSoFar (l : Limits) (t : Beginning) (before now : Seen) (s : State) (events : List PageEvent) (h : PageHistory) (left rest : List PageEvent) (es : ComposerOf) : Type 0 where
+  pub history : PageHistory
+  pub reaches : Reaches l t before now (acting s (left ++ rest) history)
+  pub stands : StandFor l history es
+  pub few : most_left left (lines_left (interrupted_line history)) ≤ most_left events (lines_left (interrupted_line h))
 
 -- the event at an index, or what comes before it, sprang this, behind those in front of it
 pub came_so_far : (l : Limits) (t : Beginning) (before now : Seen) (s : State) (events : List PageEvent) (n : ℕ) (e : PageEvent) (h g : PageHistory) (rest : List PageEvent) (sprung told : Sprung) (es : ComposerOf)

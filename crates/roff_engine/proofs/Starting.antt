@@ -6,18 +6,18 @@ use Rattle.roff_num.specs.declared.limit.Limit.TheVariants.{Names}
 use Rattle.roff_num.specs.declared.limits.Limits.{Limits}
 use Rattle.roff_num.specs.declared.num.Num.{Num}
 use Rattle.roff_engine.specs.Engine.Outcome.{Outcome, Seen}
-use Rattle.roff_engine.specs.Formatter.Performing.{going}
-use Rattle.roff_engine.specs.Formatter.Setting.{Gives}
+use Rattle.roff_engine.specs.Interpreter.Performing.{going}
+use Rattle.roff_engine.specs.Interpreter.Giving.{Gives}
 use Rattle.roff_engine.specs.Running.Room.{FewFor}
 use Rattle.roff_engine.specs.Running.Starting.{Begins, HasRoom, IsRefused, SetsSome}
 use Rattle.roff_engine.specs.Running.Turning.{StartStops, state_at}
-use Rattle.roff_engine.specs.declared.formatter.Formatter.{Formatter}
+use Rattle.roff_engine.specs.declared.interpreter.Interpreter.{Interpreter}
 use Rattle.roff_engine.specs.declared.running.Running.{Running as Coded}
 use Rattle.roff_engine.proofs.NumberedPages.{written-given}
 use Rattle.roff_reader.proofs.TakesAs.{few_names, short_title}
 use Rattle.roff_reader.specs.Reader.State.{ReaderState}
 use Rattle.roff_reader.specs.Reader.Taken.{IsReady}
-use Rattle.roff_requests.specs.Composer.Standing.{StandFor}
+use Rattle.roff_composer.specs.Composer.Standing.{StandFor}
 use Rattle.roff_run.proofs.InputCounts.{first_passed-few_names}
 use Rattle.roff_run.specs.Output.{PageHistory, written}
 use Rattle.roff_run.specs.Reading.Items.{PageInput}
@@ -53,7 +53,7 @@ pub record SetSoFar (first : PageHistory) (old now : Coded) (given rest : List (
   pub history : PageHistory
   pub some : SetsSome old now history
   pub goes_on : HasRoom old → (tape : Tape) → with_registers old.limits given (state_at tape old first []) ≡ with_registers old.limits rest (state_at tape now history [])
-  pub stands : (l : Limits) → StandFor l first old.formatter.composer → StandFor l history now.formatter.composer
+  pub stands : (l : Limits) → StandFor l first old.interpreter.formatter.composer → StandFor l history now.interpreter.formatter.composer
 
 -- none was set yet
 pub SetSoFar-none : (first : PageHistory) (old : Coded) (given : List (ℕ × Num)) → written first ≡ [] → SetSoFar first old old given given
@@ -78,7 +78,7 @@ module _ (first : PageHistory) (old now : Coded) (given rest : List (ℕ × Num)
   change = given_change next.0 next.1
 
   abbrev rs : Capped
-  rs = now.formatter.reader.registers
+  rs = now.interpreter.reader.registers
 
   abbrev changed : Capped
   changed = with_change change rs
@@ -88,11 +88,11 @@ module _ (first : PageHistory) (old now : Coded) (given rest : List (ℕ × Num)
 
   -- the reader with these registers
   abbrev reading : Capped → ReaderState
-  reading registers = record now.formatter.reader { registers = registers }
+  reading registers = record now.interpreter.reader { registers = registers }
 
-  -- the run with a formatter, and the state at which it stands with a reader
-  abbrev over : Formatter → Coded
-  over f = record now { formatter = f }
+  -- the run with an interpreter, and the state at which it stands with a reader
+  abbrev over : Interpreter → Coded
+  over f = record now { interpreter = f }
 
   abbrev at : Tape → PageHistory → ReaderState → State
   at tape h r = going (looked_then now.unread.looked tape) now.unread.input r.reading r.registers.all h [] now.phase (is_closed now.unread.looked) []
@@ -140,14 +140,14 @@ module _ (first : PageHistory) (old now : Coded) (given rest : List (ℕ × Num)
         within = first_passed-few_names l behind i few (ap (λ (t : TitleText). nat_lt l.line (title_length t)) (title-given next rs.all) ∙ short_title rs now.unread room.ready) ∙ sym (first_passed-few_names l rs.all i (few_names rs now.unread room.ready) (short_title rs now.unread room.ready)) ∙ room.ready.within;
       }
 
-  -- behind it, in a formatter with these registers
-  module _ (f : Formatter) (r : Result (Unit {0}) Limit) (gives : Gives next.0 next.1 now.formatter f r) where
+  -- behind it, in an interpreter with these registers
+  module _ (f : Interpreter) (r : Result (Unit {0}) Limit) (gives : Gives next.0 next.1 now.interpreter f r) where
     -- what else is read stays
     some-behind : (h : PageHistory) (registers : Capped) → f.reader ≡ reading registers
         → (HasRoom old → IsReady registers now.unread) → written h ≡ [] → SetsSome old (over f) h
     some-behind h registers is ready quiet = record {
-      sets = ap (λ (run : Coded). record run { formatter = f }) far.some.sets;
-      reader = same_reader old.formatter.reader now.formatter.reader f.reader registers far.some.reader is;
+      sets = ap (λ (run : Coded). record run { interpreter = f }) far.some.sets;
+      reader = same_reader old.interpreter.reader now.interpreter.reader f.reader registers far.some.reader is;
       room = λ had. record {
         ready = subst (λ (r : ReaderState). IsReady r.registers now.unread) (sym is) (ready had);
         limits = (far.some.room had).limits;

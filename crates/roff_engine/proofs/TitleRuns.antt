@@ -44,17 +44,17 @@ use Rattle.roff_run.specs.TurnsToCome.{turns_within}
 use Rattle.roff_run.specs.declared.line_state.LineState.{LineState}
 use Rattle.roff_run.specs.declared.line_state.LineState.TheVariants.{Title as InTitle}
 use Rattle.roff_run.specs.declared.phase.Phase.{Phase}
-use Rattle.roff_requests.proofs.TitleTexts.{bytes_added_again, bytes_added_length, none_added}
-use Rattle.roff_requests.specs.TitleText.Fronts.{IsPlain, is_plain, kept_byte}
-use Rattle.roff_reader.proofs.PrintedRuns.{counted-behind, turns-counted}
+use Rattle.roff_composer.proofs.TitleTexts.{bytes_added_again, bytes_added_length, none_added}
+use Rattle.roff_requests.specs.Registers.Fronts.{IsPlain, is_plain, kept_byte}
+use Rattle.roff_fronts.proofs.PrintedRuns.{counted-behind, turns-counted}
 use Rattle.roff_reader.proofs.TakesAs.{few_names_in}
-use Rattle.roff_reader.proofs.TurnedRuns.{counted-bytes_taken}
+use Rattle.roff_fronts.proofs.TurnedRuns.{counted-bytes_taken}
 use Rattle.roff_reader.specs.Reader.State.{ReaderState}
 use Rattle.roff_reader.specs.Reader.Titles.{ReadsTitle, TitleBytes}
-use Rattle.roff_engine.specs.declared.formatter.Formatter.{Formatter}
+use Rattle.roff_engine.specs.declared.interpreter.Interpreter.{Interpreter}
 use Rattle.roff_engine.specs.declared.running.Running.{Running as Coded}
 use Rattle.roff_engine.specs.Engine.Outcome.{Beginning, Seen, seen}
-use Rattle.roff_engine.specs.Formatter.Performing.{going}
+use Rattle.roff_engine.specs.Interpreter.Performing.{going}
 use Rattle.roff_engine.specs.Running.Turning.{GoesPast, IsAt, turns_of_run}
 use Rattle.roff_engine.proofs.Passing.{IsAt-leads, few-alone, goes_past_fewer}
 use Rattle.roff_engine.proofs.TurnsLeft.{turns_of_run-no_more}
@@ -213,20 +213,20 @@ module _ (l : Limits) (delimiter : ℕ) (reading : LineState) (in_title : readin
       )
 
 -- bytes that were read of a title
-module _ (old : Coded) (delimiter : ℕ) (bytes : List ℕ) (in_title : old.formatter.reader.reading ≡ InTitle delimiter) (none_half : old.unread.input.escapes ≡ [])
+module _ (old : Coded) (delimiter : ℕ) (bytes : List ℕ) (in_title : old.interpreter.reader.reading ≡ InTitle delimiter) (none_half : old.unread.input.escapes ≡ [])
     (plain : AllByRecursion (IsPlain delimiter) bytes)
-    (room : title_length old.formatter.reader.registers.all.title + length bytes ≤ old.formatter.reader.registers.line) where
+    (room : title_length old.interpreter.reader.registers.all.title + length bytes ≤ old.interpreter.reader.registers.line) where
   abbrev rs : AllRegisters
-  rs = old.formatter.reader.registers.all
+  rs = old.interpreter.reader.registers.all
 
-  -- the formatter behind them, and the code, with this input
-  abbrev formatter_behind : Formatter
-  formatter_behind = record old.formatter {
-    reader = record old.formatter.reader { registers = with_change (TitleGets (map (kept_byte old.formatter.reader.registers.all.page_character) bytes)) old.formatter.reader.registers };
+  -- the interpreter behind them, and the code, with this input
+  abbrev interpreter_behind : Interpreter
+  interpreter_behind = record old.interpreter {
+    reader = record old.interpreter.reader { registers = with_change (TitleGets (map (kept_byte old.interpreter.reader.registers.all.page_character) bytes)) old.interpreter.reader.registers };
   }
 
   abbrev behind : PageInput → Coded
-  behind input = record old { formatter = formatter_behind; unread = record old.unread { input = input } }
+  behind input = record old { interpreter = interpreter_behind; unread = record old.unread { input = input } }
 
   -- the run is at its place behind them, from there
   IsAt-from : (from : Origin) (whole : Beginning) (t taken : Tape) (start now : Seen) (input : PageInput) → IsOpenFor from (is_closed old.unread.looked) → old.unread.input.ahead ≡ ahead_at from bytes
@@ -239,8 +239,8 @@ module _ (old : Coded) (delimiter : ℕ) (bytes : List ℕ) (in_title : old.form
       let i : PageInput = old.unread.input in
       let tape : Tape = looked_then old.unread.looked taken in
       let new : AllRegisters = with_title bytes rs in
-      let here : Tape → PageInput → AllRegisters → State = λ tape j registers. going tape j old.formatter.reader.reading registers at.history at.messages old.phase (is_closed old.unread.looked) [] in
-      let led = leads-title l delimiter old.formatter.reader.reading in_title at.history at.messages old.phase (is_closed old.unread.looked) from tape bytes i rs is_open none_half
+      let here : Tape → PageInput → AllRegisters → State = λ tape j registers. going tape j old.interpreter.reader.reading registers at.history at.messages old.phase (is_closed old.unread.looked) [] in
+      let led = leads-title l delimiter old.interpreter.reader.reading in_title at.history at.messages old.phase (is_closed old.unread.looked) from tape bytes i rs is_open none_half
       (subst (λ (items : List (Ahead PageEvent)). first_passed l (counts_in rs (record i { ahead = items })) ≡ None) front at.ready.within) few plain
       (subst (λ (most : ℕ). title_length rs.title + length bytes ≤ most) at.ready.line room) in
       let stands : here (tape_at from bytes tape) (record i { ahead = ahead_at from bytes }) rs ≡ here tape i rs =
@@ -252,10 +252,10 @@ module _ (old : Coded) (delimiter : ℕ) (bytes : List ℕ) (in_title : old.form
       let leads : Leads l (here tape i rs) (here (looked_then old.unread.looked t) input new) =
       subst (λ (from : State). Leads l from (here (looked_then old.unread.looked t) input new)) stands
       (subst (λ (there : State). Leads l (here (tape_at from bytes tape) (record i { ahead = ahead_at from bytes }) rs) there) comes led.0) in
-      IsAt-leads whole taken t start now old formatter_behind (record old.unread { input = input }) at.history at
+      IsAt-leads whole taken t start now old interpreter_behind (record old.unread { input = input }) at.history at
       (subst (λ (l : Limits). Leads l (here tape i rs) (here (looked_then old.unread.looked t) input new)) at.limits leads) refl at.stands
       (record { cap = at.ready.cap; line = at.ready.line; within = subst (λ (j : PageInput). first_passed l (counts_in new j) ≡ None) same led.1 }) at.limits
-      (few-alone from bytes old.formatter.reader.reading i input none_half at.few front same)
+      (few-alone from bytes old.interpreter.reader.reading i input none_half at.few front same)
 
   -- no more turns are to come
   turns-title : (from : Origin) (input : PageInput) → old.unread.input.ahead ≡ ahead_at from bytes → input ≡ counted from bytes old.unread.input
@@ -268,12 +268,12 @@ module _ (old : Coded) (delimiter : ℕ) (bytes : List ℕ) (in_title : old.form
 
   -- the run goes past them, wherever they stood
   past-title : (gave gives : Tape → Type 0) (notes : ℕ) (now : Seen) (u : PageUnread) → PassesFront gave gives bytes old.unread u
-      → GoesPast gave gives notes notes old (record old { formatter = formatter_behind; unread = u }) now now
+      → GoesPast gave gives notes notes old (record old { interpreter = interpreter_behind; unread = u }) now now
   past-title gave gives notes now u (OfSource passes) =
       let input : PageInput = lines_taken bytes old.unread.input in
       let is : (tape : Tape) → input ≡ counted (FromSource tape) bytes old.unread.input = λ tape. sym (counted-source tape bytes old.unread.input passes.ahead) in
       let few : turns_of_run (behind input) ≤ turns_of_run old = turns-title (FromSource passes.some.0) input passes.ahead (is passes.some.0) in
-      subst (λ (v : PageUnread). GoesPast gave gives notes notes old (record old { formatter = formatter_behind; unread = v }) now now) (sym passes.input) (record {
+      subst (λ (v : PageUnread). GoesPast gave gives notes notes old (record old { interpreter = interpreter_behind; unread = v }) now now) (sym passes.input) (record {
         limits = refl;
         taken = map OneByte bytes;
         before = passes.in_front;
@@ -288,7 +288,7 @@ module _ (old : Coded) (delimiter : ℕ) (bytes : List ℕ) (in_title : old.form
       let input : PageInput = bytes_taken bytes items old.unread.input in
       let is : input ≡ counted (FromAhead items) bytes old.unread.input = sym (counted-bytes_taken items bytes old.unread.input passes.in_front) in
       let few : turns_of_run (behind input) ≤ turns_of_run old = turns-title (FromAhead items) input passes.in_front is in
-      subst (λ (v : PageUnread). GoesPast gave gives notes notes old (record old { formatter = formatter_behind; unread = v }) now now) (sym passes.input) (record {
+      subst (λ (v : PageUnread). GoesPast gave gives notes notes old (record old { interpreter = interpreter_behind; unread = v }) now now) (sym passes.input) (record {
         limits = refl;
         taken = [];
         before = passes.stays.before;
@@ -297,21 +297,21 @@ module _ (old : Coded) (delimiter : ℕ) (bytes : List ℕ) (in_title : old.form
       })
 
 -- the run goes past what was read at once of a title, or past nothing
-past-read : (gave gives : Tape → Type 0) (notes : ℕ) (now : Seen) (old : Coded) (reader : ReaderState) (u : PageUnread) → ReadsTitle gave gives old.formatter.reader reader old.unread u
-    → GoesPast gave gives notes notes old (record old { formatter = record old.formatter { reader = reader }; unread = u }) now now
+past-read : (gave gives : Tape → Type 0) (notes : ℕ) (now : Seen) (old : Coded) (reader : ReaderState) (u : PageUnread) → ReadsTitle gave gives old.interpreter.reader reader old.unread u
+    → GoesPast gave gives notes notes old (record old { interpreter = record old.interpreter { reader = reader }; unread = u }) now now
 past-read gave gives notes now old reader u reads = elim reads.took [
   | inl read ↦
       let delimiter : ℕ = read.0 in
       let bytes : List ℕ = read.1.0 in
-      let title : TitleBytes delimiter bytes gave gives old.formatter.reader reader old.unread u = read.1.1 in
-      let long : title_length (with_title bytes old.formatter.reader.registers.all).title ≤ old.formatter.reader.registers.line =
+      let title : TitleBytes delimiter bytes gave gives old.interpreter.reader reader old.unread u = read.1.1 in
+      let long : title_length (with_title bytes old.interpreter.reader.registers.all).title ≤ old.interpreter.reader.registers.line =
       subst (λ (r : ReaderState). title_length r.registers.all.title ≤ r.registers.line) title.added title.room in
-      let room : title_length old.formatter.reader.registers.all.title + length bytes ≤ old.formatter.reader.registers.line =
-      omega (arith, long, length-title bytes old.formatter.reader.registers.all) in
-      subst (λ (r : ReaderState). GoesPast gave gives notes notes old (record old { formatter = record old.formatter { reader = r }; unread = u }) now now) (sym title.added)
+      let room : title_length old.interpreter.reader.registers.all.title + length bytes ≤ old.interpreter.reader.registers.line =
+      omega (arith, long, length-title bytes old.interpreter.reader.registers.all) in
+      subst (λ (r : ReaderState). GoesPast gave gives notes notes old (record old { interpreter = record old.interpreter { reader = r }; unread = u }) now now) (sym title.added)
       (past-title old delimiter bytes title.reading title.none_half title.plain room gave gives notes now u title.passes)
   | inr none ↦
-      subst (λ (r : ReaderState). GoesPast gave gives notes notes old (record old { formatter = record old.formatter { reader = r }; unread = u }) now now) (sym none.reader)
+      subst (λ (r : ReaderState). GoesPast gave gives notes notes old (record old { interpreter = record old.interpreter { reader = r }; unread = u }) now now) (sym none.reader)
       (subst (λ (v : PageUnread). GoesPast gave gives notes notes old (record old { unread = v }) now now) (sym none.unread) (record {
         limits = refl;
         taken = [];
@@ -323,10 +323,10 @@ past-read gave gives notes now old reader u reads = elim reads.took [
 
 -- as the source counts
 pub goes_past_title : (gave gives : Tape → Type 0) (noted notes failed failures : ℕ) (out err : Sunk) (old : Coded) (reader : ReaderState) (u : PageUnread)
-    → ReadsTitle gave gives old.formatter.reader reader old.unread u → notes ≤ noted → failures ≡ failed
-    → GoesPast gave gives noted notes old (record old { formatter = record old.formatter { reader = reader }; unread = u }) (seen failed out err) (seen failures out err)
+    → ReadsTitle gave gives old.interpreter.reader reader old.unread u → notes ≤ noted → failures ≡ failed
+    → GoesPast gave gives noted notes old (record old { interpreter = record old.interpreter { reader = reader }; unread = u }) (seen failed out err) (seen failures out err)
 goes_past_title gave gives noted notes failed failures out err old reader u reads fewer same_failures =
-    let there : Coded = record old { formatter = record old.formatter { reader = reader }; unread = u } in
+    let there : Coded = record old { interpreter = record old.interpreter { reader = reader }; unread = u } in
     goes_past_fewer gave gives noted noted notes old there (seen failed out err) (seen failures out err) fewer
     (subst (λ (f : ℕ). GoesPast gave gives noted noted old there (seen failed out err) (seen f out err)) (sym same_failures)
     (past-read gave gives noted (seen failed out err) old reader u reads))

@@ -20,14 +20,14 @@ use Rattle.roff_run.specs.Run.{State, Leads, after, known_at}
 use Rattle.roff_run.specs.Run.Counts.{counts_in, first_passed}
 use Rattle.roff_run.specs.Stages.{Stage, Turned, stage_of}
 use Rattle.roff_scan.specs.Unread.Runs.{with_stage_of}
-use Rattle.roff_reader.specs.Reader.Stages.{ReadsPast}
+use Rattle.roff_fronts.specs.Stages.{ReadsPast}
 use Rattle.roff_run.specs.TurnsToCome.{begun, turns_within}
 use Rattle.roff_run.specs.declared.line_state.LineState.{LineState}
 use Rattle.roff_run.proofs.InputCounts.{IsWithin-allowed, first_passed-few_names}
 use Rattle.roff_run.proofs.ItemsTaken.{FromAhead, FromSource, IsOpenFor, Origin, ahead_at, tape_at}
 use Rattle.roff_run.proofs.PlainRuns.{behind_bytes, counted, counted-source, is-run_at, run_at}
 use Rattle.roff_reader.proofs.TakesAs.{few_names, short_title}
-use Rattle.roff_reader.proofs.TurnedRuns.{FitsAt, Turned-none, after-Turned, counted-bytes_taken, input-passed, stage_input, stage_input-counted, turns_left-turned}
+use Rattle.roff_fronts.proofs.TurnedRuns.{FitsAt, Turned-none, after-Turned, counted-bytes_taken, input-passed, stage_input, stage_input-counted, turns_left-turned}
 use Rattle.roff_engine.specs.declared.running.Running.{Running as Coded}
 use Rattle.roff_engine.specs.Engine.Outcome.{Beginning, Seen, seen}
 use Rattle.roff_engine.specs.Running.Turning.{GoesPast, IsAt, line_turns, lines_left_in, state_at, turns_left, turns_of_run}
@@ -42,12 +42,12 @@ use Rattle.roff_engine.proofs.TurnsLeft.{turns_of_run-fewer, turns_of_run-no_mor
 abbrev reads : Coded → LineState → PageInput → Coded
 reads old reading input = record old {
   unread = record old.unread { input = input };
-  formatter = record old.formatter { reader = record old.formatter.reader { reading = reading } };
+  interpreter = record old.interpreter { reader = record old.interpreter.reader { reading = reading } };
 }
 
 -- bytes from there lead to it
 pub record ReadFrom (from : Origin) (bytes : List ℕ) (old : Coded) (reading : LineState) (input : PageInput) : Type 0 where
-  pub turned : Turned old.unread.input.names (stage_of old.formatter.reader.reading old.unread.input) bytes (stage_of reading input)
+  pub turned : Turned old.unread.input.names (stage_of old.interpreter.reader.reading old.unread.input) bytes (stage_of reading input)
   pub ahead : old.unread.input.ahead ≡ ahead_at from bytes
   pub leads : stage_input old.unread.input.names (stage_of reading input) from [] (behind_bytes from bytes old.unread.input) ≡ input
   pub charged : old.unread.input.charge + length bytes ≤ old.unread.limits.bytes
@@ -55,11 +55,11 @@ pub record ReadFrom (from : Origin) (bytes : List ℕ) (old : Coded) (reading : 
 
 -- so few events stand in front behind them
 few-turned : (from : Origin) (bytes : List ℕ) (old : Coded) (reading : LineState) (input : PageInput) → ReadFrom from bytes old reading input
-    → FewFor [] old.formatter.reader.reading old.unread.input.escapes old.unread.input.ahead → FewFor [] reading input.escapes input.ahead
+    → FewFor [] old.interpreter.reader.reading old.unread.input.escapes old.unread.input.ahead → FewFor [] reading input.escapes input.ahead
 few-turned from [] old reading input read few =
-    let none : stage_of old.formatter.reader.reading old.unread.input ≡ stage_of reading input = Turned-none _ _ _ [] refl read.turned in
+    let none : stage_of old.interpreter.reader.reading old.unread.input ≡ stage_of reading input = Turned-none _ _ _ [] refl read.turned in
     subst (λ (p : Stage). FewFor [] p.reading p.escapes input.ahead) none
-    (subst (FewFor [] old.formatter.reader.reading old.unread.input.escapes) (read.ahead ∙ ap (λ (j : PageInput). j.ahead) read.leads) few)
+    (subst (FewFor [] old.interpreter.reader.reading old.unread.input.escapes) (read.ahead ∙ ap (λ (j : PageInput). j.ahead) read.leads) few)
 few-turned from (b ∷ bytes) old reading input read few =
     few-none [] reading input.escapes input.ahead
     (subst (λ (items : List (Ahead PageEvent)). AreFewFrom 0 items) (ap (λ (j : PageInput). j.ahead) read.leads)
@@ -73,14 +73,14 @@ IsAt-turned : (whole : Beginning) (t taken : Tape) (start now : Seen) (old : Cod
 IsAt-turned whole t taken start now old reading input from bytes is_open read asked left at =
     let i : PageInput = old.unread.input in
     let l : Limits = old.unread.limits in
-    let rs : AllRegisters = old.formatter.reader.registers.all in
-    let p : Stage = stage_of old.formatter.reader.reading i in
+    let rs : AllRegisters = old.interpreter.reader.registers.all in
+    let p : Stage = stage_of old.interpreter.reader.reading i in
     let q : Stage = stage_of reading input in
     let s : State = state_at taken old at.history at.messages in
     let there : State = state_at t (reads old reading input) at.history at.messages in
-    let ready : IsReady old.formatter.reader.registers old.unread = at.ready in
+    let ready : IsReady old.interpreter.reader.registers old.unread = at.ready in
     let fits : first_passed l (counts_in rs input) ≡ None =
-    first_passed-few_names l rs input (few_names old.formatter.reader.registers old.unread ready) (short_title old.formatter.reader.registers old.unread ready) ∙ read.within in
+    first_passed-few_names l rs input (few_names old.interpreter.reader.registers old.unread ready) (short_title old.interpreter.reader.registers old.unread ready) ∙ read.within in
     let before : FitsAt l rs i.names p from bytes i =
     subst (λ (items : List (Ahead PageEvent)). first_passed l (counts_in rs (record i { ahead = items })) ≡ None) read.ahead ready.within in
     let behind : FitsAt l rs i.names q from [] (behind_bytes from bytes i) =
@@ -92,7 +92,7 @@ IsAt-turned whole t taken start now old reading input from bytes is_open read as
     ap (λ (j : PageInput). record s { tape = tape_at from [] s.tape; input = j; reading = reading }) read.leads
     ∙ ap (λ (tape : Tape). record s { tape = tape; input = input; reading = reading }) left in
     let leads : Leads l s there = record { steps = length bytes; there = ap (after l (length bytes)) (sym stands) ∙ comes ∙ is } in
-    IsAt-leads whole taken t start now old (record old.formatter { reader = record old.formatter.reader { reading = reading } }) (record old.unread { input = input }) at.history at
+    IsAt-leads whole taken t start now old (record old.interpreter { reader = record old.interpreter.reader { reading = reading } }) (record old.unread { input = input }) at.history at
     (subst (λ (k : Limits). Leads k s there) at.limits leads) refl at.stands (record { cap = ready.cap; line = ready.line; within = fits }) at.limits
     (few-turned from bytes old reading input read at.few)
 
@@ -102,9 +102,9 @@ turns-read : (old : Coded) (reading : LineState) (input : PageInput) (from : Ori
 turns-read old reading input from bytes read =
     let i : PageInput = old.unread.input in
     let most : ℕ = old.unread.limits.bytes in
-    let p : Stage = stage_of old.formatter.reader.reading i in
+    let p : Stage = stage_of old.interpreter.reader.reading i in
     let q : Stage = stage_of reading input in
-    let k : Known = known_at [] old.formatter.reader.registers.all i in
+    let k : Known = known_at [] old.interpreter.reader.registers.all i in
     let few : turns_within most (stage_input i.names q from [] (behind_bytes from bytes i)) + begun reading + length bytes
     ≤ turns_within most (stage_input i.names p from bytes i) + begun p.reading = turns_left-turned most k i.names from p q bytes i read.turned read.charged in
     let fewer : turns_within most (stage_input i.names q from [] (behind_bytes from bytes i)) + begun reading + length bytes ≤ turns_left old =
@@ -117,10 +117,10 @@ turns-read old reading input from bytes read =
 turns-reads : (old : Coded) (reading : LineState) (input : PageInput) (from : Origin) (bytes : List ℕ) → ReadFrom from bytes old reading input
     → turns_of_run (reads old reading input) ≤ turns_of_run old
 turns-reads old reading input from [] read =
-    let none : stage_of old.formatter.reader.reading old.unread.input ≡ stage_of reading input = Turned-none _ _ _ [] refl read.turned in
+    let none : stage_of old.interpreter.reader.reading old.unread.input ≡ stage_of reading input = Turned-none _ _ _ [] refl read.turned in
     let few = turns-read old reading input from [] read in
     turns_of_run-no_more old (reads old reading input) (omega (arith, few)) refl
-    (ap (λ (p : Stage). line_turns p.reading (lines_left_in old.formatter.composer)) (sym none))
+    (ap (λ (p : Stage). line_turns p.reading (lines_left_in old.interpreter.formatter.composer)) (sym none))
 turns-reads old reading input from (b ∷ bytes) read =
     let few = turns-read old reading input from (b ∷ bytes) read in
     let fewer = turns_of_run-fewer old (reads old reading input) (omega (arith, few)) refl in
@@ -159,7 +159,7 @@ past-texts gave gives notes now old reading input rest bytes read stays =
     }
 
 -- what was read past, by where the bytes came from
-read-source : (gave gives : Tape → Type 0) (old : Coded) (after : PageUnread) (new : ReaderState) (past : ReadsPast gave gives old.formatter.reader new old.unread after)
+read-source : (gave gives : Tape → Type 0) (old : Coded) (after : PageUnread) (new : ReaderState) (past : ReadsPast gave gives old.interpreter.reader new old.unread after)
     → PassesSource gave gives past.bytes old.unread (record after { input = with_stage_of old.unread.input after.input }) → input_refusal old.unread.limits after.input ≡ None
     → (tape : Tape) → ReadFrom (FromSource tape) past.bytes old new.reading after.input
 read-source gave gives old after new past passes within tape =
@@ -175,7 +175,7 @@ read-source gave gives old after new past passes within tape =
       within = within;
     }
 
-read-texts : (gave gives : Tape → Type 0) (old : Coded) (after : PageUnread) (new : ReaderState) (past : ReadsPast gave gives old.formatter.reader new old.unread after)
+read-texts : (gave gives : Tape → Type 0) (old : Coded) (after : PageUnread) (new : ReaderState) (past : ReadsPast gave gives old.interpreter.reader new old.unread after)
     → (passes : PassesTexts gave gives past.bytes old.unread (record after { input = with_stage_of old.unread.input after.input }))
     → input_refusal old.unread.limits after.input ≡ None → ReadFrom (FromAhead passes.behind) past.bytes old new.reading after.input
 read-texts gave gives old after new past passes within =
@@ -202,32 +202,32 @@ reader-past old new same kept =
     ∙ ap (λ (m : MeaningKept). record new { registers = old.registers; meaning = m }) kept
 
 past-read : (gave gives : Tape → Type 0) (notes : ℕ) (now : Seen) (old : Coded) (after : PageUnread) (new : ReaderState)
-    → (past : ReadsPast gave gives old.formatter.reader new old.unread after)
+    → (past : ReadsPast gave gives old.interpreter.reader new old.unread after)
     → PassesFront gave gives past.bytes old.unread (record after { input = with_stage_of old.unread.input after.input })
-    → GoesPast gave gives notes notes old (record old { unread = after; formatter = record old.formatter { reader = new } }) now now
+    → GoesPast gave gives notes notes old (record old { unread = after; interpreter = record old.interpreter { reader = new } }) now now
 past-read gave gives notes now old after new past (OfSource passes) =
     let left : after ≡ record old.unread { input = after.input } = unread-past old.unread after _ _ passes.input in
     let limits : after.limits ≡ old.unread.limits = ap (λ (u : PageUnread). u.limits) passes.input in
     let within : input_refusal old.unread.limits after.input ≡ None = subst (λ (l : Limits). input_refusal l after.input ≡ None) limits (IsWithin-allowed after past.within) in
-    subst (λ (u : PageUnread). GoesPast gave gives notes notes old (record old { unread = u; formatter = record old.formatter { reader = new } }) now now) (sym left)
-    (subst (λ (r : ReaderState). GoesPast gave gives notes notes old (record old { unread = record old.unread { input = after.input }; formatter = record old.formatter { reader = r } }) now now)
-    (sym (reader-past old.formatter.reader new past.registers past.meaning))
+    subst (λ (u : PageUnread). GoesPast gave gives notes notes old (record old { unread = u; interpreter = record old.interpreter { reader = new } }) now now) (sym left)
+    (subst (λ (r : ReaderState). GoesPast gave gives notes notes old (record old { unread = record old.unread { input = after.input }; interpreter = record old.interpreter { reader = r } }) now now)
+    (sym (reader-past old.interpreter.reader new past.registers past.meaning))
     (past-source gave gives notes now old new.reading after.input past.bytes (read-source gave gives old after new past passes within) passes.looked passes.in_front passes.some))
 past-read gave gives notes now old after new past (OfTexts passes) =
     let left : after ≡ record old.unread { input = after.input } = unread-past old.unread after _ _ passes.input in
     let limits : after.limits ≡ old.unread.limits = ap (λ (u : PageUnread). u.limits) passes.input in
     let within : input_refusal old.unread.limits after.input ≡ None = subst (λ (l : Limits). input_refusal l after.input ≡ None) limits (IsWithin-allowed after past.within) in
-    subst (λ (u : PageUnread). GoesPast gave gives notes notes old (record old { unread = u; formatter = record old.formatter { reader = new } }) now now) (sym left)
-    (subst (λ (r : ReaderState). GoesPast gave gives notes notes old (record old { unread = record old.unread { input = after.input }; formatter = record old.formatter { reader = r } }) now now)
-    (sym (reader-past old.formatter.reader new past.registers past.meaning))
+    subst (λ (u : PageUnread). GoesPast gave gives notes notes old (record old { unread = u; interpreter = record old.interpreter { reader = new } }) now now) (sym left)
+    (subst (λ (r : ReaderState). GoesPast gave gives notes notes old (record old { unread = record old.unread { input = after.input }; interpreter = record old.interpreter { reader = r } }) now now)
+    (sym (reader-past old.interpreter.reader new past.registers past.meaning))
     (past-texts gave gives notes now old new.reading after.input passes.behind past.bytes (read-texts gave gives old after new past passes within) passes.stays))
 
 -- the run goes past the bytes that were read, as the source counts
 pub goes_past_turned : (gave gives : Tape → Type 0) (noted notes failed failures : ℕ) (out err : Sunk) (old : Coded) (after : PageUnread) (new : ReaderState)
-    → ReadsPast gave gives old.formatter.reader new old.unread after → notes ≤ noted → failures ≡ failed
-    → GoesPast gave gives noted notes old (record old { unread = after; formatter = record old.formatter { reader = new } }) (seen failed out err) (seen failures out err)
+    → ReadsPast gave gives old.interpreter.reader new old.unread after → notes ≤ noted → failures ≡ failed
+    → GoesPast gave gives noted notes old (record old { unread = after; interpreter = record old.interpreter { reader = new } }) (seen failed out err) (seen failures out err)
 goes_past_turned gave gives noted notes failed failures out err old after new past fewer same_failures =
-    let there : Coded = record old { unread = after; formatter = record old.formatter { reader = new } } in
+    let there : Coded = record old { unread = after; interpreter = record old.interpreter { reader = new } } in
     goes_past_fewer gave gives noted noted notes old there (seen failed out err) (seen failures out err) fewer
     (subst (λ (f : ℕ). GoesPast gave gives noted noted old there (seen failed out err) (seen f out err)) (sym same_failures)
     (past-read gave gives noted (seen failed out err) old after new past past.passes))

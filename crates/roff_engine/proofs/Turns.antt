@@ -24,7 +24,7 @@ use Rattle.roff_run.specs.declared.line_state.LineState.{LineState}
 use Rattle.roff_run.specs.declared.line_state.LineState.TheVariants.{Arguments as InArguments}
 use Rattle.roff_run.specs.Run.{State, ahead_taken, byte_taken, ending_input, escape_ends, in_front_taken, input_ended, known, made}
 use Rattle.roff_run.specs.TurnsToCome.{begun, turns_to_come, turns_within}
-use Rattle.roff_engine.specs.declared.halt.Halt.TheVariants.{Refused}
+use Rattle.roff_formatter.specs.declared.halt.Halt.TheVariants.{Refused}
 use Rattle.roff_engine.specs.declared.running.Running.{Running as Coded}
 use Rattle.roff_engine.specs.Engine.Outcome.{Beginning, Seen, OutcomeOf, seen}
 use Rattle.roff_engine.specs.Running.Turning.{DoesItem, Continues, Halts, IsAt, MayEnd, MayGoOn, StepDoes, TookFrom, TurnsBy, input_ends, state_at, turns_at, turns_of_run, turns_with}
@@ -39,7 +39,7 @@ use Rattle.roff_engine.proofs.Items.{end_passed, moved, return_passed, returned,
 use Rattle.roff_run.proofs.InFront.{Given-asked, IsEnding, in_front, items_asked, over_unread, over_unread-ending, shown_step}
 use Rattle.roff_run.proofs.Behind.{begun-behind_return}
 use Rattle.roff_run.proofs.TurnsToCome.{IsTaken, turns_to_come-taking, turns_within-byte}
-use Rattle.roff_requests.specs.Composer.Standing.{StandFor}
+use Rattle.roff_composer.specs.Composer.Standing.{StandFor}
 use Rattle.roff_engine.proofs.TurnsLeft.{input_ends-fewer, turns_at-fewer, turns_at-run, turns_of_run-fewer}
 
 -- fewer turns are to come of the run that goes on
@@ -54,7 +54,7 @@ turns_of u l i limits input =
 -- what is done with an item leaves fewer turns than there were before the item, if the run goes on
 abbrev pub LeavesFewer : (State → State) → Coded → PageUnread → Result (Unit {0}) Status → Type 0
 LeavesFewer doing old left r =
-    (tape : Tape) (h : PageHistory) (ms : List ℕ) → StandFor old.limits h old.formatter.composer
+    (tape : Tape) (h : PageHistory) (ms : List ℕ) → StandFor old.limits h old.interpreter.formatter.composer
     → OnOk r (turns_at old.unread.limits.bytes (doing (state_at tape (moved old left) h ms)) < turns_of_run old)
 
 -- where a run goes on, this holds
@@ -64,7 +64,7 @@ on_ok (Err status) holds = tt
 
 -- so it does if less is to be read behind it, in the same phase
 pub leaves_fewer : (doing : State → State) (old : Coded) (left : PageUnread) (r : Result (Unit {0}) Status)
-    → ((s : State) → s.input ≡ left.input → s.reading ≡ old.formatter.reader.reading
+    → ((s : State) → s.input ≡ left.input → s.reading ≡ old.interpreter.reader.reading
     → (turns_within old.unread.limits.bytes (doing s).input + begun (doing s).reading < turns_to_come old.unread + begun s.reading) × ((doing s).phase ≡ s.phase))
     → LeavesFewer doing old left r
 leaves_fewer doing old left r fewer = λ tape h ms stood.
@@ -108,7 +108,7 @@ module _ {gave gives : Tape → Type 0} {old : Coded} {left : PageUnread} {taken
       → (old.unread.limits ≡ old.limits → (tape : Tape) → gives tape → (h : PageHistory) (ms : List ℕ)
       → let from : State = state_at (items_then taken tape) old h ms in does from ≡ made old.limits from (doing (state_at tape (moved old left) h ms)))
       → LeavesFewer doing old left r
-      → ((tape : Tape) (h : PageHistory) (ms : List ℕ) → FewFor [] old.formatter.reader.reading old.unread.input.escapes old.unread.input.ahead
+      → ((tape : Tape) (h : PageHistory) (ms : List ℕ) → FewFor [] old.interpreter.reader.reading old.unread.input.escapes old.unread.input.ahead
       → let done : State = doing (state_at tape (moved old left) h ms) in FewFor done.to_do done.reading done.input.escapes left.input.ahead)
       → DoesItem line doing (moved old left) new (seen failures out err) after r
       → TurnsBy does gave gives noted notes old new (seen failed out err) after r
@@ -215,7 +215,7 @@ module _ {gave gives : Tape → Type 0} {left : PageUnread} (old : Coded) (faile
       )) in
       acted leaves _ noted notes (ahead_taken (DoAhead event)) line new failed failures out err after r more less line_is (shown_front old call) fewer
       (λ tape h ms few.
-      let reading : LineState = old.formatter.reader.reading in
+      let reading : LineState = old.interpreter.reader.reading in
       few-interrupted (event ∷ []) reading left.input (few_front old call reading few.few sees)) acts
 
   -- the end of a text
@@ -223,7 +223,7 @@ module _ {gave gives : Tape → Type 0} {left : PageUnread} (old : Coded) (faile
   front_end sees call =
       turned (leaves_front old call) _ noted notes (moved old left) (seen failed out err) (seen failures out err) (Ok tt) refl (λ t tape start may at goes. (
         end_passed (leaves_front old call) failed failures out err more t tape start may at (goes ∙ shown_front old call at.limits tape may at.history at.messages)
-            (few_front old call old.formatter.reader.reading at.few.few sees),
+            (few_front old call old.interpreter.reader.reading at.few.few sees),
         (let behind = turns_of_run-fewer old (moved old left) (omega (arith, falls_front old call tt)) refl in omega (arith, less, behind)),
       ))
 
@@ -233,8 +233,8 @@ module _ {gave gives : Tape → Type 0} {left : PageUnread} (old : Coded) (faile
   front_return sees back call =
       turned (leaves_front old call) _ noted notes (returned back old left) (seen failed out err) (seen failures out err) (Ok tt) refl (λ t tape start may at goes. (
         return_passed (leaves_front old call) failed failures out err more t tape start may at back (goes ∙ shown_front old call at.limits tape may at.history at.messages)
-            (few_front old call (behind_return back old.formatter.reader.reading) at.few.few sees),
-        (let behind = turns_of_run-fewer old (returned back old left) (omega (arith, falls_front old call tt, begun-behind_return back old.formatter.reader.reading)) refl in
+            (few_front old call (behind_return back old.interpreter.reader.reading) at.few.few sees),
+        (let behind = turns_of_run-fewer old (returned back old left) (omega (arith, falls_front old call tt, begun-behind_return back old.interpreter.reader.reading)) refl in
             omega (arith, less, behind)),
       ))
 
@@ -244,14 +244,14 @@ module _ {gave gives : Tape → Type 0} {left : PageUnread} (old : Coded) (faile
   front_note sees note told r call fewer puts is =
       let leaves = leaves_front old call in
       turned leaves _ noted notes (moved old left) (seen failed out err) (seen failures out told) r refl (λ t tape start may at goes. (
-        note_told leaves failed failures out err more t tape start may at told note r (few_front old call old.formatter.reader.reading at.few.few sees) (goes ∙ shown_front old call at.limits tape may at.history at.messages) puts is,
+        note_told leaves failed failures out err more t tape start may at told note r (few_front old call old.interpreter.reader.reading at.few.few sees) (goes ∙ shown_front old call at.limits tape may at.history at.messages) puts is,
         on_ok r (omega (arith, fewer, leaves.turns)),
       ))
 
   -- the end of the input
   pub front_ended : (new : Coded) (after : Seen) (r : Result (Unit {0}) Status) → Takes gave gives old.unread left (ShowsEnding Ended)
       → (MayEnd (moved old left) → DoesItem left.input.line input_ends (moved old left) new (seen failures out err) after r)
-      → ((l : Limits) (h : PageHistory) → StandFor l h old.formatter.composer → OnOk r (MayGoOn (moved old left) h)) → FrontTurn gave gives noted notes old new (seen failed out err) after r
+      → ((l : Limits) (h : PageHistory) → StandFor l h old.interpreter.formatter.composer → OnOk r (MayGoOn (moved old left) h)) → FrontTurn gave gives noted notes old new (seen failed out err) after r
   front_ended new after r call acts goes_on =
       let leaves = leaves_front old call in
       let ends = ends_front old call Ended refl in

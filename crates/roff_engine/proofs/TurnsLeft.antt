@@ -8,8 +8,8 @@ use Rattle.roff_engine.specs.declared.running.Running.{Running as Coded}
 use Rattle.roff_engine.specs.Running.Turning.{input_ends, line_turns, lines_left_in, state_at, turns_at, turns_left, turns_of_run}
 use Rattle.roff_run.specs.TurnsToCome.{most_left}
 use Rattle.roff_run.proofs.LinesLeft.{left_behind, left-few}
-use Rattle.roff_requests.specs.Composer.Standing.{StandFor}
-use Rattle.roff_requests.specs.declared.composer.Composer.{Composer as ComposerOf}
+use Rattle.roff_composer.specs.Composer.Standing.{StandFor}
+use Rattle.roff_composer.specs.declared.composer.Composer.{Composer as ComposerOf}
 use Rattle.roff_run.specs.Environments.{PageHistory, interrupted_line, line_left, environments, text_of}
 use Rattle.roff_lines.specs.Events.{is_interrupted}
 use Rattle.roff_run.specs.Events.Lines.{closing_events}
@@ -116,11 +116,11 @@ lines_left_in-few es = by_flag es.environments.in_force.lines.is_interrupted
     by_flag false = omega arith
 
 -- as many turns are to come of a run as of the state that it is at
-pub turns_at-run : (tape : Tape) (run : Coded) (h : PageHistory) (messages : List ℕ) (l : Limits) → StandFor l h run.formatter.composer
+pub turns_at-run : (tape : Tape) (run : Coded) (h : PageHistory) (messages : List ℕ) (l : Limits) → StandFor l h run.interpreter.formatter.composer
     → turns_at run.unread.limits.bytes (state_at tape run h messages) ≡ turns_of_run run
 turns_at-run tape run h messages l stood =
-    let reading : LineState = run.formatter.reader.reading in
-    ap (λ (left : ℕ). 4 * turns_left run + line_turns reading left + phases_left run.phase) (sym (lines_left-stands l h run.formatter.composer stood))
+    let reading : LineState = run.interpreter.reader.reading in
+    ap (λ (left : ℕ). 4 * turns_left run + line_turns reading left + phases_left run.phase) (sym (lines_left-stands l h run.interpreter.formatter.composer stood))
 
 -- fewer are to come of a state in the same phase of whose input fewer are
 pub turns_at-fewer : (bytes : ℕ) (run : Coded) (s : State) → turns_within bytes s.input + begun s.reading < turns_left run → s.phase ≡ run.phase
@@ -134,14 +134,14 @@ turns_at-fewer bytes run s fewer same =
 -- and of a run in the same phase
 pub turns_of_run-fewer : (old new : Coded) → turns_left new < turns_left old → new.phase ≡ old.phase → turns_of_run new < turns_of_run old
 turns_of_run-fewer old new fewer same =
-    let left : ℕ = lines_left_in new.formatter.composer in
-    let few : line_turns new.formatter.reader.reading left ≤ 3 = line_turns-less new.formatter.reader.reading left (lines_left_in-few new.formatter.composer) in
+    let left : ℕ = lines_left_in new.interpreter.formatter.composer in
+    let few : line_turns new.interpreter.reader.reading left ≤ 3 = line_turns-less new.interpreter.reader.reading left (lines_left_in-few new.interpreter.formatter.composer) in
     let phases : phases_left new.phase ≡ phases_left old.phase = ap phases_left same in
     omega (arith, fewer, few, phases)
 
 -- no more of one that reads the same kind of line in the same phase
 pub turns_of_run-no_more : (old new : Coded) → turns_left new ≤ turns_left old → new.phase ≡ old.phase
-    → line_turns new.formatter.reader.reading (lines_left_in new.formatter.composer) ≡ line_turns old.formatter.reader.reading (lines_left_in old.formatter.composer)
+    → line_turns new.interpreter.reader.reading (lines_left_in new.interpreter.formatter.composer) ≡ line_turns old.interpreter.reader.reading (lines_left_in old.interpreter.formatter.composer)
     → turns_of_run new ≤ turns_of_run old
 turns_of_run-no_more old new few same lines =
     let phases : phases_left new.phase ≡ phases_left old.phase = ap phases_left same in

@@ -118,6 +118,6 @@ module _ {gave gives : Tape → Type 0} {left : PageUnread} (old : Coded) (faile
       → TurnsBy (λ s. item_read old.limits s) gave gives noted notes old new (seen failed out err) after r
   byte_alone b line new after r call none line_is acts =
       let goes_on : is_ended_by old.unread.input.escapes (Some b) ≡ false = ap (λ (half : List OpenEscape). is_ended_by half (Some b)) none in
-      let w : Waiting = waiting_in old.formatter.reader.reading old.unread.input in
+      let w : Waiting = waiting_in old.interpreter.reader.reading old.unread.input in
       turn_as (λ s. item_read old.limits s) (λ s. read_waiting old.limits w s) noted notes old new (seen failed out err) after r (λ tape h ms. refl)
-      (byte_by w (undecided old.formatter.reader.reading old.unread.input.arguments.place old.unread.input.escapes (Some b) goes_on) b line new after r call goes_on line_is acts)
+      (byte_by w (undecided old.interpreter.reader.reading old.unread.input.arguments.place old.unread.input.escapes (Some b) goes_on) b line new after r call goes_on line_is acts)

@@ -95,8 +95,8 @@ module _ {gave gives : Tape → Type 0} {left : PageUnread} {sight : Sighted} (o
   input_look = subst (λ (c : Sighted × PageUnread). c.1.input ≡ old.unread.input) left_is (Looks-looking call.answer old.unread).input
 
   -- as few events stand in front
-  pub few_look : FewFor [] old.formatter.reader.reading old.unread.input.escapes old.unread.input.ahead → FewFor [] old.formatter.reader.reading left.input.escapes left.input.ahead
-  few_look = subst (λ (i : PageInput). FewFor [] old.formatter.reader.reading i.escapes i.ahead) (sym input_look)
+  pub few_look : FewFor [] old.interpreter.reader.reading old.unread.input.escapes old.unread.input.ahead → FewFor [] old.interpreter.reader.reading left.input.escapes left.input.ahead
+  few_look = subst (λ (i : PageInput). FewFor [] old.interpreter.reader.reading i.escapes i.ahead) (sym input_look)
 
   -- where nothing that can be read is in front it shows that
   pub nothing_look : seen_ahead left.input.ahead ≡ Some SeesNothing → sight ≡ SeesNothing
@@ -256,11 +256,11 @@ turn_as does other noted notes old new now behind r same turn = record {
 -- a condition that is read decides
 pub waiting_decides :
     (gives : Tape → Type 0) (old new : Coded) (failures : ℕ) (out err : Sunk) (notes : ℕ) (after : Seen) (r : Result (Unit {0}) Status)
-    → waiting_in old.formatter.reader.reading old.unread.input ≡ Decides
+    → waiting_in old.interpreter.reader.reading old.unread.input ≡ Decides
     → DoesItem old.unread.input.line escape_ends old new (seen failures out err) after r
     → TurnsBy (λ s. item_read old.limits s) gives gives notes notes old new (seen failures out err) after r
 waiting_decides gives old new failures out err notes after r decides acts =
-    let reading : LineState = old.formatter.reader.reading in
+    let reading : LineState = old.interpreter.reader.reading in
     let place : Place = old.unread.input.arguments.place in
     let stays : is_ended_by old.unread.input.escapes None ≡ true = ended-deciding reading place old.unread.input.escapes None (ap decides_by decides) in
     let fewer : LeavesFewer escape_ends old old.unread r = leaves_fewer escape_ends old old.unread r (λ s is same_reading.

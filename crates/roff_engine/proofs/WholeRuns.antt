@@ -8,7 +8,7 @@ use Rattle.roff_source.specs.BlockRead.{SomeTape}
 use Rattle.roff_source.specs.Tape.{Tape, items_then}
 use Rattle.roff_ahead.specs.Looking.{is_closed, looked_then}
 use Rattle.roff_run.specs.declared.status.Status.{Status}
-use Rattle.roff_requests.specs.Composer.Standing.{StandFor}
+use Rattle.roff_composer.specs.Composer.Standing.{StandFor}
 use Rattle.roff_run.specs.Output.{PageHistory}
 use Rattle.roff_reader.specs.Reader.State.{ReaderState, fresh_reader}
 use Rattle.roff_reader.specs.Reader.Taken.{IsReady}
@@ -25,7 +25,7 @@ use Rattle.roff_run.specs.Reading.Ends.{due}
 use Rattle.roff_run.specs.declared.line_state.Due.{Due}
 use Rattle.roff_engine.specs.declared.running.Running.{Running as Coded}
 use Rattle.roff_engine.specs.Engine.Outcome.{Seen, Outcome, Runs, seen}
-use Rattle.roff_engine.specs.Formatter.Performing.{going}
+use Rattle.roff_engine.specs.Interpreter.Performing.{going}
 use Rattle.roff_engine.specs.Running.Turning.{HasCome, IsAt, IsFresh, DoesDue, TurnsBy, state_at, turns_with}
 use Rattle.roff_engine.specs.Running.Starting.{Begins, HasRoom}
 use Rattle.roff_engine.proofs.Fronts.{few-nothing}
@@ -47,7 +47,7 @@ step_turn does gave gives noted notes old new now behind r is turn = record {
 
 -- nothing is due: an item of the input is read
 pub read_turn : (gave gives : Tape → Type 0) (noted notes : ℕ) (old new : Coded) (now behind : Seen) (r : Result (Unit {0}) Status)
-    → due old.formatter.reader.reading ≡ None
+    → due old.interpreter.reader.reading ≡ None
     → TurnsBy (λ s. item_read old.limits s) gave gives noted notes old new now behind r
     → TurnsBy (step old.limits) gave gives noted notes old new now behind r
 read_turn gave gives noted notes old new now behind r none_due turn =
@@ -63,39 +63,39 @@ none_passed-fresh l =
     rw (none l.names, none l.line, none l.stack, none l.depth, none l.store, none l.diversions, none l.conditions) refl
 
 -- a run before anything is given to it has room
-pub HasRoom-fresh : (run : Coded) → IsFresh run.limits run.formatter run.unread → HasRoom run
+pub HasRoom-fresh : (run : Coded) → IsFresh run.limits run.interpreter run.unread → HasRoom run
 HasRoom-fresh run fresh =
     let l : Limits = run.limits in
     let P : PageUnread → ReaderState → Type 0 = λ u r. IsReady r.registers u in
     let first : P (first_unread l) (fresh_reader l.names l.line) = record { cap = refl; line = refl; within = none_passed-fresh l } in record {
-      ready = subst (λ (u : PageUnread). P u run.formatter.reader) (sym fresh.unread) (subst (λ (r : ReaderState). P (first_unread l) r) (sym fresh.reader) first);
+      ready = subst (λ (u : PageUnread). P u run.interpreter.reader) (sym fresh.unread) (subst (λ (r : ReaderState). P (first_unread l) r) (sym fresh.reader) first);
       limits = ap (λ (u : PageUnread). u.limits) fresh.unread;
-      few = few-nothing run.formatter.reader.reading run.unread.input (ap (λ (u : PageUnread). u.input.ahead) fresh.unread);
+      few = few-nothing run.interpreter.reader.reading run.unread.input (ap (λ (u : PageUnread). u.input.ahead) fresh.unread);
     }
 
 -- and stands at the definition's state in which the pages are given
-pub paged-fresh : (given : Start) (tape : Tape) (run : Coded) → run.phase ≡ Reading → IsFresh run.limits run.formatter run.unread
+pub paged-fresh : (given : Start) (tape : Tape) (run : Coded) → run.phase ≡ Reading → IsFresh run.limits run.interpreter run.unread
     → state_at tape run (pages_given given) [] ≡ paged_state given tape
 paged-fresh given tape run first fresh =
     let l : Limits = run.limits in
     let at : PageUnread → ReaderState → Phase → State =
     λ u r p. going (looked_then u.looked tape) u.input r.reading r.registers.all (pages_given given) [] p (is_closed u.looked) [] in
-    ap (λ (u : PageUnread). at u run.formatter.reader run.phase) fresh.unread
+    ap (λ (u : PageUnread). at u run.interpreter.reader run.phase) fresh.unread
     ∙ ap (λ (r : ReaderState). at (first_unread l) r run.phase) fresh.reader
     ∙ ap (λ (p : Phase). at (first_unread l) (fresh_reader l.names l.line) p) first
 
 -- the definition begins as a run of the code that stands there
-pub initial-fresh : (run : Coded) (given : Start) → run.phase ≡ Reading → IsFresh run.limits run.formatter run.unread
+pub initial-fresh : (run : Coded) (given : Start) → run.phase ≡ Reading → IsFresh run.limits run.interpreter run.unread
     → (tape : Tape) → initial run.limits given tape ≡ with_registers run.limits given.registers.items (state_at tape run (pages_given given) [])
 initial-fresh run given first fresh tape = ap (with_registers run.limits given.registers.items) (sym (paged-fresh given tape run first fresh))
 
 -- registers were given to a run: it stands where the definition begins
-begun : (old new : Coded) (given : Start) → old.phase ≡ Reading → IsFresh old.limits old.formatter old.unread → (begins : Begins (pages_given given) old new given.registers.items)
+begun : (old new : Coded) (given : Start) → old.phase ≡ Reading → IsFresh old.limits old.interpreter old.unread → (begins : Begins (pages_given given) old new given.registers.items)
     → (tape : Tape) → initial old.limits given tape ≡ state_at tape new begins.history []
 begun old new given first fresh begins tape = initial-fresh old given first fresh tape ∙ begins.goes_on (HasRoom-fresh old fresh) tape
 
 -- so no limit refused one of them
-pub not_refused : (old new : Coded) (given : Start) → old.phase ≡ Reading → IsFresh old.limits old.formatter old.unread → Begins (pages_given given) old new given.registers.items
+pub not_refused : (old new : Coded) (given : Start) → old.phase ≡ Reading → IsFresh old.limits old.interpreter old.unread → Begins (pages_given given) old new given.registers.items
     → (tape : Tape) → IsSome (initial old.limits given tape).ended → ⊥
 not_refused old new given first fresh begins tape refused =
     let wrong : false ≡ true = subst (λ (s : State). IsSome s.ended) (begun old new given first fresh begins tape) refused in
@@ -103,7 +103,7 @@ not_refused old new given first fresh begins tape refused =
 
 -- and it has come to its first turn
 pub started : (old new : Coded) (given : Start) (failures : ℕ) (out err : Sunk) (gives : Tape → Type 0) → old.phase ≡ Reading
-    → StandFor old.limits (pages_given given) old.formatter.composer → IsFresh old.limits old.formatter old.unread
+    → StandFor old.limits (pages_given given) old.interpreter.formatter.composer → IsFresh old.limits old.interpreter old.unread
     → Begins (pages_given given) old new given.registers.items → HasCome given gives gives (seen failures out err) (seen failures out err) new
 started old new given failures out err gives first stands fresh begins =
     let had : HasRoom old = HasRoom-fresh old fresh in
@@ -125,7 +125,7 @@ started old new given failures out err gives first stands fresh begins =
               messages = Appends-nothing err.contents;
               faults = record { source = omega arith; out = refl; err = refl };
             };
-            stands = subst (λ (l : Limits). StandFor l h new.formatter.composer) (sym same) (begins.stands old.limits stands);
+            stands = subst (λ (l : Limits). StandFor l h new.interpreter.formatter.composer) (sym same) (begins.stands old.limits stands);
             ready = room.ready;
             limits = room.limits;
             few = room.few;

@@ -1,8 +1,7 @@
 -- The words of the clauses in `src/`, each with the file that it stands in.
 pub use Rattle.roff_engine.specs.Engine.Outcome.{Beginning, Outcome, OutcomeOf, Seen, seen, Runs}
-pub use Rattle.roff_engine.specs.Formatter.Performing.{DoesMeaning, DoesTaking, EndsOpenWord, EndsWordFirst, PerformsAll, PerformsEvents, PerformsOne, PerformsOnly, PlacesTitle, sinks}
-pub use Rattle.roff_engine.specs.Formatter.Paging.{BeginsFor, BeginsPage, ReadyFor, halted_by, PutsBy, PutsFinished, PutsOnPage}
-pub use Rattle.roff_engine.specs.Formatter.Setting.{DoesOnPage, Gives, IsOfTraps, PutsNothing, SetsOnPage}
+pub use Rattle.roff_engine.specs.Interpreter.Performing.{DoesMeaning, DoesTaking, PerformsAll, DoesEvent, sinks}
+pub use Rattle.roff_engine.specs.Interpreter.Giving.{Gives}
 pub use Rattle.roff_run.specs.Starts.{pages_given}
 pub use Rattle.roff_run.specs.Messages.{message_line, message_lines, text_told, told_line}
 pub use Rattle.roff_run.specs.Events.Lines.{closing_events}
@@ -13,14 +12,11 @@ pub use Rattle.roff_run.specs.Reading.Ends.{due, end_taking}
 pub use Rattle.roff_run.specs.Reading.Waiting.{waiting_in}
 pub use Rattle.roff_run.specs.declared.line_state.Due.TheVariants.{Leaves, Tells}
 pub use Rattle.roff_run.specs.declared.line_state.LineState.TheVariants.{LineStart}
-pub use Rattle.roff_run.specs.declared.event.PageEvent.TheVariants.{Text, Environment, Page}
 pub use Rattle.roff_engine.specs.Running.Turning.{Halts, IsFresh}
 pub use Rattle.roff_sinks.specs.Sinks.{Puts, Sunk}
 pub use Rattle.roff_run.specs.declared.message.Message.TheVariants.{ReadFailed}
 pub use Rattle.roff_run.specs.declared.status.Status.TheVariants.{Device}
-pub use Rattle.roff_lines.specs.Columns.{finished_of}
-pub use Rattle.roff_requests.specs.Composer.Standing.{StandFor}
-pub use Rattle.roff_lines.specs.declared.event.Event.TheVariants.{Tab, Gap, Print, WordEnd, LineEnd, Break}
+pub use Rattle.roff_composer.specs.Composer.Standing.{StandFor}
 pub use Rattle.roff_num.specs.declared.limits.Limits.{Limits}
 pub use Rattle.roff_source.specs.Tape.{Tape}
 pub use Rattle.std.specs.Option.{option_to_list}

@@ -1,4 +1,4 @@
-pub mod Formatter
+pub mod Interpreter
 pub mod Engine
 pub mod Outcomes
 pub mod TwoRuns

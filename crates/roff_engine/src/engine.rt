@@ -4,7 +4,7 @@ ghost use Rattle.std.specs.Prelude.{◌≡◌, IfOk, IsSome};
 ghost use Rattle.roff_engine.specs.Clauses.{StandFor, Limits, Runs, Tape, seen, IsFresh};
 ghost use Rattle.roff_run.specs.Run.{initial};
 
-use crate::formatter::Formatter;
+use crate::interpreter::Interpreter;
 use crate::running::Running;
 use roff_num::Limits;
 use roff_reader::first_unread;
@@ -19,7 +19,7 @@ use std::marker::Model;
 pub struct Engine {
     limits: Limits,
     start: Start,
-    formatter: Formatter,
+    interpreter: Interpreter,
     unread: Unread<PageEvent>,
 }
 
@@ -32,8 +32,8 @@ impl Model for Engine {
     ghost view = { λ e. record { limits = e.limits; start = e.start } };
 
     ghost invariant = { λ e.
-        StandFor e.limits (pages_given e.start) e.formatter.composer
-        × IsFresh e.limits e.formatter e.unread };
+        StandFor e.limits (pages_given e.start) e.interpreter.formatter.composer
+        × IsFresh e.limits e.interpreter e.unread };
 }
 
 impl Engine {
@@ -45,12 +45,12 @@ impl Engine {
     pub fn new(alloc: Global, limits: Limits, start: Start) -> Result<Engine, AllocError>
         ensures { IfOk result (λ e. e ≡ record { limits = limits; start = start }) }
     {
-        let formatter = Formatter::new(alloc, limits, &start)?;
+        let interpreter = Interpreter::new(alloc, limits, &start)?;
         let unread = first_unread(alloc, limits)?;
         Ok(Engine {
             limits,
             start,
-            formatter,
+            interpreter,
             unread,
         })
     }
@@ -74,13 +74,13 @@ impl Engine {
         let Engine {
             limits,
             start,
-            formatter,
+            interpreter,
             unread,
         } = self;
         let mut running = Running {
             limits,
             phase: Phase::Reading,
-            formatter,
+            interpreter,
             unread,
         };
         if let Err(status) = running.begin(&start, err) {

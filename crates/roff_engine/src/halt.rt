@@ -1,49 +1,33 @@
-//! What ends a run early, and how that is told.
+//! How what ends a run early is told.
 
 ghost use Rattle.std.specs.Prelude.{ℕ};
 ghost use Rattle.roff_engine.specs.Clauses.{Beginning, Tape, OutcomeOf, Seen, seen, Halts, Sunk};
 
 use crate::report::report;
-use roff_num::{Limit, Limits};
+use roff_formatter::Halt;
+use roff_num::Limits;
 use roff_run::{Message, Status};
 use roff_sinks::ByteSink;
 
-/// What ends a run early.
-#[derive(Clone, Copy, Debug, PartialEq, Eq)]
-pub(crate) enum Halt {
-    /// An event would pass a limit; the item that meant it was taken.
-    Limit(Limit),
-    /// An item would pass a limit, and so isn't taken.
-    Refused(Limit),
-    /// The last page has ended, and the run with it.
-    Over,
-    /// The output failed.
-    Output,
-    /// The message sink failed.
-    Messages,
-}
-
-impl Halt {
-    /// How a run ends that was halted on this line. A limit and a fault of the output are reported.
-    pub(crate) fn status<E: ByteSink>(self, limits: Limits, line: u32, err: &mut E) -> Status
-        ensures { (t : Beginning) (left : Tape) (before : Seen) (failures : ℕ) (out : Sunk)
-            → Halts limits t left line self before (seen failures out (E.sunk err.old))
-            → OutcomeOf limits t left result before (seen failures out (E.sunk err.new)) }
-    {
-        match self {
-            Halt::Limit(limit) | Halt::Refused(limit) => {
-                let message = Message::LimitReached(limit, limits.value(limit));
-                match report(message, line, err) {
-                    Ok(()) => Status::Limit(limit),
-                    Err(_) => Status::Device,
-                }
+/// How a run ends that was halted on this line. A limit and a fault of the output are reported.
+pub(crate) fn status<E: ByteSink>(halt: Halt, limits: Limits, line: u32, err: &mut E) -> Status
+    ensures { (t : Beginning) (left : Tape) (before : Seen) (failures : ℕ) (out : Sunk)
+        → Halts limits t left line halt before (seen failures out (E.sunk err.old))
+        → OutcomeOf limits t left result before (seen failures out (E.sunk err.new)) }
+{
+    match halt {
+        Halt::Limit(limit) | Halt::Refused(limit) => {
+            let message = Message::LimitReached(limit, limits.value(limit));
+            match report(message, line, err) {
+                Ok(()) => Status::Limit(limit),
+                Err(_) => Status::Device,
             }
-            Halt::Output => {
-                let _ = report(Message::WriteFailed, line, err);
-                Status::Device
-            }
-            Halt::Over => Status::Done,
-            Halt::Messages => Status::Device,
         }
+        Halt::Output => {
+            let _ = report(Message::WriteFailed, line, err);
+            Status::Device
+        }
+        Halt::Over => Status::Done,
+        Halt::Messages => Status::Device,
     }
 }

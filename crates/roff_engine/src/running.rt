@@ -14,8 +14,8 @@ mod settling;
 mod springing;
 mod starting;
 
-use crate::formatter::Formatter;
-use crate::halt::Halt;
+use crate::interpreter::Interpreter;
+use roff_formatter::Halt;
 use roff_num::Limits;
 use roff_run::{PageEvent, Phase, Status};
 use roff_scan::{ByteSource, Item, Note, Sight, Unread, Waiting};
@@ -26,7 +26,7 @@ use roff_sinks::ByteSink;
 pub(crate) struct Running {
     pub(crate) limits: Limits,
     pub(crate) phase: Phase,
-    pub(crate) formatter: Formatter,
+    pub(crate) interpreter: Interpreter,
     pub(crate) unread: Unread<PageEvent>,
 }
 
@@ -43,7 +43,7 @@ impl Running {
         out: &mut O,
         err: &mut E,
     ) -> Result<(), Status>
-        requires { due self.old.formatter.reader.reading ≡ None }
+        requires { due self.old.interpreter.reader.reading ≡ None }
         ensures { TurnsBy (step self.old.limits)
             (S.gives source.old) (S.gives source.new) (S.notes source.old) (S.notes source.new)
             self.old self.new
@@ -95,7 +95,7 @@ impl Running {
             (seen (S.failures source.old) (O.sunk out.old) (E.sunk err.old))
             (seen (S.failures source.new) (O.sunk out.new) (E.sunk err.new)) result }
     {
-        if self.formatter.reader.waits_alone(&self.unread) {
+        if self.interpreter.reader.waits_alone(&self.unread) {
             self.turn_looking(source, out, err)
         } else {
             self.turn_item(source, out, err)
@@ -117,7 +117,7 @@ impl Running {
             (seen (S.failures source.old) (O.sunk out.old) (E.sunk err.old))
             (seen (S.failures source.new) (O.sunk out.new) (E.sunk err.new)) result }
     {
-        match self.formatter.reader.waiting(&self.unread) {
+        match self.interpreter.reader.waiting(&self.unread) {
             Waiting::Takes => self.turn_in_front(source, out, err),
             Waiting::Waits => self.turn_waiting(source, out, err),
             Waiting::Decides => self.end_escape(out, err),
@@ -237,7 +237,7 @@ impl Running {
             Item::Byte(byte) => self.take(byte, line, out, err),
             Item::End => Ok(()),
             Item::Return(back) => {
-                self.formatter.reader.end_call(back);
+                self.interpreter.reader.end_call(back);
                 Ok(())
             }
             Item::Do(event) => self.perform(event, line, out, err),
@@ -263,7 +263,7 @@ impl Running {
             (seen failures (O.sunk out.new) (E.sunk err.new)) result }
     {
         let line = self.unread.line();
-        match self.formatter.take(byte, &mut self.unread, out, err) {
+        match self.interpreter.take(byte, &mut self.unread, out, err) {
             Ok(sprung) => self.go_on(sprung, err),
             Err(halt) => Err(self.halted(halt, line_before, line, err)),
         }
@@ -282,8 +282,8 @@ impl Running {
             (seen failures (O.sunk out.new) (E.sunk err.new)) result }
     {
         let line = self.unread.line();
-        self.formatter.reader.interrupt(&mut self.unread);
-        match self.formatter.perform_waiting(event, out) {
+        self.interpreter.reader.interrupt(&mut self.unread);
+        match self.interpreter.perform_waiting(event, out) {
             Ok(sprung) => self.go_on(sprung, err),
             Err(halt) => Err(self.halted(halt, line_before, line, err)),
         }

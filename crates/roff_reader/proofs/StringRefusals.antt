@@ -4,7 +4,7 @@ use Rattle.std.specs.Prelude.{nat_lt, get_or, sum_by, if◌then◌else◌}
 use Rattle.std.proofs.lemmas.Bool.{cases_Bool, le-ltb, lt-ltb}
 use Rattle.std.proofs.lemmas.List.{length-append, length-reverse, length-set}
 use Rattle.std.proofs.lemmas.List.Sums.{sum_by-append, sum_by-set}
-use Rattle.roff_requests.specs.declared.composer.Composer.{Composer as ComposerOf}
+use Rattle.roff_composer.specs.declared.composer.Composer.{Composer as ComposerOf}
 use Rattle.roff_num.specs.declared.limit.Limit.{Limit}
 use Rattle.roff_num.specs.declared.limit.Limit.TheVariants.{Stack, Depth, Diversions, Store, Names, Conditions}
 use Rattle.roff_num.specs.declared.limits.Limits.{Limits}

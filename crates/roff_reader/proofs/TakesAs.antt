@@ -3,8 +3,8 @@ use Rattle.std.proofs.Common.{◌≡◌, ℕ, ◌≤◌, Bool, true, false, cond
 use Rattle.std.specs.Prelude.{nat_lt, ◌&&◌, drop, is_some, if◌then◌else◌}
 use Rattle.roff_num.specs.declared.limits.Limits.{Limits}
 use Rattle.roff_run.specs.Events.Steps.{events_of, messages_of}
-use Rattle.roff_requests.specs.Composer.Standing.{StandFor}
-use Rattle.roff_requests.specs.declared.composer.Composer.{Composer as ComposerOf}
+use Rattle.roff_composer.specs.Composer.Standing.{StandFor}
+use Rattle.roff_composer.specs.declared.composer.Composer.{Composer as ComposerOf}
 use Rattle.roff_num.specs.declared.limit.Limit.{Limit}
 use Rattle.roff_num.specs.declared.limit.Limit.TheVariants.{Line, Names}
 use Rattle.roff_num.specs.Ranges.{is_in_range}
@@ -42,7 +42,7 @@ use Rattle.roff_reader.specs.Reader.State.{MeaningKept}
 use Rattle.roff_run.specs.declared.line_state.LineState.{LineState}
 use Rattle.roff_run.specs.declared.request.LineReading.{LineReading}
 use Rattle.roff_run.specs.declared.request.Request.{Request}
-use Rattle.roff_reader.specs.ControlFronts.{half_begun}
+use Rattle.roff_reader.specs.NamesRead.{half_begun}
 use Rattle.roff_run.specs.TitleTexts.{TitleText, title_length}
 use Rattle.roff_run.proofs.InputCounts.{behind_title, NoMore, NoMore-interrupted, NoMore-same, NoMore-settling, first_passed-few_names, first_passed-no_more, one_of}
 

@@ -18,7 +18,7 @@ use Rattle.roff_run.specs.Run.{known_at}
 use Rattle.roff_run.specs.declared.line_state.LineState.TheVariants.{TitleFront}
 use Rattle.roff_run.specs.declared.step.Step.{Step}
 use Rattle.roff_run.proofs.InputCounts.{first_passed-few_names}
-use Rattle.roff_requests.specs.declared.composer.Composer.{Composer as ComposerOf}
+use Rattle.roff_composer.specs.declared.composer.Composer.{Composer as ComposerOf}
 use Rattle.roff_reader.specs.Reader.State.{ReaderState}
 use Rattle.roff_reader.specs.Reader.Taken.{IsReady, Takes, TakesAs}
 use Rattle.roff_reader.proofs.Strings.{refused_none}

@@ -1,7 +1,7 @@
 -- The words of the clauses in `src/`, each with the file that it stands in.
 pub use Rattle.roff_run.specs.Environments.{PageHistory}
-pub use Rattle.roff_requests.specs.Composer.Standing.{StandFor}
-pub use Rattle.roff_requests.specs.declared.composer.Composer.{Composer as ComposerOf}
+pub use Rattle.roff_composer.specs.Composer.Standing.{StandFor}
+pub use Rattle.roff_composer.specs.declared.composer.Composer.{Composer as ComposerOf}
 pub use Rattle.roff_reader.specs.Reader.State.{fresh_reader}
 pub use Rattle.roff_reader.specs.Reader.Taken.{Changed, InputCameTo, TakesAs}
 pub use Rattle.roff_run.specs.Reading.Items.{PageUnread}

@@ -1,4 +1,4 @@
 pub mod Reader
 pub mod Clauses
-pub mod ControlFronts
+pub mod NamesRead
 pub mod FirstUnits

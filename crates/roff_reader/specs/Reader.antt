@@ -1,7 +1,5 @@
 -- What the code reads, as the definition reads it.
 pub mod State
 pub mod Taken
-pub mod Stages
 pub mod Springs
-pub mod Runs
 pub mod Titles

@@ -1,8 +1,7 @@
-//! The reader: what each byte of the input means, by single steps and by shorter ways.
+//! The reader: what each byte of the input means, by single steps.
 #![tactic(auto)]
 
 mod meaning;
 mod reader;
 
-pub use reader::{Reader, first_unread};
-pub use roff_scan::RunKind;
+pub use reader::{CALL_ARGUMENTS, Reader, begin_deciding, behind_called, called_by, first_unread};

@@ -14,7 +14,6 @@ ghost use Rattle.roff_run.specs.Starts.{given_change};
 ghost use Rattle.roff_run.specs.declared.phase.Phase.{Phase};
 ghost use Rattle.roff_reader.specs.Clauses.{behind_return};
 
-mod ahead;
 mod arguments;
 mod bytes;
 mod calls;
@@ -28,7 +27,6 @@ mod messages;
 mod obeying;
 mod places;
 mod registers;
-mod runs;
 mod string_names;
 mod strings;
 mod text_lines;
@@ -36,8 +34,11 @@ mod titles;
 mod waiting;
 
 use crate::meaning::Meaning;
+pub use calls::CALL_ARGUMENTS;
+pub use control_lines::{begin_deciding, behind_called, called_by};
+use roff_composer::Composer;
 use roff_num::{Limit, Limits, Name, Num};
-use roff_requests::{Composer, RequestEvents, RunRegisters};
+use roff_requests::{RequestEvents, RunRegisters};
 use roff_run::{Due, LineEvents, LineState, Message, PageEvent, Request, Step};
 use roff_scan::{Unread, is_dropped};
 use roff_store::Entry;
@@ -266,9 +267,17 @@ impl Reader {
         Step::Nothing
     }
 
+    /// What is being read.
+    #[inline(always)]
+    pub fn reading(&self) -> LineState
+        ensures { result ≡ self.now.reading }
+    {
+        self.reading
+    }
+
     /// This is read on.
     #[inline(always)]
-    pub(super) fn go_on(&mut self, reading: LineState)
+    pub fn go_on(&mut self, reading: LineState)
         ensures { self.new ≡ record self.old { reading = reading } }
     {
         self.reading = reading;

@@ -1,4 +1,3 @@
-pub mod EnvironmentRing
 pub mod TabStops
 pub mod RegisterTables
 pub mod Numbering
@@ -6,6 +5,4 @@ pub mod EventsAt
 pub mod Heights
 pub mod PageLengths
 pub mod PageSteps
-pub mod GivenPages
-pub mod TitleTexts
 pub mod TitleFronts

@@ -4,8 +4,8 @@ use Rattle.std.specs.Prelude.{map, slice_index_or, take, Option}
 use Rattle.std.specs.List.{AllByRecursion}
 use Rattle.std.proofs.lemmas.List.{map-append}
 use Rattle.roff_run.specs.TitleTexts.{TitleText, with_bytes}
-use Rattle.roff_requests.specs.TitleText.Fronts.{kept_byte}
-use Rattle.roff_requests.proofs.TitleTexts.{bytes_added_again}
+use Rattle.roff_requests.specs.Registers.Fronts.{kept_byte}
+use Rattle.roff_composer.proofs.TitleTexts.{bytes_added_again}
 
 -- what holds of the first of them, and of the next one, holds of those
 plain_suc : (P : ℕ → Type 0) (xs : List ℕ) (n : ℕ) → n < length xs → AllByRecursion P (take n xs) → P (slice_index_or xs n 0)

@@ -45,6 +45,7 @@ pub(crate) fn height_in(place: i32, text: &[u8]) -> Result<i32, NumFault>
 /// # Errors
 ///
 /// The expression's first fault, or [`NumFault::Range`] for the sum.
+#[inline(always)]
 pub(crate) fn value_beside(in_force: i64, scale: Scale, text: &[u8]) -> Result<i32, NumFault>
     ensures { result ≡ value_beside in_force scale text.now }
 {

@@ -12,9 +12,8 @@ ghost use Rattle.roff_run.specs.declared.message.Message.TheVariants.{BadNumber}
 mod read_only;
 mod titles;
 
-use crate::composer::Composer;
-use crate::title_text::TitleText;
 use read_only::{is_read_only, query_of};
+use roff_composer::{Composer, TitleText};
 use roff_num::{Direction, Format, Limit, Name, Num, NumText, ShortName, write_num};
 use roff_run::Message;
 use roff_store::{RegTable, Register};
@@ -120,6 +119,7 @@ impl RunRegisters {
     }
 
     /// The register that a name reads as, if it isn't read-only.
+    #[inline(always)]
     pub(crate) fn settable(&self, name: &Name, facts: Facts<'_>) -> Register
         ensures { (k : Known) → AreOf k facts.entry → k.registers ≡ self.now.all
             → result ≡ settable name.now k }
@@ -144,6 +144,7 @@ impl RunRegisters {
     }
 
     /// The text of a register.
+    #[inline(always)]
     pub fn text(&self, name: &Name, facts: Facts<'_>) -> NumText
         ensures { (k : Known) → AreOf k facts.entry → k.registers ≡ self.now.all
             → result.items ≡ text_of_register k name.now }
@@ -295,6 +296,7 @@ impl RunRegisters {
     }
 
     /// Sets a register's value and increment.
+    #[inline(always)]
     fn set(&mut self, name: &Name, value: Num, increment: Num) -> Result<(), Limit>
         ensures answer { result ≡ admitted (SetTo name.now value increment) self.old }
         ensures registers { self.new ≡ after (SetTo name.now value increment) self.old }

@@ -10,25 +10,13 @@ use Rattle.roff_run.specs.declared.start.Start.{Start}
 use Rattle.roff_run.specs.declared.message.Message.TheVariants.{WriteFailed}
 use Rattle.roff_run.specs.Messages.{message_line}
 use Rattle.roff_run.specs.Run.{State, Leads, initial, step, output, reported}
+pub use Rattle.roff_formatter.specs.Reaching.{Beginning, OutputStops, Reaches}
 pub use Rattle.roff_sinks.specs.Devices.{AppendsBetween, NoSinkFault, Seen, seen}
 use Rattle.roff_sinks.specs.Sinks.{CountsFault}
 
 -- what is left of a source whose tape this would be: all of it, or all but the item in front, which was looked at
 abbrev pub IsLeftOf : Tape → Tape → Type 0
 IsLeftOf left tape = (left ≡ tape) ⊎ (left ≡ behind_front tape)
-
--- what a run begins with: what is given to it, and its tape
-pub record Beginning : Type 0 where
-  pub start : Start
-  pub tape : Tape
-
--- the run of the definition comes to this state, and what it wrote and reported until then was
--- written and reported
-pub record Reaches (l : Limits) (t : Beginning) (before now : Seen) (s : State) : Type 0 where
-  pub comes : Leads l (initial l t.start t.tape) s
-  pub text : Appends before.out.contents now.out.contents (output s)
-  pub messages : Appends before.err.contents now.err.contents (reported s)
-  pub faults : NoSinkFault before now
 
 -- a run that ended so, in this state, may have looked at the item in front: a limit stopped it, or it was aborted, or it
 -- left its input
@@ -51,14 +39,6 @@ pub record Completes (l : Limits) (t : Beginning) (left : Tape) (status : Status
   pub ended : state.ended ≡ Some status
   pub rest : IsRest status left state
   pub fault : status ≡ Device → Rises before.failures now.failures
-
--- The output failed in the step that the run made from this state: what was written begins with the text
--- of all steps before it and is a beginning of that text with the step's own.
-pub record OutputStops (l : Limits) (t : Beginning) (before now : Seen) (s : State) : Type 0 where
-  pub comes : Leads l (initial l t.start t.tape) s
-  pub goes_on : s.ended ≡ None
-  pub text : AppendsBetween before.out.contents now.out.contents (output s) (output (step l s))
-  pub fault : CountsFault before.out.failures now.out.failures
 
 -- The run ended as the output failed, once. The fault is reported with the line of that step; of this
 -- message a beginning alone was written if the message sink failed too.

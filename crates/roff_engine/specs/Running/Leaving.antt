@@ -11,8 +11,8 @@ use Rattle.roff_engine.specs.declared.running.Running.{Running as Coded}
 -- what stands ahead of the source was dropped, and what is read is what all ends of bodies lead back to
 abbrev pub DropsAhead : Coded → Coded → Type 0
 DropsAhead old new = new ≡ record old {
-  formatter = record old.formatter {
-    reader = record old.formatter.reader { reading = gone_back_to (outermost_back 0 old.unread.input.ahead) };
+  interpreter = record old.interpreter {
+    reader = record old.interpreter.reader { reading = gone_back_to (outermost_back 0 old.unread.input.ahead) };
   };
   unread = record old.unread { input = leaving old.unread.input; looked = closing old.unread.looked };
 }
@@ -20,7 +20,7 @@ DropsAhead old new = new ≡ record old {
 -- a line begins
 abbrev pub BeginsLine : Coded → Coded → Type 0
 BeginsLine old new = new ≡ record old {
-  formatter = record old.formatter { reader = record old.formatter.reader { reading = LineStart } };
+  interpreter = record old.interpreter { reader = record old.interpreter.reader { reading = LineStart } };
 }
 
 -- the input was left, but as the run closes

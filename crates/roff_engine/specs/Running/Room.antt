@@ -5,7 +5,7 @@ use Rattle.roff_ahead.specs.Input.Few.{AreFewFrom}
 use Rattle.roff_ahead.specs.Shown.{SeesNothing, seen_ahead}
 use Rattle.roff_escape.specs.Conditions.{is_decided}
 use Rattle.roff_escape.specs.OpenEscape.{OpenEscape, Size, Condition}
-use Rattle.roff_engine.specs.Formatter.Sprung.{most_back}
+use Rattle.roff_formatter.specs.Formatter.Sprung.{most_back}
 use Rattle.roff_run.specs.PageEvents.{PageEvent}
 use Rattle.roff_run.specs.Reading.Items.{PageInput}
 use Rattle.roff_run.specs.declared.line_state.LineState.{LineState}

@@ -3,7 +3,7 @@ use Rattle.std.specs.Prelude.{◌≡◌, ◌≤◌, ℕ, ◌+◌, List, [], leng
 use Rattle.roff_engine.specs.Running.Room.{FewFor}
 use Rattle.roff_ahead.specs.Input.{events_ahead, most_events, putting_all_back}
 use Rattle.roff_run.specs.Reading.Items.{PageInput, PageUnread}
-use Rattle.roff_requests.specs.Composer.Standing.{StandFor}
+use Rattle.roff_composer.specs.Composer.Standing.{StandFor}
 use Rattle.roff_reader.specs.Reader.Taken.{IsReady}
 use Rattle.roff_run.specs.Environments.{PageHistory}
 use Rattle.roff_run.specs.PageEvents.{PageEvent}
@@ -11,10 +11,10 @@ use Rattle.roff_run.specs.Titles.{keeping, put_back}
 use Rattle.roff_run.specs.declared.status.Status.{Status}
 use Rattle.roff_source.specs.Tape.{Tape}
 use Rattle.roff_engine.specs.Engine.Outcome.{Beginning, Seen, Reaches}
-use Rattle.roff_engine.specs.Formatter.Sprung.{behind_sprung, rest_left}
+use Rattle.roff_formatter.specs.Formatter.Sprung.{behind_sprung, rest_left}
 use Rattle.roff_engine.specs.Running.Turning.{Continues, state_at, turns_of_run}
 use Rattle.roff_engine.specs.declared.running.Running.{Running as Coded}
-use Rattle.roff_engine.specs.declared.sprung.Sprung.{Sprung}
+use Rattle.roff_formatter.specs.declared.sprung.Sprung.{Sprung}
 
 -- so many events can be put back before this unread input, if there are any
 abbrev pub HasRoom : List PageEvent → PageUnread → Type 0
@@ -25,13 +25,13 @@ HasRoom events u = 1 ≤ length events → events_ahead u.input.ahead + length e
 pub record IsBehind (t : Beginning) (tape : Tape) (start now : Seen) (sprung : Option Sprung) (run : Coded) : Type 0 where
   pub history : PageHistory
   pub messages : List ℕ
-  pub reaches : Reaches run.limits t start now (behind_sprung sprung run.formatter.reader.meaning.events [] (state_at tape run history messages))
-  pub stands : StandFor run.limits history run.formatter.composer
-  pub ready : IsReady run.formatter.reader.registers run.unread
+  pub reaches : Reaches run.limits t start now (behind_sprung sprung run.interpreter.reader.meaning.events [] (state_at tape run history messages))
+  pub stands : StandFor run.limits history run.interpreter.formatter.composer
+  pub ready : IsReady run.interpreter.reader.registers run.unread
   pub limits : run.unread.limits ≡ run.limits
-  pub room : HasRoom (rest_left sprung run.formatter.reader.meaning.events) run.unread
-  pub few : let back : PageInput = putting_all_back (map put_back (rest_left sprung run.formatter.reader.meaning.events)) run.unread.input in
-      FewFor [] run.formatter.reader.reading run.unread.input.escapes back.ahead
+  pub room : HasRoom (rest_left sprung run.interpreter.reader.meaning.events) run.unread
+  pub few : let back : PageInput = putting_all_back (map put_back (rest_left sprung run.interpreter.reader.meaning.events)) run.unread.input in
+      FewFor [] run.interpreter.reader.reading run.unread.input.escapes back.ahead
 
 -- it goes on there, or has ended; no more turns are to come
 pub record GoesOn (sprung : Option Sprung) (old new : Coded) (now behind : Seen) (r : Result (Unit {0}) Status) : Type 0 where
@@ -41,10 +41,10 @@ pub record GoesOn (sprung : Option Sprung) (old new : Coded) (now behind : Seen)
 
 -- these events were put back, if there is room for them: a title among them is kept
 pub record PutsBack (events : List PageEvent) (old new : Coded) : Type 0 where
-  pub others : new ≡ record old { unread = new.unread; formatter = new.formatter }
-  pub keeps : new.formatter ≡ record old.formatter {
-    reader = record old.formatter.reader {
-      registers = record old.formatter.reader.registers { all = keeping events old.formatter.reader.registers.all };
+  pub others : new ≡ record old { unread = new.unread; interpreter = new.interpreter }
+  pub keeps : new.interpreter ≡ record old.interpreter {
+    reader = record old.interpreter.reader {
+      registers = record old.interpreter.reader.registers { all = keeping events old.interpreter.reader.registers.all };
     };
   }
   pub puts : HasRoom events old.unread

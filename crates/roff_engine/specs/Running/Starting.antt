@@ -7,21 +7,21 @@ use Rattle.roff_engine.specs.declared.running.Running.{Running as Coded}
 use Rattle.roff_engine.specs.Running.Room.{FewFor}
 use Rattle.roff_engine.specs.Running.Turning.{state_at}
 use Rattle.roff_reader.specs.Reader.Taken.{IsReady}
-use Rattle.roff_requests.specs.Composer.Standing.{StandFor}
+use Rattle.roff_composer.specs.Composer.Standing.{StandFor}
 use Rattle.roff_run.specs.Output.{PageHistory, written}
 use Rattle.roff_run.specs.Run.{stopped_by, with_registers}
 use Rattle.roff_source.specs.Tape.{Tape}
 
 -- no count of what is read is above its limit, the unread input has the run's limits, and few events stand in front
 pub record HasRoom (run : Coded) : Type 0 where
-  pub ready : IsReady run.formatter.reader.registers run.unread
+  pub ready : IsReady run.interpreter.reader.registers run.unread
   pub limits : run.unread.limits ≡ run.limits
-  pub few : FewFor [] run.formatter.reader.reading run.unread.input.escapes run.unread.input.ahead
+  pub few : FewFor [] run.interpreter.reader.reading run.unread.input.escapes run.unread.input.ahead
 
 -- registers were set, and the page got numbers, behind which the history is this: nothing else changed, and nothing is written
 pub record SetsSome (old new : Coded) (history : PageHistory) : Type 0 where
-  pub sets : new ≡ record old { formatter = new.formatter }
-  pub reader : new.formatter.reader ≡ record old.formatter.reader { registers = new.formatter.reader.registers }
+  pub sets : new ≡ record old { interpreter = new.interpreter }
+  pub reader : new.interpreter.reader ≡ record old.interpreter.reader { registers = new.interpreter.reader.registers }
   pub room : HasRoom old → HasRoom new
   pub quiet : written history ≡ []
 
@@ -30,7 +30,7 @@ pub record Begins (first : PageHistory) (old new : Coded) (given : List (ℕ × 
   pub history : PageHistory
   pub some : SetsSome old new history
   pub goes_on : HasRoom old → (tape : Tape) → with_registers old.limits given (state_at tape old first []) ≡ state_at tape new history []
-  pub stands : (l : Limits) → StandFor l first old.formatter.composer → StandFor l history new.formatter.composer
+  pub stands : (l : Limits) → StandFor l first old.interpreter.formatter.composer → StandFor l history new.interpreter.formatter.composer
 
 -- a limit refused one of them
 pub record IsRefused (first : PageHistory) (old new : Coded) (given : List (ℕ × Num)) (limit : Limit) : Type 0 where

@@ -3,21 +3,21 @@ use Rattle.std.specs.Prelude.{◌≡◌, ◌⊎◌, ℕ, ◌*◌, ◌+◌, ◌<�
 use Rattle.std.specs.Io.KnownBytes.{Appends}
 use Rattle.roff_num.specs.declared.limit.Limit.{Limit}
 use Rattle.roff_num.specs.declared.limits.Limits.{Limits}
-use Rattle.roff_requests.specs.declared.composer.Composer.{Composer as ComposerOf}
+use Rattle.roff_composer.specs.declared.composer.Composer.{Composer as ComposerOf}
 use Rattle.roff_run.specs.declared.start.Start.{Start}
 use Rattle.roff_source.specs.Tape.{Tape, Item, items_then}
 use Rattle.roff_source.specs.declared.source.ByteSource as byte_source
 use Rattle.roff_ahead.specs.Looking.{is_closed, looked_then}
 use Rattle.roff_ahead.specs.declared.looked.Looked.TheVariants.{Nothing}
-use Rattle.roff_requests.specs.Composer.Standing.{StandFor}
-use Rattle.roff_engine.specs.declared.formatter.Formatter.{Formatter}
+use Rattle.roff_composer.specs.Composer.Standing.{StandFor}
+use Rattle.roff_engine.specs.declared.interpreter.Interpreter.{Interpreter}
 use Rattle.roff_engine.specs.declared.running.Running.{Running as Coded}
 use Rattle.roff_run.specs.declared.status.Status.{Status}
 use Rattle.roff_run.specs.declared.status.Status.TheVariants.{Device, Done}
-use Rattle.roff_engine.specs.declared.halt.Halt.{Halt}
-use Rattle.roff_engine.specs.declared.halt.Halt.TheVariants.{Limit as Limited, Refused, Over, Output, Messages}
+use Rattle.roff_formatter.specs.declared.halt.Halt.{Halt}
+use Rattle.roff_formatter.specs.declared.halt.Halt.TheVariants.{Limit as Limited, Refused, Over, Output, Messages}
 use Rattle.roff_engine.specs.Engine.Outcome.{Beginning, Completes, Seen, seen, IsLeftOf, Reaches, OutputStops, MessagesFail, OutcomeOf}
-use Rattle.roff_engine.specs.Formatter.Performing.{Opens, going}
+use Rattle.roff_engine.specs.Interpreter.Performing.{Opens, going}
 use Rattle.roff_engine.specs.Running.Room.{FewFor}
 use Rattle.roff_run.specs.TurnsToCome.{most_left}
 use Rattle.roff_sinks.specs.Sinks.{Sunk}
@@ -35,7 +35,7 @@ use Rattle.roff_run.specs.Run.{State, first_unread, escape_ends, initial, input_
 -- the state of a run that reads on, where the source still gives this tape
 abbrev pub state_at : Tape → Coded → PageHistory → List ℕ → State
 state_at tape run h messages =
-    going (looked_then run.unread.looked tape) run.unread.input run.formatter.reader.reading run.formatter.reader.registers.all h messages run.phase (is_closed run.unread.looked) []
+    going (looked_then run.unread.looked tape) run.unread.input run.interpreter.reader.reading run.interpreter.reader.registers.all h messages run.phase (is_closed run.unread.looked) []
 
 -- the end of the input: what is half read ends first, one after another
 abbrev pub input_ends : State → State
@@ -43,7 +43,7 @@ input_ends s = elim s.input.escapes [ [] ↦ input_ended (is_unfinished s.phase 
 
 -- how many turns are to come of a run beside those of the line that ends with the input, and of phases
 abbrev pub turns_left : Coded → ℕ
-turns_left run = turns_to_come run.unread + begun run.formatter.reader.reading
+turns_left run = turns_to_come run.unread + begun run.interpreter.reader.reading
 
 -- whether an interrupted line is to go on in the environment in force
 abbrev pub lines_left_in : ComposerOf → ℕ
@@ -58,7 +58,7 @@ line_turns (_) left = 2
 -- how many turns are to come at the most of a run whose source has no notes
 abbrev pub turns_of_run : Coded → ℕ
 turns_of_run run =
-    4 * turns_left run + line_turns run.formatter.reader.reading (lines_left_in run.formatter.composer) + phases_left run.phase
+    4 * turns_left run + line_turns run.interpreter.reader.reading (lines_left_in run.interpreter.formatter.composer) + phases_left run.phase
 
 -- and where it has so many
 abbrev pub turns_with : Coded → ℕ → ℕ
@@ -82,10 +82,10 @@ pub record IsAt (t : Beginning) (tape : Tape) (start now : Seen) (run : Coded) :
   pub history : PageHistory
   pub messages : List ℕ
   pub reaches : Reaches run.limits t start now (state_at tape run history messages)
-  pub stands : StandFor run.limits history run.formatter.composer
-  pub ready : IsReady run.formatter.reader.registers run.unread
+  pub stands : StandFor run.limits history run.interpreter.formatter.composer
+  pub ready : IsReady run.interpreter.reader.registers run.unread
   pub limits : run.unread.limits ≡ run.limits
-  pub few : FewFor [] run.formatter.reader.reading run.unread.input.escapes run.unread.input.ahead
+  pub few : FewFor [] run.interpreter.reader.reading run.unread.input.escapes run.unread.input.ahead
 
 -- the definition stops at a limit in the step behind a state of this line
 pub record LimitStops (l : Limits) (t : Beginning) (left : Tape) (line : ℕ) (limit : Limit) (before now : Seen) : Type 0 where
@@ -147,8 +147,8 @@ pub record TookFrom (t : Beginning) (tape : Tape) (start now : Seen) (line : ℕ
   pub messages : List ℕ
   pub reaches : Reaches run.limits t start now from
   pub opens : Opens run.limits from (does (state_at tape run history messages)) history messages
-  pub stands : StandFor run.limits history run.formatter.composer
-  pub ready : IsReady run.formatter.reader.registers run.unread
+  pub stands : StandFor run.limits history run.interpreter.formatter.composer
+  pub ready : IsReady run.interpreter.reader.registers run.unread
   pub limits : run.unread.limits ≡ run.limits
   pub quiet : from.last_message ≡ []
   pub line_is : from.input.line ≡ line
@@ -166,8 +166,8 @@ pub record DoesItem (line : ℕ) (does : State → State) (old new : Coded) (now
 -- at the end of its input a run goes on: something is half read, or a line unfinished, or it isn't in its last phase
 abbrev pub MayGoOn : Coded → PageHistory → Type 0
 MayGoOn run h =
-    let reading : LineState = run.formatter.reader.reading in
-    run.unread.input.escapes ≡ [] → is_unfinished run.phase (known_at h run.formatter.reader.registers.all run.unread.input) reading ≡ false
+    let reading : LineState = run.interpreter.reader.reading in
+    run.unread.input.escapes ≡ [] → is_unfinished run.phase (known_at h run.interpreter.reader.registers.all run.unread.input) reading ≡ false
     → run.phase ≡ Closing → ⊥
 
 -- a run may end where nothing was looked at that it doesn't take, or its source is closed
@@ -177,9 +177,9 @@ MayEnd run = (run.unread.looked ≡ Nothing) ⊎ (is_closed run.unread.looked �
 -- What is due was done: the run goes on where nothing is, or has ended. Where nothing was due it stays.
 pub record DoesDue (old new : Coded) (now behind : Seen) (r : Result (Unit {0}) Status) : Type 0 where
   pub limits : new.limits ≡ old.limits
-  pub idle : due old.formatter.reader.reading ≡ None → (r ≡ Ok tt) × (new ≡ old)
+  pub idle : due old.interpreter.reader.reading ≡ None → (r ≡ Ok tt) × (new ≡ old)
   pub does_due : (t : Beginning) (tape : Tape) (start : Seen) → IsAt t tape start now old → Continues t tape start behind r new
-  pub none_due : OnOk r (due new.formatter.reader.reading ≡ None)
+  pub none_due : OnOk r (due new.interpreter.reader.reading ≡ None)
   pub turns : OnOk r (turns_of_run new ≤ turns_of_run old)
 
 -- The run took items of its source, and goes on or has ended, whatever the source may still give, where a step of the
@@ -223,6 +223,6 @@ pub record HasCome (given : Start) (old new : Tape → Type 0) (start now : Seen
   pub at : (tape : Tape) → new tape → IsAt (record { start = given; tape = items_then taken tape }) tape start now run
 
 -- before the first item: nothing is read, set or ahead, and the requests have their names
-pub record IsFresh (l : Limits) (f : Formatter) (u : PageUnread) : Type 0 where
+pub record IsFresh (l : Limits) (f : Interpreter) (u : PageUnread) : Type 0 where
   pub reader : f.reader ≡ fresh_reader l.names l.line
   pub unread : u ≡ first_unread l

@@ -9,8 +9,9 @@ ghost use Rattle.roff_run.specs.Output.{PageHistory};
 ghost use Rattle.roff_run.specs.declared.phase.Phase.TheVariants.{Reading, LastMacro};
 
 use super::Running;
-use crate::halt::Halt;
+use crate::halt::status;
 use crate::report::report;
+use roff_formatter::Halt;
 use roff_run::{Message, Phase, Status};
 use roff_sinks::{ByteSink, SinkFault};
 
@@ -29,7 +30,7 @@ impl Running {
             (seen failures (O.sunk out.new) (E.sunk err.new)) result }
     {
         let line = self.unread.line();
-        match self.formatter.take_escape_end(&mut self.unread, out, err) {
+        match self.interpreter.take_escape_end(&mut self.unread, out, err) {
             Ok(sprung) => self.go_on(sprung, err),
             Err(halt) => Err(self.halted(halt, line, line, err)),
         }
@@ -47,12 +48,13 @@ impl Running {
             (seen failures (O.sunk out.old) (E.sunk err.old))
             (seen failures (O.sunk out.new) (E.sunk err.new)) result }
         ensures goes_on { (l : LimitsOf) (h : PageHistory)
-            → StandFor l h self.old.formatter.composer → OnOk result (MayGoOn self.old h) }
+            → StandFor l h self.old.interpreter.formatter.composer
+            → OnOk result (MayGoOn self.old h) }
     {
         if self.unread.has_open_escape() {
             return self.end_escape(out, err);
         }
-        if self.formatter.is_unfinished(self.phase) {
+        if self.interpreter.is_unfinished(self.phase) {
             return self.end_line(out, err);
         }
         match self.phase {
@@ -70,7 +72,7 @@ impl Running {
     {
         let line = self.unread.line();
         self.phase = Phase::LastMacro;
-        match self.formatter.read_last_macro(&mut self.unread) {
+        match self.interpreter.read_last_macro(&mut self.unread) {
             Ok(sprung) => self.go_on(sprung, err),
             Err(halt) => Err(self.halted(halt, line, line, err)),
         }
@@ -84,7 +86,7 @@ impl Running {
             (seen failures (O.sunk out.new) (E.sunk err.new)) result }
     {
         let line = self.unread.line();
-        match self.formatter.end_input_line(&mut self.unread, out, err) {
+        match self.interpreter.end_input_line(&mut self.unread, out, err) {
             Ok(sprung) => self.go_on(sprung, err),
             Err(halt) => Err(self.halted(halt, line, line, err)),
         }
@@ -100,7 +102,7 @@ impl Running {
     {
         let line = self.unread.line();
         self.phase = Phase::Closing;
-        match self.formatter.finish(out) {
+        match self.interpreter.finish(out) {
             Ok(sprung) => self.go_on(sprung, err),
             Err(halt) => Err(self.halted(halt, line, line, err)),
         }
@@ -126,7 +128,7 @@ impl Running {
             Halt::Refused(_) => line_before,
             _ => line,
         };
-        halt.status(self.limits, told, err)
+        status(halt, self.limits, told, err)
     }
 
     /// The source failed: the status of the run.

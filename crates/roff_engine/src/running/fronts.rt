@@ -1,11 +1,11 @@
 //! Runs: bytes in front that do alike, and are taken together.
 
 ghost use Rattle.std.specs.Prelude.{◌≡◌, [], true, slice_index_or};
-ghost use Rattle.roff_reader.specs.Reader.Runs.{IsRun};
+ghost use Rattle.roff_fronts.specs.Runs.{IsRun};
 ghost use Rattle.roff_scan.specs.declared.run_kind.RunKind.TheVariants.{Text as TextRun};
 
 use super::Running;
-use roff_reader::RunKind;
+use roff_fronts::{RunKind, run_half_read, take_run};
 use roff_scan::ByteSource;
 
 impl Running {
@@ -14,12 +14,10 @@ impl Running {
     /// Takes bytes that stand in front and do this; none of text, which are told.
     #[inline(always)]
     pub(super) fn take_run<S: ByteSource>(&mut self, kind: RunKind, source: &mut S)
-        requires { IsRun kind self.old.formatter.reader.reading self.old.unread.input.escapes }
+        requires { IsRun kind self.old.interpreter.reader.reading self.old.unread.input.escapes }
         ensures { GoesPastOver S.ByteSource source.old source.new self.old self.new }
     {
-        self.formatter
-            .reader
-            .take_run(kind, &mut self.unread, source);
+        take_run(&mut self.interpreter.reader, kind, &mut self.unread, source);
     }
 
     /// Takes bytes of a title's part together that stand in front, where a title is read.
@@ -27,7 +25,7 @@ impl Running {
     pub(super) fn take_title_front<S: ByteSource>(&mut self, source: &mut S)
         ensures { GoesPastOver S.ByteSource source.old source.new self.old self.new }
     {
-        self.formatter
+        self.interpreter
             .reader
             .take_title_front(&mut self.unread, source);
     }
@@ -36,11 +34,11 @@ impl Running {
     /// front of an escape behind them.
     #[inline(always)]
     pub(super) fn tell_line<S: ByteSource>(&mut self, source: &mut S)
-        requires { IsRun TextRun self.old.formatter.reader.reading self.old.unread.input.escapes }
+        requires { IsRun TextRun self.old.interpreter.reader.reading self.old.unread.input.escapes }
         ensures { GoesPastOver S.ByteSource source.old source.new self.old self.new }
     {
         if self.tell_front(source)
-            && let Some(kind) = self.formatter.reader.run_half_read(&self.unread)
+            && let Some(kind) = run_half_read(&self.interpreter.reader, &self.unread)
         {
             self.take_run(kind, source);
         }
@@ -51,11 +49,11 @@ impl Running {
     /// is seen.
     #[inline(never)]
     fn tell_front<S: ByteSource>(&mut self, source: &mut S) -> bool
-        requires { IsRun TextRun self.old.formatter.reader.reading self.old.unread.input.escapes }
+        requires { IsRun TextRun self.old.interpreter.reader.reading self.old.unread.input.escapes }
         ensures { GoesPastOver S.ByteSource source.old source.new self.old self.new }
     {
         let front = self.unread.front(source);
-        let count = self.formatter.text_front(front);
+        let count = self.interpreter.formatter.text_front(front);
         let meets_escape = has_backslash_at(front, count);
         self.unread.pass(source, count);
         meets_escape

@@ -1,8 +1,8 @@
 //! Bytes that are taken at once: those that change nothing, and fronts of control lines.
 
 ghost use Rattle.std.specs.Prelude.{◌≡◌, ℕ, [], true, false, None};
-ghost use Rattle.roff_reader.specs.ControlFronts.{BeginsControl, TakesAtBeginning};
-ghost use Rattle.roff_reader.specs.Reader.Runs.{IsRun};
+ghost use Rattle.roff_fronts.specs.ControlFronts.{BeginsControl, TakesAtBeginning};
+ghost use Rattle.roff_fronts.specs.Runs.{IsRun};
 ghost use Rattle.roff_scan.specs.declared.run_kind.RunKind.TheVariants.{Dropped as DroppedRun};
 ghost use Rattle.roff_run.specs.Reading.Returns.{behind_return};
 ghost use Rattle.roff_run.specs.Stages.{EndsLine};
@@ -12,7 +12,7 @@ ghost use Rattle.roff_scan.specs.Unread.Calls.{PassesEnd, PassesReturn};
 ghost use Rattle.roff_engine.specs.Clauses.{due, waiting_in};
 
 use super::Running;
-use roff_reader::RunKind;
+use roff_fronts::{RunKind, begins_control_line, read_control_front, run_kind, take_run};
 use roff_scan::ByteSource;
 
 impl Running {
@@ -24,7 +24,7 @@ impl Running {
     pub(crate) fn pass_over<S: ByteSource>(&mut self, source: &mut S) -> bool
         ensures { GoesFurtherOver result S.ByteSource source.old source.new self.old self.new }
     {
-        if self.formatter.reader.begins_control_line() && !self.unread.has_open_escape() {
+        if begins_control_line(&self.interpreter.reader) && !self.unread.has_open_escape() {
             self.pass_control_line(source)
         } else {
             self.pass_line(source)
@@ -35,17 +35,13 @@ impl Running {
     /// takes the end of a call. Returns whether a line begins behind them.
     #[inline(never)]
     fn pass_control_line<S: ByteSource>(&mut self, source: &mut S) -> bool
-        requires begins { BeginsControl self.old.formatter.reader.reading }
-        requires none_due { due self.old.formatter.reader.reading ≡ None }
-        requires takes { TakesAtBeginning self.old.formatter.reader.reading }
+        requires begins { BeginsControl self.old.interpreter.reader.reading }
+        requires none_due { due self.old.interpreter.reader.reading ≡ None }
+        requires takes { TakesAtBeginning self.old.interpreter.reader.reading }
         requires none_half { self.old.unread.input.escapes ≡ [] }
         ensures { GoesFurtherOver result S.ByteSource source.old source.new self.old self.new }
     {
-        if self
-            .formatter
-            .reader
-            .read_control_front(&mut self.unread, source)
-        {
+        if read_control_front(&mut self.interpreter.reader, &mut self.unread, source) {
             self.pass_line(source)
         } else {
             self.pass_return()
@@ -58,9 +54,9 @@ impl Running {
         ensures passes { result ≡ true → PassesReturn self.old.unread self.new.unread }
         ensures within { result ≡ true → IsWithin self.new.unread }
         ensures reads { result ≡ true → self.new ≡ record self.old {
-          formatter = record self.old.formatter {
-            reader = record self.old.formatter.reader {
-              reading = behind_return 0 self.old.formatter.reader.reading;
+          interpreter = record self.old.interpreter {
+            reader = record self.old.interpreter.reader {
+              reading = behind_return 0 self.old.interpreter.reader.reading;
             };
           };
           unread = self.new.unread;
@@ -71,7 +67,7 @@ impl Running {
             return false;
         }
         self.unread.stays_within();
-        self.formatter.reader.end_call(0);
+        self.interpreter.reader.end_call(0);
         true
     }
 
@@ -81,7 +77,7 @@ impl Running {
     fn pass_line<S: ByteSource>(&mut self, source: &mut S) -> bool
         ensures { GoesFurtherOver result S.ByteSource source.old source.new self.old self.new }
     {
-        match self.formatter.reader.run_kind(&self.unread) {
+        match run_kind(&self.interpreter.reader, &self.unread) {
             None => {
                 self.take_title_front(source);
                 self.pass_end()
@@ -93,7 +89,7 @@ impl Running {
     /// The same of bytes that do this.
     #[inline(always)]
     fn pass_run<S: ByteSource>(&mut self, kind: RunKind, source: &mut S) -> bool
-        requires { IsRun kind self.old.formatter.reader.reading self.old.unread.input.escapes }
+        requires { IsRun kind self.old.interpreter.reader.reading self.old.unread.input.escapes }
         ensures { GoesFurtherOver result S.ByteSource source.old source.new self.old self.new }
     {
         match kind {
@@ -113,15 +109,15 @@ impl Running {
     /// follows. Returns whether it did.
     #[inline(always)]
     fn pass_end(&mut self) -> bool
-        ensures none_due { result ≡ true → due self.old.formatter.reader.reading ≡ None }
-        ensures takes { result ≡ true → waiting_in self.old.formatter.reader.reading
+        ensures none_due { result ≡ true → due self.old.interpreter.reader.reading ≡ None }
+        ensures takes { result ≡ true → waiting_in self.old.interpreter.reader.reading
             self.old.unread.input ≡ Takes }
         ensures passes { result ≡ true → PassesEnd self.old.unread self.new.unread }
         ensures within { result ≡ true → IsWithin self.new.unread }
         ensures unchanged { result ≡ false → self.new ≡ self.old }
         ensures others { self.new ≡ record self.old { unread = self.new.unread } }
     {
-        if self.unread.is_none_ahead() || !self.formatter.reader.takes_any(&self.unread) {
+        if self.unread.is_none_ahead() || !self.interpreter.reader.takes_any(&self.unread) {
             return false;
         }
         let is_passed = self.unread.pass_end();
@@ -133,14 +129,12 @@ impl Running {
     /// whether it took that.
     #[inline(never)]
     fn pass_dropped<S: ByteSource>(&mut self, within_block: bool, source: &mut S) -> bool
-        requires { IsRun (DroppedRun within_block) self.old.formatter.reader.reading
+        requires { IsRun (DroppedRun within_block) self.old.interpreter.reader.reading
             self.old.unread.input.escapes }
         ensures { GoesFurtherOver result S.ByteSource source.old source.new self.old self.new }
     {
         let kind = RunKind::Dropped { within_block };
-        self.formatter
-            .reader
-            .take_run(kind, &mut self.unread, source);
+        take_run(&mut self.interpreter.reader, kind, &mut self.unread, source);
         if !within_block && !self.unread.has_open_escape() {
             self.end_dropped(source)
         } else {
@@ -151,8 +145,8 @@ impl Running {
     /// Takes a newline at once that ends the line, if it stands in front. Returns whether it did.
     #[inline(always)]
     fn end_dropped<S: ByteSource>(&mut self, source: &mut S) -> bool
-        requires ends { EndsLine self.old.formatter.reader.reading }
-        requires none_due { due self.old.formatter.reader.reading ≡ None }
+        requires ends { EndsLine self.old.interpreter.reader.reading }
+        requires none_due { due self.old.interpreter.reader.reading ≡ None }
         requires none_half { self.old.unread.input.escapes ≡ [] }
         ensures { GoesFurtherOver result S.ByteSource source.old source.new self.old self.new }
     {
@@ -160,7 +154,7 @@ impl Running {
             return false;
         }
         self.unread.stays_within();
-        self.formatter.reader.begin_next_line();
+        self.interpreter.reader.begin_next_line();
         true
     }
 }

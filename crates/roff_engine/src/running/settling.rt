@@ -18,7 +18,7 @@ impl Running {
         ensures { (failures : ℕ) (out : Sunk) → DoesDue self.old self.new
             (seen failures out (E.sunk err.old)) (seen failures out (E.sunk err.new)) result }
     {
-        match self.formatter.reader.due() {
+        match self.interpreter.reader.due() {
             None => Ok(()),
             Some(due) => self.carry_out(due, err),
         }
@@ -27,7 +27,7 @@ impl Running {
     /// The same of what is due.
     #[inline(never)]
     fn carry_out<E: ByteSink>(&mut self, what: Due, err: &mut E) -> Result<(), Status>
-        requires { due self.old.formatter.reader.reading ≡ Some what }
+        requires { due self.old.interpreter.reader.reading ≡ Some what }
         ensures { (failures : ℕ) (out : Sunk) → DoesDue self.old self.new
             (seen failures out (E.sunk err.old)) (seen failures out (E.sunk err.new)) result }
     {
@@ -43,10 +43,10 @@ impl Running {
     /// Leaves the input, and reads what all ends of bodies lead back to. As the run closes nothing is
     /// left, and a line begins.
     fn leave_input(&mut self)
-        requires { due self.old.formatter.reader.reading ≡ Some Leaves }
+        requires { due self.old.interpreter.reader.reading ≡ Some Leaves }
         ensures { LeavesInput self.old self.new }
     {
-        self.formatter.reader.begin_next_line();
+        self.interpreter.reader.begin_next_line();
         match self.phase {
             Phase::Closing => {}
             Phase::Reading => self.drop_ahead(),
@@ -57,16 +57,16 @@ impl Running {
     /// Drops what stands ahead of the source, of which nothing more is taken, and reads what all ends of
     /// bodies lead back to.
     fn drop_ahead(&mut self)
-        requires { self.old.formatter.reader.reading ≡ LineStart }
+        requires { self.old.interpreter.reader.reading ≡ LineStart }
         ensures { DropsAhead self.old self.new }
     {
         let back = self.unread.leave();
-        self.formatter.reader.end_call(back);
+        self.interpreter.reader.end_call(back);
     }
 
     /// Tells a message, which may end the run.
     fn report_held_text<E: ByteSink>(&mut self, aborts: bool, err: &mut E) -> Result<(), Status>
-        requires { due self.old.formatter.reader.reading ≡ Some (Tells aborts) }
+        requires { due self.old.interpreter.reader.reading ≡ Some (Tells aborts) }
         ensures { (failures : ℕ) (out : Sunk) → DoesDue self.old self.new
             (seen failures out (E.sunk err.old)) (seen failures out (E.sunk err.new)) result }
     {
@@ -74,7 +74,7 @@ impl Running {
             Ok(()) if aborts => Err(Status::Aborted),
             Ok(()) => {
                 self.unread.begin_arguments();
-                self.formatter.reader.begin_next_line();
+                self.interpreter.reader.begin_next_line();
                 Ok(())
             }
             Err(_) => Err(Status::Device),

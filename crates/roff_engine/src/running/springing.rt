@@ -2,11 +2,10 @@
 
 ghost use Rattle.roff_engine.specs.Clauses.{Sunk, seen};
 ghost use Rattle.std.specs.Prelude.{ℕ, ◌≡◌, ◌≤◌, [], Some, drop};
-ghost use Rattle.roff_engine.specs.Formatter.Sprung.{event_going_on, left_behind};
+ghost use Rattle.roff_formatter.specs.Formatter.Sprung.{event_going_on, left_behind};
 
 use super::Running;
-use crate::halt::Halt;
-use crate::sprung::Sprung;
+use roff_formatter::{Halt, Sprung};
 use roff_pages::LayoutEvent;
 use roff_run::{PageEvent, Status};
 use roff_sinks::ByteSink;
@@ -39,7 +38,11 @@ impl Running {
     {
         self.put_left_back(sprung);
         let line = self.unread.line();
-        match self.formatter.reader.spring(sprung.name, &mut self.unread) {
+        match self
+            .interpreter
+            .reader
+            .spring(sprung.name, &mut self.unread)
+        {
             Ok(()) => Ok(()),
             Err(limit) => Err(self.halted(Halt::Limit(limit), line, line, err)),
         }
@@ -48,7 +51,7 @@ impl Running {
     /// Puts the events back that are left of those that the reader keeps: the last one first. An eject
     /// in front of them may go on.
     fn put_left_back(&mut self, sprung: Sprung)
-        ensures { PutsBack (left_behind sprung self.old.formatter.reader.meaning.events)
+        ensures { PutsBack (left_behind sprung self.old.interpreter.reader.meaning.events)
             self.old self.new }
     {
         let first = sprung.left as usize;
@@ -57,8 +60,8 @@ impl Running {
             return;
         }
         self.put_back(first + 1);
-        if let Some(event) = self.formatter.reader.event(first) {
-            let event = self.formatter.reader.keep_title_of(going_on(event));
+        if let Some(event) = self.interpreter.reader.event(first) {
+            let event = self.interpreter.reader.keep_title_of(going_on(event));
             self.unread.put_back(event);
         }
     }
@@ -66,13 +69,14 @@ impl Running {
     /// Puts the events back that the reader keeps, from an index on: the last one first. A title among
     /// them is kept.
     fn put_back(&mut self, first: usize)
-        ensures { PutsBack (drop first self.old.formatter.reader.meaning.events) self.old self.new }
+        ensures { PutsBack (drop first self.old.interpreter.reader.meaning.events)
+            self.old self.new }
     {
         let mut index = self.end_of_events(first);
         while index > first {
             index -= 1;
-            if let Some(event) = self.formatter.reader.event(index) {
-                let event = self.formatter.reader.keep_title_of(event);
+            if let Some(event) = self.interpreter.reader.event(index) {
+                let event = self.interpreter.reader.keep_title_of(event);
                 self.unread.put_back(event);
             }
         }
@@ -81,10 +85,10 @@ impl Running {
     /// The index behind the last event that the reader keeps, of those from an index on.
     fn end_of_events(&self, first: usize) -> usize
         ensures reached { first ≤ result }
-        ensures end { drop result self.now.formatter.reader.meaning.events ≡ [] }
+        ensures end { drop result self.now.interpreter.reader.meaning.events ≡ [] }
     {
         let mut index = first;
-        while self.formatter.reader.event(index).is_some() {
+        while self.interpreter.reader.event(index).is_some() {
             index += 1;
         }
         index

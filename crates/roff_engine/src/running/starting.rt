@@ -8,7 +8,7 @@ ghost use Rattle.roff_run.specs.declared.start.Start.{Start as StartOf};
 ghost use Rattle.roff_ahead.specs.declared.looked.Looked.TheVariants.{Nothing};
 
 use super::Running;
-use crate::halt::Halt;
+use roff_formatter::Halt;
 use roff_num::{Limit, Num};
 use roff_run::{Start, Status};
 use roff_sinks::ByteSink;
@@ -47,7 +47,7 @@ impl Running {
     {
         let mut rest = given;
         while let Some((first, others)) = rest.split_first() {
-            match self.formatter.give(first.0, first.1) {
+            match self.interpreter.give(first.0, first.1) {
                 Ok(()) => rest = others,
                 Err(limit) => return Err(limit),
             }

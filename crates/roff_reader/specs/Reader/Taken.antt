@@ -6,8 +6,8 @@ use Rattle.roff_num.specs.declared.limits.Limits.{Limits}
 use Rattle.roff_ahead.specs.Unread.{input_refusal}
 use Rattle.roff_run.specs.Environments.{PageHistory}
 use Rattle.roff_run.specs.Events.Steps.{events_of, messages_of}
-use Rattle.roff_requests.specs.Composer.Standing.{StandFor}
-use Rattle.roff_requests.specs.declared.composer.Composer.{Composer as ComposerOf}
+use Rattle.roff_composer.specs.Composer.Standing.{StandFor}
+use Rattle.roff_composer.specs.declared.composer.Composer.{Composer as ComposerOf}
 use Rattle.roff_run.specs.Registers.{Change, Known, changed_by_all}
 use Rattle.roff_run.specs.Registers.Capped.{Capped, is_past_cap}
 use Rattle.roff_run.specs.Run.{known_at}

@@ -7,8 +7,8 @@ ghost use Rattle.roff_reader.specs.Clauses.{row_of, no_unit_found, unit_found, a
 ghost use Rattle.roff_reader.specs.Clauses.{name_at as name_given_at};
 
 use super::Reader;
+use roff_composer::Composer;
 use roff_num::{Limit, ShortName};
-use roff_requests::Composer;
 use roff_run::{LineReading, LineState, PageEvent, Request, Step};
 use roff_scan::{ArgumentList, CopyUnit, Found, Unread};
 
@@ -58,6 +58,7 @@ impl Reader {
     }
 
     /// The end of a line that was read as arguments.
+    #[inline(always)]
     fn end_arguments(
         &mut self,
         breaks: bool,

@@ -13,8 +13,8 @@ ghost use Rattle.roff_run.specs.Reading.Found.{place_in, read_in};
 
 use super::Reader;
 use super::calls::CALL_ARGUMENTS;
+use roff_composer::Composer;
 use roff_num::Limit;
-use roff_requests::Composer;
 use roff_run::{LineState, PageEvent, Step};
 use roff_scan::{CopyUnit, Unread};
 

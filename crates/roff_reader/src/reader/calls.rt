@@ -7,13 +7,13 @@ ghost use Rattle.roff_run.specs.declared.request.Called.TheVariants as Called;
 
 use super::Reader;
 use super::control_lines::called_by;
+use roff_composer::Composer;
 use roff_num::{Limit, ShortName};
-use roff_requests::Composer;
 use roff_run::{Called, LineState, PageEvent, Step};
 use roff_scan::{CopyUnit, Found, Unread};
 
 /// How many arguments a body gets that a line calls.
-pub(super) const CALL_ARGUMENTS: usize = 9;
+pub const CALL_ARGUMENTS: usize = 9;
 
 impl Reader {
     /// Something behind the name of a body that a line calls.
@@ -39,6 +39,7 @@ impl Reader {
 
     /// A unit behind the name of a body that a line calls: a newline ends the line, and the body is
     /// read.
+    #[inline(always)]
     pub(super) fn read_unit_of_call(
         &mut self,
         name: ShortName,

@@ -10,8 +10,8 @@ ghost use Rattle.roff_reader.specs.Clauses.{TakesAs, condition_found, decided, i
 
 use super::Reader;
 use super::places::at_start;
+use roff_composer::Composer;
 use roff_num::Limit;
-use roff_requests::Composer;
 use roff_run::{LineState, PageEvent, Step};
 use roff_scan::{Decision, Found, Surroundings, Unread};
 

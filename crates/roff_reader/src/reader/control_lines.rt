@@ -3,14 +3,14 @@
 ghost use Rattle.std.specs.Prelude.{◌≡◌, None, Ok, IfSome};
 ghost use Rattle.roff_run.specs.Reading.ControlLines.{behind_called};
 ghost use Rattle.roff_run.specs.declared.step.Step.TheVariants.{Nothing};
-ghost use Rattle.roff_reader.specs.ControlFronts.{LeadsTo, LeadsToElse, input_begun};
+ghost use Rattle.roff_reader.specs.NamesRead.{LeadsTo, LeadsToElse, input_begun};
 ghost use Rattle.roff_reader.specs.Clauses.{ComposerOf, NameOf, TakesAs, behind_name};
 ghost use Rattle.roff_reader.specs.Clauses.{undropped_taking};
 ghost use Rattle.roff_reader.specs.Clauses.{line_taking, row_of, name_ended_taking, called_by};
 
 use super::Reader;
+use roff_composer::Composer;
 use roff_num::{Limit, ShortName};
-use roff_requests::Composer;
 use roff_run::{Called, LineReading, LineState, PageEvent, Request, Step, ends_name};
 use roff_scan::{Surroundings, Unread};
 use roff_store::Kind;
@@ -137,7 +137,7 @@ impl Reader {
 /// What is read behind a name that stands for this, if nothing else changes but what is half read:
 /// of all but the other branch of a condition.
 #[inline(always)]
-pub(super) fn behind_called(breaks: bool, called: Called) -> Option<LineState>
+pub fn behind_called(breaks: bool, called: Called) -> Option<LineState>
     ensures leads { IfSome result (λ reading. LeadsTo (λ i. behind_called i breaks called) reading) }
     ensures other { result ≡ None → LeadsToElse (λ i. behind_called i breaks called) }
 {
@@ -172,7 +172,7 @@ fn behind_request(breaks: bool, request: Request) -> Option<LineState>
 }
 
 /// Begins to read a condition, if one is read.
-pub(super) fn begin_deciding(reading: LineState, unread: &mut Unread<PageEvent>)
+pub fn begin_deciding(reading: LineState, unread: &mut Unread<PageEvent>)
     ensures { unread.new
         ≡ record unread.old { input = input_begun reading unread.old.input } }
 {
@@ -183,7 +183,8 @@ pub(super) fn begin_deciding(reading: LineState, unread: &mut Unread<PageEvent>)
 }
 
 /// What a line does that begins with a name.
-pub(super) fn called_by(name: ShortName, unread: &Unread<PageEvent>) -> Called
+#[inline(always)]
+pub fn called_by(name: ShortName, unread: &Unread<PageEvent>) -> Called
     ensures { result ≡ called_by name unread.now.input.names }
 {
     match unread.get(&name.name()) {

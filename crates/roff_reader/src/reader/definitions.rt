@@ -10,8 +10,8 @@ use super::Reader;
 use super::arguments::short_name_at;
 use super::strings::{begin_string, enter_string};
 use arrayvec::ArrayVec;
+use roff_composer::Composer;
 use roff_num::{Limit, ShortName};
-use roff_requests::Composer;
 use roff_run::{DefinitionLine, EndMark, LineState, LinesFor, PageEvent, Step, matched_behind};
 use roff_scan::{CopyUnit, Found, Unread};
 

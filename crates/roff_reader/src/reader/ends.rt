@@ -6,8 +6,8 @@ ghost use Rattle.roff_reader.specs.Clauses.{end_taking, escape_ended, interrupte
 ghost use Rattle.roff_reader.specs.Clauses.{LineStart, meaning_events};
 
 use super::Reader;
+use roff_composer::Composer;
 use roff_num::{Limit, ShortName};
-use roff_requests::Composer;
 use roff_run::{LineState, Message, PageEvent, Request, Step, TextStep};
 use roff_scan::{CopyUnit, Unread};
 

@@ -8,8 +8,8 @@ ghost use Rattle.roff_reader.specs.Clauses.{putting_argument};
 
 use super::Reader;
 use itoa::Buffer;
+use roff_composer::Composer;
 use roff_num::{Limit, Name};
-use roff_requests::Composer;
 use roff_run::{LineState, Message, PageEvent, Step};
 use roff_scan::{CopyUnit, NameUse, Remark, Unread};
 

@@ -8,8 +8,8 @@ ghost use Rattle.roff_reader.specs.Clauses.{known_at};
 
 use super::Reader;
 use super::places::{at_start, on_line};
+use roff_composer::Composer;
 use roff_num::Limit;
-use roff_requests::Composer;
 use roff_run::{LineState, PageEvent, Step};
 use roff_scan::{Found, Surroundings, Unread};
 

@@ -5,8 +5,8 @@ ghost use Rattle.roff_reader.specs.Clauses.{ComposerOf, Telling, TakesAs, going_
 ghost use Rattle.roff_reader.specs.Clauses.{message_found, message_unit};
 
 use super::Reader;
+use roff_composer::Composer;
 use roff_num::Limit;
-use roff_requests::Composer;
 use roff_run::{LineState, PageEvent, Step};
 use roff_scan::{CopyUnit, Found, Unread};
 

@@ -13,9 +13,10 @@ ghost use Rattle.roff_reader.specs.Clauses.{known_at, line_ended, names_given, r
 ghost use Rattle.roff_run.specs.declared.request.Request.TheVariants.{NumberRegister};
 
 use super::Reader;
+use roff_composer::Composer;
 use roff_num::{Limit, Name, Num};
 use roff_requests::{
-    Changes, Composer, Effect, Given, RequestFacts, are_none, effect, name_given, tab_stops,
+    Changes, Effect, Given, RequestFacts, are_none, effect, name_given, tab_stops,
 };
 use roff_run::{LineState, Message, PageEvent, Request, Step};
 use roff_scan::{ArgumentList, Unread};

@@ -5,7 +5,7 @@ ghost use Rattle.roff_num.specs.declared.limits.Limits.{Limits};
 ghost use Rattle.roff_reader.specs.Clauses.{AllRegisters, PageHistory, PageInput, StandFor, at_start};
 ghost use Rattle.roff_reader.specs.Clauses.{known_at, on_line};
 
-use roff_requests::Composer;
+use roff_composer::Composer;
 use roff_run::TextLine;
 use roff_scan::Surroundings;
 

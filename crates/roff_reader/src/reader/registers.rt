@@ -10,8 +10,9 @@ ghost use Rattle.roff_run.specs.Requests.Effects.{page_numbered};
 ghost use Rattle.roff_reader.specs.Clauses.{names_given, register_named, value_in_force};
 
 use super::Reader;
+use roff_composer::Composer;
 use roff_num::{Direction, Limit, Name, Num};
-use roff_requests::{Composer, Facts, name_given, register_named};
+use roff_requests::{Facts, name_given, register_named};
 use roff_run::{LineEvents, Message, PageEvent, Step};
 use roff_scan::{ArgumentList, Unread};
 
@@ -49,6 +50,7 @@ impl Reader {
     }
 
     /// The text of a register that isn't stepped is put in front.
+    #[inline(always)]
     pub(super) fn put_register(
         &self,
         name: &Name,

@@ -5,8 +5,8 @@ ghost use Rattle.roff_reader.specs.Clauses.{string_entered};
 ghost use Rattle.roff_reader.specs.Clauses.{string_grown, string_text_found, string_unit};
 
 use super::Reader;
+use roff_composer::Composer;
 use roff_num::{Limit, ShortName};
-use roff_requests::Composer;
 use roff_run::{LineState, PageEvent, Step};
 use roff_scan::{CopyUnit, Found, Unread};
 

@@ -14,8 +14,8 @@ ghost use Rattle.roff_reader.specs.Clauses.{PageInput, first_taking, going_on, g
 ghost use Rattle.roff_reader.specs.Clauses.{name_taking, text_found};
 
 use super::Reader;
+use roff_composer::Composer;
 use roff_num::{Limit, Name};
-use roff_requests::Composer;
 use roff_run::{LineEvents, LineState, PageEvent, Step, TextLine, TextStep};
 use roff_scan::{CopyUnit, Found, NameUse, Unread};
 

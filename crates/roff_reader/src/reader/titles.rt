@@ -17,9 +17,9 @@ ghost use Rattle.roff_reader.specs.Clauses.{ComposerOf, PageUnread, TakesAs};
 ghost use Rattle.roff_reader.specs.Reader.Titles.{ReadsTitle};
 
 use super::Reader;
+use roff_composer::{Composer, TitleText};
 use roff_lines::UNPADDABLE;
 use roff_num::{Format, Limit, Name};
-use roff_requests::{Composer, TitleText};
 use roff_run::{
     CharacterName, LineState, Message, PageEvent, Request, Step, TitlePart, WhichTitle,
 };

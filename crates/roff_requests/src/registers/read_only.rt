@@ -52,6 +52,7 @@ const COLUMN: u64 = 24;
 const LINE: u64 = 40;
 
 /// What a read-only register asks for, if a name is one's.
+#[inline(always)]
 pub(super) fn query_of(name: &Name) -> Option<Query>
     ensures { result ≡ query_of name.now }
 {

@@ -2,14 +2,14 @@
 
 ghost use Rattle.std.specs.Prelude.{◌≡◌, ◌∷◌, [], Ok, replicate};
 ghost use Rattle.roff_lines.specs.Glyphs.{glyph_blank};
-ghost use Rattle.roff_requests.specs.TitleText.Fronts.{AddsFront, is_plain, kept_byte};
+ghost use Rattle.roff_requests.specs.Registers.Fronts.{AddsFront, is_plain, kept_byte};
 ghost use Rattle.roff_run.specs.Reading.Titles.{is_page_character};
 ghost use Rattle.roff_run.specs.Titles.{title_of, with_title_kept};
 ghost use Rattle.roff_run.specs.Registers.{CharacterIs, PartEnds, TitleBegins, TitleGets};
 ghost use Rattle.roff_run.specs.Registers.Capped.{admitted, title_admitted, title_after, with_change};
 
 use super::RunRegisters;
-use crate::title_text::TitleText;
+use roff_composer::TitleText;
 use roff_lines::UNPADDABLE;
 use roff_num::{Format, Limit};
 use roff_run::{TitlePart, WhichTitle};

@@ -17,7 +17,7 @@ returns-in-Err-clause-runs g c =
     let fresh = c.self.invariant.1 in
     let failures = g.S.ByteSource.failures c.args.source.now in
     let out = g.O.ByteSink.sunk c.args.out.now in
-    let run : Coded = record { limits = c.self.inside.limits; phase = Reading; formatter = c.self.inside.formatter; unread = c.self.inside.unread } in
+    let run : Coded = record { limits = c.self.inside.limits; phase = Reading; interpreter = c.self.inside.interpreter; unread = c.self.inside.unread } in
     let unread : run.unread.looked ≡ Nothing = ap (λ (u : PageUnread). u.looked) fresh.unread in
     subst (λ (v : Setup). Runs v.limits v.start c.in-Err.status (g.S.ByteSource.gives c.args.source.now) (g.S.ByteSource.gives c.args.source.now)
     (seen failures out (g.E.ByteSink.sunk c.args.err.now)) (seen failures out (g.E.ByteSink.sunk c.begin.new.err)))

@@ -10,5 +10,5 @@ returns-in-Tells g c = λ failures out. c.report_held_text.ensures failures out
 
 pub returns-in-Leaves : goal.returns-in-Leaves
 returns-in-Leaves g c = λ failures out.
-    let is : due c.args.self.now.formatter.reader.reading ≡ Some Leaves = c.requires ∙ ap (λ (d : Due). Some d) c.in-Leaves.is in
+    let is : due c.args.self.now.interpreter.reader.reading ≡ Some Leaves = c.requires ∙ ap (λ (d : Due). Some d) c.in-Leaves.is in
     leaves_due c.args.self.now c.leave_input.new.self _ is c.leave_input.ensures

@@ -23,14 +23,14 @@ returns-then-is_unfinished-clause-acts g c = λ may failures.
     let old = c.args.self.now in
     DoesItem-as input_ends (input_ended true) _ _ _ _ _ _
     (λ tape h messages stood. input_ends-no_half (state_at tape old h messages) true (sym c.has_open_escape.ensures ∙ c.if-has_open_escape.false)
-    (sym (c.is_unfinished.ensures old.limits h old.formatter.reader.registers.all old.unread.input stood) ∙ c.if-is_unfinished.true))
+    (sym (c.is_unfinished.ensures old.limits h old.interpreter.reader.registers.all old.unread.input stood) ∙ c.if-is_unfinished.true))
     (c.end_line.ensures failures)
 
 pub returns-then-is_unfinished-clause-goes_on : goal.returns-then-is_unfinished-clause-goes_on
 returns-then-is_unfinished-clause-goes_on g c = λ l h stood.
     let old = c.args.self.now in
     on_ok c.end_line.result (λ none unfinished closing.
-    let wrong : true ≡ false = sym c.if-is_unfinished.true ∙ c.is_unfinished.ensures l h old.formatter.reader.registers.all old.unread.input stood ∙ unfinished in absurd (cc))
+    let wrong : true ≡ false = sym c.if-is_unfinished.true ∙ c.is_unfinished.ensures l h old.interpreter.reader.registers.all old.unread.input stood ∙ unfinished in absurd (cc))
 
 pub returns-in-Reading-clause-acts : goal.returns-in-Reading-clause-acts
 returns-in-Reading-clause-acts g c = λ may failures.
@@ -39,7 +39,7 @@ returns-in-Reading-clause-acts g c = λ may failures.
     (λ tape h messages stood.
     let s = state_at tape old h messages in
     input_ends-no_half s false (sym c.has_open_escape.ensures ∙ c.if-has_open_escape.false)
-    (sym (c.is_unfinished.ensures old.limits h old.formatter.reader.registers.all old.unread.input stood) ∙ c.if-is_unfinished.false)
+    (sym (c.is_unfinished.ensures old.limits h old.interpreter.reader.registers.all old.unread.input stood) ∙ c.if-is_unfinished.false)
     ∙ ap (λ (p : Phase). phase_ended p s) c.in-Reading.is)
     (c.read_last_macro.ensures failures _)
 
@@ -54,7 +54,7 @@ returns-in-LastMacro-clause-acts g c = λ may failures.
     (λ tape h messages stood.
     let s = state_at tape old h messages in
     input_ends-no_half s false (sym c.has_open_escape.ensures ∙ c.if-has_open_escape.false)
-    (sym (c.is_unfinished.ensures old.limits h old.formatter.reader.registers.all old.unread.input stood) ∙ c.if-is_unfinished.false)
+    (sym (c.is_unfinished.ensures old.limits h old.interpreter.reader.registers.all old.unread.input stood) ∙ c.if-is_unfinished.false)
     ∙ ap (λ (p : Phase). phase_ended p s) c.in-LastMacro.is)
     (c.finish.ensures failures)
 
@@ -69,6 +69,6 @@ returns-in-Closing-clause-acts g c = λ may failures.
     (λ tape h messages stood.
     let s = state_at tape old h messages in
     input_ends-no_half s false (sym c.has_open_escape.ensures ∙ c.if-has_open_escape.false)
-    (sym (c.is_unfinished.ensures old.limits h old.formatter.reader.registers.all old.unread.input stood) ∙ c.if-is_unfinished.false)
+    (sym (c.is_unfinished.ensures old.limits h old.interpreter.reader.registers.all old.unread.input stood) ∙ c.if-is_unfinished.false)
     ∙ ap (λ (p : Phase). phase_ended p s) c.in-Closing.is)
     (closed_acts _ old _ may)

@@ -5,7 +5,7 @@ use Rattle.roff_run.specs.Reading.Items.{meaning_events}
 use Rattle.roff_run.specs.Registers.{Known}
 use Rattle.roff_run.specs.declared.line_state.LineState.TheVariants.{LineStart}
 use Rattle.roff_run.specs.declared.phase.Phase.TheVariants.{Closing, LastMacro}
-use Rattle.roff_engine.proofs.EventsLeft.{few-short}
+use Rattle.roff_formatter.proofs.EventsLeft.{few-short}
 use Rattle.roff_engine.proofs.Acting.{taking_acts, halted_acts}
 use Rattle.roff_engine.proofs.running.Running.finish.Goals as goal
 

@@ -1,5 +1,5 @@
 use Rattle.std.proofs.Common.{◌≡◌, ◌∙◌, sym, ap}
-use Rattle.roff_engine.specs.declared.halt.Halt.{Halt}
+use Rattle.roff_formatter.specs.declared.halt.Halt.{Halt}
 use Rattle.roff_engine.specs.Running.Turning.{line_told}
 use Rattle.roff_engine.proofs.Acting.{line_told-taken}
 use Rattle.roff_engine.proofs.running.Running.halted.Goals as goal

@@ -21,7 +21,7 @@ returns-else-read_control_front g c = λ out err.
     let source = kept.2 in
     goes_further_both _ _ _ _ _ _ _ _ _ _ _ _ _
     (goes_past_kept _ _ _ _ _ _ out err old _ (ap g.S.ByteSource.gives source) (ap g.S.ByteSource.notes source) (ap g.S.ByteSource.failures source)
-    (ap (λ (r : ReaderState). record old { formatter = record old.formatter { reader = r }; unread = c.read_control_front.new.unread }) kept.0
+    (ap (λ (r : ReaderState). record old { interpreter = record old.interpreter { reader = r }; unread = c.read_control_front.new.unread }) kept.0
     ∙ ap (λ (u : PageUnread). record old { unread = u }) kept.1))
     (let ends = c.pass_return.ensures in
     goes_further_returned _ _ _ (ap (λ (r : ReaderState). due r.reading) kept.0 ∙ c.requires.none_due)

@@ -7,7 +7,7 @@ use Rattle.roff_engine.proofs.running.Running.turn_half_read.Goals as goal
 
 pub turn_in_front-requires : goal.turn_in_front-requires
 turn_in_front-requires g c =
-    let old = c.args.self.now in sees-taking old.formatter.reader.reading old.unread.input (sym c.waiting.ensures ∙ c.in-Takes.is)
+    let old = c.args.self.now in sees-taking old.interpreter.reader.reading old.unread.input (sym c.waiting.ensures ∙ c.in-Takes.is)
 
 pub returns-in-Takes : goal.returns-in-Takes
 returns-in-Takes g c =

@@ -1,7 +1,7 @@
 use Rattle.std.proofs.Common.{◌-◌, ◌≡◌, ◌≤◌}
 use Rattle.std.specs.Prelude.{map, take}
 use Rattle.std.specs.List.{AllByRecursion}
-use Rattle.roff_requests.specs.TitleText.Fronts.{IsPlain, kept_byte}
+use Rattle.roff_requests.specs.Registers.Fronts.{IsPlain, kept_byte}
 use Rattle.roff_run.specs.TitleTexts.{with_bytes}
 use Rattle.roff_requests.proofs.registers.RunRegisters.add_front_to_title.Given as goal
 

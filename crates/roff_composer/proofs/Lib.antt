@@ -1,0 +1,4 @@
+pub mod EnvironmentRing
+pub mod GivenPages
+pub mod TitleTexts
+pub mod ToldBytes

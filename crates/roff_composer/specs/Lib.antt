@@ -1,0 +1,3 @@
+pub mod Environments
+pub mod Composer
+pub mod TitleText

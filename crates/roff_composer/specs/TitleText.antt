@@ -1,0 +1,2 @@
+-- A title's text in code.
+pub mod Kept

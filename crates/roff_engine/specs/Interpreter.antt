@@ -1,0 +1,3 @@
+-- What an interpreter does, as the definition has it.
+pub mod Performing
+pub mod Giving

@@ -1,0 +1,346 @@
+-- The first page, which begins in front of the first event that needs one.
+use Rattle.std.proofs.Common.{◌∙◌, ◌≡◌, ◌<◌, ℕ, Bool, true, false, not, ◌||◌, ◌&&◌, List, [], ◌∷◌, ◌++◌, length, Option, Some, None, ap, arith, refl, subst, sym, if◌then◌else◌}
+use Rattle.std.specs.Prelude.{is_some, nat_le, option_map}
+use Rattle.std.proofs.lemmas.Bool.{ne_eqb}
+use Rattle.roff_num.specs.declared.limits.Limits.{Limits}
+use Rattle.roff_lines.specs.Lines.{Finished, finished}
+use Rattle.roff_lines.specs.Words.{has_open_word}
+use Rattle.roff_lines.specs.declared.event.Event.{Event}
+use Rattle.roff_lines.specs.declared.glyph.Glyph.{Glyph}
+use Rattle.roff_lines.specs.declared.event.Event.TheVariants.{Print, Tab, WordEnd, Gap, LineEnd, Count, Break, Interrupt as Interrupted, Resume, Set}
+use Rattle.roff_pages.specs.Happenings.{Does, Places}
+use Rattle.roff_pages.specs.Layout.{Layout, page_place}
+use Rattle.roff_pages.specs.Puts.{appended}
+use Rattle.roff_pages.specs.Queries.{is_diverting, takes_text}
+use Rattle.roff_pages.specs.Turning.{page_begun, with_boxes, with_event}
+use Rattle.roff_pages.specs.declared.layout_event.LayoutEvent.TheVariants.{Begin}
+use Rattle.roff_composer.specs.Composer.Standing.{StandFor}
+use Rattle.roff_formatter.specs.declared.formatter.Formatter.{Formatter}
+use Rattle.roff_formatter.specs.Reaching.{Beginning, Reaches}
+use Rattle.roff_sinks.specs.Devices.{Seen, seen}
+use Rattle.roff_formatter.specs.Formatter.Performing.{SprungAt, acting, behind_next, behind_word}
+use Rattle.roff_formatter.specs.Formatter.Sprung.{may_be_left, sprung_before}
+use Rattle.roff_formatter.specs.Formatter.Paging.{BeginsPage, BeginsFor, ReadyFor}
+use Rattle.roff_run.specs.Environments.{PageHistory, interrupted_line, text_of}
+use Rattle.roff_run.specs.Layouts.{laid_out}
+use Rattle.roff_run.specs.Output.{layout_of, written_by}
+use Rattle.roff_run.specs.Springs.{begins, left_of, needs_page, next, own_word_end, page_begin_or, word_end_of}
+use Rattle.roff_run.specs.PageEvents.{PageEvent}
+use Rattle.roff_run.specs.Registers.{AllRegisters}
+use Rattle.roff_run.specs.Titles.{told}
+use Rattle.roff_run.specs.declared.event.PageEvent.TheVariants.{Text, Interrupt, Environment, Back, InputTrap as SetsTrap, Page, Title}
+use Rattle.roff_run.specs.Run.{State, performed, performing, sprung_at, step, unless_refused}
+use Rattle.roff_run.specs.TurnsToCome.{left_by, lines_left}
+use Rattle.roff_run.proofs.LinesLeft.{lines_left-event}
+use Rattle.roff_num.specs.declared.short_name.ShortName.{ShortName}
+use Rattle.roff_run.specs.Run.Counts.{refusal}
+use Rattle.roff_sinks.specs.Sinks.{Sunk, Writes}
+use Rattle.roff_sinks.proofs.Appending.{Writes-nothing}
+use Rattle.roff_formatter.proofs.EventsLeft.{most-left}
+use Rattle.roff_formatter.proofs.LinesLeft.{left-leaves}
+use Rattle.roff_formatter.proofs.Performed.{event_performed}
+use Rattle.roff_formatter.proofs.Placed.{nothing_allowed, nothing_written, stands_set}
+
+-- the history with the first page's beginning, if it begins
+abbrev pub begun_by : Bool → PageHistory → PageHistory
+begun_by false h = h
+begun_by true h = Page Begin ∷ h
+
+-- and if it begins in front of this event
+abbrev pub begun_for : PageEvent → PageHistory → PageHistory
+begun_for e h = begun_by (begins h e) h
+
+-- text is taken where a page was begun
+pub takes-begun : (L : Layout) → 0 < L.begun → takes_text L ≡ true
+takes-begun L some = ap (λ (none : Bool). not none || is_diverting L) (ne_eqb L.begun 0 (λ none. omega (arith, some, none)))
+
+-- a page that was begun stays so where lines are placed
+begun-turned : (full closing : Bool) (L : Layout) → 0 < L.begun
+    → 0 < (if full then (if closing then record L { is_over = true } else page_begun L) else L).begun
+begun-turned false closing L some = some
+begun-turned true false L some = omega (arith, some)
+begun-turned true true L some = some
+
+begun-placed : (line : Finished) (L : Layout) → 0 < L.begun → 0 < (with_event (Places line) L).begun
+begun-placed line L some =
+    let M : Layout = with_boxes (Places line) (appended (Places line) L) (record L { next = L.next }) in
+    begun-turned (nat_le M.length (page_place M)) M.is_closing M some
+
+-- whatever an event of the text finishes
+pub begun-text : (h : PageHistory) (e : Event) → 0 < (layout_of h).begun → 0 < (layout_of (Text e ∷ h)).begun
+begun-text h e some = by (finished (text_of h) e)
+  where
+    by : (line : Option Finished) → 0 < (laid_out (option_map Places line) (layout_of h)).begun
+    by None = some
+    by (Some line) = begun-placed line (layout_of h) some
+
+-- nothing begins where text is taken
+never-where : (takes needs : Bool) → takes ≡ true → (not takes && needs) ≡ false
+never-where true needs is = refl
+never-where false needs is = absurd (cc)
+
+pub begins-taken : (h : PageHistory) (e : PageEvent) → takes_text (layout_of h) ≡ true → begins h e ≡ false
+begins-taken h e takes = never-where (takes_text (layout_of h)) (needs_page h e) takes
+
+-- nor where none is needed
+never-needed : (takes needs : Bool) → needs ≡ false → (not takes && needs) ≡ false
+never-needed true needs is = refl
+never-needed false needs is = is
+
+pub begins-needless : (h : PageHistory) (e : PageEvent) → needs_page h e ≡ false → begins h e ≡ false
+begins-needless h e none = never-needed (takes_text (layout_of h)) (needs_page h e) none
+
+-- where one begins it is needed, and text isn't taken
+needs-where : (takes needs : Bool) → (not takes && needs) ≡ true → (takes ≡ false) × (needs ≡ true)
+needs-where false needs is = (refl, is)
+needs-where true needs is = absurd (cc)
+
+-- behind the page's beginning text is taken
+pub begun-takes : (h : PageHistory) → takes_text (layout_of (Page Begin ∷ h)) ≡ true
+begun-takes h = takes-begun (page_begun (layout_of h)) (omega arith)
+
+-- the word end that comes before an event is the same behind the page's beginning
+pub word_end-same : (e : PageEvent) (g h : PageHistory) → text_of g ≡ text_of h → word_end_of g e ≡ word_end_of h e
+word_end-same (Text (Print glyph)) g h same = refl
+word_end-same (Text Tab) g h same = refl
+word_end-same (Text WordEnd) g h same = refl
+word_end-same (Text (Gap columns)) g h same = ap (λ text. own_word_end (has_open_word text)) same
+word_end-same (Text LineEnd) g h same = ap (λ text. own_word_end (has_open_word text)) same
+word_end-same (Text Count) g h same = refl
+word_end-same (Text Break) g h same = ap (λ text. own_word_end (has_open_word text)) same
+word_end-same (Text Interrupted) g h same = refl
+word_end-same (Text Resume) g h same = refl
+word_end-same (Text (Set param)) g h same = refl
+word_end-same (Interrupt untold) g h same = refl
+word_end-same (Environment number) g h same = refl
+word_end-same Back g h same = refl
+word_end-same (SetsTrap trap) g h same = refl
+word_end-same (Page event) g h same = refl
+word_end-same (Title which) g h same = refl
+
+-- what comes before an event, by the word end that does, and whether the page begins
+pub next-alone : (h : PageHistory) (e : PageEvent) (b : Bool) → word_end_of h e ≡ None → begins h e ≡ b → next h e ≡ page_begin_or b None
+next-alone h e b none is =
+    ap (λ (o : Option PageEvent). elim o [ None ↦ page_begin_or (begins h e) None | Some own ↦ page_begin_or (begins h own) (Some own) ]) none
+    ∙ ap (λ (b : Bool). page_begin_or b None) is
+
+pub next-own : (h : PageHistory) (e own : PageEvent) (b : Bool) → word_end_of h e ≡ Some own → begins h own ≡ b → next h e ≡ page_begin_or b (Some own)
+next-own h e own b some is =
+    ap (λ (o : Option PageEvent). elim o [ None ↦ page_begin_or (begins h e) None | Some first ↦ page_begin_or (begins h first) (Some first) ]) some
+    ∙ ap (λ (b : Bool). page_begin_or b (Some own)) is
+
+-- What is done first where an event stands in front of others: the first page's beginning, if this needs it; and this, behind which
+-- these are left.
+pub record DoneFirst (e x : PageEvent) (rest left : List PageEvent) (h : PageHistory) : Type 0 where
+  pub page : begins h x ≡ true → next h e ≡ Some (Page Begin)
+  pub itself : (l : Limits) (s : State) → begins h x ≡ false
+      → step l (acting s (e ∷ rest) h)
+      ≡ unless_refused l (refusal l h (told s.registers x)) (acting s (e ∷ rest) h) (performed (told s.registers x) left (acting s (e ∷ rest) h))
+
+-- the event itself, where no word end comes before it: what goes on of it is left
+pub done_alone : (e : PageEvent) (left rest : List PageEvent) (h : PageHistory) → ((rs : AllRegisters) → left_of h (told rs e) ≡ left) → word_end_of h e ≡ None
+    → DoneFirst e e rest (left ++ rest) h
+done_alone e left rest h leaves none = record {
+  page = λ is. next-alone h e true none is;
+  itself = λ l s is.
+      ap (λ (first : Option PageEvent). performing l first e rest (acting s (e ∷ rest) h)) (next-alone h e false none is)
+      ∙ ap (λ (left : List PageEvent). unless_refused l (refusal l h (told s.registers e)) (acting s (e ∷ rest) h) (performed (told s.registers e) (left ++ rest) (acting s (e ∷ rest) h))) (leaves s.registers);
+}
+
+-- the word end that comes before it
+pub done_own : (e own : PageEvent) (rest : List PageEvent) (h : PageHistory) → word_end_of h e ≡ Some own → DoneFirst e own rest (e ∷ rest) h
+done_own e own rest h some = record {
+  page = λ is. next-own h e own true some is;
+  itself = λ l s is. ap (λ (first : Option PageEvent). performing l first e rest (acting s (e ∷ rest) h)) (next-own h e own false some is);
+}
+
+-- the definition has come to the first page's beginning, if it begins in front of an event, and the code with it
+pub record Begun (l : Limits) (t : Beginning) (before now : Seen) (s : State) (h : PageHistory) (x : PageEvent) (to_do : List PageEvent) (f : Formatter) : Type 0 where
+  pub reaches : Reaches l t before now (acting s to_do (begun_for x h))
+  pub stands : StandFor l (begun_for x h) f.composer
+  pub none : begins (begun_for x h) x ≡ false
+  pub text : text_of (begun_for x h) ≡ text_of h
+
+module _ (l : Limits) (t : Beginning) (before : Seen) (failures : ℕ) (err : Sunk) (s : State) (h : PageHistory) (e x : PageEvent) (rest : List PageEvent) (out : Sunk)
+    (first : begins h x ≡ true → next h e ≡ Some (Page Begin)) (old mid : Formatter) (name : Option ShortName) (ready : ReadyFor x old mid name) (stood : StandFor l h old.composer)
+    (reached : Reaches l t before (seen failures out err) (acting s (e ∷ rest) h)) where
+  -- the page began
+  page_stands : BeginsPage old mid name → StandFor l (Page Begin ∷ h) mid.composer
+  page_stands page =
+      let now : StandFor l (Page Begin ∷ h) (record old.composer { pages = mid.composer.pages }) =
+      stands_set l h (Page Begin) (Does Begin) old.composer (record old.composer { pages = mid.composer.pages }) stood refl stood.environments
+      (page.begins.stands (layout_of h) stood.pages) (nothing_written (Does Begin) (layout_of h) refl) page.begins.written page.begins.limits stood.goes_on in
+      subst (λ (f : Formatter). StandFor l (Page Begin ∷ h) f.composer) (sym page.others) now
+
+  -- with what it sprang
+  page_reaches : BeginsPage old mid name → begins h x ≡ true → Reaches l t before (seen failures out err) (sprung_at name (e ∷ rest) (acting s [] (Page Begin ∷ h)))
+  page_reaches page is =
+      let steps : step l (acting s (e ∷ rest) h)
+      ≡ unless_refused l (refusal l h (Page Begin)) (acting s (e ∷ rest) h) (performed (Page Begin) (e ∷ rest) (acting s (e ∷ rest) h))
+      = ap (λ (own : Option PageEvent). performing l own e rest (acting s (e ∷ rest) h)) (first is) in
+      let wrote : written_by h (Page Begin) ≡ [] = nothing_written (Does Begin) (layout_of h) refl in
+      event_performed l t before failures err s h e rest out reached (Page Begin) (e ∷ rest) steps name (sym (page.springs (layout_of h) stood.pages)) out
+      (nothing_allowed l h (Does Begin) old.composer stood wrote) stood.goes_on
+      (subst (λ (bytes : List ℕ). Writes out out bytes) (sym wrote) (Writes-nothing out))
+
+  begun_where : name ≡ None → (b : Bool) → begins h x ≡ b → Begun l t before (seen failures out err) s h x (e ∷ rest) mid
+  begun_where none false is =
+      let same : begun_by false h ≡ begun_for x h = ap (λ (b : Bool). begun_by b h) (sym is) in
+      let there : mid ≡ old = (ready.stays l h stood is).0 in record {
+        reaches = subst (λ (g : PageHistory). Reaches l t before (seen failures out err) (acting s (e ∷ rest) g)) same reached;
+        stands = subst (λ (g : PageHistory). StandFor l g mid.composer) same (subst (λ (f : Formatter). StandFor l h f.composer) (sym there) stood);
+        none = subst (λ (g : PageHistory). begins g x ≡ false) same is;
+        text = ap text_of (sym same);
+      }
+  begun_where none true is =
+      let same : begun_by true h ≡ begun_for x h = ap (λ (b : Bool). begun_by b h) (sym is) in
+      let page : BeginsPage old mid name = ready.page l h stood is in
+      record {
+        reaches = subst (λ (g : PageHistory). Reaches l t before (seen failures out err) (acting s (e ∷ rest) g)) same
+            (subst (λ (o : Option ShortName). Reaches l t before (seen failures out err) (sprung_at o (e ∷ rest) (acting s [] (Page Begin ∷ h)))) none (page_reaches page is));
+        stands = subst (λ (g : PageHistory). StandFor l g mid.composer) same (page_stands page);
+        none = subst (λ (g : PageHistory). begins g x ≡ false) same (begins-taken (Page Begin ∷ h) x (begun-takes h));
+        text = ap text_of (sym same);
+      }
+
+  pub begun : name ≡ None → Begun l t before (seen failures out err) s h x (e ∷ rest) mid
+  begun none = begun_where none (begins h x) refl
+
+  -- it sprang something: the event is left
+  sprang_where : (found : ShortName) → name ≡ Some found → (begins h x ≡ true → may_be_left e ≡ true) → (b : Bool) → begins h x ≡ b
+      → SprungAt l t before (seen failures out err) s (e ∷ []) h (sprung_before found) rest mid.composer
+  sprang_where found some may false is = absurd (let none = (ready.stays l h stood is).1 in cc)
+  sprang_where found some may true is =
+      let page : BeginsPage old mid name = ready.page l h stood is in
+      let left : left_by e (lines_left (interrupted_line h)) ≡ lines_left (interrupted_line h) = left-leaves e (lines_left (interrupted_line h)) (may is) in
+      record {
+        history = Page Begin ∷ h;
+        reaches = subst (λ (o : Option ShortName). Reaches l t before (seen failures out err) (sprung_at o (e ∷ rest) (acting s [] (Page Begin ∷ h)))) some (page_reaches page is);
+        stands = page_stands page;
+        lines = omega (arith, left, lines_left-event s.registers (Page Begin) h);
+        among = omega arith;
+        few = λ more. omega (arith, most-left e more (may is));
+      }
+
+  pub page_sprang : (found : ShortName) → name ≡ Some found → (begins h x ≡ true → may_be_left e ≡ true)
+      → SprungAt l t before (seen failures out err) s (e ∷ []) h (sprung_before found) rest mid.composer
+  page_sprang found some may = sprang_where found some may (begins h x) refl
+
+-- a formatter is ready for an event that needs no page
+pub ready_always : (e : PageEvent) (f : Formatter) → ((h : PageHistory) → needs_page h e ≡ false) → ReadyFor e f f None
+ready_always e f needless = record {
+  page = λ l h stood is. absurd (let wrong = begins-needless h e (needless h) in cc);
+  stays = λ l h stood is. (refl, refl);
+}
+
+-- and where text is taken
+pub ready_taking : (e : PageEvent) (f : Formatter) → ((l : Limits) (h : PageHistory) → StandFor l h f.composer → takes_text (layout_of h) ≡ true)
+    → ReadyFor e f f None
+ready_taking e f takes = record {
+  page = λ l h stood is. absurd (let wrong = begins-taken h e (takes l h stood) in cc);
+  stays = λ l h stood is. (refl, refl);
+}
+
+-- where it isn't, the page begins if the event needs it
+pub ready_needing : (e : PageEvent) (old new : Formatter) (name : Option ShortName) → ((l : Limits) (h : PageHistory) → StandFor l h old.composer → takes_text (layout_of h) ≡ false)
+    → BeginsFor e old new name → ReadyFor e old new name
+ready_needing e old new name takes needs = record {
+  page = λ l h stood is. needs.page l h stood (needs-where (takes_text (layout_of h)) (needs_page h e) is).1;
+  stays = λ l h stood is. needs.stays l h stood (by (takes_text (layout_of h)) (needs_page h e) (takes l h stood) is);
+}
+  where
+    by : (takes needs : Bool) → takes ≡ false → (not takes && needs) ≡ false → needs ≡ false
+    by false needs none is = is
+    by true needs none is = absurd (cc)
+
+-- and where it does always
+pub begins_always : (e : PageEvent) (old new : Formatter) (name : Option ShortName) → ((h : PageHistory) → needs_page h e ≡ true) → BeginsPage old new name
+    → BeginsFor e old new name
+begins_always e old new name needs page = record {
+  page = λ l h stood is. page;
+  stays = λ l h stood is. absurd (let wrong = needs h in cc);
+}
+
+-- the history behind an event and what comes before it: the page's beginning, where no word end does
+pub behind-alone : (rs : AllRegisters) (e : PageEvent) (h : PageHistory) → word_end_of h e ≡ None → behind_next rs 2 e h ≡ begun_for e h
+behind-alone rs e h none = by (begins h e) refl
+  where
+    again : (g : PageHistory) → text_of g ≡ text_of h → begins g e ≡ false → behind_next rs 1 e g ≡ g
+    again g same is =
+        ap (λ (o : Option PageEvent). elim o [ None ↦ g | Some first ↦ told rs first ∷ g ]) (next-alone g e false (word_end-same e g h same ∙ none) is)
+
+    by : (b : Bool) → begins h e ≡ b → behind_next rs 2 e h ≡ begun_for e h
+    by false is =
+        ap (λ (o : Option PageEvent). elim o [ None ↦ h | Some first ↦ behind_next rs 1 e (told rs first ∷ h) ]) (next-alone h e false none is)
+        ∙ ap (λ (b : Bool). begun_by b h) (sym is)
+    by true is =
+        ap (λ (o : Option PageEvent). elim o [ None ↦ h | Some first ↦ behind_next rs 1 e (told rs first ∷ h) ]) (next-alone h e true none is)
+        ∙ again (Page Begin ∷ h) refl (begins-taken (Page Begin ∷ h) e (begun-takes h))
+        ∙ ap (λ (b : Bool). begun_by b h) (sym is)
+
+-- a break in the closing phase needs a page where it finishes a line
+pub closes : (closing finishes : Bool) → closing ≡ true → finishes ≡ (not closing || finishes)
+closes true finishes is = refl
+closes false finishes is = absurd (cc)
+
+-- and each event but a glyph, tab and break
+pub needs-finishing : (e : Event) (h : PageHistory) → ((glyph : Glyph) → e ≡ Print glyph → ⊥) → (e ≡ Tab → ⊥) → (e ≡ Break → ⊥)
+    → is_some (finished (text_of h) e) ≡ needs_page h (Text e)
+needs-finishing (Print glyph) h not-Print not-Tab not-Break = absurd (not-Print glyph refl)
+needs-finishing Tab h not-Print not-Tab not-Break = absurd (not-Tab refl)
+needs-finishing WordEnd h not-Print not-Tab not-Break = refl
+needs-finishing (Gap columns) h not-Print not-Tab not-Break = refl
+needs-finishing LineEnd h not-Print not-Tab not-Break = refl
+needs-finishing Count h not-Print not-Tab not-Break = refl
+needs-finishing Break h not-Print not-Tab not-Break = absurd (not-Break refl)
+needs-finishing Interrupted h not-Print not-Tab not-Break = refl
+needs-finishing Resume h not-Print not-Tab not-Break = refl
+needs-finishing (Set param) h not-Print not-Tab not-Break = refl
+
+-- what comes before an event that has a word end of its own: that with the page's beginning, and then the page's beginning, where
+-- the event itself needs it
+module _ (rs : AllRegisters) (e : PageEvent) (h : PageHistory) (owns : (g : PageHistory) → word_end_of g e ≡ own_word_end (has_open_word (text_of g))) where
+  -- behind a word end that page begins in front of
+  own-begun : has_open_word (text_of h) ≡ true → begins h (Text WordEnd) ≡ true → behind_next rs 2 e (Text WordEnd ∷ Page Begin ∷ h) ≡ behind_next rs 2 e h
+  own-begun some is =
+      let there : PageHistory = Text WordEnd ∷ Page Begin ∷ h in
+      let own : word_end_of h e ≡ Some (Text WordEnd) = owns h ∙ ap own_word_end some in
+      let again : word_end_of (Page Begin ∷ h) e ≡ Some (Text WordEnd) = owns (Page Begin ∷ h) ∙ ap own_word_end some in
+      let none : begins there e ≡ false = begins-taken there e (takes-begun (layout_of there) (begun-text (Page Begin ∷ h) WordEnd (omega arith))) in
+      behind-alone rs e there (owns there) ∙ ap (λ (b : Bool). begun_by b there) none
+      ∙ sym (ap (λ (o : Option PageEvent). elim o [ None ↦ h | Some first ↦ behind_next rs 1 e (told rs first ∷ h) ]) (next-own h e (Text WordEnd) true own is)
+      ∙ ap (λ (o : Option PageEvent). elim o [ None ↦ Page Begin ∷ h | Some first ↦ told rs first ∷ Page Begin ∷ h ])
+      (next-own (Page Begin ∷ h) e (Text WordEnd) false again (begins-taken (Page Begin ∷ h) (Text WordEnd) (begun-takes h))))
+
+  -- or doesn't
+  own-unbegun : has_open_word (text_of h) ≡ true → begins h (Text WordEnd) ≡ false → behind_next rs 2 e (Text WordEnd ∷ h) ≡ behind_next rs 2 e h
+  own-unbegun some is =
+      let there : PageHistory = Text WordEnd ∷ h in
+      let own : word_end_of h e ≡ Some (Text WordEnd) = owns h ∙ ap own_word_end some in
+      behind-alone rs e there (owns there) ∙ sym (once (begins there e) refl)
+      ∙ sym (ap (λ (o : Option PageEvent). elim o [ None ↦ h | Some first ↦ behind_next rs 1 e (told rs first ∷ h) ]) (next-own h e (Text WordEnd) false own is))
+    where
+      by : (b : Bool) → elim (page_begin_or b None) [ None ↦ Text WordEnd ∷ h | Some first ↦ told rs first ∷ Text WordEnd ∷ h ] ≡ begun_by b (Text WordEnd ∷ h)
+      by false = refl
+      by true = refl
+
+      once : (b : Bool) → begins (Text WordEnd ∷ h) e ≡ b → behind_next rs 1 e (Text WordEnd ∷ h) ≡ begun_for e (Text WordEnd ∷ h)
+      once b begun =
+          ap (λ (o : Option PageEvent). elim o [ None ↦ Text WordEnd ∷ h | Some first ↦ told rs first ∷ Text WordEnd ∷ h ])
+          (next-alone (Text WordEnd ∷ h) e b (owns (Text WordEnd ∷ h)) begun)
+          ∙ by b ∙ ap (λ (b : Bool). begun_by b (Text WordEnd ∷ h)) (sym begun)
+
+  own-some : (begun : Bool) → has_open_word (text_of h) ≡ true → begins h (Text WordEnd) ≡ begun
+      → behind_next rs 2 e (behind_word rs true h) ≡ behind_next rs 2 e h
+  own-some true some is =
+      ap (λ (g : PageHistory). behind_next rs 2 e (Text WordEnd ∷ g)) (behind-alone rs (Text WordEnd) h refl ∙ ap (λ (b : Bool). begun_by b h) is) ∙ own-begun some is
+  own-some false some is =
+      ap (λ (g : PageHistory). behind_next rs 2 e (Text WordEnd ∷ g)) (behind-alone rs (Text WordEnd) h refl ∙ ap (λ (b : Bool). begun_by b h) is) ∙ own-unbegun some is
+
+  own-either : (b : Bool) → has_open_word (text_of h) ≡ b → behind_next rs 2 e (behind_word rs b h) ≡ behind_next rs 2 e h
+  own-either false closed = refl
+  own-either true some = own-some (begins h (Text WordEnd)) some refl
+
+pub behind-own : (rs : AllRegisters) (e : PageEvent) (h : PageHistory) → ((g : PageHistory) → word_end_of g e ≡ own_word_end (has_open_word (text_of g)))
+    → behind_next rs 2 e (behind_word rs (has_open_word (text_of h)) h) ≡ behind_next rs 2 e h
+behind-own rs e h owns = own-either rs e h owns (has_open_word (text_of h)) refl

@@ -1,0 +1,13 @@
+pub mod EventsLeft
+pub mod LinesLeft
+pub mod Performed
+pub mod Placed
+pub mod FirstPages
+pub mod Ejects
+pub mod Quiet
+pub mod DoneFirst
+pub mod DoneEvents
+pub mod Springing
+pub mod Telling
+pub mod TitleNumbers
+pub mod Titling

@@ -1,0 +1,220 @@
+-- Events that are performed, one by one, over the states of the definition.
+use Rattle.std.proofs.Common.{◌∙◌, ◌≡◌, ◌≤◌, ◌+◌, ℕ, Bool, true, false, List, [], ◌∷◌, ◌++◌, length, arith, Option, Some, None, Result, Ok, Err, ap, refl, subst, sym}
+use Rattle.std.specs.Io.KnownBytes.{Appends}
+use Rattle.roff_num.specs.declared.limit.Limit.{Limit}
+use Rattle.roff_num.specs.declared.limits.Limits.{Limits}
+use Rattle.roff_num.specs.declared.short_name.ShortName.{ShortName}
+use Rattle.roff_composer.specs.declared.composer.Composer.{Composer as ComposerOf}
+use Rattle.roff_formatter.specs.declared.formatter.Formatter.{Formatter}
+use Rattle.roff_formatter.specs.declared.halt.Halt.{Halt}
+use Rattle.roff_formatter.specs.declared.sprung.Sprung.{Sprung}
+use Rattle.roff_formatter.specs.Reaching.{Beginning, Reaches}
+use Rattle.roff_sinks.specs.Devices.{Seen, AppendsBetween, NoSinkFault, seen}
+use Rattle.roff_formatter.specs.Formatter.Performing.{AllPerformed, StoppedAt, FailedAt, OverAt, Performs, PerformsEvents, SprungAt, acting, behind_event, behind_events}
+use Rattle.roff_formatter.specs.Formatter.Sprung.{HasFew, further, further_by, left_behind}
+use Rattle.roff_run.specs.Output.{PageHistory, layout_of, written, written_by}
+use Rattle.roff_run.specs.PageEvents.{PageEvent, PastEvent}
+use Rattle.roff_run.specs.Run.{State, done_if, initial, output, performed, sprung_at, step, unless_refused}
+use Rattle.roff_run.specs.Springs.{springs}
+use Rattle.roff_run.specs.Run.Counts.{refusal}
+use Rattle.roff_sinks.specs.Sinks.{Sunk, Writes, AppendsFront, Fails}
+use Rattle.roff_sinks.proofs.Appending.{Appends-append}
+use Rattle.roff_run.proofs.Leads.{Leads-to}
+use Rattle.roff_formatter.proofs.EventsLeft.{left-front, left-further, most-behind, reach-further, reach-least}
+use Rattle.roff_formatter.proofs.LinesLeft.{more_left}
+use Rattle.std.proofs.lemmas.List.{append_assoc}
+
+-- a beginning of a piece was written behind a text
+pub between : (old mid new : Option (List ℕ)) (least piece : List ℕ)
+    → Appends old mid least → AppendsFront mid new piece → AppendsBetween old new least (least ++ piece)
+between old mid new least piece first part = record {
+  front = part.front;
+  back = part.back;
+  split = rw part.split refl;
+  written = Appends-append old mid new least part.front first part.written;
+}
+
+-- the output has no fault more
+pub faults_of_out : (before : Seen) (failures : ℕ) (err old new : Sunk) → new.failures ≡ old.failures
+    → NoSinkFault before (seen failures old err) → NoSinkFault before (seen failures new err)
+faults_of_out before failures err old new same faults = record { source = faults.source; out = same ∙ faults.out; err = faults.err }
+
+-- nor has the message sink
+pub faults_of_err : (before : Seen) (failures : ℕ) (out old new : Sunk) → new.failures ≡ old.failures
+    → NoSinkFault before (seen failures out old) → NoSinkFault before (seen failures out new)
+faults_of_err before failures out old new same faults = record { source = faults.source; out = faults.out; err = same ∙ faults.err }
+
+-- what was written where an event was performed, whatever it sprang, and whether the last page ended with it
+output-sprung : (sprung : Option ShortName) (left : List PageEvent) (behind : State) → output (sprung_at sprung left behind) ≡ output behind
+output-sprung None left behind = refl
+output-sprung (Some name) left behind = refl
+
+output-performed : (over : Bool) (sprung : Option ShortName) (left : List PageEvent) (behind : State)
+    → output (done_if over behind (sprung_at sprung left behind)) ≡ output behind
+output-performed true sprung left behind = refl
+output-performed false sprung left behind = output-sprung sprung left behind
+
+-- A step at an event in front of others, at a state of a run: in it this happens, the event or what comes before it, and these are
+-- left.
+module _ (l : Limits) (t : Beginning) (before : Seen) (failures : ℕ) (err : Sunk) (s : State) (h : PageHistory) (e : PageEvent) (rest : List PageEvent) (old : Sunk)
+    (reached : Reaches l t before (seen failures old err) (acting s (e ∷ rest) h)) (happens : PastEvent) (left : List PageEvent)
+    (steps : step l (acting s (e ∷ rest) h)
+    ≡ unless_refused l (refusal l h happens) (acting s (e ∷ rest) h) (performed happens left (acting s (e ∷ rest) h))) where
+  -- one that no limit refuses is performed by the step
+  step-performed : refusal l h happens ≡ None → step l (acting s (e ∷ rest) h) ≡ performed happens left (acting s (e ∷ rest) h)
+  step-performed allowed = steps ∙ ap (λ r. unless_refused l r (acting s (e ∷ rest) h) (performed happens left (acting s (e ∷ rest) h))) allowed
+
+  -- where the last page doesn't end with it the others are left
+  step-event : (sprung : Option ShortName) → springs h happens ≡ sprung → refusal l h happens ≡ None → (layout_of (happens ∷ h)).is_over ≡ false
+      → step l (acting s (e ∷ rest) h) ≡ sprung_at sprung left (acting s (e ∷ rest) (happens ∷ h))
+  step-event sprung is allowed goes =
+      step-performed allowed
+      ∙ ap (λ (over : Bool). done_if over (acting s (e ∷ rest) (happens ∷ h)) (sprung_at (springs h happens) left (acting s (e ∷ rest) (happens ∷ h)))) goes
+      ∙ ap (λ (o : Option ShortName). sprung_at o left (acting s (e ∷ rest) (happens ∷ h))) is
+
+  -- it is performed, and what it writes is written
+  pub event_performed : (sprung : Option ShortName) → springs h happens ≡ sprung → (new : Sunk) → refusal l h happens ≡ None
+      → (layout_of (happens ∷ h)).is_over ≡ false → Writes old new (written_by h happens)
+      → Reaches l t before (seen failures new err) (sprung_at sprung left (acting s [] (happens ∷ h)))
+  event_performed None is new allowed goes writes = record {
+    comes = Leads-to l (initial l t.start t.tape) _ _ reached.comes (step-event None is allowed goes);
+    text = Appends-append _ _ _ _ _ reached.text writes.written;
+    messages = reached.messages;
+    faults = faults_of_out before failures err old new writes.failures reached.faults;
+  }
+  event_performed (Some name) is new allowed goes writes = record {
+    comes = Leads-to l (initial l t.start t.tape) _ _ reached.comes (step-event (Some name) is allowed goes);
+    text = Appends-append _ _ _ _ _ reached.text writes.written;
+    messages = reached.messages;
+    faults = faults_of_out before failures err old new writes.failures reached.faults;
+  }
+
+  -- and the last page ends with it
+  pub event_over : (new : Sunk) → refusal l h happens ≡ None → (layout_of (happens ∷ h)).is_over ≡ true → Writes old new (written_by h happens)
+      → OverAt l t before (seen failures new err) s
+  event_over new allowed over writes = record {
+    to_do = e ∷ rest;
+    history = happens ∷ h;
+    reaches = record {
+      comes = Leads-to l (initial l t.start t.tape) _ _ reached.comes (step-performed allowed
+          ∙ ap (λ (b : Bool). done_if b (acting s (e ∷ rest) (happens ∷ h)) (sprung_at (springs h happens) left (acting s (e ∷ rest) (happens ∷ h)))) over);
+      text = Appends-append _ _ _ _ _ reached.text writes.written;
+      messages = reached.messages;
+      faults = faults_of_out before failures err old new writes.failures reached.faults;
+    };
+  }
+
+  -- or the output fails
+  pub event_failed : (new : Sunk) → refusal l h happens ≡ None → Fails old new (written_by h happens)
+      → FailedAt l t before (seen failures new err) s
+  event_failed new allowed fails = record {
+    next = e;
+    to_do = rest;
+    history = h;
+    stops = record {
+      comes = reached.comes;
+      goes_on = refl;
+      text = subst (λ (bytes : List ℕ). AppendsBetween before.out.contents new.contents (written h) bytes)
+          (sym (ap output (step-performed allowed) ∙ output-performed (layout_of (happens ∷ h)).is_over (springs h happens) left (acting s (e ∷ rest) (happens ∷ h))))
+          (between _ _ _ _ _ reached.text fails.written);
+      fault = rw (sym reached.faults.out) fails.fault;
+    };
+    messages = reached.messages;
+    messages_stay = reached.faults.err;
+  }
+
+  -- or a limit refuses it
+  pub event_stopped : (limit : Limit) → refusal l h happens ≡ Some limit → StoppedAt l t before (seen failures old err) s limit
+  event_stopped limit refused = record {
+    next = e;
+    to_do = rest;
+    history = h;
+    reaches = reached;
+    stops = steps ∙ ap (λ r. unless_refused l r (acting s (e ∷ rest) h) (performed happens left (acting s (e ∷ rest) h))) refused;
+  }
+
+module _ (l : Limits) (t : Beginning) (before now : Seen) (s : State) (first : PageEvent) (others : List PageEvent) (h : PageHistory) (rest : List PageEvent) (es : ComposerOf) where
+  -- what one of the events behind the first sprang
+  sprang_behind : (sprung : Sprung) → SprungAt l t before now s others (behind_event s.registers first h) sprung rest es
+      → SprungAt l t before now s (first ∷ others) h (further 1 sprung) rest es
+  sprang_behind sprung p = record {
+    history = p.history;
+    reaches = subst (λ (left : List PageEvent). Reaches l t before now (sprung_at (Some sprung.name) (left ++ rest) (acting s [] p.history)))
+        (sym (left-further sprung first others)) p.reaches;
+    stands = p.stands;
+    lines = omega (arith, p.lines, more_left s.registers first others h);
+    among = omega (arith, reach-further sprung.goes_on sprung.left 1 (length others) p.among);
+    few = λ more. omega (arith, ap length (left-further sprung first (others ++ more)), p.few more, most-behind first (others ++ more));
+  }
+
+  -- what the first one sprang
+  pub sprang_first : (sprung : Sprung) → SprungAt l t before now s (first ∷ []) h sprung (others ++ rest) es
+      → SprungAt l t before now s (first ∷ others) h sprung rest es
+  sprang_first sprung p = record {
+    history = p.history;
+    reaches = subst (λ (left : List PageEvent). Reaches l t before now (sprung_at (Some sprung.name) left (acting s [] p.history)))
+        (sym (append_assoc (left_behind sprung (first ∷ [])) others rest) ∙ ap (λ (left : List PageEvent). left ++ rest) (sym (left-front sprung (first ∷ []) others p.among))) p.reaches;
+    stands = p.stands;
+    lines = omega (arith, p.lines);
+    among = omega (arith, p.among);
+    few = λ more. p.few (others ++ more);
+  }
+
+  -- how far the events behind the first one were performed, by the answer
+  behind_first : (r result : Result (Option Sprung) Halt) → length others ≤ 99 → (HasFew r 1 → result ≡ further_by 1 r)
+      → Performs l t before now s others (behind_event s.registers first h) (behind_events s.registers (first ∷ others) h) rest r es
+      → Performs l t before now s (first ∷ others) h (behind_events s.registers (first ∷ others) h) rest result es
+  behind_first (Ok None) result short is p =
+      subst (λ (r : Result (Option Sprung) Halt). Performs l t before now s (first ∷ others) h (behind_events s.registers (first ∷ others) h) rest r es) (sym (is tt)) p
+  behind_first (Ok (Some sprung)) result short is p =
+      let few : sprung.left + 1 ≤ 255 = omega (arith, short, p.among, reach-least sprung.goes_on sprung.left) in
+      subst (λ (r : Result (Option Sprung) Halt). Performs l t before now s (first ∷ others) h (behind_events s.registers (first ∷ others) h) rest r es) (sym (is few))
+      (sprang_behind sprung p)
+  behind_first (Err halt) result short is p =
+      subst (λ (r : Result (Option Sprung) Halt). Performs l t before now s (first ∷ others) h (behind_events s.registers (first ∷ others) h) rest r es) (sym (is tt)) p
+
+-- an event and others behind it, of which the first was performed
+pub performs_both : (first : PageEvent) (others : List PageEvent) (old mid new : Formatter) (told told_mid told_new : Sunk) (done r result : Result (Option Sprung) Halt)
+    → done ≡ Ok None → PerformsEvents (first ∷ []) old mid told told_mid done → PerformsEvents others mid new told_mid told_new r
+    → length others ≤ 99 → (HasFew r 1 → result ≡ further_by 1 r)
+    → PerformsEvents (first ∷ others) old new told told_new result
+performs_both first others old mid new told told_mid told_new done r result quiet ended more short is =
+    let one : PerformsEvents (first ∷ []) old mid told told_mid (Ok None) = subst (λ (r : Result (Option Sprung) Halt). PerformsEvents (first ∷ []) old mid told told_mid r) quiet ended in record {
+      performs = λ l t before failures err s h rest stood flows reached.
+          let now = one.performs l t before failures err s h (others ++ rest) stood (flows.0, tt) reached in
+          behind_first l t before (seen failures told_new err) s first others h rest new.composer r result short is
+          (more.performs l t before failures err s (behind_event s.registers first h) rest now.stands flows.1 now.reaches);
+    }
+
+-- or sprang something
+pub performs_first_sprung : (first : PageEvent) (others : List PageEvent) (old new : Formatter) (told told_new : Sunk) (sprung : Sprung) (done : Result (Option Sprung) Halt)
+    → done ≡ Ok (Some sprung) → PerformsEvents (first ∷ []) old new told told_new done → PerformsEvents (first ∷ others) old new told told_new (Ok (Some sprung))
+performs_first_sprung first others old new told told_new sprung done found ended =
+    let one : PerformsEvents (first ∷ []) old new told told_new (Ok (Some sprung)) = subst (λ (r : Result (Option Sprung) Halt). PerformsEvents (first ∷ []) old new told told_new r) found ended in record {
+      performs = λ l t before failures err s h rest stood flows reached.
+          sprang_first l t before (seen failures told_new err) s first others h rest new.composer sprung
+          (one.performs l t before failures err s h (others ++ rest) stood (flows.0, tt) reached);
+    }
+
+-- or in which the code halted
+pub performs_first_halted : (first : PageEvent) (others : List PageEvent) (old new : Formatter) (told told_new : Sunk) (halt : Halt)
+    → PerformsEvents (first ∷ []) old new told told_new (Err halt) → PerformsEvents (first ∷ others) old new told told_new (Err halt)
+performs_first_halted first others old new told told_new halt one = record {
+  performs = λ l t before failures err s h rest stood flows reached.
+      one.performs l t before failures err s h (others ++ rest) stood (flows.0, tt) reached;
+}
+
+-- what was performed where the answer is that nothing sprang, or this
+pub performed_quietly : (l : Limits) (t : Beginning) (before now : Seen) (s : State) (events : List PageEvent) (h behind : PageHistory) (rest : List PageEvent) (r : Result (Option Sprung) Halt) (es : ComposerOf)
+    → r ≡ Ok None → Performs l t before now s events h behind rest r es → AllPerformed l t before now s behind rest es
+performed_quietly l t before now s events h behind rest r es is p = subst (λ (r : Result (Option Sprung) Halt). Performs l t before now s events h behind rest r es) is p
+
+pub performed_sprung : (l : Limits) (t : Beginning) (before now : Seen) (s : State) (events : List PageEvent) (h behind : PageHistory) (rest : List PageEvent) (r : Result (Option Sprung) Halt) (sprung : Sprung) (es : ComposerOf)
+    → r ≡ Ok (Some sprung) → Performs l t before now s events h behind rest r es → SprungAt l t before now s events h sprung rest es
+performed_sprung l t before now s events h behind rest r sprung es is p = subst (λ (r : Result (Option Sprung) Halt). Performs l t before now s events h behind rest r es) is p
+
+-- no event is performed by doing nothing
+pub performs_nothing : (f : Formatter) (out : Sunk) → PerformsEvents [] f f out out (Ok None)
+performs_nothing f out = record {
+  performs = λ l t before failures err s h rest stood flows reached. record { reaches = reached; stands = stood };
+}

@@ -1,0 +1,146 @@
+-- Events before which something may come, and that may spring a macro.
+use Rattle.std.proofs.Common.{◌∙◌, ◌≡◌, ◌≤◌, Bool, true, false, List, [], ◌∷◌, Option, Some, None, Result, Ok, Err, ap, arith, refl, subst, sym}
+use Rattle.roff_num.specs.declared.limits.Limits.{Limits}
+use Rattle.roff_lines.specs.Words.{has_open_word}
+use Rattle.roff_lines.specs.declared.event.Event.TheVariants.{Count, WordEnd}
+use Rattle.roff_composer.specs.Composer.Standing.{StandFor}
+use Rattle.roff_composer.specs.Environments.Standing.{StandBy}
+use Rattle.roff_composer.specs.declared.composer.Composer.{Composer as ComposerOf}
+use Rattle.roff_formatter.specs.declared.formatter.Formatter.{Formatter}
+use Rattle.roff_formatter.specs.declared.halt.Halt.{Halt}
+use Rattle.roff_formatter.specs.declared.sprung.Sprung.{Sprung}
+use Rattle.roff_formatter.specs.Reaching.{Beginning}
+use Rattle.roff_sinks.specs.Devices.{Seen, seen}
+use Rattle.roff_formatter.specs.Formatter.Performing.{AllPerformed, EndsBefore, EndsOpenWord, EndsWordFirst, Performs, PerformsOne, PerformsEvents, behind_event, behind_word}
+use Rattle.roff_formatter.specs.Formatter.Sprung.{first_left, sprung_by}
+use Rattle.roff_run.specs.Environments.{environments, interrupted_line}
+use Rattle.roff_run.specs.Output.{PageHistory, text_of}
+use Rattle.roff_run.specs.PageEvents.{PageEvent}
+use Rattle.roff_run.specs.declared.event.PageEvent.TheVariants.{Text, Page}
+use Rattle.roff_pages.specs.declared.layout_event.LayoutEvent.TheVariants.{Begin}
+use Rattle.roff_run.specs.Registers.{AllRegisters}
+use Rattle.roff_run.specs.Run.{State}
+use Rattle.roff_run.specs.Springs.{begins, own_word_end, springs, word_end_of}
+use Rattle.roff_run.specs.Titles.{told}
+use Rattle.roff_run.specs.TurnsToCome.{lines_left, most_left}
+use Rattle.roff_run.proofs.LinesLeft.{lines_left-event, most_left-fewer}
+use Rattle.roff_sinks.specs.Sinks.{Sunk}
+use Rattle.roff_formatter.proofs.DoneFirst.{only_first, ready_then, springs_here}
+use Rattle.roff_formatter.proofs.FirstPages.{begun_by, begun_for, behind-own, ready_always}
+use Rattle.roff_formatter.proofs.LinesLeft.{lines_left-behind}
+use Rattle.roff_formatter.proofs.Placed.{stands_quietly, text_allowed}
+
+-- an event before which no word end comes was performed
+pub one_alone : (e : PageEvent) (old new : Formatter) (out out_new : Sunk) (r : Result (Option Sprung) Halt) → ((h : PageHistory) → word_end_of h e ≡ None)
+    → PerformsEvents (e ∷ []) old new out out_new r → PerformsOne e old new out out_new r
+one_alone e old new out out_new r none only = record {
+  one = λ l t before failures err s h rest stood reached. only.performs l t before failures err s h rest stood (none h, tt) reached;
+}
+
+-- a text line counts, and springs this
+pub counts_only : (old new : Formatter) (out : Sunk) (sprung : Option Sprung)
+    → ((l : Limits) (h : PageHistory) → StandFor l h old.composer → StandBy l (environments (Text Count ∷ h)) new.composer.environments)
+    → new.composer.pages ≡ old.composer.pages
+    → ((l : Limits) (h : PageHistory) → StandFor l h old.composer → sprung ≡ sprung_by (springs h (Text Count)))
+    → PerformsEvents (Text Count ∷ []) old new out out (Ok sprung)
+counts_only old new out sprung stands same is =
+    only_first (Text Count) (Text Count) old new out out (Ok sprung) (λ rs. refl) (λ g. refl) (λ sprung is. refl)
+    (ready_then (Text Count) (Text Count) old old new out out (Ok sprung) (ready_always (Text Count) old (λ h. refl))
+    (springs_here (Text Count) old new out sprung
+    (λ l h stood. text_allowed l h Count (stands l h stood).in_force.lines.within refl)
+    (λ l h stood. stands_quietly l h (Text Count) old.composer new.composer stood refl (stands l h stood) same)
+    (λ l h stood. refl) is))
+
+-- no word was open
+pub none_open : (f : Formatter) (out : Sunk) → ((l : Limits) (h : PageHistory) → StandFor l h f.composer → has_open_word (text_of h) ≡ false)
+    → EndsOpenWord f f out out (Ok None)
+none_open f out closed = record {
+  ends = λ l t before failures err s h e rest stood own reached.
+      subst (λ (b : Bool). EndsBefore l t before (seen failures out err) s e h (behind_word s.registers b h) rest (Ok None) f.composer) (sym (closed l h stood))
+      (record { reaches = reached; stands = stood });
+}
+
+-- one was
+pub one_open : (old new : Formatter) (out out_new : Sunk) (r result : Result (Option Sprung) Halt) → first_left r ≡ result
+    → ((l : Limits) (h : PageHistory) → StandFor l h old.composer → has_open_word (text_of h) ≡ true)
+    → EndsWordFirst old new out out_new r → EndsOpenWord old new out out_new result
+one_open old new out out_new r result answers found ends = record {
+  ends = λ l t before failures err s h e rest stood own reached.
+      let is = found l h stood in
+      subst (λ (result : Result (Option Sprung) Halt). EndsBefore l t before (seen failures out_new err) s e h (behind_word s.registers (has_open_word (text_of h)) h) rest result new.composer) answers
+      (subst (λ (b : Bool). EndsBefore l t before (seen failures out_new err) s e h (behind_word s.registers b h) rest (first_left r) new.composer) (sym is)
+      (ends.first l t before failures err s h e rest stood (own ∙ ap own_word_end is) reached));
+}
+
+-- What was performed of events behind a history was performed behind an earlier one, behind which as many interrupted lines are left
+-- at the least.
+pub performs_from : (l : Limits) (t : Beginning) (before now : Seen) (s : State) (events : List PageEvent) (h there behind behind_it : PageHistory) (rest : List PageEvent) (r : Result (Option Sprung) Halt) (es : ComposerOf)
+    → lines_left (interrupted_line there) ≤ lines_left (interrupted_line h) → behind ≡ behind_it
+    → Performs l t before now s events there behind rest r es → Performs l t before now s events h behind_it rest r es
+performs_from l t before now s events h there behind behind_it rest (Ok None) es fewer is p =
+    subst (λ (behind : PageHistory). AllPerformed l t before now s behind rest es) is p
+performs_from l t before now s events h there behind behind_it rest (Ok (Some sprung)) es fewer is p =
+    let few = most_left-fewer events (lines_left (interrupted_line there)) (lines_left (interrupted_line h)) fewer in
+    let lines : lines_left (interrupted_line p.history) ≤ most_left events (lines_left (interrupted_line there)) = p.lines in record {
+      history = p.history;
+      reaches = p.reaches;
+      stands = p.stands;
+      lines = omega (arith, few, lines);
+      among = p.among;
+      few = p.few;
+    }
+performs_from l t before now s events h there behind behind_it rest (Err halt) es fewer is p = p
+
+-- behind the first page's beginning as many are left
+pub lines-begun : (rs : AllRegisters) (e : PageEvent) (h : PageHistory) → lines_left (interrupted_line (begun_for e h)) ≤ lines_left (interrupted_line h)
+lines-begun rs e h = by (begins h e)
+  where
+    by : (b : Bool) → lines_left (interrupted_line (begun_by b h)) ≤ lines_left (interrupted_line h)
+    by false = omega arith
+    by true = lines_left-event rs (Page Begin) h
+
+-- behind the open word no more interrupted lines are left
+lines-word : (rs : AllRegisters) (b : Bool) (h : PageHistory) → lines_left (interrupted_line (behind_word rs b h)) ≤ lines_left (interrupted_line h)
+lines-word rs false h = omega arith
+lines-word rs true h = omega (arith, lines_left-behind rs (Text WordEnd) h)
+
+-- an event before which the end of the open word comes, if one is open
+module _ (e : PageEvent) (own : (h : PageHistory) → word_end_of h e ≡ own_word_end (has_open_word (text_of h))) where
+  -- behind that none is open
+  word_ended : (rs : AllRegisters) (h : PageHistory) (b : Bool) → has_open_word (text_of h) ≡ b → word_end_of (behind_word rs b h) e ≡ None
+  word_ended rs h false is = own h ∙ ap own_word_end is
+  word_ended rs h true is = own (behind_word rs true h)
+
+  -- what became of the event, as it stands behind that
+  behind_own : (l : Limits) (t : Beginning) (before now : Seen) (s : State) (h : PageHistory) (rest : List PageEvent) (r : Result (Option Sprung) Halt) (es : ComposerOf)
+      → let there : PageHistory = behind_word s.registers (has_open_word (text_of h)) h in
+      Performs l t before now s (e ∷ []) there (behind_event s.registers e there) rest r es → Performs l t before now s (e ∷ []) h (behind_event s.registers e h) rest r es
+  behind_own l t before now s h rest r es p =
+      let there : PageHistory = behind_word s.registers (has_open_word (text_of h)) h in
+      performs_from l t before now s (e ∷ []) h there (behind_event s.registers e there) (behind_event s.registers e h) rest r es
+      (lines-word s.registers (has_open_word (text_of h)) h) (ap (λ (g : PageHistory). told s.registers e ∷ g) (behind-own s.registers e h own)) p
+
+  -- the event behind it
+  pub own_then : (old mid new : Formatter) (out out_mid out_new : Sunk) (done r : Result (Option Sprung) Halt)
+      → done ≡ Ok None → EndsOpenWord old mid out out_mid done → PerformsEvents (e ∷ []) mid new out_mid out_new r → PerformsOne e old new out out_new r
+  own_then old mid new out out_mid out_new done r quiet ended only =
+      let ends : EndsOpenWord old mid out out_mid (Ok None) = subst (λ (r : Result (Option Sprung) Halt). EndsOpenWord old mid out out_mid r) quiet ended in record {
+        one = λ l t before failures err s h rest stood reached.
+            let b : Bool = has_open_word (text_of h) in
+            let now = ends.ends l t before failures err s h e rest stood (own h) reached in
+            behind_own l t before (seen failures out_new err) s h rest r new.composer
+            (only.performs l t before failures err s (behind_word s.registers b h) rest now.stands (word_ended s.registers h b refl, tt) now.reaches);
+      }
+
+  -- or where the end of that sprang something, and the event is left
+  pub own_sprung : (old new : Formatter) (out out_new : Sunk) (sprung : Sprung) (done : Result (Option Sprung) Halt) → done ≡ Ok (Some sprung) → EndsOpenWord old new out out_new done → PerformsOne e old new out out_new (Ok (Some sprung))
+  own_sprung old new out out_new sprung done found ended =
+      let ends : EndsOpenWord old new out out_new (Ok (Some sprung)) = subst (λ (r : Result (Option Sprung) Halt). EndsOpenWord old new out out_new r) found ended in record {
+        one = λ l t before failures err s h rest stood reached. ends.ends l t before failures err s h e rest stood (own h) reached;
+      }
+
+  -- or halted
+  pub own_halted : (old new : Formatter) (out out_new : Sunk) (halt : Halt) → EndsOpenWord old new out out_new (Err halt) → PerformsOne e old new out out_new (Err halt)
+  own_halted old new out out_new halt ends = record {
+    one = λ l t before failures err s h rest stood reached. ends.ends l t before failures err s h e rest stood (own h) reached;
+  }

@@ -1,0 +1,129 @@
+-- Bytes of a text line that stand in front are told to the environment in force.
+use Rattle.std.proofs.Common.{◌≡◌, ℕ, zero, suc, ◌<◌, ◌≤◌, true, List, [], ◌∷◌, length, length-take, take, take-take, sym, ap, subst, ◌∙◌, arith}
+use Rattle.std.specs.Prelude.{min, take_while}
+use Rattle.std.proofs.lemmas.Bool.Decides.{nat_tests}
+use Rattle.std.proofs.lemmas.List.Folds.{length-prefix_len}
+use Rattle.std.specs.List.{AllByRecursion}
+use Rattle.roff_lines.specs.Events.{History}
+use Rattle.roff_lines.specs.Env.Stands.{Stands}
+use Rattle.roff_lines.specs.Telling.{QuietlyTold, bytes_told}
+use Rattle.roff_lines.specs.declared.env.Env.{Env}
+use Rattle.roff_num.specs.declared.limits.Limits.{Limits}
+use Rattle.roff_pages.specs.Layout.{Layout}
+use Rattle.roff_pages.specs.Pages.Stands.{StandsAs}
+use Rattle.roff_pages.specs.Queries.{takes_text}
+use Rattle.roff_source.proofs.PlainBytes.{take_while-plain}
+use Rattle.roff_source.specs.Bytes.{is_text_byte}
+use Rattle.roff_run.specs.Environments.{Environments, environments, text_of}
+use Rattle.roff_composer.specs.Composer.Standing.{StandFor}
+use Rattle.roff_composer.specs.Environments.Standing.{StandBy}
+use Rattle.roff_composer.specs.declared.environments.Environments.{Environments as EnvironmentsOf}
+use Rattle.roff_run.specs.Output.{PageHistory, layout_of}
+use Rattle.roff_run.specs.Telling.{page_told}
+use Rattle.roff_composer.specs.declared.composer.Composer.{Composer as ComposerOf}
+use Rattle.roff_run.proofs.PlainRuns.{counted}
+use Rattle.roff_formatter.specs.declared.formatter.Formatter.{Formatter}
+use Rattle.roff_formatter.specs.Formatter.Telling.{TellsFront}
+use Rattle.roff_composer.proofs.ToldBytes.{environments-told, layout-told, with_text, written-told}
+
+-- the environments with these lines in force
+abbrev with_lines : EnvironmentsOf → Env → EnvironmentsOf
+with_lines coded lines = record coded { in_force = record coded.in_force { lines = lines } }
+
+-- where they stand for more of its history, the environments do
+stand-with_text : (l : Limits) (text : History) (es : Environments) (coded : EnvironmentsOf) (lines : Env) → StandBy l es coded → Stands l.line text lines
+    → StandBy l (with_text text es) (with_lines coded lines)
+stand-with_text l text es coded lines stood stands = record {
+  number = stood.number;
+  in_force = record { lines = stands; untold = stood.in_force.untold; input_trap = stood.in_force.input_trap };
+  next = stood.next;
+  last = stood.last;
+  left = stood.left;
+  cap = stood.cap;
+}
+
+-- so they stand where bytes were told to it that finish no line, and the pages stand for what they did
+pub stand-told : (l : Limits) (bytes : List ℕ) (h : PageHistory) (coded : ComposerOf) (lines : Env) → StandFor l h coded
+    → QuietlyTold l.line bytes (text_of h) → Stands l.line (bytes_told bytes (text_of h)) lines
+    → StandFor l (page_told bytes h) (record coded { environments = with_lines coded.environments lines })
+stand-told l bytes h coded lines stood quiet stands =
+    let same : layout_of (page_told bytes h) ≡ layout_of h = layout-told l.line bytes h quiet in record {
+      environments = subst (λ (es : Environments). StandBy l es (with_lines coded.environments lines)) (sym (environments-told bytes h))
+          (stand-with_text l (bytes_told bytes (text_of h)) (environments h) coded.environments lines stood.environments stands);
+      pages = subst (λ (L : Layout). StandsAs L coded.pages) (sym same) stood.pages;
+      written = stood.written ∙ sym (ap length (written-told l.line bytes h quiet));
+      within = stood.within;
+      output = stood.output;
+      traps = stood.traps;
+      diversions = stood.diversions;
+      goes_on = ap (λ (L : Layout). L.is_over) same ∙ stood.goes_on;
+    }
+
+-- what is so of each of these bytes, where something else is
+pub all_by : (P Q : ℕ → Type 0) → ((b : ℕ) → P b → Q b) → (bytes : List ℕ) → AllByRecursion P bytes → AllByRecursion Q bytes
+all_by P Q makes [] are = tt
+all_by P Q makes (b ∷ bytes) are = (makes b are.0, all_by P Q makes bytes are.1)
+
+-- the bytes of plain text that come first
+text_taken : (front : List ℕ) → AllByRecursion (λ b. is_text_byte b ≡ true) (take (length (take_while is_text_byte front)) front)
+text_taken front = rw length-prefix_len (take_while-plain is_text_byte front)
+
+-- none of them is a control byte
+above_controls : (b : ℕ) → is_text_byte b ≡ true → 31 < b
+above_controls b text = grind (arith, nat_tests)
+
+pub text_above : (front text : List ℕ) → text ≡ take (length (take_while is_text_byte front)) front → AllByRecursion (λ b. 31 < b) text
+text_above front text is =
+    all_by (λ b. is_text_byte b ≡ true) (λ b. 31 < b) above_controls text
+    (subst (λ (bytes : List ℕ). AllByRecursion (λ b. is_text_byte b ≡ true) bytes) (sym is) (text_taken front))
+
+-- what is so of each byte is so of each of the first
+all_take : (P : ℕ → Type 0) (count : ℕ) (bytes : List ℕ) → AllByRecursion P bytes → AllByRecursion P (take count bytes)
+all_take P zero bytes all = tt
+all_take P (suc count) [] all = tt
+all_take P (suc count) (b ∷ bytes) all = (all.0, all_take P count bytes all.1)
+
+-- the formatter told none of them
+pub tells_none : (front : List ℕ) (f : Formatter) → TellsFront front 0 f f
+tells_none front f = record {
+  few = omega arith;
+  text = tt;
+  takes = λ l h stood some. absurd (omega (arith, some));
+  quiet = λ l h stood. tt;
+  stands = λ l h stood. stood;
+}
+
+-- or the first of them
+pub tells_front : (front text : List ℕ) (count : ℕ) (f : Formatter) (lines : Env) → text ≡ take (length (take_while is_text_byte front)) front → count ≤ length text
+    → ((L : Layout) → StandsAs L f.composer.pages → takes_text L ≡ true)
+    → ((cap : ℕ) (h : History) → Stands cap h f.composer.environments.in_force.lines → QuietlyTold cap (take count text) h)
+    → ((cap : ℕ) (h : History) → Stands cap h f.composer.environments.in_force.lines → Stands cap (bytes_told (take count text) h) lines)
+    → TellsFront front count f (record f { composer = record f.composer { environments = with_lines f.composer.environments lines } })
+tells_front front text count f lines is few takes quiet stands =
+    let most : ℕ = length (take_while is_text_byte front) in
+    let counted : length text ≡ min most (length front) = ap length is ∙ length-take most front in
+    let same : take count text ≡ take count front = ap (take count) is ∙ take-take count most front (omega (arith, counted, few)) in
+    let told_quietly : (l : Limits) (h : PageHistory) → StandFor l h f.composer → QuietlyTold l.line (take count front) (text_of h) =
+    λ l h stood. subst (λ (bytes : List ℕ). QuietlyTold l.line bytes (text_of h)) same (quiet l.line (text_of h) stood.environments.in_force.lines) in
+    record {
+      few = omega (arith, few, counted);
+      text = subst (λ (bytes : List ℕ). AllByRecursion (λ b. is_text_byte b ≡ true) bytes) same
+          (all_take (λ b. is_text_byte b ≡ true) count text (subst (λ (bytes : List ℕ). AllByRecursion (λ b. is_text_byte b ≡ true) bytes) (sym is) (text_taken front)));
+      takes = λ l h stood some. takes (layout_of h) stood.pages;
+      quiet = λ l h stood. told_quietly l h stood;
+      stands = λ l h stood. stand-told l (take count front) h f.composer lines stood (told_quietly l h stood)
+          (subst (λ (bytes : List ℕ). Stands l.line (bytes_told bytes (text_of h)) lines) same (stands l.line (text_of h) stood.environments.in_force.lines));
+    }
+
+-- so it did of all that stand in front, of which those were a part
+pub tells_of_all : (front near : List ℕ) (most count : ℕ) (old new : Formatter) → near ≡ take most front → TellsFront near count old new → TellsFront front count old new
+tells_of_all front near most count old new is told =
+    let counted : length near ≡ min most (length front) = ap length is ∙ length-take most front in
+    let same : take count near ≡ take count front = ap (take count) is ∙ take-take count most front (omega (arith, counted, told.few)) in
+    record {
+      few = omega (arith, counted, told.few);
+      text = subst (λ (bytes : List ℕ). AllByRecursion (λ b. is_text_byte b ≡ true) bytes) same told.text;
+      takes = told.takes;
+      quiet = λ l h stood. subst (λ (bytes : List ℕ). QuietlyTold l.line bytes (text_of h)) same (told.quiet l h stood);
+      stands = λ l h stood. subst (λ (bytes : List ℕ). StandFor l (page_told bytes h) new.composer) same (told.stands l h stood);
+    }

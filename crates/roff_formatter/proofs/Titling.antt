@@ -1,0 +1,105 @@
+-- Titles that are placed: they are the definition's, with the text, the title length and the number of then.
+use Rattle.std.proofs.Common.{◌≡◌, ◌∙◌, ℕ, ◌+◌, ◌*◌, ◌<◌, ◌≤◌, ◌^◌, true, false, List, [], ◌∷◌, length, Option, Some, None, Result, ap, arith, refl, subst, sym, Ok}
+use Rattle.std.proofs.lemmas.Nat.{mul-le}
+use Rattle.roff_num.specs.RegisterText.{register_text}
+use Rattle.roff_num.specs.declared.format.Format.{Format}
+use Rattle.roff_num.specs.declared.limits.Limits.{Limits}
+use Rattle.roff_lines.specs.Glyphs.{text_width}
+use Rattle.roff_lines.specs.declared.settings.Settings.{Settings}
+use Rattle.roff_pages.specs.Happenings.{Happening, Titles}
+use Rattle.roff_pages.specs.Layout.{Layout}
+use Rattle.roff_pages.specs.Pages.Stands.{StandsAs}
+use Rattle.roff_sinks.specs.Sinks.{Sunk}
+use Rattle.roff_sinks.specs.Titles.{part_text}
+use Rattle.roff_composer.specs.Composer.Standing.{StandFor}
+use Rattle.roff_composer.specs.Environments.Standing.{StandBy}
+use Rattle.roff_composer.specs.declared.environments.Environments.{Environments as EnvironmentsOf}
+use Rattle.roff_run.specs.Environments.{PageHistory, environments}
+use Rattle.roff_run.specs.Layouts.{happens, layout_of}
+use Rattle.roff_run.specs.PageEvents.{PageEvent, PastEvent}
+use Rattle.roff_run.specs.Run.Counts.{first_passed, written_counted}
+use Rattle.roff_run.specs.TitleTexts.{TitleText, TitleTold}
+use Rattle.roff_run.specs.Titles.{title_told, told}
+use Rattle.roff_run.specs.declared.event.PageEvent.TheVariants.{Title}
+use Rattle.roff_run.specs.declared.title.WhichTitle.{WhichTitle}
+use Rattle.roff_formatter.specs.declared.formatter.Formatter.{Formatter}
+use Rattle.roff_formatter.specs.declared.halt.Halt.{Halt}
+use Rattle.roff_formatter.specs.Formatter.Paging.{PutsOnPage, ReadyFor}
+use Rattle.roff_formatter.specs.Formatter.Performing.{PerformsTitle, PlacesTitle, acting, behind_event}
+use Rattle.roff_sinks.specs.Devices.{seen}
+use Rattle.roff_formatter.specs.declared.sprung.Sprung.{Sprung}
+use Rattle.roff_run.proofs.LinesLeft.{lines_left-event}
+use Rattle.roff_run.specs.Run.{performing}
+use Rattle.roff_formatter.specs.Formatter.Sprung.{sprung_before}
+use Rattle.roff_formatter.specs.Formatter.Titling.{title_at}
+use Rattle.roff_num.specs.declared.short_name.ShortName.{ShortName}
+use Rattle.roff_formatter.proofs.DoneFirst.{PerformsHere, only_page, one_here, put_here}
+use Rattle.roff_formatter.proofs.FirstPages.{begun, begun_for, behind-alone, next-alone}
+use Rattle.roff_formatter.proofs.Springing.{lines-begun, performs_from}
+use Rattle.roff_formatter.proofs.TitleNumbers.{part-width}
+
+-- a part is so wide with a number of so many bytes
+part-within : (number part : List ℕ) → length number ≤ 48 → text_width (part_text number part) ≤ length part * 49
+part-within number part short = omega (arith, part-width number part, mul-le (length part) (1 + length number) (length part) 49 (omega arith) (omega (arith, short)))
+
+-- so a title of less than 2^32 bytes is within its columns
+pub width-within : (number left centre right : List ℕ) (columns : ℕ) → length number ≤ 48 → length left + length centre + length right < 2 ^ 32 → columns < 2 ^ 32
+    → text_width (part_text number left) + text_width (part_text number centre) + text_width (part_text number right) + columns < 2 ^ 64
+width-within number left centre right columns short few small =
+    omega (arith, few, small, part-within number left short, part-within number centre short, part-within number right short)
+
+-- what happens with a title, where its number is the page's
+title-happens : (f : Formatter) (text : TitleText) (format : Format) (number : List ℕ)
+    → ((L : Layout) → StandsAs L f.composer.pages → number ≡ register_text format L.number.0)
+    → (l : Limits) (h : PageHistory) → StandFor l h f.composer
+    → happens h (Title (record { text = text; format = format })) ≡ Some (Titles (title_at f text number))
+title-happens f text format number is l h stood =
+    let made : ℕ → List ℕ → Option Happening = λ columns shown.
+    Some (Titles (record { left = text.left; centre = text.centre; right = text.right; length = columns; number = shown })) in
+    ap (λ (s : Settings). made s.title_length (register_text format (layout_of h).number.0)) (sym stood.environments.in_force.lines.settings)
+    ∙ ap (made f.composer.environments.in_force.lines.settings.title_length) (sym (is (layout_of h) stood.pages))
+
+-- it is placed where no page begins in front of it
+pub title_here : (text : TitleText) (format : Format) (number : List ℕ) (old new : Formatter) (out out_new : Sunk) (r : Result (Option Sprung) Halt)
+    → ((L : Layout) → StandsAs L old.composer.pages → number ≡ register_text format L.number.0)
+    → PutsOnPage (Titles (title_at old text number)) old.composer.pages new.composer.pages out out_new r
+    → new ≡ record old { composer = record old.composer { pages = new.composer.pages } }
+    → PlacesTitle text format old new out out_new r
+title_here text format number old new out out_new r is put others =
+    let x : PastEvent = Title (record { text = text; format = format }) in
+    let performs : PerformsHere x old new out out_new r =
+    put_here x (Titles (title_at old text number)) old new out out_new r put (title-happens old text format number is) (λ h. refl)
+    (λ l h stood. ap (λ (o : Option Happening). first_passed l (written_counted h o)) (title-happens old text format number is l h stood))
+    (λ l h stood. subst (λ (es : EnvironmentsOf). StandBy l (environments h) es) (sym (ap (λ (f : Formatter). f.composer.environments) others)) stood.environments) in record {
+      places = λ l t before failures err s h rest which stood told_so none reached.
+          let there : PerformsHere (Title (title_told s.registers which)) old new out out_new r =
+          subst (λ (told : TitleTold). PerformsHere (Title told) old new out out_new r) (sym told_so) performs in
+          one_here l t before (seen failures out_new err) s (Title which) h h (Title (title_told s.registers which)) rest r new.composer
+          (Title (title_told s.registers which) ∷ h) (λ sprung is. refl) refl (lines_left-event s.registers (Title which) h)
+          (there.here l t before failures err s h (Title which) rest rest stood
+          (ap (λ (first : Option PageEvent). performing l first (Title which) rest (acting s (Title which ∷ rest) h)) none) reached);
+    }
+
+-- so it is performed by a formatter that was ready for it
+pub title_placed : (text : TitleText) (format : Format) (old mid new : Formatter) (out out_new : Sunk) (r : Result (Option Sprung) Halt)
+    → ((which : WhichTitle) → ReadyFor (Title which) old mid None)
+    → PlacesTitle text format mid new out out_new r → PerformsTitle text format old new out out_new r
+title_placed text format old mid new out out_new r readies placed = record {
+  title = λ l t before failures err s h rest which stood told_so reached.
+      let x : PageEvent = Title which in
+      let ready : ReadyFor x old mid None = readies which in
+      let g : PageHistory = begun_for x h in
+      let now = begun l t before failures err s h x x rest out (λ is. next-alone h x true refl is) old mid None ready stood reached refl in
+      performs_from l t before (seen failures out_new err) s (x ∷ []) h g (told s.registers x ∷ g) (behind_event s.registers x h) rest r new.composer
+      (lines-begun s.registers x h) (ap (λ (g : PageHistory). told s.registers x ∷ g) (sym (behind-alone s.registers x h refl)))
+      (placed.places l t before failures err s g rest which now.stands told_so
+      (next-alone g x false refl now.none) now.reaches);
+}
+
+-- or the page begins in front of it, and springs something
+pub title_page : (text : TitleText) (format : Format) (old new : Formatter) (out : Sunk) (name : ShortName) → ((which : WhichTitle) → ReadyFor (Title which) old new (Some name))
+    → PerformsTitle text format old new out out (Ok (Some (sprung_before name)))
+title_page text format old new out name readies = record {
+  title = λ l t before failures err s h rest which stood told_so reached.
+      (only_page (Title which) old new out name refl (readies which)).performs l t before failures err s h rest stood (refl, tt) reached;
+}

@@ -1,0 +1,25 @@
+use Rattle.std.proofs.Common.{refl}
+use Rattle.roff_lines.specs.declared.event.Event.TheVariants.{WordEnd}
+use Rattle.roff_run.specs.Output.{text_of}
+use Rattle.roff_run.specs.declared.event.PageEvent.TheVariants.{Text}
+use Rattle.roff_formatter.proofs.DoneEvents.{lines_behind, text_put_here}
+use Rattle.roff_formatter.proofs.DoneFirst.{only_first, only_page, ready_then, word_first, word_page}
+use Rattle.roff_formatter.proofs.formatter.Formatter.end_word.Goals as goal
+
+pub returns-in-Some-clause-performs : goal.returns-in-Some-clause-performs
+returns-in-Some-clause-performs g c = rw c.in_front.ensures (only_page (Text WordEnd) _ _ _ c.in-Some.name refl c.in-Some.ensures)
+
+pub returns-in-Some-clause-own : goal.returns-in-Some-clause-own
+returns-in-Some-clause-own g c = rw c.in_front.ensures (word_page _ _ _ c.in-Some.name c.in-Some.ensures)
+
+pub returns-in-None-clause-performs : goal.returns-in-None-clause-performs
+returns-in-None-clause-performs g c = only_first (Text WordEnd) (Text WordEnd) _ _ _ _ _ (λ rs. refl) (λ g. refl) (λ sprung is. refl) (ready_then _ _ _ c.begin_first_for.new.self _ _ _ _ c.in-None.ensures
+    (text_put_here WordEnd _ _ _ _ _ _ (λ h. refl) (λ l h stood. c.end_word-line.ensures.line l.line (text_of h) stood.environments.in_force.lines)
+    (lines_behind WordEnd c.begin_first_for.new.self.composer _ (λ trap. refl) c.end_word-line.follows.holds-at-none)
+    c.put_finished.ensures))
+
+pub returns-in-None-clause-own : goal.returns-in-None-clause-own
+returns-in-None-clause-own g c = word_first _ _ _ _ _ (ready_then _ _ _ c.begin_first_for.new.self _ _ _ _ c.in-None.ensures
+    (text_put_here WordEnd _ _ _ _ _ _ (λ h. refl) (λ l h stood. c.end_word-line.ensures.line l.line (text_of h) stood.environments.in_force.lines)
+    (lines_behind WordEnd c.begin_first_for.new.self.composer _ (λ trap. refl) c.end_word-line.follows.holds-at-none)
+    c.put_finished.ensures))

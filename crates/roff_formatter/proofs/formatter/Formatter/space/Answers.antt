@@ -1,0 +1,20 @@
+use Rattle.std.proofs.Common.{refl, rules, sym, false}
+use Rattle.roff_pages.specs.declared.layout_event.LayoutEvent.TheVariants.{Space}
+use Rattle.roff_run.specs.declared.event.PageEvent.TheVariants.{Page}
+use Rattle.roff_formatter.proofs.DoneEvents.{page_only}
+use Rattle.roff_formatter.proofs.DoneFirst.{only_page}
+use Rattle.roff_formatter.proofs.Ejects.{going-not}
+use Rattle.roff_formatter.proofs.formatter.Formatter.space.Goals as goal
+
+pub returns-in-Some : goal.returns-in-Some
+returns-in-Some g c = rw c.in_front.ensures (only_page (Page (Space c.args.lines)) _ _ _ c.in-Some.name refl (c.in-Some.ensures (Page (Space c.args.lines)) (λ h. refl)))
+
+pub returns-in-None : goal.returns-in-None
+returns-in-None g c = page_only (Space c.args.lines) _ c.begin_first.new.self _ _ _ _ (c.in-None.ensures (Page (Space c.args.lines)) (λ h. refl))
+    (record {
+      done = c.done_on.result;
+      puts = record { answer = c.space_on-spaced.result; puts = c.space_on-spaced.ensures; halts = c.done_on.ensures };
+      goes_on = false;
+      is = λ L stands. refl;
+      left = sym (going-not c.done_on.result);
+    }) (search rules)

@@ -1,0 +1,10 @@
+-- The words of the clauses in `src/`, each with the file that it stands in.
+pub use Rattle.roff_formatter.specs.Formatter.Performing.{EndsOpenWord, EndsWordFirst, PerformsEvents, PerformsOne, PerformsTitle, PlacesTitle}
+pub use Rattle.roff_formatter.specs.Formatter.Paging.{BeginsFor, BeginsPage, ReadyFor, halted_by, PutsBy, PutsFinished, PutsOnPage}
+pub use Rattle.roff_formatter.specs.Formatter.Setting.{DoesOnPage, IsOfTraps, PutsNothing, SetsOnPage}
+pub use Rattle.roff_run.specs.Starts.{pages_given}
+pub use Rattle.roff_run.specs.declared.event.PageEvent.TheVariants.{Back, Text, Environment, InputTrap as SetsTrap, Interrupt, Page}
+pub use Rattle.roff_sinks.specs.Sinks.{Sunk}
+pub use Rattle.roff_lines.specs.Columns.{finished_of}
+pub use Rattle.roff_composer.specs.Composer.Standing.{StandFor}
+pub use Rattle.roff_lines.specs.declared.event.Event.TheVariants.{Tab, Gap, Print, WordEnd, LineEnd, Break}

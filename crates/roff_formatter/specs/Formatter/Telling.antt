@@ -1,0 +1,21 @@
+-- How the formatter tells bytes of a text line that stand in front.
+use Rattle.std.specs.Prelude.{◌≡◌, ℕ, ◌≤◌, true, List, length, take}
+use Rattle.std.specs.List.{AllByRecursion}
+use Rattle.roff_num.specs.declared.limits.Limits.{Limits}
+use Rattle.roff_lines.specs.Telling.{QuietlyTold}
+use Rattle.roff_pages.specs.Queries.{takes_text}
+use Rattle.roff_source.specs.Bytes.{is_text_byte}
+use Rattle.roff_run.specs.Environments.{PageHistory, text_of}
+use Rattle.roff_composer.specs.Composer.Standing.{StandFor}
+use Rattle.roff_run.specs.Layouts.{layout_of}
+use Rattle.roff_run.specs.Telling.{page_told}
+use Rattle.roff_formatter.specs.declared.formatter.Formatter.{Formatter}
+
+-- So many of these bytes, from the first on, were told to the environment in force, and what is read stays: they are plain text,
+-- none finishes a line, and the pending line stays within its limit. Before the first page none is told.
+pub record TellsFront (front : List ℕ) (count : ℕ) (old new : Formatter) : Type 0 where
+  pub few : count ≤ length front
+  pub text : AllByRecursion (λ b. is_text_byte b ≡ true) (take count front)
+  pub takes : (l : Limits) (h : PageHistory) → StandFor l h old.composer → 1 ≤ count → takes_text (layout_of h) ≡ true
+  pub quiet : (l : Limits) (h : PageHistory) → StandFor l h old.composer → QuietlyTold l.line (take count front) (text_of h)
+  pub stands : (l : Limits) (h : PageHistory) → StandFor l h old.composer → StandFor l (page_told (take count front) h) new.composer

@@ -1,0 +1,15 @@
+-- What the formatter places of a title.
+use Rattle.std.specs.Prelude.{ℕ, List}
+use Rattle.roff_formatter.specs.declared.formatter.Formatter.{Formatter}
+use Rattle.roff_run.specs.TitleTexts.{TitleText}
+use Rattle.roff_sinks.specs.Titles.{Title}
+
+-- its text, with the title length of the environment in force, and this number of the page
+abbrev pub title_at : Formatter → TitleText → List ℕ → Title
+title_at f text number = record {
+  left = text.left;
+  centre = text.centre;
+  right = text.right;
+  length = f.composer.environments.in_force.lines.settings.title_length;
+  number = number;
+}

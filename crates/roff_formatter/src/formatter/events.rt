@@ -1,0 +1,117 @@
+//! Events by their kinds.
+
+ghost use Rattle.std.specs.Prelude.{[], ◌∷◌, Ok, None};
+ghost use Rattle.roff_run.specs.Events.Steps.{events_of};
+ghost use Rattle.roff_formatter.specs.Clauses.{PerformsEvents, PerformsOne};
+ghost use Rattle.roff_formatter.specs.Clauses.{Back, Environment, Interrupt, SetsTrap, Sunk, Text};
+
+use super::Formatter;
+use crate::halt::Halt;
+use crate::sprung::Sprung;
+use roff_lines::{Event, Glyph};
+use roff_run::{EnvironmentNumber, InputTrap, Step};
+use roff_sinks::ByteSink;
+
+impl Formatter {
+    /// Performs the events of a step that has a name of its own, up to one that springs a macro.
+    ///
+    /// # Errors
+    ///
+    /// [`Halt`] if a limit refuses one of them, the output failed, or the last page ended.
+    #[inline(always)]
+    pub fn perform_step<O: ByteSink>(
+        &mut self,
+        step: Step,
+        out: &mut O,
+    ) -> Result<Option<Sprung>, Halt>
+        ensures { PerformsEvents (events_of [] step) self.old self.new
+            (O.sunk out.old) (O.sunk out.new) result }
+    {
+        match step {
+            Step::Nothing => Ok(None),
+            Step::Glyph(byte, leading) => self.glyph_behind(leading, Glyph::Printed(byte)),
+            Step::Tab(leading) => self.tab_behind(leading),
+            Step::Gap => self.gap_behind_word(out),
+            Step::Break => self.break_behind_word(out),
+            Step::LineEnd => self.end_text_line(out),
+            Step::BlankLine => self.blank_line(out),
+            Step::Meaning => Ok(None),
+        }
+    }
+
+    /// Performs an event of the text, and before it the end of an open word, where that comes before
+    /// it.
+    ///
+    /// # Errors
+    ///
+    /// [`Halt`] if a limit refuses it, the output failed, or the last page ended.
+    pub fn perform_text<O: ByteSink>(
+        &mut self,
+        event: Event,
+        out: &mut O,
+    ) -> Result<Option<Sprung>, Halt>
+        ensures { PerformsOne (Text event) self.old self.new
+            (O.sunk out.old) (O.sunk out.new) result }
+    {
+        match event {
+            Event::Print(glyph) => self.glyph(glyph),
+            Event::Tab => self.tab(),
+            Event::WordEnd => self.end_word(out),
+            Event::Gap(blanks) => self.gap_behind_own(blanks, out),
+            Event::LineEnd => self.line_end_behind_own(out),
+            Event::Count => self.count(),
+            Event::Break => self.break_behind_own(out),
+            Event::Interrupt => {
+                self.composer.environments.in_force.lines.interrupt();
+                Ok(None)
+            }
+            Event::Resume => {
+                self.composer.environments.in_force.lines.resume();
+                Ok(None)
+            }
+            Event::Set(param) => {
+                self.composer.environments.in_force.lines.set(param);
+                Ok(None)
+            }
+        }
+    }
+
+    /// Leaves the environment in force for another.
+    ///
+    /// # Errors
+    ///
+    /// [`Halt::Limit`] if more would be left than may.
+    pub fn switch_to(&mut self, number: EnvironmentNumber) -> Result<Option<Sprung>, Halt>
+        ensures { (told : Sunk) →
+            PerformsEvents (Environment number ∷ []) self.old self.new told told result }
+    {
+        match self.composer.environments.switch_to(number) {
+            Ok(()) => Ok(None),
+            Err(limit) => Err(Halt::Limit(limit)),
+        }
+    }
+
+    /// Goes back to the environment that was left last, if one was.
+    pub fn switch_back(&mut self)
+        ensures { (told : Sunk) → PerformsEvents (Back ∷ []) self.old self.new told told (Ok None) }
+    {
+        self.composer.environments.switch_back();
+    }
+
+    /// The line of the environment in force is interrupted, of which so many leading blanks aren't
+    /// told yet.
+    pub fn interrupt(&mut self, untold: u32)
+        ensures { (told : Sunk) →
+            PerformsEvents (Interrupt untold ∷ []) self.old self.new told told (Ok None) }
+    {
+        self.composer.environments.interrupt(untold);
+    }
+
+    /// The environment in force has this input-line trap from now on, or none.
+    pub fn set_input_trap(&mut self, trap: Option<InputTrap>)
+        ensures { (told : Sunk) →
+            PerformsEvents (SetsTrap trap ∷ []) self.old self.new told told (Ok None) }
+    {
+        self.composer.environments.set_input_trap(trap);
+    }
+}

@@ -1,0 +1,35 @@
+//! Bytes of a text line that stand in front, and are told together.
+
+ghost use Rattle.std.specs.Prelude.{◌≡◌, take};
+ghost use Rattle.roff_formatter.specs.Formatter.Telling.{TellsFront};
+
+use super::Formatter;
+use roff_source::text_in_front;
+
+/// So many bytes of a text line are told at once at the most: more than most lines have, so that few
+/// are looked at that aren't told.
+const MOST_AT_ONCE: usize = 128;
+
+impl Formatter {
+    /// Tells bytes of plain text, of those that stand in front: as many as no limit refuses, none
+    /// that finishes a line, and none with which the first page begins. How many they are.
+    #[inline(always)]
+    pub fn text_front(&mut self, front: &[u8]) -> usize
+        ensures { TellsFront front.now result self.old self.new }
+    {
+        if !self.composer.pages.takes_text() {
+            return 0;
+        }
+        let near = told_at_once(front);
+        let (text, _) = near.split_at(text_in_front(near));
+        self.composer.environments.in_force.lines.text(text)
+    }
+}
+
+/// The first of these bytes, as many as are told at once at the most.
+#[inline(always)]
+fn told_at_once(bytes: &[u8]) -> &[u8]
+    ensures { result.now ≡ take 128 bytes.now }
+{
+    bytes.split_at(MOST_AT_ONCE.min(bytes.len())).0
+}

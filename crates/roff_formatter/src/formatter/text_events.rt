@@ -1,0 +1,323 @@
+//! The events of the text, and those of a text line one behind another.
+
+ghost use Rattle.std.specs.Prelude.{[], ◌∷◌, ◌++◌, option_map};
+ghost use Rattle.roff_run.specs.Reading.TextLines.{blank_line, leading_glyph};
+ghost use Rattle.roff_formatter.specs.Clauses.{finished_of, Gap, Print, WordEnd, LineEnd, Break};
+ghost use Rattle.roff_lines.specs.declared.event.Event.TheVariants.{Count};
+ghost use Rattle.roff_pages.specs.Happenings.{Places};
+ghost use Rattle.roff_pages.specs.declared.layout_event.LayoutEvent.TheVariants.{Space};
+ghost use Rattle.roff_formatter.specs.Clauses.{EndsOpenWord, EndsWordFirst};
+ghost use Rattle.roff_formatter.specs.Clauses.{PerformsEvents, PerformsOne};
+ghost use Rattle.roff_formatter.specs.Clauses.{PutsFinished, PutsOnPage};
+ghost use Rattle.roff_formatter.specs.Clauses.{Page, Text, Sunk, Tab};
+
+use super::Formatter;
+use super::paging::done_on;
+use crate::halt::Halt;
+use crate::sprung::{Sprung, further};
+use roff_lines::{Event, Glyph, Line};
+use roff_pages::Pages;
+use roff_sinks::ByteSink;
+
+impl Formatter {
+    /// Prints a glyph behind so many leading blanks.
+    #[inline(always)]
+    pub(super) fn glyph_behind(
+        &mut self,
+        leading: u32,
+        glyph: Glyph,
+    ) -> Result<Option<Sprung>, Halt>
+        ensures { (told : Sunk) →
+            PerformsEvents (leading_glyph leading ++ Text (Print glyph) ∷ [])
+            self.old self.new told told result }
+    {
+        if leading == 0 {
+            return self.glyph(glyph);
+        }
+        match self.glyph(Glyph::Blanks(leading)) {
+            Ok(None) => further(self.glyph(glyph), 1),
+            Ok(Some(sprung)) => Ok(Some(sprung)),
+            Err(halt) => Err(halt),
+        }
+    }
+
+    /// Moves to the next tab stop behind so many leading blanks.
+    pub(super) fn tab_behind(&mut self, leading: u32) -> Result<Option<Sprung>, Halt>
+        ensures { (told : Sunk) → PerformsEvents (leading_glyph leading ++ Text Tab ∷ [])
+            self.old self.new told told result }
+    {
+        if leading == 0 {
+            return self.tab();
+        }
+        match self.glyph(Glyph::Blanks(leading)) {
+            Ok(None) => further(self.tab(), 1),
+            Ok(Some(sprung)) => Ok(Some(sprung)),
+            Err(halt) => Err(halt),
+        }
+    }
+
+    /// Ends the open word, and breaks.
+    pub(super) fn break_behind_word<O: ByteSink>(
+        &mut self,
+        out: &mut O,
+    ) -> Result<Option<Sprung>, Halt>
+        ensures { PerformsEvents (Text WordEnd ∷ Text Break ∷ []) self.old self.new
+            (O.sunk out.old) (O.sunk out.new) result }
+    {
+        match self.end_word(out) {
+            Ok(None) => further(self.brk(out), 1),
+            Ok(Some(sprung)) => Ok(Some(sprung)),
+            Err(halt) => Err(halt),
+        }
+    }
+
+    /// The end of a text line that isn't blank: the open word ends, and the line counts.
+    #[inline(always)]
+    pub(super) fn end_text_line<O: ByteSink>(&mut self, out: &mut O) -> Result<Option<Sprung>, Halt>
+        ensures { PerformsEvents (Text WordEnd ∷ Text LineEnd ∷ Text Count ∷ []) self.old self.new
+            (O.sunk out.old) (O.sunk out.new) result }
+    {
+        match self.end_word(out) {
+            Ok(None) => further(self.end_and_count(out), 1),
+            Ok(Some(sprung)) => Ok(Some(sprung)),
+            Err(halt) => Err(halt),
+        }
+    }
+
+    /// Ends a line of the input, which counts.
+    #[inline(always)]
+    fn end_and_count<O: ByteSink>(&mut self, out: &mut O) -> Result<Option<Sprung>, Halt>
+        ensures { PerformsEvents (Text LineEnd ∷ Text Count ∷ []) self.old self.new
+            (O.sunk out.old) (O.sunk out.new) result }
+    {
+        match self.end_line(out) {
+            Ok(None) => further(self.count(), 1),
+            Ok(Some(sprung)) => Ok(Some(sprung)),
+            Err(halt) => Err(halt),
+        }
+    }
+
+    /// The end of a blank line: the open word ends, and a break and a blank line come.
+    pub(super) fn blank_line<O: ByteSink>(&mut self, out: &mut O) -> Result<Option<Sprung>, Halt>
+        ensures { PerformsEvents blank_line self.old self.new
+            (O.sunk out.old) (O.sunk out.new) result }
+    {
+        match self.end_word(out) {
+            Ok(None) => further(self.break_and_space(out), 1),
+            Ok(Some(sprung)) => Ok(Some(sprung)),
+            Err(halt) => Err(halt),
+        }
+    }
+
+    /// Breaks, and writes a blank line.
+    #[inline(always)]
+    fn break_and_space<O: ByteSink>(&mut self, out: &mut O) -> Result<Option<Sprung>, Halt>
+        ensures { PerformsEvents (Text Break ∷ Page (Space 1) ∷ []) self.old self.new
+            (O.sunk out.old) (O.sunk out.new) result }
+    {
+        match self.brk(out) {
+            Ok(None) => further(self.space(1, out), 1),
+            Ok(Some(sprung)) => Ok(Some(sprung)),
+            Err(halt) => Err(halt),
+        }
+    }
+
+    /// Prints a glyph.
+    #[inline(always)]
+    pub(super) fn glyph(&mut self, glyph: Glyph) -> Result<Option<Sprung>, Halt>
+        ensures { (told : Sunk) →
+            PerformsEvents (Text (Print glyph) ∷ []) self.old self.new told told result }
+    {
+        match self.begin_first() {
+            Some(name) => Ok(Some(Sprung::in_front(name))),
+            None => match self.composer.environments.in_force.lines.glyph(glyph) {
+                Ok(()) => Ok(None),
+                Err(limit) => Err(Halt::Limit(limit)),
+            },
+        }
+    }
+
+    /// Moves to the next tab stop.
+    pub(super) fn tab(&mut self) -> Result<Option<Sprung>, Halt>
+        ensures { (told : Sunk) →
+            PerformsEvents (Text Tab ∷ []) self.old self.new told told result }
+    {
+        match self.begin_first() {
+            Some(name) => Ok(Some(Sprung::in_front(name))),
+            None => match self.composer.environments.in_force.lines.tab() {
+                Ok(()) => Ok(None),
+                Err(limit) => Err(Halt::Limit(limit)),
+            },
+        }
+    }
+
+    /// A text line counts: it may be the last that the input-line trap waits for.
+    #[inline(always)]
+    pub(super) fn count(&mut self) -> Result<Option<Sprung>, Halt>
+        ensures { (told : Sunk) →
+            PerformsEvents (Text Count ∷ []) self.old self.new told told result }
+    {
+        Ok(Sprung::by(self.composer.environments.count()))
+    }
+
+    /// Ends the open word, behind which a gap of one blank stands.
+    #[inline(always)]
+    pub(super) fn gap_behind_word<O: ByteSink>(
+        &mut self,
+        out: &mut O,
+    ) -> Result<Option<Sprung>, Halt>
+        ensures { PerformsEvents (Text WordEnd ∷ Text (Gap 1) ∷ []) self.old self.new
+            (O.sunk out.old) (O.sunk out.new) result }
+    {
+        match self.end_word(out) {
+            Ok(None) => {
+                self.composer.environments.in_force.lines.gap(1);
+                Ok(None)
+            }
+            Ok(Some(sprung)) => Ok(Some(sprung)),
+            Err(halt) => Err(halt),
+        }
+    }
+
+    /// Ends the word that is open, if one is: what stands behind a macro that sprang may find one.
+    /// Where that springs a macro, what stands behind it is left.
+    fn end_open_word<O: ByteSink>(&mut self, out: &mut O) -> Result<Option<Sprung>, Halt>
+        ensures { EndsOpenWord self.old self.new (O.sunk out.old) (O.sunk out.new) result }
+    {
+        if !self.composer.environments.in_force.lines.has_open_word() {
+            return Ok(None);
+        }
+        match self.end_word(out) {
+            Ok(None) => Ok(None),
+            Ok(Some(sprung)) => Ok(Some(Sprung::in_front(sprung.name))),
+            Err(halt) => Err(halt),
+        }
+    }
+
+    /// Ends the word that is open, if one is, and then a gap stands.
+    pub(super) fn gap_behind_own<O: ByteSink>(
+        &mut self,
+        blanks: u32,
+        out: &mut O,
+    ) -> Result<Option<Sprung>, Halt>
+        ensures { PerformsOne (Text (Gap blanks)) self.old self.new
+            (O.sunk out.old) (O.sunk out.new) result }
+    {
+        match self.end_open_word(out) {
+            Ok(None) => {
+                self.composer.environments.in_force.lines.gap(blanks);
+                Ok(None)
+            }
+            Ok(Some(sprung)) => Ok(Some(sprung)),
+            Err(halt) => Err(halt),
+        }
+    }
+
+    /// Ends the word that is open, if one is, and then a line of the input.
+    pub(super) fn line_end_behind_own<O: ByteSink>(
+        &mut self,
+        out: &mut O,
+    ) -> Result<Option<Sprung>, Halt>
+        ensures { PerformsOne (Text LineEnd) self.old self.new
+            (O.sunk out.old) (O.sunk out.new) result }
+    {
+        match self.end_open_word(out) {
+            Ok(None) => self.end_line(out),
+            Ok(Some(sprung)) => Ok(Some(sprung)),
+            Err(halt) => Err(halt),
+        }
+    }
+
+    /// Ends the word that is open, if one is, and breaks.
+    pub(super) fn break_behind_own<O: ByteSink>(
+        &mut self,
+        out: &mut O,
+    ) -> Result<Option<Sprung>, Halt>
+        ensures { PerformsOne (Text Break) self.old self.new
+            (O.sunk out.old) (O.sunk out.new) result }
+    {
+        match self.end_open_word(out) {
+            Ok(None) => self.brk(out),
+            Ok(Some(sprung)) => Ok(Some(sprung)),
+            Err(halt) => Err(halt),
+        }
+    }
+
+    /// Ends the open word, and places the line that it finishes. It may be the event to do, or come
+    /// before that.
+    pub(super) fn end_word<O: ByteSink>(&mut self, out: &mut O) -> Result<Option<Sprung>, Halt>
+        ensures performs { PerformsEvents (Text WordEnd ∷ []) self.old self.new
+            (O.sunk out.old) (O.sunk out.new) result }
+        ensures own { EndsWordFirst self.old self.new (O.sunk out.old) (O.sunk out.new) result }
+    {
+        match self.begin_first_for(Event::WordEnd) {
+            Some(name) => Ok(Some(Sprung::in_front(name))),
+            None => {
+                let line = self.composer.environments.in_force.lines.end_word();
+                put_finished(&mut self.composer.pages, line, out)
+            }
+        }
+    }
+
+    /// Ends a line of the input, and places the line that it finishes.
+    pub(super) fn end_line<O: ByteSink>(&mut self, out: &mut O) -> Result<Option<Sprung>, Halt>
+        ensures { PerformsEvents (Text LineEnd ∷ []) self.old self.new
+            (O.sunk out.old) (O.sunk out.new) result }
+    {
+        match self.begin_first_for(Event::LineEnd) {
+            Some(name) => Ok(Some(Sprung::in_front(name))),
+            None => {
+                let line = self.composer.environments.in_force.lines.end_line();
+                put_finished(&mut self.composer.pages, line, out)
+            }
+        }
+    }
+
+    /// Finishes the pending line, and places it.
+    pub(super) fn brk<O: ByteSink>(&mut self, out: &mut O) -> Result<Option<Sprung>, Halt>
+        ensures { PerformsEvents (Text Break ∷ []) self.old self.new
+            (O.sunk out.old) (O.sunk out.new) result }
+    {
+        match self.begin_first_for(Event::Break) {
+            Some(name) => Ok(Some(Sprung::in_front(name))),
+            None => {
+                let line = self.composer.environments.in_force.lines.brk();
+                put_finished(&mut self.composer.pages, line, out)
+            }
+        }
+    }
+}
+
+/// Places the line that an event finished, if it finished one.
+#[inline(always)]
+fn put_finished<O: ByteSink>(
+    pages: &mut Pages,
+    line: Option<Line<'_>>,
+    out: &mut O,
+) -> Result<Option<Sprung>, Halt>
+    ensures { PutsFinished (option_map finished_of line.entry) pages.old pages.new
+        (O.sunk out.old) (O.sunk out.new) result }
+{
+    match line {
+        None => Ok(None),
+        Some(line) => place_line(pages, line, out),
+    }
+}
+
+/// Places a line, with which the last page may end.
+#[inline(always)]
+fn place_line<O: ByteSink>(
+    pages: &mut Pages,
+    line: Line<'_>,
+    out: &mut O,
+) -> Result<Option<Sprung>, Halt>
+    ensures { PutsOnPage (Places (finished_of line.entry)) pages.old pages.new
+        (O.sunk out.old) (O.sunk out.new) result }
+{
+    let placed = if pages.is_diverting() {
+        Ok(pages.divert_line(line))
+    } else {
+        pages.place(line, out)
+    };
+    done_on(pages, placed)
+}

@@ -1,0 +1,123 @@
+//! Titles that are placed.
+
+ghost use Rattle.std.specs.Prelude.{◌≡◌, ◌+◌, ◌<◌, ◌≤◌, ◌^◌, length};
+ghost use Rattle.roff_lines.specs.Glyphs.{text_width};
+ghost use Rattle.roff_num.specs.RegisterText.{register_text};
+ghost use Rattle.roff_pages.specs.Happenings.{Titles};
+ghost use Rattle.roff_pages.specs.Layout.{Layout};
+ghost use Rattle.roff_pages.specs.Pages.Stands.{StandsAs};
+ghost use Rattle.roff_sinks.specs.TitleLeft.{title_of};
+ghost use Rattle.roff_sinks.specs.TitleParts.{HasNoBlank};
+ghost use Rattle.roff_sinks.specs.Titles.{part_text};
+ghost use Rattle.roff_formatter.specs.Clauses.{PerformsTitle, PlacesTitle, PutsOnPage};
+ghost use Rattle.roff_formatter.specs.Formatter.Titling.{title_at};
+
+use super::Formatter;
+use super::paging::done_on;
+use crate::halt::Halt;
+use crate::sprung::Sprung;
+use roff_composer::TitleText;
+use roff_num::{Format, NumText, write_num};
+use roff_pages::Pages;
+use roff_sinks::{ByteSink, TitleLine};
+
+impl Formatter {
+    /// Places a title of this text, with the title length that is in force, and the page's number
+    /// in this format.
+    ///
+    /// # Errors
+    ///
+    /// [`Halt`] if a limit refuses it, the output failed, or the last page ended.
+    pub fn place_title<O: ByteSink>(
+        &mut self,
+        text: &TitleText,
+        format: Format,
+        out: &mut O,
+    ) -> Result<Option<Sprung>, Halt>
+        ensures { PerformsTitle text.now.text format self.old self.new
+            (O.sunk out.old) (O.sunk out.new) result }
+    {
+        match self.begin_first() {
+            Some(name) => Ok(Some(Sprung::in_front(name))),
+            None => self.place_title_here(text, format, out),
+        }
+    }
+
+    /// The same where no page begins in front of it.
+    fn place_title_here<O: ByteSink>(
+        &mut self,
+        text: &TitleText,
+        format: Format,
+        out: &mut O,
+    ) -> Result<Option<Sprung>, Halt>
+        ensures { PlacesTitle text.now.text format self.old self.new
+            (O.sunk out.old) (O.sunk out.new) result }
+    {
+        let number = self.page_number(format);
+        self.put_title(text, number.as_slice(), out)
+    }
+
+    /// The page's number, in this format.
+    fn page_number(&self, format: Format) -> NumText
+        ensures number { (L : Layout) → StandsAs L self.now.composer.pages
+            → result.items ≡ register_text format L.number.0 }
+        ensures some { 0 < length result.items }
+        ensures shown { HasNoBlank result.items }
+    {
+        let mut number = NumText::new();
+        write_num(self.composer.pages.number(), format, &mut number);
+        number
+    }
+
+    /// Puts a title with this number of the page.
+    fn put_title<O: ByteSink>(
+        &mut self,
+        text: &TitleText,
+        number: &[u8],
+        out: &mut O,
+    ) -> Result<Option<Sprung>, Halt>
+        requires some { 0 < length number.now }
+        requires shown { HasNoBlank number.now }
+        requires short { length number.now ≤ 48 }
+        ensures puts { PutsOnPage (Titles (title_at self.old text.now.text number.now))
+            self.old.composer.pages self.new.composer.pages
+            (O.sunk out.old) (O.sunk out.new) result }
+        ensures others { self.new ≡ record self.old {
+          composer = record self.old.composer { pages = self.new.composer.pages };
+        } }
+    {
+        text.stays_short();
+        let settings = self.composer.environments.in_force.lines.settings();
+        let title = TitleLine {
+            left: text.left(),
+            centre: text.centre(),
+            right: text.right(),
+            length: u64::from(settings.title_length),
+            number,
+        };
+        put_on(&mut self.composer.pages, title, out)
+    }
+}
+
+/// Puts a title, in the innermost open diversion or on the page. With it the last page may end.
+fn put_on<O: ByteSink>(
+    pages: &mut Pages,
+    title: TitleLine<'_>,
+    out: &mut O,
+) -> Result<Option<Sprung>, Halt>
+    requires some { 0 < length title.number.now }
+    requires shown { HasNoBlank title.number.now }
+    requires width { let number = title.number.now in
+        text_width (part_text number title.left.now)
+        + text_width (part_text number title.centre.now)
+        + text_width (part_text number title.right.now) + title.length < 2 ^ 64 }
+    ensures { PutsOnPage (Titles (title_of title.entry)) pages.old pages.new
+        (O.sunk out.old) (O.sunk out.new) result }
+{
+    let placed = if pages.is_diverting() {
+        Ok(pages.divert_title(title))
+    } else {
+        pages.title(title, out)
+    };
+    done_on(pages, placed)
+}

@@ -1,0 +1,11 @@
+pub mod PrintedRuns
+pub mod TurnedRuns
+pub mod RunsRead
+pub mod HeldRuns
+pub mod AddedRuns
+pub mod BlankRuns
+pub mod NameFronts
+pub mod ConditionRuns
+pub mod TakenRuns
+pub mod ControlFronts
+pub mod LineEnds

@@ -1,0 +1,37 @@
+-- The front of a control line, up to its name: what its bytes lead to.
+use Rattle.std.specs.Prelude.{◌≡◌, ℕ, Bool, true, false, if◌then◌else◌, List, [], ◌∷◌, length}
+use Rattle.roff_source.specs.Bytes.{apostrophe, dot}
+use Rattle.roff_scan.specs.Unread.Calls.{IsFront, front_bytes}
+use Rattle.roff_run.specs.Reading.Items.{PageUnread}
+use Rattle.roff_run.specs.Reading.{taking}
+use Rattle.roff_run.specs.Reading.Items.{PageInput, going_on}
+use Rattle.roff_arguments.specs.declared.arguments.Place.{Place}
+use Rattle.roff_escape.specs.declared.open_escape.Waiting.TheVariants.{Takes}
+use Rattle.roff_run.specs.Reading.Waiting.{line_waits}
+use Rattle.roff_run.specs.Registers.{Known}
+use Rattle.roff_fronts.specs.declared.control.ControlFront.{ControlFront}
+use Rattle.roff_run.specs.declared.line_state.LineState.{LineState}
+use Rattle.roff_run.specs.declared.line_state.LineState.TheVariants.{Control}
+
+-- the byte with which a control line begins, by whether its requests break
+abbrev pub control_byte : Bool → ℕ
+control_byte breaks = if breaks then dot else apostrophe
+
+-- where this is read and nothing is half read, a control line may begin
+abbrev pub BeginsControl : LineState → Type 0
+BeginsControl reading =
+    (k : Known) (i : PageInput) (breaks : Bool) → i.escapes ≡ []
+    → taking k reading i (control_byte breaks) ≡ going_on i (Control breaks)
+
+-- where this is read and nothing is half read, the item in front is taken
+abbrev pub TakesAtBeginning : LineState → Type 0
+TakesAtBeginning reading = (place : Place) → line_waits reading place ≡ Takes
+
+-- these bytes begin with those of a control line's front
+abbrev pub Fronts : List ℕ → ControlFront → Type 0
+Fronts bytes front = (rest : List ℕ) × (bytes ≡ control_byte front.breaks ∷ front.first ∷ front.second ∷ rest)
+
+-- these bytes stand in front
+pub record StandsReady (bytes ready : List ℕ) (u : PageUnread) : Type 0 where
+  pub are : bytes ≡ front_bytes (length bytes) ready u
+  pub front : IsFront (length bytes) ready u

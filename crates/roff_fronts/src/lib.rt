@@ -1,0 +1,10 @@
+//! Short ways of reading: bytes in front that do alike are taken together, to where as many single steps
+//! lead.
+#![tactic(auto)]
+
+mod control;
+mod runs;
+
+pub use control::{begins_control_line, read_control_front};
+pub use roff_scan::RunKind;
+pub use runs::{run_half_read, run_kind, take_run};

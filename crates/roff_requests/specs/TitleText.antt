@@ -1,3 +1,0 @@
--- A title's text in code.
-pub mod Kept
-pub mod Fronts
