@@ -58,7 +58,6 @@ impl Reader {
     }
 
     /// The end of a line that was read as arguments.
-    #[inline(always)]
     fn end_arguments(
         &mut self,
         breaks: bool,

@@ -39,7 +39,6 @@ impl Reader {
 
     /// A unit behind the name of a body that a line calls: a newline ends the line, and the body is
     /// read.
-    #[inline(always)]
     pub(super) fn read_unit_of_call(
         &mut self,
         name: ShortName,
