@@ -29,10 +29,10 @@ KINDS = ("text", "requests", "registers", "code", "macros", "loop", "skipped", "
 COMMANDS = {"tables": "both"}
 
 # The stages, and the modules or functions of each. The longest name that a function begins with decides. The compiler
-# puts `Engine::format` into `job::run`, with the turn of a byte that stands ready and with the glyph that it adds; and
-# the calls of the environment into functions of `Formatter`.
+# puts `Engine::format` into `job::run`, or that into `program::run_over`, with the turn of a byte that stands ready and
+# with the glyph that it adds; and the calls of the environment into functions of `Formatter`.
 STAGES = {
-    "turn": ["roff_tools::job", "roff_engine::engine", "roff_engine::running"],
+    "turn": ["roff_tools::job", "roff_tools::program::run_over", "roff_engine::engine", "roff_engine::running"],
     "source": ["roff_source::source", "roff_devices", "roff_tools"],
     "unread": ["roff_scan::unread", "roff_ahead"],
     "reader": [
