@@ -1,8 +1,9 @@
 -- Bytes of a text line that stand in front are told to the environment in force.
-use Rattle.std.proofs.Common.{◌≡◌, ℕ, zero, suc, ◌<◌, ◌≤◌, true, List, [], ◌∷◌, length, length-take, take, take-take, sym, ap, subst, ◌∙◌, arith}
-use Rattle.std.specs.Prelude.{min, take_while}
+use Rattle.std.proofs.Common.{◌≡◌, ℕ, zero, suc, ◌+◌, ◌<◌, ◌≤◌, true, false, List, [], ◌∷◌, length, length-take, take, take-take, sym, ap, subst, ◌∙◌, arith}
+use Rattle.std.specs.Prelude.{cond, min, take_while}
 use Rattle.std.proofs.lemmas.Bool.Decides.{nat_tests}
 use Rattle.std.proofs.lemmas.List.Folds.{length-prefix_len}
+use Rattle.std.proofs.lemmas.List.Sums.{take_while-cons}
 use Rattle.std.specs.List.{AllByRecursion}
 use Rattle.roff_lines.specs.Events.{History}
 use Rattle.roff_lines.specs.Env.Stands.{Stands}
@@ -23,7 +24,7 @@ use Rattle.roff_run.specs.Telling.{page_told}
 use Rattle.roff_composer.specs.declared.composer.Composer.{Composer as ComposerOf}
 use Rattle.roff_run.proofs.PlainRuns.{counted}
 use Rattle.roff_formatter.specs.declared.formatter.Formatter.{Formatter}
-use Rattle.roff_formatter.specs.Formatter.Telling.{TellsFront}
+use Rattle.roff_formatter.specs.Formatter.Telling.{TellsFront, most_at_once}
 use Rattle.roff_composer.proofs.ToldBytes.{environments-told, layout-told, with_text, written-told}
 
 -- the environments with these lines in force
@@ -68,6 +69,15 @@ all_by P Q makes (b ∷ bytes) are = (makes b are.0, all_by P Q makes bytes are.
 text_taken : (front : List ℕ) → AllByRecursion (λ b. is_text_byte b ≡ true) (take (length (take_while is_text_byte front)) front)
 text_taken front = rw length-prefix_len (take_while-plain is_text_byte front)
 
+-- so many bytes in front come first, if they are plain text
+few_plain : (n : ℕ) (bytes : List ℕ) → n ≤ length bytes → AllByRecursion (λ b. is_text_byte b ≡ true) (take n bytes) → n ≤ length (take_while is_text_byte bytes)
+few_plain zero bytes few plain = omega arith
+few_plain (suc n) [] few plain = absurd (omega (arith, few))
+few_plain (suc n) (b ∷ bytes) few plain =
+    let others = few_plain n bytes (omega (arith, few)) plain.1 in
+    let same = take_while-cons is_text_byte b bytes ∙ ap (λ passes. cond passes (b ∷ take_while is_text_byte bytes) []) plain.0 in
+    omega (arith, ap length same, others)
+
 -- none of them is a control byte
 above_controls : (b : ℕ) → is_text_byte b ≡ true → 31 < b
 above_controls b text = grind (arith, nat_tests)
@@ -84,13 +94,14 @@ all_take P (suc count) [] all = tt
 all_take P (suc count) (b ∷ bytes) all = (all.0, all_take P count bytes all.1)
 
 -- the formatter told none of them
-pub tells_none : (front : List ℕ) (f : Formatter) → TellsFront front 0 f f
-tells_none front f = record {
+pub tells_none : (front : List ℕ) (f : Formatter) → ((L : Layout) → StandsAs L f.composer.pages → takes_text L ≡ false) → TellsFront front 0 f f
+tells_none front f none = record {
   few = omega arith;
   text = tt;
   takes = λ l h stood some. absurd (omega (arith, some));
   quiet = λ l h stood. tt;
   stands = λ l h stood. stood;
+  most = λ l h stood takes few some can. absurd (let wrong : true ≡ false = sym takes ∙ none (layout_of h) stood.pages in cc);
 }
 
 -- or the first of them
@@ -98,8 +109,9 @@ pub tells_front : (front text : List ℕ) (count : ℕ) (f : Formatter) (lines :
     → ((L : Layout) → StandsAs L f.composer.pages → takes_text L ≡ true)
     → ((cap : ℕ) (h : History) → Stands cap h f.composer.environments.in_force.lines → QuietlyTold cap (take count text) h)
     → ((cap : ℕ) (h : History) → Stands cap h f.composer.environments.in_force.lines → Stands cap (bytes_told (take count text) h) lines)
+    → ((cap : ℕ) (h : History) → Stands cap h f.composer.environments.in_force.lines → count < length text → QuietlyTold cap (take (count + 1) text) h → ⊥)
     → TellsFront front count f (record f { composer = record f.composer { environments = with_lines f.composer.environments lines } })
-tells_front front text count f lines is few takes quiet stands =
+tells_front front text count f lines is few takes quiet stands most_told =
     let most : ℕ = length (take_while is_text_byte front) in
     let counted : length text ≡ min most (length front) = ap length is ∙ length-take most front in
     let same : take count text ≡ take count front = ap (take count) is ∙ take-take count most front (omega (arith, counted, few)) in
@@ -113,17 +125,28 @@ tells_front front text count f lines is few takes quiet stands =
       quiet = λ l h stood. told_quietly l h stood;
       stands = λ l h stood. stand-told l (take count front) h f.composer lines stood (told_quietly l h stood)
           (subst (λ (bytes : List ℕ). Stands l.line (bytes_told bytes (text_of h)) lines) same (stands l.line (text_of h) stood.environments.in_force.lines));
+      most = λ l h stood taken near some can.
+          let plain : count + 1 ≤ most = few_plain (count + 1) front (omega (arith, some)) can.text in
+          let one_more : take (count + 1) text ≡ take (count + 1) front = ap (take (count + 1)) is ∙ take-take (count + 1) most front plain in
+          most_told l.line (text_of h) stood.environments.in_force.lines (omega (arith, counted, plain, some))
+          (subst (λ (bytes : List ℕ). QuietlyTold l.line bytes (text_of h)) (sym one_more) can.quiet);
     }
 
--- so it did of all that stand in front, of which those were a part
-pub tells_of_all : (front near : List ℕ) (most count : ℕ) (old new : Formatter) → near ≡ take most front → TellsFront near count old new → TellsFront front count old new
-tells_of_all front near most count old new is told =
-    let counted : length near ≡ min most (length front) = ap length is ∙ length-take most front in
-    let same : take count near ≡ take count front = ap (take count) is ∙ take-take count most front (omega (arith, counted, told.few)) in
+-- so it did of all that stand in front, of which those were as many as are told at once
+pub tells_of_all : (front near : List ℕ) (count : ℕ) (old new : Formatter) → near ≡ take most_at_once front → TellsFront near count old new → TellsFront front count old new
+tells_of_all front near count old new is told =
+    let counted : length near ≡ min most_at_once (length front) = ap length is ∙ length-take most_at_once front in
+    let same : take count near ≡ take count front = ap (take count) is ∙ take-take count most_at_once front (omega (arith, counted, told.few)) in
     record {
       few = omega (arith, counted, told.few);
       text = subst (λ (bytes : List ℕ). AllByRecursion (λ b. is_text_byte b ≡ true) bytes) same told.text;
       takes = told.takes;
       quiet = λ l h stood. subst (λ (bytes : List ℕ). QuietlyTold l.line bytes (text_of h)) same (told.quiet l h stood);
       stands = λ l h stood. subst (λ (bytes : List ℕ). StandFor l (page_told bytes h) new.composer) same (told.stands l h stood);
+      most = λ l h stood taken few some can.
+          let one_more : take (count + 1) near ≡ take (count + 1) front = ap (take (count + 1)) is ∙ take-take (count + 1) most_at_once front (omega (arith, few)) in
+          told.most l h stood taken few (omega (arith, counted, few, some)) (record {
+            text = subst (λ (bytes : List ℕ). AllByRecursion (λ b. is_text_byte b ≡ true) bytes) (sym one_more) can.text;
+            quiet = subst (λ (bytes : List ℕ). QuietlyTold l.line bytes (text_of h)) (sym one_more) can.quiet;
+          });
     }

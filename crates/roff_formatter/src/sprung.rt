@@ -1,6 +1,6 @@
 //! What an event sprang.
 
-ghost use Rattle.std.specs.Prelude.{◌≡◌, ◌+◌, ◌≤◌};
+ghost use Rattle.std.specs.Prelude.{◌≡◌, ◌+◌, ◌<◌, ◌≤◌};
 ghost use Rattle.roff_formatter.specs.Formatter.Sprung.{sprung_before, sprung_behind, sprung_by};
 ghost use Rattle.roff_formatter.specs.Formatter.Sprung.{HasFew, further, further_by};
 ghost use Rattle.roff_formatter.specs.Formatter.Sprung.{going_on, left_going_on};
@@ -64,9 +64,10 @@ impl Sprung {
         }
     }
 
-    /// The same where so many events stand in front of these, if so many can be told.
+    /// The same where so many events stand in front of these. No count is told beyond 255.
     pub fn further(self, count: u8) -> Sprung
-        ensures { self.left + count ≤ 255 → result ≡ further count self }
+        ensures told { self.left + count ≤ 255 → result ≡ further count self }
+        ensures most { 255 < self.left + count → result ≡ record self { left = 255 } }
     {
         Sprung {
             name: self.name,

@@ -1,5 +1,5 @@
 -- How the formatter tells bytes of a text line that stand in front.
-use Rattle.std.specs.Prelude.{◌≡◌, ℕ, ◌≤◌, true, List, length, take}
+use Rattle.std.specs.Prelude.{◌≡◌, ℕ, ◌+◌, ◌<◌, ◌≤◌, true, List, length, take}
 use Rattle.std.specs.List.{AllByRecursion}
 use Rattle.roff_num.specs.declared.limits.Limits.{Limits}
 use Rattle.roff_lines.specs.Telling.{QuietlyTold}
@@ -11,11 +11,23 @@ use Rattle.roff_run.specs.Layouts.{layout_of}
 use Rattle.roff_run.specs.Telling.{page_told}
 use Rattle.roff_formatter.specs.declared.formatter.Formatter.{Formatter}
 
+-- so many bytes are told at once at the most
+abbrev pub most_at_once : ℕ
+most_at_once = 128
+
+-- these bytes can be told behind this: they are plain text, none finishes a line, and the pending line stays within its limit
+pub record CanBeTold (l : Limits) (h : PageHistory) (bytes : List ℕ) : Type 0 where
+  pub text : AllByRecursion (λ b. is_text_byte b ≡ true) bytes
+  pub quiet : QuietlyTold l.line bytes (text_of h)
+
 -- So many of these bytes, from the first on, were told to the environment in force, and what is read stays: they are plain text,
--- none finishes a line, and the pending line stays within its limit. Before the first page none is told.
+-- none finishes a line, and the pending line stays within its limit. Before the first page none is told; then no more of those that are
+-- told at once could be.
 pub record TellsFront (front : List ℕ) (count : ℕ) (old new : Formatter) : Type 0 where
   pub few : count ≤ length front
   pub text : AllByRecursion (λ b. is_text_byte b ≡ true) (take count front)
   pub takes : (l : Limits) (h : PageHistory) → StandFor l h old.composer → 1 ≤ count → takes_text (layout_of h) ≡ true
   pub quiet : (l : Limits) (h : PageHistory) → StandFor l h old.composer → QuietlyTold l.line (take count front) (text_of h)
   pub stands : (l : Limits) (h : PageHistory) → StandFor l h old.composer → StandFor l (page_told (take count front) h) new.composer
+  pub most : (l : Limits) (h : PageHistory) → StandFor l h old.composer → takes_text (layout_of h) ≡ true → count < most_at_once → count < length front
+      → CanBeTold l h (take (count + 1) front) → ⊥
