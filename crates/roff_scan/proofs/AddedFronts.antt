@@ -119,7 +119,7 @@ module _ {E : Type 0} where
     abbrev pub grown : List (List ℕ)
     grown = texts_added bytes (newest u.input.open_texts) u.input.open_texts
 
-    added-allowed : r ≡ Ok tt → new ≡ with_open grown u
+    pub added-allowed : r ≡ Ok tt → new ≡ with_open grown u
     added-allowed allowed =
         made-allowed (input_refusal u.limits (adding bytes u.input)) (adding bytes u.input) u new r made allowed
         ∙ ap (λ (i : Input E). record u { input = i }) (adding-texts bytes u.input)

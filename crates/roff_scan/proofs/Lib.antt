@@ -3,6 +3,8 @@ pub mod RunKinds
 pub mod PartsTaken
 pub mod AddedFronts
 pub mod Runs
+pub mod AddedBodies
+pub mod FirstArguments
 pub mod Asking
 pub mod Changing
 pub mod Calling

@@ -23,7 +23,7 @@ use Rattle.roff_scan.proofs.Staged.{passes-staged, stage-behind, staged}
 use Rattle.roff_scan.proofs.RunKinds.{count_held, fewer-none, halves-none, run-none, run-plain, run-texts}
 
 -- no byte was looked at
-is_nothing-nothing : (looked : Looked) → is_nothing looked ≡ true → looked ≡ Nothing
+pub is_nothing-nothing : (looked : Looked) → is_nothing looked ≡ true → looked ≡ Nothing
 is_nothing-nothing Nothing is = refl
 is_nothing-nothing (Byte b) is = cc
 is_nothing-nothing (Closed kept) is = cc
@@ -65,7 +65,7 @@ module _ {E : Type 0} where
     pub run_in_front : u.input.charge + length front ≤ u.limits.bytes → IsFront count ready u
     run_in_front allowed = record { among = omega (arith, among, few); within = omega (arith, allowed, few) }
 
-    first_in_front : take count front ≡ front_bytes count ready u
+    pub first_in_front : take count front ≡ front_bytes count ready u
     first_in_front = ap (take count) same ∙ take-take count (length front) (next_bytes u.input.ahead u.looked ready) few
 
     -- in most runs none of them is a newline
@@ -74,7 +74,7 @@ module _ {E : Type 0} where
     run_no_newline last are halves none = subst NoNewline first_in_front (run-plain kind u.input.escapes last (take count front) none are halves)
 
     -- and they were taken
-    pub takes_run : (old new : Tape → Type 0) (half : List OpenEscape) (a : LineArguments) (after : Unread E) → (kind ≡ Definition → ⊥)
+    abbrev pub takes_run : (old new : Tape → Type 0) (half : List OpenEscape) (a : LineArguments) (after : Unread E) → (kind ≡ Definition → ⊥)
         → AllByRecursion (λ b. is_of kind b ≡ true) (take count front) → HeldFewer (most_whole kind) (take count front) u.input.arguments
         → a ≡ arguments_behind kind (take count front) u.input.arguments → HalvesBehind kind u.input.escapes (take count front) half
         → (goes_by_bytes kind ≡ true → take count front ≡ take_while (is_of kind) front)
@@ -113,7 +113,7 @@ module _ {E : Type 0} where
       ∙ ap (λ (n : ℕ). take_while (is_of kind) (take n ready)) (room goes)
 
   -- no bytes are put behind no text
-  texts-none : (kind : RunKind) (i : Input E) → i.open_texts ≡ texts_behind kind [] i
+  pub texts-none : (kind : RunKind) (i : Input E) → i.open_texts ≡ texts_behind kind [] i
   texts-none Text i = refl
   texts-none Blanks i = refl
   texts-none Arguments i = refl
@@ -125,7 +125,7 @@ module _ {E : Type 0} where
   texts-none (Dropped within_block) i = refl
 
   -- where none are in front, none are taken
-  pub takes_none : (kind : RunKind) (gives : Tape → Type 0) (ready : List ℕ) (u : Unread E) → u.input.charge ≤ u.limits.bytes
+  abbrev pub takes_none : (kind : RunKind) (gives : Tape → Type 0) (ready : List ℕ) (u : Unread E) → u.input.charge ≤ u.limits.bytes
       → (goes_by_bytes kind ≡ true → asks_to_take u ≡ true → [] ≡ take_while (is_of kind) (take (room_for kind u) ready))
       → TakesRun kind gives gives ready 0 u u
   takes_none kind gives ready u within far = record {
@@ -141,12 +141,8 @@ module _ {E : Type 0} where
   }
 
   -- no text is put behind another one where the source's next byte isn't the next one
-  not_asked-ahead : (u : Unread E) → is_none_ahead u.input.ahead ≡ false → asks_to_take u ≡ true → ⊥
+  pub not_asked-ahead : (u : Unread E) → is_none_ahead u.input.ahead ≡ false → asks_to_take u ≡ true → ⊥
   not_asked-ahead u some asks = let none = (and_parts (is_none_ahead u.input.ahead) (is_nothing u.looked) asks).0 in cc
-
-  pub adds_none-ahead : (gives : Tape → Type 0) (ready : List ℕ) (u : Unread E) → u.input.charge ≤ u.limits.bytes → is_none_ahead u.input.ahead ≡ false
-      → TakesRun Definition gives gives ready 0 u u
-  adds_none-ahead gives ready u within some = takes_none Definition gives ready u within (λ goes asks. absurd (not_asked-ahead u some asks))
 
   pub adds_none-looked : (gives : Tape → Type 0) (ready : List ℕ) (u : Unread E) → u.input.charge ≤ u.limits.bytes → is_nothing u.looked ≡ false
       → TakesRun Definition gives gives ready 0 u u

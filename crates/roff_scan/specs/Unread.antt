@@ -2,3 +2,4 @@
 pub mod Calls
 pub mod Kept
 pub mod Runs
+pub mod FirstArguments

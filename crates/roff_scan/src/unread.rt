@@ -5,6 +5,7 @@ ghost use Rattle.roff_ahead.specs.Input.{is_none_ahead, pushed, depth};
 
 mod arguments;
 mod calls;
+mod first_arguments;
 mod fronts;
 mod names;
 mod open_escapes;

@@ -101,6 +101,15 @@ impl<E: Copy> Unread<E> {
         given
     }
 
+    /// Whether a text is half read of which some is held, and a blank belongs to it: of two texts that
+    /// are compared.
+    #[inline(always)]
+    pub(super) fn is_comparing(&self) -> bool {
+        self.escapes.held() > 0
+            && self.escapes.bytes_more(CopyUnit::Byte(b' ')) > 0
+            && self.escapes.waits_for(b' ')
+    }
+
     /// Begins to read a condition; nothing else is half read then.
     pub fn begin_condition(&mut self)
         ensures change { self.new ≡ record self.old { input = choosing self.old.input } }

@@ -6,7 +6,7 @@ ghost use Rattle.std.specs.List.{AllByRecursion};
 ghost use Rattle.roff_arguments.specs.Arguments.{held};
 ghost use Rattle.roff_escape.specs.OpenEscape.{texts_held};
 ghost use Rattle.roff_source.specs.Bytes.{blank, is_text_byte};
-ghost use Rattle.roff_ahead.specs.Input.{pushed};
+ghost use Rattle.roff_ahead.specs.Input.{is_none_ahead, pushed};
 ghost use Rattle.roff_scan.specs.RunKinds.{is_held};
 ghost use Rattle.roff_scan.specs.Unread.Runs.{TakesPart};
 ghost use Rattle.roff_scan.specs.declared.run_kind.RunKind.TheVariants.{Arguments, Blanks};
@@ -19,6 +19,9 @@ use crate::run_kind::RunKind;
 use roff_arguments::ArgumentTexts;
 use roff_escape::OpenEscapes;
 use roff_source::{ByteSource, at_most, passed_len, text_in_front};
+
+/// How many bytes of a body are put behind a text at once.
+const COPIED: usize = 64;
 
 impl<E: Copy> Unread<E> {
     ghost use Rattle.roff_scan.specs.Unread.Runs.{TakesRun};
@@ -101,6 +104,11 @@ impl<E: Copy> Unread<E> {
         ensures notes { S.notes source.new ≤ S.notes source.old }
         ensures failures { S.failures source.new ≡ S.failures source.old }
     {
+        // the invariant is known where a field is named
+        let _ = &self.limits;
+        if self.is_comparing() {
+            return 0;
+        }
         let pushed = self.take_pushed();
         if pushed > 0 {
             return pushed;
@@ -142,7 +150,7 @@ impl<E: Copy> Unread<E> {
 
     /// How many bytes of a run the limits have room for: each counts once, and each that is held.
     #[inline(always)]
-    fn room_for(&self, kind: RunKind) -> usize
+    pub(super) fn room_for(&self, kind: RunKind) -> usize
         ensures bytes { self.now.input.charge + result ≤ self.now.limits.bytes }
         ensures stack { is_held kind ≡ true
             → pushed self.now.input + result ≤ self.now.limits.stack }
@@ -156,9 +164,9 @@ impl<E: Copy> Unread<E> {
         allowed
     }
 
-    /// Takes bytes of plain text of the source together that stand ready, and puts them behind the
-    /// newest text in the making, if there is one: no more than the limits on bytes and on the
-    /// store have room for. Returns how many; none where anything is ahead or looked at.
+    /// Takes bytes of plain text together that stand in front, and puts them behind the newest text
+    /// in the making, if there is one: no more than the limits on bytes and on the store have room
+    /// for. Returns how many; none where a byte was looked at.
     #[inline(never)]
     fn add_run<S: ByteSource>(&mut self, source: &mut S) -> usize
         ensures takes { TakesRun Definition (S.gives source.old) (S.gives source.new)
@@ -167,7 +175,7 @@ impl<E: Copy> Unread<E> {
         ensures failures { S.failures source.new ≡ S.failures source.old }
     {
         if !self.input_ahead.is_empty() {
-            return 0;
+            return self.add_run_ahead(source);
         }
         if !self.looked.is_nothing() {
             return 0;
@@ -187,12 +195,49 @@ impl<E: Copy> Unread<E> {
             Err(_) => 0,
         }
     }
+
+    /// The same of bytes of a body, as many as are copied at once: it lies among the texts that grow.
+    fn add_run_ahead<S: ByteSource>(&mut self, source: &mut S) -> usize
+        requires { is_none_ahead self.old.input.ahead ≡ false }
+        ensures takes { TakesRun Definition (S.gives source.old) (S.gives source.new)
+            (S.ready source.old) result self.old self.new }
+        ensures notes { S.notes source.new ≤ S.notes source.old }
+        ensures failures { S.failures source.new ≡ S.failures source.old }
+    {
+        let room = self.limits.store as usize - self.input_ahead.stored();
+        let allowed = (self.limits.bytes - self.charge) as usize;
+        let most = room.min(allowed).min(COPIED);
+        let front = front_of(&self.input_ahead, self.looked, source, most);
+        let count = text_in_front(front);
+        if count == 0 {
+            return 0;
+        }
+        let copy = copied(at_most(front, count));
+        match self.add(at_most(&copy, count)) {
+            Ok(()) => {
+                self.pass_front(source, count, false);
+                count
+            }
+            Err(_) => 0,
+        }
+    }
+}
+
+/// A copy of so few bytes, at the beginning of an array.
+#[inline(always)]
+fn copied(bytes: &[u8]) -> [u8; COPIED]
+    requires { length bytes.now ≤ 64 }
+    ensures { take (length bytes.now) result ≡ bytes.now }
+{
+    let mut copy = [0; COPIED];
+    copy[..bytes.len()].copy_from_slice(bytes);
+    copy
 }
 
 /// How many of these bytes are taken of such a run: they are held in arguments, change what is half
 /// read, or change nothing here.
 #[inline(always)]
-fn take_part(
+pub(super) fn take_part(
     kind: RunKind,
     front: &[u8],
     arguments: &mut ArgumentTexts,
@@ -220,7 +265,7 @@ fn take_part(
 
 /// How many blanks these bytes begin with.
 #[inline(always)]
-fn blanks_in_front(bytes: &[u8]) -> usize
+pub(super) fn blanks_in_front(bytes: &[u8]) -> usize
     ensures { result ≡ length (take_while (λ b. b == blank) bytes.now) }
 {
     bytes.iter().take_while(|byte| **byte == b' ').count()

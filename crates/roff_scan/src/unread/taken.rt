@@ -17,7 +17,7 @@ impl<E: Copy> Unread<E> {
     ghost use Rattle.roff_ahead.specs.Looking.{is_closed};
     ghost use Rattle.roff_ahead.specs.declared.looked.Looked.TheVariants.{Nothing};
     ghost use Rattle.roff_ahead.specs.Unread.{taking, taking_answer};
-    ghost use Rattle.roff_ahead.specs.Shown.{sighted, SeesNote, SeesEnding};
+    ghost use Rattle.roff_ahead.specs.Shown.{sighted, SeesByte, SeesNote, SeesEnding};
     ghost use Rattle.roff_scan.specs.Unread.Calls.{Takes, Looks};
 
     /// Takes the item in front. The source is asked where nothing is ahead and no byte was looked
@@ -219,6 +219,18 @@ impl<E: Copy> Unread<E> {
                 Item::Return(back)
             }
             item => item,
+        }
+    }
+
+    /// The same where it is a byte ahead: the source isn't asked. Else nothing is told.
+    #[inline(always)]
+    pub fn look_ahead<S: ByteSource>(&self, source: &S) -> Option<u8>
+        ensures { IfSome result (λ b.
+            Looks (S.gives source.now) (S.gives source.now) self.now self.now (SeesByte b)) }
+    {
+        match self.input_ahead.seen() {
+            Some(Sight::Byte(byte)) => Some(byte),
+            _ => None,
         }
     }
 

@@ -8,14 +8,8 @@ use Rattle.roff_scan.specs.Unread.Runs.{room_for}
 use Rattle.roff_scan.specs.declared.run_kind.RunKind.TheVariants.{Definition}
 use Rattle.roff_scan.proofs.AddedFronts.{added-ok, added_no_newline, adds_run}
 use Rattle.roff_scan.proofs.Fronts.{nothing_looked}
-use Rattle.roff_scan.proofs.Runs.{adds_none-ahead, adds_none-looked, takes_none}
+use Rattle.roff_scan.proofs.Runs.{adds_none-looked, takes_none}
 use Rattle.roff_scan.proofs.unread.Unread.add_run.Goals as goal
-
-pub returns-then-not-is_empty-clause-takes : goal.returns-then-not-is_empty-clause-takes
-returns-then-not-is_empty-clause-takes g c =
-    rw (← c.self.view_is)
-    (adds_none-ahead (g.S.ByteSource.gives c.args.source.now) (g.S.ByteSource.ready c.args.source.now) (kept_by c.self.inside) c.self.invariant.within.charge
-    (sym c.is_empty.ensures ∙ c.if-not-is_empty.true))
 
 pub returns-then-not-is_nothing-clause-takes : goal.returns-then-not-is_nothing-clause-takes
 returns-then-not-is_nothing-clause-takes g c =
