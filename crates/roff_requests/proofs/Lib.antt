@@ -3,6 +3,7 @@ pub mod RegisterTables
 pub mod Numbering
 pub mod EventsAt
 pub mod Heights
+pub mod LoneDigits
 pub mod PageLengths
 pub mod PageSteps
 pub mod TitleFronts

@@ -1,8 +1,8 @@
 //! The events of a request, as code keeps them.
 
-ghost use Rattle.std.specs.Prelude.{◌≡◌, ◌≤◌, ◌∷◌, [], true, map, IfSome, slice_get, if◌then◌else◌};
+ghost use Rattle.std.specs.Prelude.{◌≡◌, ◌≤◌, ◌∷◌, [], true, drop, map, IfSome, slice_get, if◌then◌else◌};
 ghost use Rattle.roff_requests.specs.Events.{around_break, request_events, stop_at, stops_set};
-ghost use Rattle.roff_lines.specs.declared.event.Event.TheVariants.{Break};
+ghost use Rattle.roff_lines.specs.declared.event.Event.TheVariants.{Break, WordEnd};
 ghost use Rattle.roff_run.specs.declared.event.PageEvent.TheVariants.{Text};
 ghost use Rattle.roff_run.specs.Requests.Effects.{behind_break};
 
@@ -81,25 +81,34 @@ impl RequestedEvents {
         self.stops = stops;
     }
 
+    /// Whether they begin with those of a break.
+    #[inline(always)]
+    pub fn begin_with_break(&self) -> bool
+        ensures { result ≡ true
+            → self.now.items ≡ Text WordEnd ∷ Text Break ∷ drop 2 self.now.items }
+    {
+        self.before.is_none() && self.breaks
+    }
+
     /// The event at an index, if there are so many: 36 at most.
     #[inline(always)]
     pub fn at(&self, index: usize) -> Option<PageEvent>
         ensures at { result ≡ slice_get self.now.items index }
         ensures few { IfSome result (λ event. index ≤ 35) }
     {
-        match (self.before, index) {
+        match (&self.before, index) {
             (None, _) => broken_at(
                 self.breaks,
-                self.behind,
+                &self.behind,
                 self.sets_stops,
                 &self.stops,
                 index,
             ),
-            (Some(event), 0) => Some(event),
+            (Some(event), 0) => Some(*event),
             (Some(_), _) => {
                 broken_at(
                     self.breaks,
-                    self.behind,
+                    &self.behind,
                     self.sets_stops,
                     &self.stops,
                     index - 1,
@@ -113,13 +122,13 @@ impl RequestedEvents {
 #[inline(always)]
 fn broken_at(
     breaks: bool,
-    few: RequestEvents,
+    few: &RequestEvents,
     sets_stops: bool,
     stops: &Stops,
     index: usize,
 ) -> Option<PageEvent>
     ensures at { result ≡ slice_get (behind_break breaks
-        (if sets_stops then stops_set stops.now.items else request_events few)) index }
+        (if sets_stops then stops_set stops.now.items else request_events few.now)) index }
     ensures few { IfSome result (λ event. index ≤ 34) }
 {
     if !breaks {
@@ -132,9 +141,9 @@ fn broken_at(
 }
 
 /// The event at an index of a break and what is kept behind it.
-fn break_at(few: RequestEvents, sets_stops: bool, stops: &Stops, index: usize) -> Option<PageEvent>
+fn break_at(few: &RequestEvents, sets_stops: bool, stops: &Stops, index: usize) -> Option<PageEvent>
     ensures at { result ≡ slice_get
-        (Text Break ∷ (if sets_stops then stops_set stops.now.items else request_events few)) index }
+        (Text Break ∷ (if sets_stops then stops_set stops.now.items else request_events few.now)) index }
     ensures few { IfSome result (λ event. index ≤ 33) }
 {
     if index == 0 {
@@ -144,9 +153,9 @@ fn break_at(few: RequestEvents, sets_stops: bool, stops: &Stops, index: usize) -
 }
 
 /// The event at an index of those that set these stops, if they are set, or of a few.
-fn kept_at(few: RequestEvents, sets_stops: bool, stops: &Stops, index: usize) -> Option<PageEvent>
+fn kept_at(few: &RequestEvents, sets_stops: bool, stops: &Stops, index: usize) -> Option<PageEvent>
     ensures at { result ≡ slice_get
-        (if sets_stops then stops_set stops.now.items else request_events few) index }
+        (if sets_stops then stops_set stops.now.items else request_events few.now) index }
     ensures few { IfSome result (λ event. index ≤ 32) }
 {
     if sets_stops {
@@ -157,14 +166,14 @@ fn kept_at(few: RequestEvents, sets_stops: bool, stops: &Stops, index: usize) ->
 }
 
 /// The event at an index of a few.
-fn few_at(few: RequestEvents, index: usize) -> Option<PageEvent>
-    ensures at { result ≡ slice_get (request_events few) index }
+fn few_at(few: &RequestEvents, index: usize) -> Option<PageEvent>
+    ensures at { result ≡ slice_get (request_events few.now) index }
     ensures few { IfSome result (λ event. index ≤ 32) }
 {
     match (few, index) {
-        (RequestEvents::One(event), 0) => Some(event),
-        (RequestEvents::Two(first, _), 0) => Some(first),
-        (RequestEvents::Two(_, second), 1) => Some(second),
+        (RequestEvents::One(event), 0) => Some(*event),
+        (RequestEvents::Two(first, _), 0) => Some(*first),
+        (RequestEvents::Two(_, second), 1) => Some(*second),
         _ => None,
     }
 }
@@ -188,18 +197,5 @@ fn stop_at(stops: &Stops, index: usize) -> Option<PageEvent>
     match stops.get(index) {
         Some(column) => Some(PageEvent::Text(Event::Set(Param::Stop(*column)))),
         None => None,
-    }
-}
-
-/// Whether there is none: neither in front of a break, nor of one, nor behind it.
-pub fn are_none(before: Option<PageEvent>, breaks: bool, behind: RequestEvents) -> bool
-    ensures { result ≡ true → around_break before breaks (request_events behind) ≡ [] }
-{
-    if breaks || before.is_some() {
-        return false;
-    }
-    match behind {
-        RequestEvents::Nothing => true,
-        _ => false,
     }
 }

@@ -1,4 +1,4 @@
-//! What requests do, in code: their effects, the number registers, and the events of a line.
+//! What requests do, in code: the number registers, and the events of a line.
 #![tactic(auto)]
 
 mod events;
@@ -6,8 +6,9 @@ mod number;
 mod registers;
 mod requests;
 
-pub use events::{RequestEvents, RequestedEvents, are_none};
-pub use registers::{Facts, RunRegisters};
+pub use events::{RequestEvents, RequestedEvents};
+pub use registers::{Facts, RunRegisters, is_page};
 pub use requests::{
-    Changes, Effect, Given, RequestFacts, effect, name_given, register_named, tab_stops,
+    Changes, Given, Numbers, RequestFacts, Response, name_given, numbers_given, register_named,
+    response, tab_stops,
 };

@@ -1,6 +1,7 @@
 //! Numbers as arguments of requests: the values of expressions, and the lengths that they set.
 
-ghost use Rattle.std.specs.Prelude.{◌≡◌, ◌/◌, ◌+ℤ◌, Ok};
+ghost use Rattle.std.specs.Prelude.{◌≡◌, ◌∷◌, ◌/◌, ◌+ℤ◌, [], IfSome, Ok};
+ghost use Rattle.roff_num.specs.declared.num.Scale.TheVariants.{Units};
 ghost use Rattle.roff_num.specs.Ranges.{in_range};
 ghost use Rattle.roff_num.specs.Steps.{followed};
 ghost use Rattle.roff_run.specs.Numbers.{height_beside, height_in, rounded_in_range, value_beside};
@@ -20,10 +21,35 @@ pub(crate) const LINE: u32 = 40;
 pub(crate) fn value_in(scale: Scale, text: &[u8]) -> Result<i32, NumFault>
     ensures { result ≡ value_in scale text.now }
 {
+    if let Some(digit) = lone_digit(scale, text) {
+        return Ok(digit);
+    }
     match eval(text, 0, scale, Some(0)) {
         Ok((value, _)) => Ok(value.0),
         Err(fault) => Err(fault),
     }
+}
+
+/// The value of a text that is one digit, where a number alone is one of basic units.
+#[inline(always)]
+fn lone_digit(scale: Scale, text: &[u8]) -> Option<i32>
+    ensures { IfSome result (λ digit. value_in scale text.now ≡ Ok digit) }
+{
+    match (scale, text) {
+        (Scale::Units, [digit]) => digit_value(*digit),
+        _ => None,
+    }
+}
+
+/// The value of a digit.
+#[inline(always)]
+fn digit_value(byte: u8) -> Option<i32>
+    ensures { IfSome result (λ digit. value_in Units (byte ∷ []) ≡ Ok digit) }
+{
+    if byte < b'0' || byte > b'9' {
+        return None;
+    }
+    Some(i32::from(byte - b'0'))
 }
 
 /// The value of a height down the page, in basic units, where this is the place.

@@ -171,6 +171,7 @@ impl RunRegisters {
 
     /// The value in force under a name that is neither that of a read-only register nor the page
     /// number's.
+    #[inline(always)]
     pub fn set_value(&self, name: &Name) -> Option<Num>
         ensures { IfSome result (λ value. (k : Known) → k.registers ≡ self.now.all
             → value ≡ value_in_force k name.now) }
@@ -295,9 +296,14 @@ impl RunRegisters {
         }
     }
 
-    /// Sets a register's value and increment.
+    /// Sets a register's value and increment. One of a read-only register stays as it is.
+    ///
+    /// # Errors
+    ///
+    /// [`Limit::Names`] if more names than may would have a register; the registers are then as
+    /// they were.
     #[inline(always)]
-    fn set(&mut self, name: &Name, value: Num, increment: Num) -> Result<(), Limit>
+    pub fn set(&mut self, name: &Name, value: Num, increment: Num) -> Result<(), Limit>
         ensures answer { result ≡ admitted (SetTo name.now value increment) self.old }
         ensures registers { self.new ≡ after (SetTo name.now value increment) self.old }
     {
@@ -338,7 +344,7 @@ impl RunRegisters {
 }
 
 /// Whether a name is the page number's.
-pub(crate) fn is_page(name: &Name) -> bool
+pub fn is_page(name: &Name) -> bool
     ensures { result ≡ is_page name.now }
 {
     name.as_bytes() == b"%".as_slice()

@@ -2,8 +2,8 @@
 
 ghost use Rattle.std.specs.Prelude.{◌≡◌, ℕ, List};
 ghost use Rattle.roff_run.specs.Registers.{Known};
-ghost use Rattle.roff_requests.specs.Request.Coded.{GivesFirst, KnowsOf, response_of, effect_of};
-ghost use Rattle.roff_run.specs.Requests.{request_effect, row_of};
+ghost use Rattle.roff_requests.specs.Request.Coded.{GivesFirst, KnowsOf, response_of};
+ghost use Rattle.roff_run.specs.Requests.{row_of};
 
 mod adjustment;
 mod effects;
@@ -19,9 +19,9 @@ mod titles;
 mod traps;
 
 use Request::{LeftOut, WithoutEffect};
-pub(crate) use effects::Response;
-pub use effects::{Changes, Effect, RequestFacts};
-pub use numbering::{name_given, register_named};
+pub(crate) use effects::PageFacts;
+pub use effects::{Changes, RequestFacts, Response};
+pub use numbering::{Numbers, name_given, numbers_given, register_named};
 use roff_lines::Param;
 use roff_run::Request;
 pub use tabs::tab_stops;
@@ -34,19 +34,11 @@ pub struct Given<'a> {
     pub third: Option<&'a [u8]>,
 }
 
-/// What a request means, called by a dot or not, as far as the run is known, with these arguments.
-pub fn effect(request: Request, by_dot: bool, known: RequestFacts, given: Given<'_>) -> Effect
+/// What a request does behind its break, as far as the run is known, with these arguments.
+#[inline(always)]
+pub fn response(request: Request, known: RequestFacts<'_>, given: Given<'_>) -> Response
     ensures { (k : Known) (as_given : List (List ℕ))
-        → KnowsOf k request as_given known → GivesFirst as_given given.entry
-        → effect_of as_given result ≡ request_effect k by_dot request as_given }
-{
-    does(request, known, given).meaning(by_dot && request.row().breaks)
-}
-
-/// What a request does behind its break.
-fn does(request: Request, known: RequestFacts, given: Given<'_>) -> Response
-    ensures { (k : Known) (as_given : List (List ℕ))
-        → KnowsOf k request as_given known → GivesFirst as_given given.entry
+        → KnowsOf k request as_given known.entry → GivesFirst as_given given.entry
         → response_of as_given result ≡ (row_of request).does k as_given }
 {
     match request {
@@ -55,42 +47,42 @@ fn does(request: Request, known: RequestFacts, given: Given<'_>) -> Response
         Request::AssignFormat => numbering::assign_format(given.first, given.second),
         Request::AppendMacro => Response::nothing(),
         Request::AppendString => Response::nothing(),
-        Request::BeginPage => paging::begin_page(known, given.first),
+        Request::BeginPage => paging::begin_page(known.pages(), given.first),
         Request::Break => Response::nothing(),
         Request::Centre => adjustment::centre(given.first),
-        Request::ChangeTrap => traps::change_trap(known, given.first, given.second),
+        Request::ChangeTrap => traps::change_trap(known.pages(), given.first, given.second),
         Request::DefineMacro => Response::nothing(),
         Request::DefineString => Response::nothing(),
         Request::Else => Response::nothing(),
         Request::EndMacro => naming::end_macro(given.first),
-        Request::Environment => switching::switch(known, given.first),
+        Request::Environment => switching::switch(known.has_left(), given.first),
         Request::Exit => Response::nothing(),
         Request::Fill => Response::setting(Param::Filling(true)),
         Request::IfElse => Response::nothing(),
         Request::If => Response::nothing(),
         Request::Ignore => Response::nothing(),
-        Request::Indent => lengths::indent(known, given.first),
+        Request::Indent => lengths::indent(known.settings(), given.first),
         Request::InputTrap => springing::input_trap(given.first, given.second),
-        Request::LineLength => lengths::line_length(known, given.first),
-        Request::LineSpacing => spacing::line_spacing(known, given.first),
-        Request::TitleLength => lengths::title_length(known, given.first),
+        Request::LineLength => lengths::line_length(known.settings(), given.first),
+        Request::LineSpacing => spacing::line_spacing(known.settings(), given.first),
+        Request::TitleLength => lengths::title_length(known.settings(), given.first),
         Request::NoAdjust => Response::setting(Param::Adjusting(false)),
-        Request::Need => spacing::need(known, given.first),
+        Request::Need => spacing::need(known.pages(), given.first),
         Request::NoFill => Response::setting(Param::Filling(false)),
         Request::NumberRegister => numbering::set_register(known, given),
         Request::NoSpace => spacing::spaceless(true),
         Request::PageCharacter => titles::page_character(given.first),
-        Request::PageLength => paging::page_length(known, given.first),
-        Request::PageNumber => paging::page_number(known, given.first),
-        Request::PageOffset => paging::page_offset(known, given.first),
-        Request::PlantTrap => traps::plant_trap(known, given.first, given.second),
+        Request::PageLength => paging::page_length(known.pages(), given.first),
+        Request::PageNumber => paging::page_number(known.pages(), given.first),
+        Request::PageOffset => paging::page_offset(known.pages(), given.first),
+        Request::PlantTrap => traps::plant_trap(known.pages(), given.first, given.second),
         Request::RemoveNames => Response::changing(Changes::RemoveNamesGiven),
         Request::Rename => naming::rename(given.first, given.second),
         Request::RemoveRegisters => Response::changing(Changes::RemoveGiven),
         Request::RestoreSpacing => spacing::spaceless(false),
-        Request::Space => spacing::space_down(known, given.first),
+        Request::Space => spacing::space_down(known.pages(), given.first),
         Request::TabStops => Response::SetsStops,
-        Request::TemporaryIndent => lengths::temporary_indent(known, given.first),
+        Request::TemporaryIndent => lengths::temporary_indent(known.settings(), given.first),
         Request::Title => titles::place_title(),
         Request::TellMessage => Response::nothing(),
         WithoutEffect(_) => Response::nothing(),

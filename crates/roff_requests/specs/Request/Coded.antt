@@ -1,5 +1,5 @@
 -- What the code of requests is given, and what it answers, as the definition has it.
-use Rattle.std.specs.Prelude.{◌≡◌, ℕ, ◌^◌, List, [], ◌∷◌, min, slice_get, IfSome, Option, Some, None, if◌then◌else◌}
+use Rattle.std.specs.Prelude.{◌≡◌, ℕ, ◌^◌, List, [], ◌∷◌, min, not, slice_get, IfSome, Ok, Option, Some, None}
 use Rattle.arrayvec.specs.ArrayVec.{ArrayVec}
 use Rattle.std.specs.Option.{option_copied, option_to_list}
 use Rattle.roff_num.specs.Names.{name_of}
@@ -9,22 +9,27 @@ use Rattle.roff_run.specs.declared.request.Request.TheVariants.{NumberRegister}
 use Rattle.roff_requests.specs.declared.requests.effects.Changes.{Changes}
 use Rattle.roff_requests.specs.declared.requests.effects.Changes.TheVariants.{Nothing, One, RemoveGiven, RemoveNamesGiven, Rename as RenameGiven}
 use Rattle.roff_requests.specs.declared.requests.effects.Response.{Response as CodedResponse}
-use Rattle.roff_requests.specs.declared.requests.effects.Response.TheVariants.{Around as HappensAround, Ignored as IgnoredWith, Obeyed as ObeyedWith, SetsStops}
-use Rattle.roff_requests.specs.declared.requests.effects.Effect.{Effect as CodedEffect}
+use Rattle.roff_requests.specs.declared.requests.effects.Response.TheVariants.{Around as HappensAround, Changes as ChangesTo, Happens, Ignored as IgnoredWith, Nothing as NothingDone, Numbers as NumbersTo, Says, SetsStops, Two}
+use Rattle.roff_requests.specs.declared.requests.effects.PageFacts.{PageFacts}
+use Rattle.roff_requests.specs.declared.requests.numbering.Numbers.{Numbers}
 use Rattle.roff_requests.specs.declared.requests.effects.RequestFacts.{RequestFacts}
-use Rattle.roff_requests.specs.Events.{around_break, request_events, stops_set}
+use Rattle.roff_requests.specs.Events.{stops_set}
+use Rattle.roff_composer.specs.Environments.Standing.{StandBy}
+use Rattle.roff_lines.specs.Words.{is_empty}
+use Rattle.roff_num.specs.declared.limits.Limits.{Limits}
+use Rattle.roff_run.specs.Environments.{PageHistory, environments}
+use Rattle.roff_pages.specs.Layout.{Layout}
+use Rattle.roff_pages.specs.Pages.Stands.{StandsAs}
 use Rattle.roff_pages.specs.Pages.Counted.{counted}
 use Rattle.roff_pages.specs.Queries.{is_diverting, place_now}
-use Rattle.roff_run.specs.Registers.{Known, Change, Remove, value_in_force}
+use Rattle.roff_run.specs.Registers.{Known, Change, Remove, page_name, value_in_force}
 use Rattle.roff_requests.specs.Registers.Coded.{change_of}
 use Rattle.roff_store.specs.TextCalls.{Call, Rename}
-use Rattle.roff_run.specs.Requests.{Response, Around, Ignored, Obeyed, Effect}
-use Rattle.roff_run.specs.Requests.Effects.{bad_number, happens, meant_by}
+use Rattle.roff_run.specs.Requests.{Response, Around, Ignored, Obeyed, nothing}
+use Rattle.roff_run.specs.Requests.Effects.{bad_number, happens}
 use Rattle.roff_run.specs.Requests.Naming.{removals}
-use Rattle.roff_run.specs.Requests.Numbering.{name_given, names_given}
+use Rattle.roff_run.specs.Requests.Numbering.{name_given, names_given, set_to}
 use Rattle.roff_run.specs.Requests.Tabs.{tab_stops}
-use Rattle.roff_run.specs.PageEvents.{PageEvent}
-use Rattle.roff_run.specs.declared.message.Message.{Message}
 
 -- the code was given the first of these arguments
 pub record GivesFirst (as_given : List (List ℕ)) (given : Given) : Type 0 where
@@ -42,18 +47,25 @@ abbrev pub name_in : Option (List ℕ) → Option (List ℕ)
 name_in None = None
 name_in (Some text) = name_of (name_given text)
 
--- The code knows what a request asks for: the settings, the place, and the page's length, offset and number, which page is ejected
--- and whether a diversion is open, and the value of the register that the first argument names, which one request alone asks for.
+-- what the code knows of the pages
+pub record KnowsPages (L : Layout) (known : PageFacts) : Type 0 where
+  pub place : known.place ≡ counted (place_now L)
+  pub page_length : known.page_length ≡ L.length
+  pub page_offset : known.page_offset ≡ L.offset
+  pub previous_page_offset : known.previous_page_offset ≡ L.previous_offset
+  pub page_number : known.page_number ≡ L.number
+  pub begun : known.begun ≡ min L.begun (2 ^ 32)
+  pub diverts : known.diverts ≡ is_diverting L
+
+-- The code knows what a request asks for: the settings, whether an environment was left, and the pages, by what keeps them; and the
+-- value of the register that the first argument names, which one request alone asks for.
 pub record KnowsOf (k : Known) (request : Request) (as_given : List (List ℕ)) (known : RequestFacts) : Type 0 where
-  pub settings : known.settings ≡ k.settings
-  pub has_left : known.has_left ≡ k.has_left
-  pub place : known.place ≡ counted (place_now k.layout)
-  pub page_length : known.page_length ≡ k.layout.length
-  pub page_offset : known.page_offset ≡ k.layout.offset
-  pub previous_page_offset : known.previous_page_offset ≡ k.layout.previous_offset
-  pub page_number : known.page_number ≡ k.layout.number
-  pub begun : known.begun ≡ min k.layout.begun (2 ^ 32)
-  pub diverts : known.diverts ≡ is_diverting k.layout
+  pub settings : known.composer.now.environments.in_force.lines.settings ≡ k.settings
+  pub limits : Limits
+  pub history : PageHistory
+  pub stand : StandBy limits (environments history) known.composer.now.environments
+  pub has_left : not (is_empty (environments history).left) ≡ k.has_left
+  pub pages : StandsAs k.layout known.composer.now.pages
   pub in_force : request ≡ NumberRegister → IfSome (register_named as_given) (λ name. known.in_force ≡ value_in_force k name)
 
 -- the changes of registers that a request makes, given these arguments
@@ -75,31 +87,21 @@ calls_of as_given (RenameGiven from to) = Rename from to ∷ []
 -- what a request did in the code, given these arguments
 abbrev pub response_of : List (List ℕ) → CodedResponse → Response
 response_of as_given (IgnoredWith message) = Ignored (option_to_list message)
-response_of as_given (ObeyedWith message changes events) =
-    Obeyed (option_to_list message) (changes_of as_given changes) (calls_of as_given changes) (request_events events)
-response_of as_given SetsStops = tab_stops as_given
+response_of as_given NothingDone = nothing
+response_of as_given (Happens event) = happens [] (event ∷ [])
+response_of as_given (Says message event) = happens (message ∷ []) (event ∷ [])
+response_of as_given (Two first second) = happens [] (first ∷ second ∷ [])
 response_of as_given (HappensAround before behind) = Around before behind
+response_of as_given (ChangesTo changes) = Obeyed [] (changes_of as_given changes) (calls_of as_given changes) []
+response_of as_given (NumbersTo value increment) = set_to page_name (Ok value.0) (Ok increment.0)
+response_of as_given SetsStops = tab_stops as_given
+
+-- a register is set to these, if they are numbers
+abbrev pub set_by : List ℕ → Option Numbers → Response
+set_by name None = bad_number
+set_by name (Some numbers) = set_to name (Ok numbers.value.0) (Ok numbers.increment.0)
 
 -- what a request for tab stops did where its arguments are these stops, or none that are good
 abbrev pub stops_response : Option (ArrayVec ℕ) → Response
 stops_response (Some stops) = happens [] (stops_set stops.items)
 stops_response None = bad_number
-
--- what a request says there: where its arguments are stops, what they are decides
-abbrev pub said_by : List (List ℕ) → CodedEffect → List Message
-said_by as_given e = if e.sets_stops then (meant_by e.breaks (tab_stops as_given)).messages else option_to_list e.message
-
--- and its events
-abbrev pub asked_by : List (List ℕ) → CodedEffect → List PageEvent
-asked_by as_given e =
-    if e.sets_stops then (meant_by e.breaks (tab_stops as_given)).events
-    else around_break e.before e.breaks (request_events e.events)
-
--- what it means there
-abbrev pub effect_of : List (List ℕ) → CodedEffect → Effect
-effect_of as_given e = record {
-  messages = said_by as_given e;
-  changes = changes_of as_given e.changes;
-  calls = calls_of as_given e.changes;
-  events = asked_by as_given e;
-}

@@ -5,7 +5,6 @@ ghost use Rattle.std.specs.Option.{option_copied};
 ghost use Rattle.roff_requests.specs.Request.Coded.{response_of};
 ghost use Rattle.roff_run.specs.Requests.Adjustment.{adjust, centre, mode_named, mode_wanted};
 
-use crate::events::RequestEvents;
 use crate::number::value_in;
 use crate::requests::Response;
 use roff_lines::{AdjustMode, Event, Param};
@@ -19,12 +18,9 @@ pub(super) fn adjust(argument: Option<&[u8]>) -> Response
 {
     match mode_wanted(argument) {
         None => Response::setting(Param::Adjusting(true)),
-        Some(mode) => Response::doing(
-            None,
-            RequestEvents::Two(
-                PageEvent::Text(Event::Set(Param::Mode(mode))),
-                PageEvent::Text(Event::Set(Param::Adjusting(true))),
-            ),
+        Some(mode) => Response::Two(
+            PageEvent::Text(Event::Set(Param::Mode(mode))),
+            PageEvent::Text(Event::Set(Param::Adjusting(true))),
         ),
     }
 }

@@ -1,33 +1,40 @@
-//! What a request does, and what that means for the page.
+//! What a request may ask of the run, and what it does.
 
-ghost use Rattle.std.specs.Prelude.{◌≡◌, ◌∷◌, ℕ, List, []};
-ghost use Rattle.std.specs.Option.{option_to_list};
+ghost use Rattle.std.specs.Prelude.{◌≡◌, ◌∷◌, ℕ, List, [], not};
+ghost use Rattle.roff_lines.specs.Words.{is_empty};
+ghost use Rattle.roff_num.specs.declared.limits.Limits.{Limits};
+ghost use Rattle.roff_composer.specs.Environments.Standing.{StandBy};
+ghost use Rattle.roff_run.specs.Environments.{PageHistory, environments};
+ghost use Rattle.roff_pages.specs.Pages.Stands.{StandsAs};
+ghost use Rattle.roff_pages.specs.Layout.{Layout};
 ghost use Rattle.roff_pages.specs.Pages.Counted.{counted};
 ghost use Rattle.roff_pages.specs.Queries.{place_now};
 ghost use Rattle.roff_run.specs.Registers.{Known, place_down};
-ghost use Rattle.roff_requests.specs.Events.{request_events};
-ghost use Rattle.roff_requests.specs.Request.Coded.{calls_of, changes_of, response_of, effect_of};
+ghost use Rattle.roff_requests.specs.Request.Coded.{KnowsPages, calls_of, changes_of, response_of};
 ghost use Rattle.roff_run.specs.declared.event.PageEvent.TheVariants.{Page};
-ghost use Rattle.roff_run.specs.Requests.Effects.{Obeyed, Ignored, bad_format, bad_number, happens, left_out, meant_by, no_such_environment, nothing, setting};
+ghost use Rattle.roff_run.specs.Requests.Effects.{Obeyed, Ignored, bad_format, bad_number, happens, left_out, no_such_environment, nothing, setting};
 
-use crate::events::RequestEvents;
 use crate::number::LINE;
 use crate::registers::Change;
+use roff_composer::Composer;
 use roff_lines::{Event, Param, Settings};
 use roff_num::{Name, Num};
 use roff_pages::LayoutEvent;
 use roff_run::{Message, PageEvent};
 
-/// All that a request may ask of the run.
-#[derive(Clone, Copy, Debug)]
-pub struct RequestFacts {
-    /// The settings in force.
-    pub settings: Settings,
+/// What a request may ask of the run.
+#[derive(Clone, Copy)]
+pub struct RequestFacts<'a> {
+    /// The environments and the pages.
+    pub composer: &'a Composer,
     /// The value of the register that the first argument names, if it names one and the request asks
     /// for it.
     pub in_force: Num,
-    /// Whether an environment was left that may be gone back to.
-    pub has_left: bool,
+}
+
+/// What one may ask of the pages.
+#[derive(Clone, Copy, Debug)]
+pub(crate) struct PageFacts {
     /// The place where text goes, in lines.
     pub place: u64,
     /// The page length, in lines.
@@ -47,7 +54,44 @@ pub struct RequestFacts {
 /// A place above this reads as this, in basic units.
 const GREATEST_PLACE: u64 = 2_147_483_647;
 
-impl RequestFacts {
+impl RequestFacts<'_> {
+    /// The settings in force.
+    #[inline(always)]
+    pub(super) fn settings(self) -> Settings
+        ensures { result ≡ self.entry.composer.now.environments.in_force.lines.settings }
+    {
+        self.composer.environments.in_force.lines.settings()
+    }
+
+    /// Whether an environment was left that may be gone back to.
+    #[inline(always)]
+    pub(super) fn has_left(self) -> bool
+        ensures { (l : Limits) (h : PageHistory)
+            → StandBy l (environments h) self.entry.composer.now.environments
+            → result ≡ not (is_empty (environments h).left) }
+    {
+        self.composer.environments.has_left()
+    }
+
+    /// What the pages tell.
+    #[inline(always)]
+    pub(super) fn pages(self) -> PageFacts
+        ensures { (L : Layout) → StandsAs L self.entry.composer.now.pages → KnowsPages L result }
+    {
+        let pages = &self.composer.pages;
+        PageFacts {
+            place: pages.place_now(),
+            page_length: pages.length(),
+            page_offset: pages.offset(),
+            previous_page_offset: pages.previous_offset(),
+            page_number: pages.number(),
+            begun: pages.begun(),
+            diverts: pages.is_diverting(),
+        }
+    }
+}
+
+impl PageFacts {
     /// The place where text goes, in basic units.
     pub(super) fn place_down(self) -> i32
         ensures { (k : Known) → self.place ≡ counted (place_now k.layout)
@@ -61,11 +105,21 @@ impl RequestFacts {
 
 /// What a request does with its arguments.
 #[derive(Drop)]
-pub(crate) enum Response {
+pub enum Response {
     /// It is ignored, and says why.
     Ignored(Option<Message>),
-    /// It says this, registers or names change so, and this happens behind its break.
-    Obeyed(Option<Message>, Changes, RequestEvents),
+    /// One event happens behind its break.
+    Happens(PageEvent),
+    /// Nothing happens behind its break.
+    Nothing,
+    /// It says this, and one event happens behind its break.
+    Says(Message, PageEvent),
+    /// Two events happen behind its break.
+    Two(PageEvent, PageEvent),
+    /// Registers or names change so.
+    Changes(Changes),
+    /// The page number gets a value, which the page has, and an increment.
+    Numbers(Num, Num),
     /// One event happens in front of its break, and one behind it.
     Around(PageEvent, PageEvent),
     /// Its arguments are stops, which are set behind its break in place of those in force.
@@ -92,33 +146,19 @@ pub enum Changes {
     },
 }
 
-/// What a request means: a message, changes of registers or of names, and then events. Where its
-/// arguments are stops, they are read when the events are kept.
-#[derive(Drop)]
-pub struct Effect {
-    pub message: Option<Message>,
-    pub changes: Changes,
-    /// What happens in front of its break.
-    pub before: Option<PageEvent>,
-    pub breaks: bool,
-    /// What happens behind it.
-    pub events: RequestEvents,
-    pub sets_stops: bool,
-}
-
 impl Response {
     /// Nothing happens behind its break.
     pub(super) fn nothing() -> Response
         ensures { (as_given : List (List ℕ)) → response_of as_given result ≡ nothing }
     {
-        Response::doing(None, RequestEvents::Nothing)
+        Response::Nothing
     }
 
     /// A parameter is set.
     pub(super) fn setting(param: Param) -> Response
         ensures { (as_given : List (List ℕ)) → response_of as_given result ≡ setting param }
     {
-        Response::doing(None, RequestEvents::One(PageEvent::Text(Event::Set(param))))
+        Response::Happens(PageEvent::Text(Event::Set(param)))
     }
 
     /// Something happens to the pages.
@@ -126,7 +166,7 @@ impl Response {
         ensures { (as_given : List (List ℕ))
             → response_of as_given result ≡ happens [] (Page event ∷ []) }
     {
-        Response::doing(None, RequestEvents::One(PageEvent::Page(event)))
+        Response::Happens(PageEvent::Page(event))
     }
 
     /// Registers change, or what names stand for.
@@ -135,7 +175,7 @@ impl Response {
             → response_of as_given result
             ≡ Obeyed [] (changes_of as_given changes) (calls_of as_given changes) [] }
     {
-        Response::Obeyed(None, changes, RequestEvents::Nothing)
+        Response::Changes(changes)
     }
 
     /// An argument that it can't do without is missing.
@@ -171,54 +211,5 @@ impl Response {
         ensures { (as_given : List (List ℕ)) → response_of as_given result ≡ left_out name }
     {
         Response::Ignored(Some(Message::LeftOut(name)))
-    }
-
-    /// It says this, and these events happen.
-    pub(super) fn doing(message: Option<Message>, events: RequestEvents) -> Response
-        ensures { (as_given : List (List ℕ)) → response_of as_given result
-            ≡ happens (option_to_list message) (request_events events) }
-    {
-        Response::Obeyed(message, Changes::Nothing, events)
-    }
-
-    /// What it means, with a break or without: what is ignored doesn't break.
-    pub(super) fn meaning(self, breaks: bool) -> Effect
-        ensures { (as_given : List (List ℕ))
-            → effect_of as_given result ≡ meant_by breaks (response_of as_given self) }
-    {
-        match self {
-            Response::Ignored(message) => Effect {
-                message,
-                changes: Changes::Nothing,
-                before: None,
-                breaks: false,
-                events: RequestEvents::Nothing,
-                sets_stops: false,
-            },
-            Response::Obeyed(message, changes, events) => Effect {
-                message,
-                changes,
-                before: None,
-                breaks,
-                events,
-                sets_stops: false,
-            },
-            Response::Around(before, behind) => Effect {
-                message: None,
-                changes: Changes::Nothing,
-                before: Some(before),
-                breaks,
-                events: RequestEvents::One(behind),
-                sets_stops: false,
-            },
-            Response::SetsStops => Effect {
-                message: None,
-                changes: Changes::Nothing,
-                before: None,
-                breaks,
-                events: RequestEvents::Nothing,
-                sets_stops: true,
-            },
-        }
     }
 }

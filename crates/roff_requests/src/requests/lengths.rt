@@ -7,48 +7,50 @@ ghost use Rattle.roff_requests.specs.Request.Coded.{response_of};
 ghost use Rattle.roff_run.specs.Requests.Lengths.{indent, length_set, length_wanted, line_length, temporary_indent, title_length};
 
 use crate::number::{rounded_to_columns, value_beside};
-use crate::requests::{RequestFacts, Response};
-use roff_lines::Param;
+use crate::requests::Response;
+use roff_lines::{Param, Settings};
 use roff_num::{NumFault, Scale};
 
 /// The basic units of a column.
 const COLUMN: u32 = 24;
 
 /// `ll`: the line length.
-pub(super) fn line_length(known: RequestFacts, argument: Option<&[u8]>) -> Response
-    ensures { (k : Known) (as_given : List (List ℕ)) → known.settings ≡ k.settings
+pub(super) fn line_length(settings: Settings, argument: Option<&[u8]>) -> Response
+    ensures { (k : Known) (as_given : List (List ℕ)) → settings ≡ k.settings
         → option_copied argument.entry ≡ slice_get as_given 0
         → response_of as_given result ≡ line_length k as_given }
 {
-    let s = known.settings;
-    match length_wanted(s.line_length, s.previous_line_length, argument) {
+    match length_wanted(
+        settings.line_length,
+        settings.previous_line_length,
+        argument,
+    ) {
         Ok(columns) => Response::setting(Param::LineLength(columns)),
         Err(_) => Response::bad_number(),
     }
 }
 
 /// `in`: the indent.
-pub(super) fn indent(known: RequestFacts, argument: Option<&[u8]>) -> Response
-    ensures { (k : Known) (as_given : List (List ℕ)) → known.settings ≡ k.settings
+pub(super) fn indent(settings: Settings, argument: Option<&[u8]>) -> Response
+    ensures { (k : Known) (as_given : List (List ℕ)) → settings ≡ k.settings
         → option_copied argument.entry ≡ slice_get as_given 0
         → response_of as_given result ≡ indent k as_given }
 {
-    let s = known.settings;
-    match length_wanted(s.indent, s.previous_indent, argument) {
+    match length_wanted(settings.indent, settings.previous_indent, argument) {
         Ok(columns) => Response::setting(Param::Indent(columns)),
         Err(_) => Response::bad_number(),
     }
 }
 
 /// `ti`: the indent of the next line that a word begins; without an argument it is ignored.
-pub(super) fn temporary_indent(known: RequestFacts, argument: Option<&[u8]>) -> Response
-    ensures { (k : Known) (as_given : List (List ℕ)) → known.settings ≡ k.settings
+pub(super) fn temporary_indent(settings: Settings, argument: Option<&[u8]>) -> Response
+    ensures { (k : Known) (as_given : List (List ℕ)) → settings ≡ k.settings
         → option_copied argument.entry ≡ slice_get as_given 0
         → response_of as_given result ≡ temporary_indent k as_given }
 {
     match argument {
         None => Response::unsaid(),
-        Some(text) => match length_set(known.settings.indent, text) {
+        Some(text) => match length_set(settings.indent, text) {
             Ok(columns) => Response::setting(Param::TemporaryIndent(columns)),
             Err(_) => Response::bad_number(),
         },
@@ -56,13 +58,16 @@ pub(super) fn temporary_indent(known: RequestFacts, argument: Option<&[u8]>) -> 
 }
 
 /// `lt`: the title length.
-pub(super) fn title_length(known: RequestFacts, argument: Option<&[u8]>) -> Response
-    ensures { (k : Known) (as_given : List (List ℕ)) → known.settings ≡ k.settings
+pub(super) fn title_length(settings: Settings, argument: Option<&[u8]>) -> Response
+    ensures { (k : Known) (as_given : List (List ℕ)) → settings ≡ k.settings
         → option_copied argument.entry ≡ slice_get as_given 0
         → response_of as_given result ≡ title_length k as_given }
 {
-    let s = known.settings;
-    match length_wanted(s.title_length, s.previous_title_length, argument) {
+    match length_wanted(
+        settings.title_length,
+        settings.previous_title_length,
+        argument,
+    ) {
         Ok(columns) => Response::setting(Param::TitleLength(columns)),
         Err(_) => Response::bad_number(),
     }

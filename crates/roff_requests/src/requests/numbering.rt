@@ -4,34 +4,34 @@ ghost use Rattle.std.specs.Prelude.{◌≡◌, ℕ, List, drop, slice_get};
 ghost use Rattle.std.specs.Option.{option_copied};
 ghost use Rattle.roff_num.specs.Names.{name_of};
 ghost use Rattle.roff_run.specs.Registers.{Known};
-ghost use Rattle.roff_requests.specs.Request.Coded.{GivesFirst, KnowsOf, response_of, register_named};
+ghost use Rattle.roff_requests.specs.Request.Coded.{GivesFirst, KnowsOf, response_of, register_named, set_by};
+ghost use Rattle.roff_num.specs.declared.num.Scale.TheVariants.{Units};
+ghost use Rattle.roff_run.specs.Numbers.{value_beside};
 ghost use Rattle.roff_run.specs.declared.request.Request.TheVariants.{NumberRegister};
 ghost use Rattle.roff_run.specs.Requests.Numbering.{assign_format, format_as, increment_given, name_given, set_register, set_to};
-ghost use Rattle.roff_run.specs.Registers.{page_name};
 
-use crate::events::RequestEvents;
 use crate::number::{value_beside, value_in};
 use crate::registers::{Change, is_page};
 use crate::requests::{Changes, Given, RequestFacts, Response};
 use roff_num::{Format, Name, Num, NumFault, Scale, read_format};
-use roff_pages::LayoutEvent;
-use roff_run::PageEvent;
 
-/// How many bytes of an argument are a register's name.
-const NAME_BYTES: usize = 2;
+/// A register's value and increment.
+#[derive(Clone, Copy, Debug, PartialEq, Eq)]
+pub struct Numbers {
+    /// The value.
+    pub value: Num,
+    /// The increment.
+    pub increment: Num,
+}
 
 /// `nr`: a register's value and increment.
-pub(super) fn set_register(known: RequestFacts, given: Given<'_>) -> Response
+pub(super) fn set_register(known: RequestFacts<'_>, given: Given<'_>) -> Response
     ensures { (k : Known) (as_given : List (List ℕ))
-        → KnowsOf k NumberRegister as_given known → GivesFirst as_given given.entry
+        → KnowsOf k NumberRegister as_given known.entry → GivesFirst as_given given.entry
         → response_of as_given result ≡ set_register k as_given }
 {
     match (register_named(given.first), given.second) {
-        (Some(name), Some(text)) => set_to(
-            name,
-            value_beside(i64::from(known.in_force.0), Scale::Units, text),
-            increment_given(given.third),
-        ),
+        (Some(name), Some(text)) => set_to(name, numbers_given(known.in_force, text, given.third)),
         _ => Response::unsaid(),
     }
 }
@@ -63,7 +63,11 @@ pub fn register_named(first: Option<&[u8]>) -> Option<Name>
 pub fn name_given(text: &[u8]) -> Option<Name>
     ensures { result ≡ name_of (name_given text.now) }
 {
-    Name::new(&text[..text.len().min(NAME_BYTES)])
+    match text {
+        [] => None,
+        [only] => Name::new(&[*only]),
+        [first, second, ..] => Name::new(&[*first, *second]),
+    }
 }
 
 /// The increment: 0 where none is given.
@@ -77,42 +81,41 @@ fn increment_given(third: Option<&[u8]>) -> Result<i32, NumFault>
     }
 }
 
-/// A register is set to a value and an increment, if both are numbers.
-fn set_to(name: Name, value: Result<i32, NumFault>, increment: Result<i32, NumFault>) -> Response
-    ensures { (as_given : List (List ℕ)) → response_of as_given result ≡ set_to name value increment }
+/// The value that a text gives beside the one in force, and the increment, if both are numbers.
+#[inline(always)]
+pub fn numbers_given(in_force: Num, text: &[u8], third: Option<&[u8]>) -> Option<Numbers>
+    ensures { (name : List ℕ) (as_given : List (List ℕ))
+        → option_copied third.entry ≡ slice_get as_given 2
+        → set_by name result ≡ set_to name (value_beside in_force.0 Units text.now)
+        (increment_given (drop 2 as_given)) }
 {
-    match (value, increment) {
-        (Ok(value), Ok(increment)) => {
-            if is_page(&name) {
-                return number_page(Num(value), Num(increment));
-            }
-            Response::changing(Changes::One(Change::SetTo {
-                name,
-                value: Num(value),
-                increment: Num(increment),
-            }))
-        }
-        _ => Response::bad_number(),
+    let value = value_beside(i64::from(in_force.0), Scale::Units, text);
+    match (value, increment_given(third)) {
+        (Ok(value), Ok(increment)) => Some(Numbers {
+            value: Num(value),
+            increment: Num(increment),
+        }),
+        _ => None,
     }
 }
 
-/// The page number is set to a value and an increment: the page has the value.
-#[cold]
-#[inline(never)]
-fn number_page(value: Num, increment: Num) -> Response
-    ensures { (as_given : List (List ℕ))
-        → response_of as_given result ≡ set_to page_name (Ok value.0) (Ok increment.0) }
+/// A register is set to these, if they are numbers.
+fn set_to(name: Name, numbers: Option<Numbers>) -> Response
+    ensures { (as_given : List (List ℕ)) → response_of as_given result ≡ set_by name numbers }
 {
-    let change = Change::SetTo {
-        name: Name::new(b"%").unwrap(),
-        value,
-        increment,
-    };
-    Response::Obeyed(
-        None,
-        Changes::One(change),
-        RequestEvents::One(PageEvent::Page(LayoutEvent::Number(value))),
-    )
+    match numbers {
+        Some(numbers) => {
+            if is_page(&name) {
+                return Response::Numbers(numbers.value, numbers.increment);
+            }
+            Response::changing(Changes::One(Change::SetTo {
+                name,
+                value: numbers.value,
+                increment: numbers.increment,
+            }))
+        }
+        None => Response::bad_number(),
+    }
 }
 
 /// A register is given a format, if it is one.

@@ -5,15 +5,14 @@ ghost use Rattle.std.specs.Option.{option_copied};
 ghost use Rattle.roff_pages.specs.Layout.{Layout};
 ghost use Rattle.roff_pages.specs.Queries.{is_diverting};
 ghost use Rattle.roff_run.specs.Registers.{Known};
-ghost use Rattle.roff_requests.specs.Request.Coded.{KnowsOf, response_of};
-ghost use Rattle.roff_run.specs.declared.request.Request.TheVariants.{BeginPage, PageLength};
+ghost use Rattle.roff_requests.specs.Request.Coded.{KnowsPages, response_of};
 ghost use Rattle.roff_run.specs.Requests.Paging.{begin_page, ejected, ejected_by, ejected_to};
 ghost use Rattle.roff_run.specs.Requests.Paging.{lines_on_page, lines_set, next_numbered, page_ejected};
 ghost use Rattle.roff_run.specs.Requests.Paging.{page_length, page_number, page_offset};
 
 use super::lengths::length_wanted;
 use crate::number::{LINE, height_beside, lines_in, value_beside};
-use crate::requests::{RequestFacts, Response};
+use crate::requests::{PageFacts, Response};
 use roff_num::{Num, NumFault, Scale};
 use roff_pages::LayoutEvent;
 use roff_run::{Message, PageEvent};
@@ -22,8 +21,8 @@ use roff_run::{Message, PageEvent};
 const USUAL_LENGTH: u32 = 66;
 
 /// `pl`: the page length, 66 lines where none is given.
-pub(super) fn page_length(known: RequestFacts, argument: Option<&[u8]>) -> Response
-    ensures { (k : Known) (as_given : List (List ℕ)) → KnowsOf k PageLength as_given known
+pub(super) fn page_length(known: PageFacts, argument: Option<&[u8]>) -> Response
+    ensures { (k : Known) (as_given : List (List ℕ)) → KnowsPages k.layout known
         → option_copied argument.entry ≡ slice_get as_given 0
         → response_of as_given result ≡ page_length k as_given }
 {
@@ -37,8 +36,8 @@ pub(super) fn page_length(known: RequestFacts, argument: Option<&[u8]>) -> Respo
 }
 
 /// The lines that a text sets: it is rounded, and not below 0.
-fn lines_set(known: RequestFacts, text: &[u8]) -> Result<u32, NumFault>
-    ensures { (k : Known) (as_given : List (List ℕ)) → KnowsOf k PageLength as_given known
+fn lines_set(known: PageFacts, text: &[u8]) -> Result<u32, NumFault>
+    ensures { (k : Known) (as_given : List (List ℕ)) → KnowsPages k.layout known
         → result ≡ lines_set k text.now }
 {
     let units = i64::from(LINE) * i64::from(known.page_length);
@@ -59,7 +58,7 @@ fn lines_on_page(lines: u32) -> Response
 }
 
 /// `po`: the page offset, the previous one where none is given.
-pub(super) fn page_offset(known: RequestFacts, argument: Option<&[u8]>) -> Response
+pub(super) fn page_offset(known: PageFacts, argument: Option<&[u8]>) -> Response
     ensures { (k : Known) (as_given : List (List ℕ)) → known.page_offset ≡ k.layout.offset
         → known.previous_page_offset ≡ k.layout.previous_offset
         → option_copied argument.entry ≡ slice_get as_given 0
@@ -73,7 +72,7 @@ pub(super) fn page_offset(known: RequestFacts, argument: Option<&[u8]>) -> Respo
 
 /// `pn`: the number of the next page. A sign in front adds to that of the page in force, or takes
 /// from it; without an argument it is ignored.
-pub(super) fn page_number(known: RequestFacts, argument: Option<&[u8]>) -> Response
+pub(super) fn page_number(known: PageFacts, argument: Option<&[u8]>) -> Response
     ensures { (k : Known) (as_given : List (List ℕ)) → known.page_number ≡ k.layout.number
         → option_copied argument.entry ≡ slice_get as_given 0
         → response_of as_given result ≡ page_number k as_given }
@@ -100,8 +99,8 @@ fn next_numbered(number: Result<i32, NumFault>) -> Response
 
 /// `bp`: the page is ejected, where no diversion is open; the next one gets the number that is given.
 /// A sign in front adds to that of the page in force, or takes from it.
-pub(super) fn begin_page(known: RequestFacts, argument: Option<&[u8]>) -> Response
-    ensures { (k : Known) (as_given : List (List ℕ)) → KnowsOf k BeginPage as_given known
+pub(super) fn begin_page(known: PageFacts, argument: Option<&[u8]>) -> Response
+    ensures { (k : Known) (as_given : List (List ℕ)) → KnowsPages k.layout known
         → option_copied argument.entry ≡ slice_get as_given 0
         → response_of as_given result ≡ begin_page k as_given }
 {
@@ -115,7 +114,7 @@ pub(super) fn begin_page(known: RequestFacts, argument: Option<&[u8]>) -> Respon
 }
 
 /// The page is ejected for one of this number.
-fn ejected_by(number: Result<i32, NumFault>, known: RequestFacts) -> Response
+fn ejected_by(number: Result<i32, NumFault>, known: PageFacts) -> Response
     ensures { (L : Layout) (as_given : List (List ℕ)) → known.begun ≡ min L.begun (2 ^ 32)
         → known.diverts ≡ is_diverting L → response_of as_given result ≡ ejected_by L number }
 {
@@ -126,7 +125,7 @@ fn ejected_by(number: Result<i32, NumFault>, known: RequestFacts) -> Response
 }
 
 /// The page is ejected.
-fn ejected(known: RequestFacts) -> Response
+fn ejected(known: PageFacts) -> Response
     ensures { (L : Layout) (as_given : List (List ℕ)) → known.begun ≡ min L.begun (2 ^ 32)
         → known.diverts ≡ is_diverting L → response_of as_given result ≡ ejected L }
 {
@@ -137,7 +136,7 @@ fn ejected(known: RequestFacts) -> Response
 }
 
 /// The same, and the next page gets this number.
-fn ejected_to(number: Num, known: RequestFacts) -> Response
+fn ejected_to(number: Num, known: PageFacts) -> Response
     ensures { (L : Layout) (as_given : List (List ℕ)) → known.begun ≡ min L.begun (2 ^ 32)
         → known.diverts ≡ is_diverting L → response_of as_given result ≡ ejected_to number L }
 {

@@ -1,32 +1,27 @@
 //! Blank lines, lines that are needed, no-space mode, and the spacing of lines.
 
-ghost use Rattle.std.specs.Prelude.{◌≡◌, ◌∷◌, [], ℕ, List, slice_get, Ok};
+ghost use Rattle.std.specs.Prelude.{◌≡◌, ℕ, List, slice_get, Ok};
 ghost use Rattle.std.specs.Option.{option_copied};
-ghost use Rattle.roff_requests.specs.Request.Coded.{KnowsOf, response_of};
-ghost use Rattle.roff_requests.specs.Events.{request_events};
-ghost use Rattle.roff_pages.specs.declared.layout_event.LayoutEvent.TheVariants.{Space};
-ghost use Rattle.roff_run.specs.declared.event.PageEvent.TheVariants.{Page};
-ghost use Rattle.roff_run.specs.declared.request.Request.TheVariants.{Need, Space as SpaceDown};
+ghost use Rattle.roff_requests.specs.Request.Coded.{KnowsPages, response_of};
 ghost use Rattle.roff_run.specs.Requests.Spacing.{line_spacing, need, space_down, spaced};
 ghost use Rattle.roff_run.specs.Requests.Spacing.{spaceless};
 ghost use Rattle.roff_run.specs.Registers.{Known};
 
-use crate::events::RequestEvents;
 use crate::number::{LINE, height_in, lines_in, rounded_to_lines, value_in};
-use crate::requests::{RequestFacts, Response};
-use roff_lines::Param;
+use crate::requests::{PageFacts, Response};
+use roff_lines::{Param, Settings};
 use roff_num::Scale;
 use roff_pages::LayoutEvent;
 use roff_run::{Message, PageEvent};
 
 /// `sp`: so many blank lines, one where no height is given.
-pub(super) fn space_down(known: RequestFacts, argument: Option<&[u8]>) -> Response
-    ensures { (k : Known) (as_given : List (List ℕ)) → KnowsOf k SpaceDown as_given known
+pub(super) fn space_down(known: PageFacts, argument: Option<&[u8]>) -> Response
+    ensures { (k : Known) (as_given : List (List ℕ)) → KnowsPages k.layout known
         → option_copied argument.entry ≡ slice_get as_given 0
         → response_of as_given result ≡ space_down k as_given }
 {
     match argument {
-        None => Response::doing(None, spaced_lines(1)),
+        None => Response::on_page(LayoutEvent::Space(1)),
         Some(text) => match height_in(known.place_down(), text) {
             Ok(height) => spaced(rounded_to_lines(height)),
             Err(_) => Response::bad_number(),
@@ -39,21 +34,15 @@ fn spaced(height: i32) -> Response
     ensures { (as_given : List (List ℕ)) → response_of as_given result ≡ spaced (Ok height) }
 {
     if height < 0 {
-        return Response::doing(Some(Message::BackwardMotion), spaced_lines(0));
+        let none = PageEvent::Page(LayoutEvent::Space(0));
+        return Response::Says(Message::BackwardMotion, none);
     }
-    Response::doing(None, spaced_lines(height as u32 / LINE))
-}
-
-/// The event of so many blank lines.
-fn spaced_lines(lines: u32) -> RequestEvents
-    ensures { request_events result ≡ Page (Space lines) ∷ [] }
-{
-    RequestEvents::One(PageEvent::Page(LayoutEvent::Space(lines)))
+    Response::on_page(LayoutEvent::Space(height as u32 / LINE))
 }
 
 /// `ne`: so many lines are to stand together, one where no height is given.
-pub(super) fn need(known: RequestFacts, argument: Option<&[u8]>) -> Response
-    ensures { (k : Known) (as_given : List (List ℕ)) → KnowsOf k Need as_given known
+pub(super) fn need(known: PageFacts, argument: Option<&[u8]>) -> Response
+    ensures { (k : Known) (as_given : List (List ℕ)) → KnowsPages k.layout known
         → option_copied argument.entry ≡ slice_get as_given 0
         → response_of as_given result ≡ need k as_given }
 {
@@ -74,13 +63,13 @@ pub(super) fn spaceless(on: bool) -> Response
 }
 
 /// `ls`: the spacing of lines, the previous one where none is given.
-pub(super) fn line_spacing(known: RequestFacts, argument: Option<&[u8]>) -> Response
-    ensures { (k : Known) (as_given : List (List ℕ)) → known.settings ≡ k.settings
+pub(super) fn line_spacing(settings: Settings, argument: Option<&[u8]>) -> Response
+    ensures { (k : Known) (as_given : List (List ℕ)) → settings ≡ k.settings
         → option_copied argument.entry ≡ slice_get as_given 0
         → response_of as_given result ≡ line_spacing k as_given }
 {
     match argument {
-        None => Response::setting(Param::Spacing(known.settings.previous_spacing)),
+        None => Response::setting(Param::Spacing(settings.previous_spacing)),
         Some(text) => match value_in(Scale::Units, text) {
             Ok(lines) => Response::setting(Param::Spacing(lines.max(1) as u32)),
             Err(_) => Response::bad_number(),

@@ -5,7 +5,6 @@ ghost use Rattle.std.specs.Option.{option_copied};
 ghost use Rattle.roff_requests.specs.Request.Coded.{response_of};
 ghost use Rattle.roff_run.specs.Requests.Springing.{input_trap, trap_of};
 
-use crate::events::RequestEvents;
 use crate::number::value_in;
 use crate::requests::Response;
 use crate::requests::naming::name_in;
@@ -19,15 +18,12 @@ pub(super) fn input_trap(first: Option<&[u8]>, second: Option<&[u8]>) -> Respons
         → response_of as_given result ≡ input_trap as_given }
 {
     match first {
-        None => Response::doing(None, RequestEvents::One(PageEvent::InputTrap(None))),
+        None => Response::Happens(PageEvent::InputTrap(None)),
         Some(text) => match value_in(Scale::Units, text) {
-            Ok(lines) => Response::doing(
-                None,
-                RequestEvents::One(PageEvent::InputTrap(trap_of(
-                    lines.max(0) as u32,
-                    name_in(second),
-                ))),
-            ),
+            Ok(lines) => Response::Happens(PageEvent::InputTrap(trap_of(
+                lines.max(0) as u32,
+                name_in(second),
+            ))),
             Err(_) => Response::bad_number(),
         },
     }

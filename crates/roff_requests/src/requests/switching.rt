@@ -6,22 +6,21 @@ ghost use Rattle.roff_run.specs.Registers.{Known};
 ghost use Rattle.roff_requests.specs.Request.Coded.{response_of};
 ghost use Rattle.roff_run.specs.Requests.Switching.{switch, switching_by, switching_to};
 
-use crate::events::RequestEvents;
 use crate::number::value_in;
-use crate::requests::{RequestFacts, Response};
+use crate::requests::Response;
 use roff_num::Scale;
 use roff_run::{EnvironmentNumber, PageEvent};
 
 /// `ev`: another environment, or back to the one that was left last where no number is given.
-pub(super) fn switch(known: RequestFacts, argument: Option<&[u8]>) -> Response
-    ensures { (k : Known) (as_given : List (List ℕ)) → known.has_left ≡ k.has_left
+pub(super) fn switch(has_left: bool, argument: Option<&[u8]>) -> Response
+    ensures { (k : Known) (as_given : List (List ℕ)) → has_left ≡ k.has_left
         → option_copied argument.entry ≡ slice_get as_given 0
         → response_of as_given result ≡ switch k as_given }
 {
     match argument {
         None => {
-            if known.has_left {
-                Response::doing(None, RequestEvents::One(PageEvent::Back))
+            if has_left {
+                Response::Happens(PageEvent::Back)
             } else {
                 Response::no_such_environment()
             }
@@ -48,7 +47,7 @@ fn switching_to(number: Option<EnvironmentNumber>) -> Response
     ensures { (as_given : List (List ℕ)) → response_of as_given result ≡ switching_to number }
 {
     match number {
-        Some(number) => Response::doing(None, RequestEvents::One(PageEvent::Environment(number))),
+        Some(number) => Response::Happens(PageEvent::Environment(number)),
         None => Response::no_such_environment(),
     }
 }

@@ -5,7 +5,6 @@ ghost use Rattle.std.specs.Option.{option_copied};
 ghost use Rattle.roff_requests.specs.Request.Coded.{response_of};
 ghost use Rattle.roff_run.specs.Requests.Titles.{first_byte, page_character, place_title};
 
-use crate::events::RequestEvents;
 use crate::registers::Change;
 use crate::requests::{Changes, Response};
 use roff_run::{PageEvent, WhichTitle};
@@ -33,5 +32,5 @@ fn first_byte(argument: Option<&[u8]>) -> Option<u8>
 pub(super) fn place_title() -> Response
     ensures { (as_given : List (List ℕ)) → response_of as_given result ≡ place_title }
 {
-    Response::doing(None, RequestEvents::One(PageEvent::Title(WhichTitle::Read)))
+    Response::Happens(PageEvent::Title(WhichTitle::Read))
 }

@@ -5,27 +5,22 @@ ghost use Rattle.std.specs.Option.{option_copied};
 ghost use Rattle.roff_num.specs.Steps.{followed};
 ghost use Rattle.roff_pages.specs.Pages.Counted.{counted};
 ghost use Rattle.roff_pages.specs.Queries.{place_now};
-ghost use Rattle.roff_requests.specs.Request.Coded.{KnowsOf, response_of};
+ghost use Rattle.roff_requests.specs.Request.Coded.{KnowsPages, response_of};
 ghost use Rattle.roff_run.specs.Numbers.{rounded_in_range};
 ghost use Rattle.roff_run.specs.Registers.{Known};
 ghost use Rattle.roff_run.specs.Requests.Traps.{change_trap, in_lines, moved, moved_to, place_given};
 ghost use Rattle.roff_run.specs.Requests.Traps.{plant_trap, planted};
-ghost use Rattle.roff_run.specs.declared.request.Request.TheVariants.{ChangeTrap, PlantTrap};
 
 use crate::number::{LINE, height_in, rounded_to_lines};
 use crate::requests::naming::name_in;
-use crate::requests::{RequestFacts, Response};
+use crate::requests::{PageFacts, Response};
 use roff_num::{NumFault, ShortName};
 use roff_pages::{LayoutEvent, Trap};
 
 /// `wh`: a macro springs at a place on each page. Without a name the first trap that was planted at
 /// that place goes, and without a place it is ignored.
-pub(super) fn plant_trap(
-    known: RequestFacts,
-    first: Option<&[u8]>,
-    second: Option<&[u8]>,
-) -> Response
-    ensures { (k : Known) (as_given : List (List ℕ)) → KnowsOf k PlantTrap as_given known
+pub(super) fn plant_trap(known: PageFacts, first: Option<&[u8]>, second: Option<&[u8]>) -> Response
+    ensures { (k : Known) (as_given : List (List ℕ)) → KnowsPages k.layout known
         → option_copied first.entry ≡ slice_get as_given 0
         → option_copied second.entry ≡ slice_get as_given 1
         → response_of as_given result ≡ plant_trap k as_given }
@@ -49,12 +44,8 @@ fn planted(name: Option<ShortName>, place: Result<i32, NumFault>) -> Response
 
 /// `ch`: the first trap of a name is moved to a place; without a place it goes, and without a name it
 /// is ignored.
-pub(super) fn change_trap(
-    known: RequestFacts,
-    first: Option<&[u8]>,
-    second: Option<&[u8]>,
-) -> Response
-    ensures { (k : Known) (as_given : List (List ℕ)) → KnowsOf k ChangeTrap as_given known
+pub(super) fn change_trap(known: PageFacts, first: Option<&[u8]>, second: Option<&[u8]>) -> Response
+    ensures { (k : Known) (as_given : List (List ℕ)) → KnowsPages k.layout known
         → option_copied first.entry ≡ slice_get as_given 0
         → option_copied second.entry ≡ slice_get as_given 1
         → response_of as_given result ≡ change_trap k as_given }
@@ -77,7 +68,7 @@ fn moved(name: ShortName, place: Result<i32, NumFault>) -> Response
 }
 
 /// The place that a text gives, in lines: below 0 it counts from the page's end.
-fn place_given(known: RequestFacts, text: &[u8]) -> Result<i32, NumFault>
+fn place_given(known: PageFacts, text: &[u8]) -> Result<i32, NumFault>
     ensures { (k : Known) → known.place ≡ counted (place_now k.layout)
         → result ≡ place_given k text.now }
 {

@@ -1,4 +1,4 @@
-use Rattle.std.proofs.Common.{◌≡◌, ap, sym, ◌∙◌, rules, to_z, of_z, w32, FitsSigned}
+use Rattle.std.proofs.Common.{ap, sym, ◌∙◌, rules, w32, FitsSigned}
 use Rattle.std.proofs.lemmas.Int.{to_z-of_z}
 use Rattle.roff_run.specs.Requests.Numbering.{number}
 use Rattle.roff_run.specs.Requests.Paging.{ejected_by, ejected_to}
