@@ -22,14 +22,14 @@ use Rattle.roff_run.specs.declared.line_state.LineState.TheVariants.{Calling}
 use Rattle.roff_num.specs.declared.short_name.ShortName.{ShortName}
 
 -- a byte that is held as it is read is none of three kinds
-none_of_three : (first second third : Bool) → not (first || (second || third)) ≡ true → (first ≡ false) × ((second ≡ false) × (third ≡ false))
+pub none_of_three : (first second third : Bool) → not (first || (second || third)) ≡ true → (first ≡ false) × ((second ≡ false) × (third ≡ false))
 none_of_three true second third none = absurd (cc)
 none_of_three false true third none = absurd (cc)
 none_of_three false false true none = absurd (cc)
 none_of_three false false false none = (refl, (refl, refl))
 
 -- what was held stays
-held-byte_least : (a : Arguments) (b : ℕ) → held a ≤ held (only_kept (with_argument_byte a b))
+pub held-byte_least : (a : Arguments) (b : ℕ) → held a ≤ held (only_kept (with_argument_byte a b))
 held-byte_least a b = omega (arith, held-only_kept (with_argument_byte a b), held-with_argument_byte a b)
 
 -- a byte that is held as it is read, behind the name of a body, where fewer than eight arguments are whole
@@ -43,7 +43,7 @@ pub holds_call_where : (reading : LineState) (name : ShortName) → reading ≡ 
 holds_call_where reading name is b plain = subst (λ (r : LineState). HoldsIfFewer (Some 8) r b) (sym is) (holds_call name b plain)
 
 -- where this is read
-abbrev stage_with : LineState → List OpenEscape → List (List ℕ) → Arguments → Stage
+abbrev pub stage_with : LineState → List OpenEscape → List (List ℕ) → Arguments → Stage
 stage_with reading half texts a = record { reading = reading; escapes = half; arguments = a; texts = texts }
 
 -- bytes that are held lead from stage to stage

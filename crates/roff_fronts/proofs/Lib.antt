@@ -2,6 +2,7 @@ pub mod PrintedRuns
 pub mod TurnedRuns
 pub mod RunsRead
 pub mod HeldRuns
+pub mod StringNames
 pub mod AddedRuns
 pub mod BlankRuns
 pub mod NameFronts

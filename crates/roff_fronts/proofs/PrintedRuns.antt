@@ -7,7 +7,6 @@ use Rattle.std.proofs.lemmas.List.{append-nil}
 use Rattle.roff_num.specs.declared.limit.Limit.{Limit}
 use Rattle.roff_num.specs.declared.limit.Limit.TheVariants.{Line}
 use Rattle.roff_num.specs.declared.limits.Limits.{Limits}
-use Rattle.roff_lines.specs.Events.{History}
 use Rattle.roff_lines.specs.declared.event.Event.{Event}
 use Rattle.roff_lines.specs.declared.event.Event.TheVariants.{Print, WordEnd, Gap}
 use Rattle.roff_lines.specs.Lines.{Finished, finished, pending_length}
@@ -26,9 +25,8 @@ use Rattle.roff_run.proofs.Leads.{Leads-refl, Leads-trans}
 use Rattle.roff_run.proofs.PlainRuns.{behind_byte, behind_bytes, behind_bytes-counts, counted}
 use Rattle.roff_composer.proofs.ToldBytes.{layout-byte, quiet-byte}
 use Rattle.roff_fronts.proofs.TurnedRuns.{free_ahead-behind}
-use Rattle.roff_run.specs.Environments.{Environments, environments}
-use Rattle.roff_run.specs.Layouts.{happens, laid_out, layout_of}
-use Rattle.roff_run.specs.Output.{PageHistory, text_laid, text_of, written}
+use Rattle.roff_run.specs.Layouts.{happens, layout_of}
+use Rattle.roff_run.specs.Output.{PageHistory, text_of}
 use Rattle.roff_run.specs.Reading.Ends.{due}
 use Rattle.roff_run.specs.Reading.Items.{PageInput, Taking, meaning_events}
 use Rattle.roff_run.specs.Registers.{AllRegisters}
@@ -49,7 +47,7 @@ pub record TakesText (h : PageHistory) : Type 0 where
   pub goes_on : (layout_of h).is_over ≡ false
 
 -- and so it is behind what leaves the layout as it was
-TakesText-same : (h now : PageHistory) → layout_of now ≡ layout_of h → TakesText h → TakesText now
+pub TakesText-same : (h now : PageHistory) → layout_of now ≡ layout_of h → TakesText h → TakesText now
 TakesText-same h now same takes = record {
   takes = ap (λ (L : Layout). takes_text L) same ∙ takes.takes;
   goes_on = ap (λ (L : Layout). L.is_over) same ∙ takes.goes_on;
@@ -102,7 +100,7 @@ module _ (l : Limits) (reading : LineState) (rs : AllRegisters) (messages : List
       ∙ ap (λ (sprung : Option ShortName). sprung_at sprung rest behind) unsprung
 
   -- the steps at the events of a byte
-  leads-events : (is_blank : Bool) (b : ℕ) (tape : Tape) (input : PageInput) (h : PageHistory)
+  pub leads-events : (is_blank : Bool) (b : ℕ) (tape : Tape) (input : PageInput) (h : PageHistory)
       → pending_length (if is_blank then Gap 1 ∷ WordEnd ∷ text_of h else Print (Printed b) ∷ text_of h) ≤ l.line
       → (if is_blank then finished (text_of h) WordEnd else None) ≡ None → TakesText h
       → Leads l (told_at tape input h (if is_blank then Text WordEnd ∷ Text (Gap 1) ∷ [] else Text (Print (Printed b)) ∷ []))
@@ -154,7 +152,7 @@ module _ (l : Limits) (reading : LineState) (rs : AllRegisters) (messages : List
   Fits from bytes i = first_passed l (counts_in rs (record i { ahead = ahead_at from bytes })) ≡ None
 
   -- nor behind a byte
-  fits-byte : (from : Origin) (b : ℕ) (bytes : List ℕ) (i : PageInput) → Fits from (b ∷ bytes) i → Fits from bytes (behind_byte from b i)
+  pub fits-byte : (from : Origin) (b : ℕ) (bytes : List ℕ) (i : PageInput) → Fits from (b ∷ bytes) i → Fits from bytes (behind_byte from b i)
   fits-byte (FromAhead rest) b bytes i fits =
       let items : List (Ahead PageEvent) = map ByteAhead bytes ++ rest in
       first_passed-no_more l rs (record (behind_byte (FromAhead rest) b i) { ahead = items }) (record i { ahead = ByteAhead b ∷ items })
@@ -162,7 +160,7 @@ module _ (l : Limits) (reading : LineState) (rs : AllRegisters) (messages : List
   fits-byte (FromSource behind) b bytes i fits = fits
 
   -- a byte is taken
-  taken-from : (from : Origin) (tape : Tape) (b : ℕ) (bytes : List ℕ) (i : PageInput) (h : PageHistory) → IsOpenFor from closed → due reading ≡ None → i.escapes ≡ [] → i.charge + 1 ≤ l.bytes
+  pub taken-from : (from : Origin) (tape : Tape) (b : ℕ) (bytes : List ℕ) (i : PageInput) (h : PageHistory) → IsOpenFor from closed → due reading ≡ None → i.escapes ≡ [] → i.charge + 1 ≤ l.bytes
       → step l (told_from from (b ∷ bytes) tape i h) ≡ made l (told_from from (b ∷ bytes) tape i h) (byte_taken b (told_from from bytes tape (behind_byte from b i) h))
   taken-from (FromAhead rest) tape b bytes i h is_open none_due none_half few =
       byte_ahead_is_taken l (told_from (FromAhead rest) (b ∷ bytes) tape i h) b (map ByteAhead bytes ++ rest) refl refl refl none_due refl (ap (λ (half : List OpenEscape). is_ended_by half (Some b)) none_half) (omega (arith, few))
@@ -188,7 +186,7 @@ module _ (l : Limits) (reading : LineState) (rs : AllRegisters) (messages : List
       )
 
 -- no more turns are to come behind bytes, whatever they mean
-turns-behind : (most : ℕ) (from : Origin) (bytes : List ℕ) (i : PageInput)
+pub turns-behind : (most : ℕ) (from : Origin) (bytes : List ℕ) (i : PageInput)
     → turns_within most (record (behind_bytes from bytes i) { ahead = ahead_at from [] }) ≤ turns_within most (record i { ahead = ahead_at from bytes })
 turns-behind most from [] i = omega arith
 turns-behind most from (b ∷ bytes) i = omega (arith, free_ahead-behind from b bytes, turns-behind most from bytes (behind_byte from b i))

@@ -10,6 +10,8 @@ use Rattle.roff_escape.specs.declared.open_escape.Waiting.TheVariants.{Takes}
 use Rattle.roff_run.specs.Reading.Waiting.{line_waits}
 use Rattle.roff_run.specs.Registers.{Known}
 use Rattle.roff_fronts.specs.declared.control.ControlFront.{ControlFront}
+use Rattle.roff_fronts.specs.declared.control.ControlRead.{ControlRead}
+use Rattle.roff_fronts.specs.declared.control.ControlRead.TheVariants.{Nothing, Front, WholeLine}
 use Rattle.roff_run.specs.declared.line_state.LineState.{LineState}
 use Rattle.roff_run.specs.declared.line_state.LineState.TheVariants.{Control}
 
@@ -35,3 +37,9 @@ Fronts bytes front = (rest : List ℕ) × (bytes ≡ control_byte front.breaks �
 pub record StandsReady (bytes ready : List ℕ) (u : PageUnread) : Type 0 where
   pub are : bytes ≡ front_bytes (length bytes) ready u
   pub front : IsFront (length bytes) ready u
+
+-- whether anything was read of one
+abbrev pub is_read : ControlRead → Bool
+is_read Nothing = false
+is_read Front = true
+is_read WholeLine = true

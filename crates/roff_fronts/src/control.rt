@@ -4,8 +4,9 @@ ghost use Rattle.std.specs.Prelude.{◌≡◌, ◌≤◌, ◌∷◌, [], None, S
 ghost use Rattle.roff_run.specs.Reading.ControlLines.{BelongsToName};
 ghost use Rattle.roff_reader.specs.Clauses.{due};
 ghost use Rattle.roff_fronts.specs.ControlFronts.{BeginsControl, Fronts, StandsReady, control_byte};
-ghost use Rattle.roff_fronts.specs.ControlFronts.{TakesAtBeginning};
+ghost use Rattle.roff_fronts.specs.ControlFronts.{TakesAtBeginning, is_read};
 ghost use Rattle.roff_fronts.specs.Stages.{ReadsPast};
+ghost use Rattle.roff_scan.specs.Unread.Calls.{IsFront, NoNewline, PassesFront, front_bytes};
 
 use roff_num::ShortName;
 use roff_reader::{Reader, begin_deciding, behind_called, called_by};
@@ -13,12 +14,24 @@ use roff_run::{LineState, PageEvent};
 use roff_scan::{ByteSource, Unread};
 
 /// The first three bytes of a control line: the dot or apostrophe, by whether requests break behind
-/// it, and two more.
+/// it, and two more; and whether a newline was seen behind them.
 #[derive(Clone, Copy, Debug, PartialEq, Eq)]
 struct ControlFront {
     breaks: bool,
     first: u8,
     second: u8,
+    ends: bool,
+}
+
+/// What was read of a control line's front.
+#[derive(Clone, Copy, Debug, PartialEq, Eq)]
+pub enum ControlRead {
+    /// Nothing.
+    Nothing,
+    /// The bytes up to its name's end, or a dropped line's beginning.
+    Front,
+    /// The same, where the newline is next.
+    WholeLine,
 }
 
 /// Whether a control line may begin where nothing is half read: where a line or a branch begins.
@@ -45,64 +58,96 @@ pub fn read_control_front<S: ByteSource>(
     reader: &mut Reader,
     unread: &mut Unread<PageEvent>,
     source: &mut S,
-) -> bool
+) -> ControlRead
     requires begins { BeginsControl reader.old.reading }
     requires none_due { due reader.old.reading ≡ None }
     requires none_half { unread.old.input.escapes ≡ [] }
-    ensures past { result ≡ true → ReadsPast (S.gives source.old) (S.gives source.new)
+    ensures past { is_read result ≡ true → ReadsPast (S.gives source.old) (S.gives source.new)
         reader.old reader.new unread.old unread.new }
-    ensures unchanged { result ≡ false
+    ensures unchanged { is_read result ≡ false
         → (reader.new ≡ reader.old) × (unread.new ≡ unread.old) × (source.new ≡ source.old) }
     ensures notes { S.notes source.new ≤ S.notes source.old }
     ensures failures { S.failures source.new ≡ S.failures source.old }
 {
     match control_front(unread.front(source)) {
         Some(front) => read_control(reader, front, unread, source),
-        None => false,
+        None => ControlRead::Nothing,
     }
 }
 
 /// The same of such a front.
-#[inline(never)]
+#[inline(always)]
 fn read_control<S: ByteSource>(
     reader: &mut Reader,
     front: ControlFront,
     unread: &mut Unread<PageEvent>,
     source: &mut S,
-) -> bool
+) -> ControlRead
     requires begins { BeginsControl reader.old.reading }
     requires none_due { due reader.old.reading ≡ None }
     requires none_half { unread.old.input.escapes ≡ [] }
     requires ready { StandsReady (control_byte front.breaks ∷ front.first ∷ front.second ∷ [])
         (S.ready source.old) unread.old }
-    ensures past { result ≡ true → ReadsPast (S.gives source.old) (S.gives source.new)
+    ensures past { is_read result ≡ true → ReadsPast (S.gives source.old) (S.gives source.new)
         reader.old reader.new unread.old unread.new }
-    ensures unchanged { result ≡ false
+    ensures unchanged { is_read result ≡ false
         → (reader.new ≡ reader.old) × (unread.new ≡ unread.old) × (source.new ≡ source.old) }
     ensures notes { S.notes source.new ≤ S.notes source.old }
     ensures failures { S.failures source.new ≡ S.failures source.old }
 {
     if front.first == b'\\' {
-        unread.pass(source, 2);
+        take_front(unread, source, 2);
         unread.stays_within();
         reader.go_on(LineState::Dropped);
-        return true;
+        return ControlRead::Front;
     }
     if !belongs_to_name(front.first) || !belongs_to_name(front.second) {
-        return false;
+        return ControlRead::Nothing;
     }
     let name = ShortName {
         first: front.first,
         second: Some(front.second),
     };
     match behind_called(front.breaks, called_by(name, unread)) {
-        None => false,
+        None => ControlRead::Nothing,
         Some(reading) => {
-            unread.pass(source, 3);
+            take_front(unread, source, 3);
             begin_deciding(reading, unread);
             unread.stays_within();
             reader.go_on(reading);
-            true
+            behind_front(reading, front.ends)
+        }
+    }
+}
+
+/// Takes so many bytes that stand in front. A function of its own, as what it does in place is then
+/// put into place too.
+#[inline(never)]
+fn take_front<S: ByteSource>(unread: &mut Unread<PageEvent>, source: &mut S, count: usize)
+    requires front { IsFront count (S.ready source.old) unread.old }
+    requires plain { NoNewline (front_bytes count (S.ready source.old) unread.old) }
+    ensures passes { PassesFront (S.gives source.old) (S.gives source.new)
+        (front_bytes count (S.ready source.old) unread.old) unread.old unread.new }
+    ensures notes { S.notes source.new ≤ S.notes source.old }
+    ensures failures { S.failures source.new ≡ S.failures source.old }
+{
+    unread.pass(source, count);
+}
+
+/// What was read in front of this, by whether a newline is next: that of a dropped line is taken with
+/// the bytes before it.
+#[inline(always)]
+fn behind_front(reading: LineState, ends: bool) -> ControlRead
+    ensures { is_read result ≡ true }
+{
+    match reading {
+        LineState::Dropped => ControlRead::Front,
+        _ => {
+            if ends {
+                ControlRead::WholeLine
+            } else {
+                ControlRead::Front
+            }
         }
     }
 }
@@ -113,18 +158,26 @@ fn control_front(bytes: &[u8]) -> Option<ControlFront>
     ensures { IfSome result (λ front. Fronts bytes.now front) }
 {
     match bytes {
-        [b'.', first, second, ..] => Some(ControlFront {
+        [b'.', first, second, rest @ ..] => Some(ControlFront {
             breaks: true,
             first: *first,
             second: *second,
+            ends: is_newline_next(rest),
         }),
-        [b'\'', first, second, ..] => Some(ControlFront {
+        [b'\'', first, second, rest @ ..] => Some(ControlFront {
             breaks: false,
             first: *first,
             second: *second,
+            ends: is_newline_next(rest),
         }),
         _ => None,
     }
+}
+
+/// Whether a newline is the first of these bytes.
+#[inline(always)]
+fn is_newline_next(bytes: &[u8]) -> bool {
+    matches!(bytes, [b'\n', ..])
 }
 
 /// Whether a byte belongs to a name behind a dot or apostrophe. Of a byte that prints nothing it may

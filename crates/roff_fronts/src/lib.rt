@@ -4,7 +4,9 @@
 
 mod control;
 mod runs;
+mod strings;
 
-pub use control::{begins_control_line, read_control_front};
+pub use control::{ControlRead, begins_control_line, read_control_front};
 pub use roff_scan::RunKind;
 pub use runs::{run_half_read, run_kind, take_run};
+pub use strings::{begins_apart, take_string_name};

@@ -58,6 +58,16 @@ fn run_alone(reader: &Reader, unread: &Unread<PageEvent>) -> Option<RunKind>
             matched: None,
             ..
         } => Some(RunKind::Ignored),
+        LineState::StringText {
+            name: Some(_),
+            is_front: false,
+            ..
+        } => Some(RunKind::Definition),
+        LineState::StringText {
+            name: None,
+            is_front: false,
+            ..
+        } => Some(RunKind::Ignored),
         LineState::Dropped => Some(RunKind::Dropped {
             within_block: false,
         }),

@@ -1,3 +1,4 @@
+pub mod Acting
 pub mod StringRefusals
 pub mod Strings
 pub mod DefinitionEnds

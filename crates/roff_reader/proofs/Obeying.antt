@@ -1,9 +1,7 @@
 -- A request that is obeyed, and how it changes registers, as the definition takes its line's end.
 use Rattle.std.proofs.Common.{◌≡◌, ℕ, ◌≤◌, Bool, true, false, List, [], ◌∷◌, length, fold, Some, None, Ok, Err, refl, sym, subst, ap, ◌∙◌, arith}
 use Rattle.std.proofs.lemmas.Bool.{le-ltb, ltb-false}
-use Rattle.std.specs.Prelude.{reverse, nat_lt, if◌then◌else◌}
-use Rattle.roff_num.specs.declared.limits.Limits.{Limits}
-use Rattle.roff_composer.specs.Composer.Standing.{StandFor}
+use Rattle.std.specs.Prelude.{nat_lt, if◌then◌else◌}
 use Rattle.roff_composer.specs.declared.composer.Composer.{Composer as ComposerOf}
 use Rattle.roff_num.specs.declared.limit.Limit.{Limit}
 use Rattle.roff_num.specs.declared.limit.Limit.TheVariants.{Names}
@@ -16,16 +14,16 @@ use Rattle.roff_store.specs.Named.{without_entry}
 use Rattle.roff_store.specs.Registers.{Registers}
 use Rattle.roff_store.specs.TextCalls.{Call}
 use Rattle.roff_run.specs.Events.Steps.{events_of, messages_of}
-use Rattle.roff_run.specs.Output.{PageHistory}
-use Rattle.roff_reader.specs.Reader.State.{ReaderState}
-use Rattle.roff_reader.specs.Reader.Taken.{ChangedTo, Refused, TakesAs, Took, behind_changes}
+use Rattle.roff_reader.specs.Reader.Acting.{Acts, CameToEffect, texts_read}
+use Rattle.roff_reader.specs.Reader.State.{MeaningKept, ReaderState}
+use Rattle.roff_reader.specs.Reader.Taken.{ChangedTo, Refused, TakesAs, behind_changes}
 use Rattle.roff_run.specs.Reading.Items.{PageUnread}
-use Rattle.roff_run.specs.Reading.Arguments.{calling_all, ended_by, line_ended, reading_behind}
+use Rattle.roff_run.specs.Reading.Arguments.{calling_all, line_ended, reading_behind}
 use Rattle.roff_run.specs.Reading.Items.{PageInput}
 use Rattle.roff_run.specs.Registers.{AllRegisters, Change, Remove, changed_by, changed_by_all, is_page, is_read_only}
 use Rattle.roff_run.specs.Registers.Capped.{Capped, is_past_cap, with_change}
 use Rattle.roff_requests.specs.Registers.Coded.{change_of}
-use Rattle.roff_requests.specs.Request.Coded.{calls_of, changes_of, effect_of}
+use Rattle.roff_requests.specs.Request.Coded.{calls_of, changes_of}
 use Rattle.roff_requests.specs.declared.registers.Change.{Change as CodedChange}
 use Rattle.roff_requests.specs.declared.registers.Change.TheVariants.{SetTo, FormatAs, ReadLast, CharacterIs}
 use Rattle.roff_requests.specs.declared.requests.effects.Changes.{Changes}
@@ -33,10 +31,8 @@ use Rattle.roff_requests.specs.declared.requests.effects.Changes.TheVariants.{No
 use Rattle.roff_run.specs.TitleTexts.{TitleText, title_length}
 use Rattle.roff_run.specs.Requests.{Effect, request_effect, row_of}
 use Rattle.roff_run.specs.Run.{known_at}
-use Rattle.roff_run.specs.Run.Counts.{counts_in, first_passed}
 use Rattle.roff_run.specs.declared.step.Step.{Step}
 use Rattle.roff_run.specs.declared.request.Request.{Request}
-use Rattle.roff_requests.specs.declared.requests.effects.Effect.{Effect as CodedEffect}
 use Rattle.roff_reader.proofs.FewerNames.{NoMore-calls}
 use Rattle.roff_run.proofs.InputCounts.{behind_title, NoMore, NoMore-released, NoMore-trans, first_passed-few_names, input_refusal-no_more, one_of}
 use Rattle.roff_reader.proofs.RemovedNames.{calling_all-arguments}
@@ -55,15 +51,6 @@ Changed-removed names old new goes = record {
   within = λ few.
       ap is_past_cap goes ∙ le-ltb old.cap _ (let fewer = length-without names old.all.named in omega (arith, ltb-false old.cap (length old.all.named) few));
 }
-
--- the arguments that were read
-abbrev pub texts_read : PageUnread → List (List ℕ)
-texts_read u = reverse u.input.arguments.whole
-
--- a request was obeyed by what it means with its arguments
-pub record Obeys (es : ComposerOf) (rs : AllRegisters) (u : PageUnread) (breaks : Bool) (request : Request) (e : CodedEffect) : Type 0 where
-  pub effect_is : (l : Limits) (h : PageHistory) → StandFor l h es
-      → effect_of (texts_read u) e ≡ request_effect (known_at h rs u.input) breaks request (texts_read u)
 
 -- the input of a line that has ended
 abbrev line_finished : PageUnread → PageUnread
@@ -105,67 +92,67 @@ title-changes_of as_given RemoveGiven rs = refl
 title-changes_of as_given RemoveNamesGiven rs = refl
 title-changes_of as_given (RenameGiven from to) rs = refl
 
--- a request was obeyed, its changes made, and its arguments released
-pub TakesAs-obeyed : (es : ComposerOf) (old new : ReaderState) (before mid change behind : PageUnread) (breaks : Bool) (request : Request) (e : CodedEffect) (m : Step)
-    → mid ≡ line_finished before → Obeys es old.registers.all mid breaks request e
-    → ChangedTo (changes_of (texts_read mid) e.changes) old.registers new.registers
-    → change ≡ called (calls_of (texts_read mid) e.changes) mid → behind ≡ released change
-    → new.reading ≡ reading_behind (row_of request).line → messages_of new.meaning.message m ≡ (effect_of (texts_read mid) e).messages
-    → events_of new.meaning.events m ≡ (effect_of (texts_read mid) e).events
+-- no effect of a request does
+title-effect : (e : Effect) (as_given : List (List ℕ)) (asked : Changes) (rs : AllRegisters) → e.changes ≡ changes_of as_given asked
+    → (changed_by_all e.changes rs).title ≡ rs.title
+title-effect e as_given asked rs is =
+    ap (λ (changes : List Change). (changed_by_all changes rs).title) is ∙ title-changes_of as_given asked rs
+
+-- nor does it bring more names, texts or bytes
+NoMore-effect : (e : Effect) (as_given : List (List ℕ)) (asked : Changes) (i : PageInput) → e.calls ≡ calls_of as_given asked → NoMore (calling_all e.calls i) i
+NoMore-effect e as_given asked i is =
+    subst (λ (calls : List Call). NoMore (calling_all calls i) i) (sym is) (NoMore-calls as_given asked i)
+
+-- a request acted, and its arguments were released
+pub TakesAs-acted : (es : ComposerOf) (old acted new : ReaderState) (before mid act behind : PageUnread) (breaks : Bool) (request : Request) (m : Step)
+    → mid ≡ line_finished before → Acts breaks request es old acted mid act (Ok m) → behind ≡ released act
+    → new.registers ≡ acted.registers → new.meaning ≡ acted.meaning → new.reading ≡ reading_behind (row_of request).line
     → TakesAs (λ k. line_ended k before.input breaks request) es old new before behind (Ok m)
-TakesAs-obeyed es old new before mid change behind breaks request e m finishes obeying changed calls releases begins says means = record {
+TakesAs-acted es old acted new before mid act behind breaks request m finishes acting releases registers_stay meaning_stays begins = record {
   takes = λ l h stands ready.
       let i : PageInput = before.input in
-      let obeys : Obeys es old.registers.all (line_finished before) breaks request e =
-      subst (λ (u : PageUnread). Obeys es old.registers.all u breaks request e) finishes obeying in
-      let changes : List Change = changes_of (arguments_given i) e.changes in
-      let registers : new.registers ≡ behind_changes changes old.registers =
-      changed.registers ∙ ap (λ (u : PageUnread). behind_changes (changes_of (texts_read u) e.changes) old.registers) finishes in
+      let rs : AllRegisters = old.registers.all in
+      let e : Effect = request_effect (known_at h rs i) breaks request (arguments_given i) in
+      let did : CameToEffect e old acted (line_finished before) act m =
+      subst (λ (u : PageUnread). CameToEffect (request_effect (known_at h rs u.input) breaks request (texts_read u)) old acted u act m) finishes (acting.acts l h stands) in
       let few : is_past_cap old.registers ≡ false =
-      ap (λ (n : ℕ). nat_lt n (length old.registers.all.named)) ready.cap ∙ few_names old.registers before ready in
-      let few_now : nat_lt before.limits.names (length (changed_by_all changes old.registers.all).named) ≡ false =
-      few_behind changes old.registers before false ready.cap (ap is_past_cap (sym registers) ∙ changed.within few) in
-      let short_now : nat_lt before.limits.line (title_length (changed_by_all changes old.registers.all).title) ≡ false =
-      ap (λ (t : TitleText). nat_lt before.limits.line (title_length t)) (title-changes_of (arguments_given i) e.changes old.registers.all)
+      ap (λ (n : ℕ). nat_lt n (length rs.named)) ready.cap ∙ few_names old.registers before ready in
+      let few_now : nat_lt before.limits.names (length (changed_by_all e.changes rs).named) ≡ false =
+      few_behind e.changes old.registers before false ready.cap (ap is_past_cap (sym did.changed.registers) ∙ did.changed.within few) in
+      let short_now : nat_lt before.limits.line (title_length (changed_by_all e.changes rs).title) ≡ false =
+      ap (λ (t : TitleText). nat_lt before.limits.line (title_length t)) (title-effect e (arguments_given i) did.asked rs did.changes)
       ∙ short_title old.registers before ready in
       let none_before : input_refusal before.limits i ≡ None =
-      sym (first_passed-few_names before.limits old.registers.all i (few_names old.registers before ready) (short_title old.registers before ready)) ∙ ready.within in
+      sym (first_passed-few_names before.limits rs i (few_names old.registers before ready) (short_title old.registers before ready)) ∙ ready.within in
       let without : PageInput = record i { arguments = no_arguments } in
-      let ended : PageInput = calling_all (calls_of (arguments_given i) e.changes) without in
-      let less : NoMore ended i = NoMore-trans ended without i (NoMore-calls (arguments_given i) e.changes without) (NoMore-released i) in
-      let input : behind ≡ record before { input = ended } =
-      releases ∙ ap released calls ∙ ap (λ (u : PageUnread). released (called (calls_of (texts_read u) e.changes) u)) finishes
-      ∙ released-called (calls_of (arguments_given i) e.changes) before in
-      subst (λ (effect : Effect). Took (ended_by i request effect) old.registers new before behind m) (obeys.effect_is l h stands)
-      (record {
+      let ended : PageInput = calling_all e.calls without in
+      let less : NoMore ended i = NoMore-trans ended without i (NoMore-effect e (arguments_given i) did.asked without did.calls) (NoMore-released i) in
+      let input : behind ≡ record before { input = ended } = releases ∙ ap released did.called ∙ released-called e.calls before in record {
         became = record {
           input = input;
           reading = begins;
-          registers = registers;
-          within = first_passed-few_names before.limits (changed_by_all changes old.registers.all) ended few_now short_now
+          registers = registers_stay ∙ did.changed.registers;
+          within = first_passed-few_names before.limits (changed_by_all e.changes rs) ended few_now short_now
               ∙ input_refusal-no_more before.limits ended i less none_before;
         };
-        messages = says ∙ ap (λ (u : PageUnread). (effect_of (texts_read u) e).messages) finishes;
-        events = means ∙ ap (λ (u : PageUnread). (effect_of (texts_read u) e).events) finishes;
-      });
+        messages = ap (λ (kept : MeaningKept). messages_of kept.message m) meaning_stays ∙ did.messages;
+        events = ap (λ (kept : MeaningKept). events_of kept.events m) meaning_stays ∙ did.events;
+      };
 }
 
 -- or more names than may would have a register
-pub TakesAs-not_obeyed : (es : ComposerOf) (old new : ReaderState) (before mid behind : PageUnread) (breaks : Bool) (request : Request) (e : CodedEffect) (limit : Limit)
-    → mid ≡ line_finished before → Obeys es old.registers.all mid breaks request e
-    → Refused (changes_of (texts_read mid) e.changes) old.registers limit
+pub TakesAs-not_acted : (es : ComposerOf) (old acted new : ReaderState) (before mid act behind : PageUnread) (breaks : Bool) (request : Request) (limit : Limit)
+    → mid ≡ line_finished before → Acts breaks request es old acted mid act (Err limit)
     → TakesAs (λ k. line_ended k before.input breaks request) es old new before behind (Err limit)
-TakesAs-not_obeyed es old new before mid behind breaks request e limit finishes obeying refused = record {
+TakesAs-not_acted es old acted new before mid act behind breaks request limit finishes acting = record {
   takes = λ l h stands ready.
       let i : PageInput = before.input in
-      let obeys : Obeys es old.registers.all (line_finished before) breaks request e =
-      subst (λ (u : PageUnread). Obeys es old.registers.all u breaks request e) finishes obeying in
-      let changes : List Change = changes_of (arguments_given i) e.changes in
-      let past : is_past_cap (behind_changes changes old.registers) ≡ true =
-      ap (λ (u : PageUnread). is_past_cap (behind_changes (changes_of (texts_read u) e.changes) old.registers)) (sym finishes) ∙ refused.past in
-      let many : nat_lt before.limits.names (length (changed_by_all changes old.registers.all).named) ≡ true =
-      few_behind changes old.registers before true ready.cap past in
-      let ended : PageInput = calling_all (calls_of (arguments_given i) e.changes) (record i { arguments = no_arguments }) in
-      subst (λ (effect : Effect). first_passed before.limits (counts_in (changed_by_all effect.changes old.registers.all) (ended_by i request effect).input) ≡ Some limit) (obeys.effect_is l h stands)
-      (ap (λ (many : Bool). if many then Some Names else behind_title before.limits (changed_by_all changes old.registers.all) ended) many ∙ ap (λ (l : Limit). Some l) (sym refused.limit_is));
+      let rs : AllRegisters = old.registers.all in
+      let e : Effect = request_effect (known_at h rs i) breaks request (arguments_given i) in
+      let refused : Refused e.changes old.registers limit =
+      subst (λ (u : PageUnread). Refused (request_effect (known_at h rs u.input) breaks request (texts_read u)).changes old.registers limit) finishes (acting.acts l h stands) in
+      let many : nat_lt before.limits.names (length (changed_by_all e.changes rs).named) ≡ true =
+      few_behind e.changes old.registers before true ready.cap refused.past in
+      let ended : PageInput = calling_all e.calls (record i { arguments = no_arguments }) in
+      ap (λ (many : Bool). if many then Some Names else behind_title before.limits (changed_by_all e.changes rs) ended) many ∙ ap (λ (l : Limit). Some l) (sym refused.limit_is);
 }

@@ -2,6 +2,7 @@
 pub use Rattle.roff_run.specs.Environments.{PageHistory}
 pub use Rattle.roff_composer.specs.Composer.Standing.{StandFor}
 pub use Rattle.roff_composer.specs.declared.composer.Composer.{Composer as ComposerOf}
+pub use Rattle.roff_reader.specs.Reader.Acting.{Acts, DoesEffect, texts_read}
 pub use Rattle.roff_reader.specs.Reader.State.{fresh_reader}
 pub use Rattle.roff_reader.specs.Reader.Taken.{Changed, InputCameTo, TakesAs}
 pub use Rattle.roff_run.specs.Reading.Items.{PageUnread}
@@ -30,8 +31,8 @@ pub use Rattle.roff_run.specs.Definitions.{ends_mark}
 pub use Rattle.roff_escape.specs.OpenEscape.{unit_bytes}
 pub use Rattle.roff_run.specs.Registers.{AllRegisters, Known, Remove, changed_by, value_in_force}
 pub use Rattle.roff_requests.specs.Registers.Coded.{AreOf}
-pub use Rattle.roff_requests.specs.Request.Coded.{calls_of, changes_of, effect_of, name_in, register_named}
-pub use Rattle.roff_run.specs.Requests.{request_effect, called_by, row_of}
+pub use Rattle.roff_requests.specs.Request.Coded.{calls_of, changes_of, name_in, register_named, response_of, set_by}
+pub use Rattle.roff_run.specs.Requests.{called_by, row_of}
 pub use Rattle.roff_run.specs.Requests.Naming.{removals}
 pub use Rattle.roff_run.specs.Requests.Numbering.{names_given}
 pub use Rattle.roff_run.specs.Run.{first_unread, known_at}

@@ -1,6 +1,8 @@
 //! What an item means, where that isn't told by the name of its step.
 
-ghost use Rattle.std.specs.Prelude.{◌≡◌, ◌≤◌, None, IfSome, slice_get};
+ghost use Rattle.std.specs.Prelude.{◌≡◌, ◌≤◌, ◌∷◌, None, IfSome, drop, slice_get, true};
+ghost use Rattle.roff_lines.specs.declared.event.Event.TheVariants.{Break, WordEnd};
+ghost use Rattle.roff_run.specs.declared.event.PageEvent.TheVariants.{Text};
 ghost use Rattle.roff_run.specs.Events.Lines.{line_events};
 ghost use Rattle.roff_run.specs.Requests.Effects.{behind_break};
 ghost use Rattle.roff_requests.specs.Events.{around_break, request_events, stops_set};
@@ -95,6 +97,15 @@ impl Meaning {
         ensures { result ≡ self.now.message }
     {
         self.message
+    }
+
+    /// Whether the events begin with those of a break.
+    #[inline(always)]
+    pub(crate) fn begins_with_break(&self) -> bool
+        ensures { result ≡ true
+            → self.now.events ≡ Text WordEnd ∷ Text Break ∷ drop 2 self.now.events }
+    {
+        self.is_request && self.requested.begin_with_break()
     }
 
     /// The event at an index, if there are so many: 36 at most.

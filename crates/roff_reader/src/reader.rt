@@ -1,7 +1,9 @@
 //! Reading: what each item of the input means, before it is done.
 
 ghost use Rattle.std.specs.Prelude.{◌≡◌, ◌==◌, ◌≤◌, ◌∷◌, [], IfOk, IfSome, None, false, slice_get};
-ghost use Rattle.std.specs.Prelude.{true};
+ghost use Rattle.std.specs.Prelude.{drop, true};
+ghost use Rattle.roff_lines.specs.declared.event.Event.TheVariants.{Break, WordEnd};
+ghost use Rattle.roff_run.specs.declared.event.PageEvent.TheVariants.{Text};
 ghost use Rattle.std.specs.Option.{option_to_list};
 ghost use Rattle.roff_source.specs.Bytes.{backslash, is_dropped};
 ghost use Rattle.roff_run.specs.Events.Lines.{closing_events};
@@ -23,7 +25,9 @@ mod definitions;
 mod ends;
 mod escapes;
 mod found;
+mod half_read;
 mod messages;
+mod numbering;
 mod obeying;
 mod places;
 mod registers;
@@ -80,8 +84,7 @@ impl Reader {
         })
     }
 
-    /// What a byte does that was taken: the input behind it, what is read, and what it means. Most
-    /// bytes are glyphs or gaps of a text line, and change nothing of these.
+    /// What a byte does that was taken: the input behind it, what is read, and what it means.
     ///
     /// # Errors
     ///
@@ -96,12 +99,6 @@ impl Reader {
         ensures { TakesAs (λ k. taking k self.old.reading unread.old.input byte)
             composer.now self.old self.new unread.old unread.new result }
     {
-        if self.goes_on_with(byte, unread) {
-            return Ok(Step::Glyph(byte, 0));
-        }
-        if self.goes_on_with_gap(byte, unread) {
-            return Ok(Step::Gap);
-        }
         if is_read_alone(byte, unread) {
             return self.read_alone(byte, composer, unread);
         }
@@ -111,6 +108,24 @@ impl Reader {
     /// The same of any byte.
     #[inline(never)]
     fn read_any(
+        &mut self,
+        byte: u8,
+        composer: &Composer,
+        unread: &mut Unread<PageEvent>,
+    ) -> Result<Step, Limit>
+        ensures { TakesAs (λ k. taking k self.old.reading unread.old.input byte)
+            composer.now self.old self.new unread.old unread.new result }
+    {
+        self.read_half(byte, composer, unread)
+    }
+
+    /// The same where something is half read, and most bytes are none of a text line.
+    ///
+    /// # Errors
+    ///
+    /// A limit that it would pass; what was changed then is of no more use.
+    #[inline(always)]
+    pub fn read_half(
         &mut self,
         byte: u8,
         composer: &Composer,
@@ -196,6 +211,15 @@ impl Reader {
     {
         self.reading = LineState::LineStart;
         self.meaning.keep_line(None, false, LineEvents::Closing);
+    }
+
+    /// Whether the events of the meaning that is kept begin with those of a break.
+    #[inline(always)]
+    pub fn begins_with_break(&self) -> bool
+        ensures { result ≡ true → self.now.meaning.events
+            ≡ Text WordEnd ∷ Text Break ∷ drop 2 self.now.meaning.events }
+    {
+        self.meaning.begins_with_break()
     }
 
     /// The event at an index of the meaning that is kept, if there are so many: 36 at most.

@@ -14,6 +14,7 @@ use roff_scan::{ArgumentList, CopyUnit, Found, Unread};
 
 impl Reader {
     /// Something behind a request's name.
+    #[inline(never)]
     pub(super) fn read_arguments(
         &mut self,
         breaks: bool,
@@ -58,6 +59,7 @@ impl Reader {
     }
 
     /// The end of a line that was read as arguments.
+    #[inline(always)]
     fn end_arguments(
         &mut self,
         breaks: bool,

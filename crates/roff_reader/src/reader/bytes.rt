@@ -1,13 +1,14 @@
-//! A byte that was taken: what it means, and whether it means little.
+//! A byte that was taken: what it means.
 
-ghost use Rattle.std.specs.Prelude.{◌≡◌, ◌==◌, [], ◌∷◌, false, true};
+ghost use Rattle.std.specs.Prelude.{◌≡◌, ◌==◌, [], ◌∷◌, Ok, false, true};
 ghost use Rattle.roff_source.specs.Bytes.{backslash};
 ghost use Rattle.roff_lines.specs.declared.event.Event.TheVariants.{Gap, Print, WordEnd};
 ghost use Rattle.roff_lines.specs.declared.glyph.Glyph.TheVariants.{Printed};
 ghost use Rattle.roff_run.specs.declared.event.PageEvent.TheVariants.{Text};
-ghost use Rattle.roff_run.specs.declared.line_state.LineState.TheVariants.{Title as InTitle};
+ghost use Rattle.roff_run.specs.declared.line_state.LineState.TheVariants.{Text as InText, Title as InTitle};
 ghost use Rattle.roff_run.specs.Registers.{Known};
-ghost use Rattle.roff_reader.specs.Clauses.{TakesAs, meaning_events, taking, undropped_taking};
+ghost use Rattle.roff_reader.specs.Clauses.{ComposerOf, PageUnread, TakesAs, meaning_events, taking};
+ghost use Rattle.roff_reader.specs.Clauses.{undropped_taking};
 ghost use Rattle.roff_escape.specs.OpenEscapes.{byte_read};
 ghost use Rattle.roff_run.specs.Reading.Found.{place_in, read_in};
 
@@ -15,33 +16,47 @@ use super::Reader;
 use super::calls::CALL_ARGUMENTS;
 use roff_composer::Composer;
 use roff_num::Limit;
-use roff_run::{LineState, PageEvent, Step};
-use roff_scan::{CopyUnit, Unread};
+use roff_run::{LineState, PageEvent, Step, TextLine};
+use roff_scan::{CopyUnit, Unread, is_dropped};
 
 impl Reader {
-    /// Whether a byte is a glyph behind another on a text line, and does nothing else. Most are.
+    /// What a byte does on this text line, where nothing is half read.
+    ///
+    /// # Errors
+    ///
+    /// A limit that it would pass; what was changed then is of no more use.
     #[inline(always)]
-    pub(super) fn goes_on_with(&self, byte: u8, unread: &Unread<PageEvent>) -> bool
-        ensures { result ≡ true → (k : Known) → taking k self.now.reading unread.now.input byte
-            ≡ meaning_events unread.now.input self.now.reading (Text (Print (Printed byte)) ∷ []) }
+    pub fn read_on_line(
+        &mut self,
+        line: TextLine,
+        byte: u8,
+        composer: &Composer,
+        unread: &mut Unread<PageEvent>,
+    ) -> Result<Step, Limit>
+        requires line { self.old.reading ≡ InText line }
+        requires none_half { unread.old.input.escapes ≡ [] }
+        ensures { TakesAs (λ k. taking k self.old.reading unread.old.input byte)
+            composer.now self.old self.new unread.old unread.new result }
     {
-        match self.reading {
-            LineState::Text(line) => line.goes_on_with(byte) && !unread.has_open_escape(),
-            _ => false,
+        if byte == b'\\' {
+            return self.read_any(byte, composer, unread);
         }
+        if is_dropped(byte) {
+            return self.read_any(byte, composer, unread);
+        }
+        Ok(self.read_plain(line, byte))
     }
 
-    /// Whether a byte is a gap behind a glyph on a text line, and does nothing else.
+    /// The same of a byte that is neither dropped nor a backslash.
     #[inline(always)]
-    pub(super) fn goes_on_with_gap(&self, byte: u8, unread: &Unread<PageEvent>) -> bool
-        ensures { result ≡ true → (k : Known) → taking k self.now.reading unread.now.input byte
-            ≡ meaning_events unread.now.input self.now.reading
-            (Text WordEnd ∷ Text (Gap 1) ∷ []) }
+    fn read_plain(&mut self, line: TextLine, byte: u8) -> Step
+        requires line { self.old.reading ≡ InText line }
+        requires no_escape { (byte == backslash) ≡ false }
+        ensures { (es : ComposerOf) (u : PageUnread) → u.input.escapes ≡ []
+            → TakesAs (λ k. undropped_taking k self.old.reading u.input byte)
+            es self.old self.new u u (Ok result) }
     {
-        match self.reading {
-            LineState::Text(line) => line.goes_on_with_gap(byte) && !unread.has_open_escape(),
-            _ => false,
-        }
+        self.step_on(line.taking(byte))
     }
 
     /// What a byte does that is neither dropped nor a backslash, where nothing is half read.
@@ -104,6 +119,13 @@ impl Reader {
             LineState::Title { delimiter } => {
                 self.read_between(delimiter, byte, composer, unread)
             }
+            LineState::Deciding { keeps } => {
+                self.read_byte_of_condition(keeps, byte, composer, unread)
+            }
+            LineState::Arguments { breaks, request } => {
+                self.read_byte_of_arguments(breaks, request, byte, composer, unread)
+            }
+            LineState::Text(line) => self.read_byte_of_text(line, byte, composer, unread),
             _ => self.read_placed(byte, composer, unread),
         }
     }

@@ -6,7 +6,7 @@ ghost use Rattle.roff_reader.specs.Reader.Springs.{Springs};
 ghost use Rattle.roff_run.specs.declared.request.Called.TheVariants as Called;
 
 use super::Reader;
-use super::control_lines::called_by;
+use super::control_lines::{called_by, whole_name};
 use roff_composer::Composer;
 use roff_num::{Limit, ShortName};
 use roff_run::{Called, LineState, PageEvent, Step};
@@ -51,7 +51,7 @@ impl Reader {
     {
         match unit {
             CopyUnit::Byte(b'\n') => {
-                unread.call(&name.name())?;
+                unread.call(&whole_name(name))?;
                 return Ok(self.read_on(LineState::LineStart));
             }
             CopyUnit::Byte(b'"') => {}
@@ -103,7 +103,7 @@ impl Reader {
             es self.old self.new unread.old unread.new result }
     {
         unread.begin_arguments();
-        unread.call(&name.name())?;
+        unread.call(&whole_name(name))?;
         Ok(self.read_on(LineState::LineStart))
     }
 

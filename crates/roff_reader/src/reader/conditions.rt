@@ -37,7 +37,7 @@ impl Reader {
     }
 
     /// Something of a condition.
-    #[inline(always)]
+    #[inline(never)]
     pub(super) fn read_condition(
         &mut self,
         keeps: bool,

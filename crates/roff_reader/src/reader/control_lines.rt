@@ -1,6 +1,7 @@
 //! The names of control lines, and how what is behind one is read.
 
 ghost use Rattle.std.specs.Prelude.{◌≡◌, None, Ok, IfSome};
+ghost use Rattle.roff_num.specs.ShortNames.{name_bytes};
 ghost use Rattle.roff_run.specs.Reading.ControlLines.{behind_called};
 ghost use Rattle.roff_run.specs.declared.step.Step.TheVariants.{Nothing};
 ghost use Rattle.roff_reader.specs.NamesRead.{LeadsTo, LeadsToElse, input_begun};
@@ -10,7 +11,7 @@ ghost use Rattle.roff_reader.specs.Clauses.{line_taking, row_of, name_ended_taki
 
 use super::Reader;
 use roff_composer::Composer;
-use roff_num::{Limit, ShortName};
+use roff_num::{Limit, Name, ShortName};
 use roff_run::{Called, LineReading, LineState, PageEvent, Request, Step, ends_name};
 use roff_scan::{Surroundings, Unread};
 use roff_store::Kind;
@@ -179,6 +180,25 @@ pub fn begin_deciding(reading: LineState, unread: &mut Unread<PageEvent>)
     match reading {
         LineState::Deciding { .. } => unread.begin_condition(),
         _ => {}
+    }
+}
+
+/// A short name as a name: each length has a copy of its own, for which the compiler knows it.
+#[inline(always)]
+pub(super) fn whole_name(name: ShortName) -> Name
+    ensures { result ≡ name_bytes name }
+{
+    match name.second {
+        Some(second) => ShortName {
+            first: name.first,
+            second: Some(second),
+        }
+        .name(),
+        None => ShortName {
+            first: name.first,
+            second: None,
+        }
+        .name(),
     }
 }
 

@@ -42,7 +42,12 @@ impl Reader {
     {
         let place = self.place(composer);
         let found = unread.end_reading(place);
-        self.read_found(found, composer, unread)
+        match self.reading {
+            LineState::Deciding { keeps } => {
+                self.read_in_condition(keeps, found, composer, unread)
+            }
+            _ => self.read_found(found, composer, unread),
+        }
     }
 
     /// The end of the input: an unfinished line ends.

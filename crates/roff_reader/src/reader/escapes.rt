@@ -76,6 +76,7 @@ impl Reader {
     }
 
     /// A unit of a text is held, and this is read on.
+    #[inline(always)]
     pub(super) fn hold_text(
         &mut self,
         unit: CopyUnit,

@@ -1,22 +1,31 @@
 //! The end of a request's line: what it means, and what it changes.
 
-ghost use Rattle.std.specs.Prelude.{◌≡◌, ℕ, List, IfSome, reverse, slice_get};
-ghost use Rattle.std.specs.Option.{option_copied};
+ghost use Rattle.std.specs.Prelude.{◌≡◌, ◌∷◌, ◌&&◌, [], ℕ, List, Option, IfSome, reverse, slice_get};
+ghost use Rattle.std.specs.Option.{option_copied, option_to_list};
+ghost use Rattle.roff_lines.specs.declared.event.Event.TheVariants.{Set};
 ghost use Rattle.roff_num.specs.declared.limits.Limits.{Limits};
-ghost use Rattle.roff_reader.specs.Clauses.{Changed, calling_all, calls_of, name_in, removals};
-ghost use Rattle.roff_reader.specs.Clauses.{PageHistory, StandFor, TakesAs, changes_of, effect_of};
-ghost use Rattle.roff_reader.specs.Clauses.{listed, register_named, value_in_force};
+ghost use Rattle.roff_requests.specs.Events.{around_break, request_events};
+ghost use Rattle.roff_reader.specs.Clauses.{Acts, Changed, DoesEffect, calling_all, calls_of};
+ghost use Rattle.roff_reader.specs.Clauses.{PageHistory, StandFor, TakesAs, changes_of, name_in};
+ghost use Rattle.roff_reader.specs.Clauses.{listed, register_named, removals, response_of, row_of};
+ghost use Rattle.roff_reader.specs.Clauses.{known_at, line_ended, names_given, texts_read};
+ghost use Rattle.roff_reader.specs.Clauses.{value_in_force};
 ghost use Rattle.roff_run.specs.Events.Steps.{events_of, messages_of};
-ghost use Rattle.roff_run.specs.Requests.Effects.{meant_by};
+ghost use Rattle.roff_run.specs.PageEvents.{PageEvent as PageEventOf};
+ghost use Rattle.roff_run.specs.Requests.Effects.{behind_break, meant_by};
 ghost use Rattle.roff_run.specs.Requests.Tabs.{tab_stops};
-ghost use Rattle.roff_reader.specs.Clauses.{known_at, line_ended, names_given, request_effect};
+ghost use Rattle.roff_run.specs.declared.event.PageEvent.TheVariants.{Text};
+ghost use Rattle.roff_run.specs.declared.message.Message.{Message as MessageOf};
 ghost use Rattle.roff_run.specs.declared.request.Request.TheVariants.{NumberRegister};
 
 use super::Reader;
+use super::numbering::page_name;
 use roff_composer::Composer;
+use roff_lines::{Event, Param};
 use roff_num::{Limit, Name, Num};
+use roff_pages::LayoutEvent;
 use roff_requests::{
-    Changes, Effect, Given, RequestFacts, are_none, effect, name_given, tab_stops,
+    Changes, Given, Numbers, RequestEvents, RequestFacts, Response, name_given, response, tab_stops,
 };
 use roff_run::{LineState, Message, PageEvent, Request, Step};
 use roff_scan::{ArgumentList, Unread};
@@ -34,31 +43,138 @@ impl Reader {
             composer.now self.old self.new unread.old unread.new result }
     {
         unread.finish_arguments();
-        let effect = self.effect(breaks, request, composer, unread);
-        let step = self.keep(&effect, unread.arguments());
-        self.change(&effect.changes, unread)?;
+        let step = self.act(breaks, request, composer, unread)?;
         let behind = LineState::behind_line(request.row().line);
         unread.begin_arguments();
         self.reading = behind;
         Ok(step)
     }
 
-    /// Keeps what a request means that was given these arguments.
-    fn keep(&mut self, effect: &Effect, given: ArgumentList<'_>) -> Step
-        ensures says { messages_of self.new.meaning.message result
-            ≡ (effect_of (listed given.entry) effect.now).messages }
+    /// Does what a request does with the arguments that were read: those that come often, and need
+    /// little or nothing of the run, by themselves.
+    ///
+    /// # Errors
+    ///
+    /// The limit on names, if more would have a register.
+    #[inline(always)]
+    fn act(
+        &mut self,
+        breaks: bool,
+        request: Request,
+        composer: &Composer,
+        unread: &mut Unread<PageEvent>,
+    ) -> Result<Step, Limit>
+        ensures { Acts breaks request composer.now self.old self.new unread.old unread.new result }
+    {
+        match request {
+            Request::Break => Ok(broken(breaks)),
+            Request::NumberRegister => self.set_register(composer, unread),
+            Request::WithoutEffect(_) => Ok(Step::Nothing),
+            Request::Fill => Ok(self.set_always(breaks, Param::Filling(true))),
+            Request::NoFill => Ok(self.set_always(breaks, Param::Filling(false))),
+            Request::NoAdjust => Ok(self.set_always(false, Param::Adjusting(false))),
+            _ => self.act_on_arguments(breaks, request, composer, unread),
+        }
+    }
+
+    /// Keeps the event that sets a parameter, behind a break, if there is one.
+    #[inline(always)]
+    fn set_always(&mut self, breaks: bool, param: Param) -> Step
+        ensures says { messages_of self.new.meaning.message result ≡ [] }
         ensures kept { events_of self.new.meaning.events result
-            ≡ (effect_of (listed given.entry) effect.now).events }
+            ≡ behind_break breaks (Text (Set param) ∷ []) }
         ensures others { self.new ≡ record self.old { meaning = self.new.meaning } }
     {
-        if effect.sets_stops {
-            return self.keep_stops(effect.breaks, given);
-        }
-        if are_none(effect.before, effect.breaks, effect.events) {
-            return self.say(effect.message);
-        }
-        self.meaning.keep_request(effect.message, effect.before, effect.breaks, effect.events);
+        self.happen(breaks, PageEvent::Text(Event::Set(param)))
+    }
+
+    /// Keeps an event, behind a break, if there is one.
+    #[inline(always)]
+    fn happen(&mut self, breaks: bool, event: PageEvent) -> Step
+        ensures says { messages_of self.new.meaning.message result ≡ [] }
+        ensures kept { events_of self.new.meaning.events result ≡ behind_break breaks (event ∷ []) }
+        ensures others { self.new ≡ record self.old { meaning = self.new.meaning } }
+    {
+        self.keep(None, None, breaks, RequestEvents::One(event))
+    }
+
+    /// Keeps a message, if there is one, an event in front of a break, if there is one, those of the
+    /// break, if there is one, and these behind it.
+    #[inline(always)]
+    fn keep(
+        &mut self,
+        message: Option<Message>,
+        before: Option<PageEvent>,
+        breaks: bool,
+        events: RequestEvents,
+    ) -> Step
+        ensures says { messages_of self.new.meaning.message result ≡ option_to_list message }
+        ensures kept { events_of self.new.meaning.events result
+            ≡ around_break before breaks (request_events events) }
+        ensures others { self.new ≡ record self.old { meaning = self.new.meaning } }
+    {
+        self.meaning.keep_request(message, before, breaks, events);
         Step::Meaning
+    }
+
+    /// The same of any request, by what it answers to its arguments.
+    ///
+    /// # Errors
+    ///
+    /// The limit on names, if more would have a register.
+    #[inline(never)]
+    fn act_on_arguments(
+        &mut self,
+        breaks: bool,
+        request: Request,
+        composer: &Composer,
+        unread: &mut Unread<PageEvent>,
+    ) -> Result<Step, Limit>
+        ensures { Acts breaks request composer.now self.old self.new unread.old unread.new result }
+    {
+        let breaks = breaks_by(breaks, request);
+        let response = self.response(request, composer, unread);
+        self.respond(breaks, response, unread)
+    }
+
+    /// Does what a request answers.
+    ///
+    /// # Errors
+    ///
+    /// The limit on names, if more would have a register.
+    #[inline(always)]
+    fn respond(
+        &mut self,
+        breaks: bool,
+        response: Response,
+        unread: &mut Unread<PageEvent>,
+    ) -> Result<Step, Limit>
+        ensures { DoesEffect (meant_by breaks (response_of (texts_read unread.old) response))
+            self.old self.new unread.old unread.new result }
+    {
+        match response {
+            Response::Ignored(message) => Ok(self.say(message)),
+            Response::Nothing => Ok(broken(breaks)),
+            Response::Happens(event) => Ok(self.happen(breaks, event)),
+            Response::Says(message, event) => {
+                Ok(self.keep(Some(message), None, breaks, RequestEvents::One(event)))
+            }
+            Response::Two(first, second) => {
+                Ok(self.keep(None, None, breaks, RequestEvents::Two(first, second)))
+            }
+            Response::Around(before, behind) => {
+                Ok(self.keep(None, Some(before), breaks, RequestEvents::One(behind)))
+            }
+            Response::Changes(changes) => {
+                self.change(&changes, unread)?;
+                Ok(broken(breaks))
+            }
+            Response::Numbers(value, increment) => {
+                self.set_numbers(&page_name(), Numbers { value, increment })?;
+                Ok(self.happen(breaks, PageEvent::Page(LayoutEvent::Number(value))))
+            }
+            Response::SetsStops => Ok(self.keep_stops(breaks, unread.arguments())),
+        }
     }
 
     /// Keeps the events of a break, if there is one, and behind it those that set these stops, if they
@@ -79,19 +195,16 @@ impl Reader {
         }
     }
 
-    /// What a request means with the arguments that were read.
-    fn effect(
+    /// What a request does behind its break, with the arguments that were read.
+    fn response(
         &self,
-        breaks: bool,
         request: Request,
         composer: &Composer,
         unread: &Unread<PageEvent>,
-    ) -> Effect
+    ) -> Response
         ensures { (l : Limits) (h : PageHistory) → StandFor l h composer.now
-            → let as_given = reverse unread.now.input.arguments.whole in
-            effect_of as_given result
-            ≡ request_effect (known_at h self.now.registers.all unread.now.input) breaks request
-            as_given }
+            → response_of (texts_read unread.now) result ≡ (row_of request).does
+            (known_at h self.now.registers.all unread.now.input) (texts_read unread.now) }
     {
         let arguments = unread.arguments();
         let given = Given {
@@ -100,21 +213,14 @@ impl Reader {
             third: arguments.get(2),
         };
         let known = RequestFacts {
-            settings: composer.environments.in_force.lines.settings(),
+            composer,
             in_force: self.in_force_for(request, given.first, composer, unread),
-            has_left: composer.environments.has_left(),
-            place: composer.pages.place_now(),
-            page_length: composer.pages.length(),
-            page_offset: composer.pages.offset(),
-            previous_page_offset: composer.pages.previous_offset(),
-            page_number: composer.pages.number(),
-            begun: composer.pages.begun(),
-            diverts: composer.pages.is_diverting(),
         };
-        effect(request, breaks, known, given)
+        response(request, known, given)
     }
 
     /// The value in force of the register that a first argument names, if the request asks for it.
+    #[inline(always)]
     fn in_force_for(
         &self,
         request: Request,
@@ -164,6 +270,22 @@ impl Reader {
             }
         }
     }
+}
+
+/// Whether a request breaks, called by a dot or not.
+#[inline(always)]
+fn breaks_by(by_dot: bool, request: Request) -> bool
+    ensures { result ≡ (by_dot && (row_of request).breaks) }
+{
+    by_dot && request.row().breaks
+}
+
+/// A break and nothing else, or nothing.
+fn broken(breaks: bool) -> Step
+    ensures says { (kept : Option MessageOf) → messages_of kept result ≡ [] }
+    ensures means { (kept : List PageEventOf) → events_of kept result ≡ behind_break breaks [] }
+{
+    if breaks { Step::Break } else { Step::Nothing }
 }
 
 /// Removes what the names stand for that the arguments give.

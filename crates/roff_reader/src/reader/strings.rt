@@ -5,6 +5,7 @@ ghost use Rattle.roff_reader.specs.Clauses.{string_entered};
 ghost use Rattle.roff_reader.specs.Clauses.{string_grown, string_text_found, string_unit};
 
 use super::Reader;
+use super::control_lines::whole_name;
 use roff_composer::Composer;
 use roff_num::{Limit, ShortName};
 use roff_run::{LineState, PageEvent, Step};
@@ -115,7 +116,7 @@ pub(super) fn enter_string(
         unread.old unread.new result }
 {
     match name {
-        Some(name) => unread.enter(&name.name(), appends),
+        Some(name) => unread.enter(&whole_name(name), appends),
         None => Ok(()),
     }
 }

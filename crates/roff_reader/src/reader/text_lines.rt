@@ -103,6 +103,7 @@ impl Reader {
     }
 
     /// Something of a text line.
+    #[inline(always)]
     pub(super) fn read_text(
         &mut self,
         line: TextLine,
@@ -156,6 +157,7 @@ impl Reader {
     }
 
     /// The name behind an escape of a text line.
+    #[inline(always)]
     fn read_name(
         &mut self,
         line: TextLine,

@@ -1,5 +1,4 @@
 use Rattle.std.proofs.Common.{◌∙◌, ap, sym}
-use Rattle.roff_reader.specs.Reader.State.{ReaderState}
 use Rattle.roff_run.specs.Reading.Ends.{due}
 use Rattle.roff_run.specs.declared.line_state.LineState.{LineState}
 use Rattle.roff_fronts.proofs.HeldRuns.{holds_call_where}

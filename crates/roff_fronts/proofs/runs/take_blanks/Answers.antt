@@ -1,5 +1,4 @@
-use Rattle.std.proofs.Common.{◌∙◌, ap, sym}
-use Rattle.roff_reader.specs.Reader.State.{ReaderState}
+use Rattle.std.proofs.Common.{◌∙◌, sym}
 use Rattle.roff_fronts.proofs.BlankRuns.{reads-blanks}
 use Rattle.roff_fronts.proofs.runs.take_blanks.Goals as goal
 

@@ -3,7 +3,8 @@ use Rattle.roff_reader.specs.Reader.State.{ReaderState}
 use Rattle.roff_run.specs.Registers.{Remove}
 use Rattle.roff_run.specs.Registers.Capped.{with_change}
 use Rattle.roff_run.specs.Requests.Numbering.{names_given}
-use Rattle.roff_reader.proofs.Obeying.{Changed-removed, texts_read}
+use Rattle.roff_reader.proofs.Obeying.{Changed-removed}
+use Rattle.roff_reader.specs.Reader.Acting.{texts_read}
 use Rattle.roff_reader.proofs.reader.Reader.change.Goals as goal
 
 pub returns-in-RemoveGiven-clause-changed : goal.returns-in-RemoveGiven-clause-changed

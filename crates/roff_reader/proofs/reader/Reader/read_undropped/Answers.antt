@@ -3,7 +3,7 @@ use Rattle.roff_escape.specs.OpenEscapes.{byte_read}
 use Rattle.roff_reader.specs.Reader.State.{ReaderState}
 use Rattle.roff_run.specs.Reading.{undropped_taking}
 use Rattle.roff_run.specs.Reading.Found.{place_in, read_in}
-use Rattle.roff_run.specs.declared.line_state.LineState.TheVariants.{Control, Dropped, Name, Skipping, Told, Exiting, Title as InTitle}
+use Rattle.roff_run.specs.declared.line_state.LineState.TheVariants.{Arguments as InArguments, Control, Deciding, Dropped, Name, Skipping, Text as InText, Told, Exiting, Title as InTitle}
 use Rattle.roff_reader.proofs.Placed.{kept-placed}
 use Rattle.roff_reader.proofs.TakesAs.{TakesAs-as, TakesAs-where}
 use Rattle.roff_reader.proofs.LinesTaken.{TakesAs-meant}
@@ -95,3 +95,30 @@ returns-in-Exiting c =
     TakesAs-where (λ k r. undropped_taking k r u.input c.args.byte) Exiting es old done.new.self u u (Ok done.result) is
     (TakesAs-meant (λ k. undropped_taking k Exiting u.input c.args.byte) Exiting es old done.new.self u done.result
     (λ k. refl) done.ensures.reading done.ensures.step)
+
+pub returns-in-Deciding : goal.returns-in-Deciding
+returns-in-Deciding c =
+    let u = c.args.unread.now in
+    let old = c.args.self.now in
+    let place = Deciding c.in-Deciding.keeps in
+    let is : old.reading ≡ place = search rules in
+    let done = c.read_byte_of_condition in
+    TakesAs-where (λ k r. undropped_taking k r u.input c.args.byte) place c.args.composer.now old done.new.self u done.new.unread done.result is done.ensures
+
+pub returns-in-Arguments : goal.returns-in-Arguments
+returns-in-Arguments c =
+    let u = c.args.unread.now in
+    let old = c.args.self.now in
+    let place = InArguments c.in-Arguments.breaks c.in-Arguments.request in
+    let is : old.reading ≡ place = search rules in
+    let done = c.read_byte_of_arguments in
+    TakesAs-where (λ k r. undropped_taking k r u.input c.args.byte) place c.args.composer.now old done.new.self u done.new.unread done.result is done.ensures
+
+pub returns-in-Text : goal.returns-in-Text
+returns-in-Text c =
+    let u = c.args.unread.now in
+    let old = c.args.self.now in
+    let place = InText c.in-Text.line in
+    let is : old.reading ≡ place = search rules in
+    let done = c.read_byte_of_text in
+    TakesAs-where (λ k r. undropped_taking k r u.input c.args.byte) place c.args.composer.now old done.new.self u done.new.unread done.result is done.ensures

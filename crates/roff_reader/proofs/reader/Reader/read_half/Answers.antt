@@ -5,7 +5,7 @@ use Rattle.roff_run.specs.Reading.Items.{going_on}
 use Rattle.roff_run.specs.declared.step.Step.TheVariants.{Nothing}
 use Rattle.roff_reader.proofs.TakesAs.{TakesAs-as, TakesAs-interrupted}
 use Rattle.roff_reader.proofs.LinesTaken.{TakesAs-undropped, taking-of}
-use Rattle.roff_reader.proofs.reader.Reader.read_any.Goals as goal
+use Rattle.roff_reader.proofs.reader.Reader.read_half.Goals as goal
 
 pub returns-then-is_dropped : goal.returns-then-is_dropped
 returns-then-is_dropped c =
