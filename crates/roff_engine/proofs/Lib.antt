@@ -28,6 +28,8 @@ pub mod Turned
 pub mod PassingOn
 pub mod PassingEnds
 pub mod Telling
+pub mod Beginning
+pub mod TakenBytes
 pub mod TitleRuns
 pub mod DueDone
 pub mod NamedSteps

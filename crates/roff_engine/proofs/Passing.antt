@@ -18,7 +18,7 @@ use Rattle.roff_ahead.specs.Input.{Ahead, ByteAhead}
 use Rattle.roff_ahead.specs.Input.Few.{AreFew, AreFewFrom}
 use Rattle.roff_ahead.proofs.FewEvents.{few-more}
 use Rattle.roff_engine.specs.Engine.Outcome.{Beginning, Seen}
-use Rattle.roff_engine.specs.Running.Turning.{GoesPast, HasCome, IsAt, state_at}
+use Rattle.roff_engine.specs.Running.Turning.{GoesPast, GoesPastIf, HasCome, IsAt, state_at}
 use Rattle.roff_engine.proofs.Waiting.{items_then-append}
 use Rattle.roff_run.specs.PageEvents.{PageEvent}
 use Rattle.roff_run.proofs.ItemsTaken.{FromAhead, FromSource, Origin, ahead_at}
@@ -56,6 +56,16 @@ goes_past_fewer gave gives noted kept notes old new now behind less past = recor
   turns = let turns = past.turns in omega (arith, turns, less);
 }
 
+pub goes_past_if-fewer : (P : Type 0) (gave gives : Tape → Type 0) (noted kept notes : ℕ) (old new : Coded) (now behind : Seen) → notes ≤ kept
+    → GoesPastIf P gave gives noted kept old new now behind → GoesPastIf P gave gives noted notes old new now behind
+goes_past_if-fewer P gave gives noted kept notes old new now behind less past = record {
+  limits = past.limits;
+  taken = past.taken;
+  before = past.before;
+  past = past.past;
+  turns = λ so. (let turns = past.turns so in omega (arith, turns, less));
+}
+
 -- a run that has come so far has come behind what it went past
 pub come-past : {given : Start} {first gave gives : Tape → Type 0} (noted notes : ℕ) (start now behind : Seen) (old new : Coded) → HasCome given first gave start now old
     → GoesPast gave gives noted notes old new now behind → HasCome given first gives start behind new
@@ -91,11 +101,11 @@ escapes-behind : (from : Origin) (bytes : List ℕ) (i : PageInput) → (behind_
 escapes-behind from [] i = refl
 escapes-behind from (b ∷ bytes) i = escapes-behind from bytes (behind_byte from b i)
 
--- where nothing is half read
-pub few-alone : (from : Origin) (bytes : List ℕ) (reading : LineState) (old new : PageInput) → old.escapes ≡ [] → FewFor [] reading old.escapes old.ahead → old.ahead ≡ ahead_at from bytes
-    → record (behind_bytes from bytes old) { ahead = ahead_at from [] } ≡ new → FewFor [] reading new.escapes new.ahead
-few-alone from bytes reading old new none few front same =
-    let there : PageInput = record (behind_bytes from bytes old) { ahead = ahead_at from [] } in
-    subst (λ (j : PageInput). FewFor [] reading j.escapes j.ahead) same
-    (few-undecided [] reading there.escapes there.ahead (few-read from bytes (subst (λ (items : List (Ahead PageEvent)). AreFew items) front few.few))
+-- where nothing is half read, whatever is read behind them
+pub few-alone : (from : Origin) (bytes : List ℕ) (reading there : LineState) (old new : PageInput) → old.escapes ≡ [] → FewFor [] reading old.escapes old.ahead → old.ahead ≡ ahead_at from bytes
+    → record (behind_bytes from bytes old) { ahead = ahead_at from [] } ≡ new → FewFor [] there new.escapes new.ahead
+few-alone from bytes reading there old new none few front same =
+    let input : PageInput = record (behind_bytes from bytes old) { ahead = ahead_at from [] } in
+    subst (λ (j : PageInput). FewFor [] there j.escapes j.ahead) same
+    (few-undecided [] there input.escapes input.ahead (few-read from bytes (subst (λ (items : List (Ahead PageEvent)). AreFew items) front few.few))
     (ap decides_next (escapes-behind from bytes old ∙ none)))

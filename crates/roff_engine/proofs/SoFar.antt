@@ -12,24 +12,11 @@ use Rattle.roff_run.specs.Environments.{PageHistory, interrupted_line}
 use Rattle.roff_run.specs.PageEvents.{PageEvent}
 use Rattle.roff_run.specs.Run.{State, sprung_at}
 use Rattle.roff_run.specs.TurnsToCome.{lines_left, most_left}
-use Rattle.roff_formatter.proofs.EventsLeft.{drop-drop, most-drop, reach-least}
+use Rattle.roff_formatter.proofs.EventsLeft.{drop-drop, left-front, most-drop, reach-least}
 use Rattle.roff_formatter.proofs.Performed.{sprang_first}
-use Rattle.std.proofs.Common.{◌≡◌, ◌≤◌, ℕ, List, [], ◌∷◌, ◌++◌, Some, arith}
-use Rattle.roff_run.specs.Environments.{PageHistory, interrupted_line}
-use Rattle.roff_run.specs.TurnsToCome.{lines_left}
-use Rattle.roff_composer.specs.Composer.Standing.{StandFor}
-use Rattle.roff_run.specs.Run.{State}
-use Rattle.roff_run.specs.Titles.{told}
-use Rattle.roff_engine.specs.Engine.Outcome.{Beginning, Seen, Reaches}
-use Rattle.roff_formatter.specs.Formatter.Performing.{acting}
-use Rattle.roff_run.specs.TurnsToCome.{most_left}
-
--- the definition has performed some of these events, and these are left
-pub record CameSoFar (l : Limits) (t : Beginning) (before now : Seen) (s : State) (events : List PageEvent) (h : PageHistory) (left rest : List PageEvent) (es : ComposerOf) : Type 0 where
-  pub history : PageHistory
-  pub reaches : Reaches l t before now (acting s (left ++ rest) history)
-  pub stands : StandFor l history es
-  pub few : most_left left (lines_left (interrupted_line history)) ≤ most_left events (lines_left (interrupted_line h))
+use Rattle.std.proofs.lemmas.List.{append_assoc}
+use Rattle.roff_lines.specs.declared.event.Event.TheVariants.{Break, WordEnd}
+use Rattle.roff_run.specs.declared.event.PageEvent.TheVariants.{Text}
 
 -- the event at an index, or what comes before it, sprang this, behind those in front of it
 pub came_so_far : (l : Limits) (t : Beginning) (before now : Seen) (s : State) (events : List PageEvent) (n : ℕ) (e : PageEvent) (h g : PageHistory) (rest : List PageEvent) (sprung told : Sprung) (es : ComposerOf)
@@ -56,4 +43,20 @@ came_so_far l t before now s events n e h g rest sprung told es opened short is 
           let last : length (left_behind sprung (e ∷ others)) ≤ most_back (e ∷ others) =
           subst (λ (es : List PageEvent). length (left_behind sprung es) ≤ most_back es) whole (q.few []) in
           omega (arith, ap length same, last, ap most_back opened, most-drop n events);
+    })
+
+-- the break with which the events begin sprang this
+pub came_broken : (l : Limits) (t : Beginning) (before now : Seen) (s : State) (events others : List PageEvent) (h : PageHistory) (rest : List PageEvent) (sprung : Sprung) (es : ComposerOf)
+    → events ≡ Text WordEnd ∷ Text Break ∷ others → SprungAt l t before now s (Text WordEnd ∷ Text Break ∷ []) h sprung (others ++ rest) es
+    → CameBehind l t before now s events h events rest (Some sprung) es
+came_broken l t before now s events others h rest sprung es begins p =
+    let front : List PageEvent = Text WordEnd ∷ Text Break ∷ [] in
+    let same : left_behind sprung (front ++ others) ≡ left_behind sprung front ++ others = left-front sprung front others p.among in
+    subst (λ (events : List PageEvent). CameBehind l t before now s events h events rest (Some sprung) es) (sym begins) (record {
+      history = p.history;
+      reaches = subst (λ (left : List PageEvent). Reaches l t before now (sprung_at (Some sprung.name) left (acting s [] p.history)))
+          (sym (append_assoc (left_behind sprung front) others rest) ∙ ap (λ (left : List PageEvent). left ++ rest) (sym same)) p.reaches;
+      stands = p.stands;
+      lines = omega (arith, p.lines);
+      few = p.few others;
     })

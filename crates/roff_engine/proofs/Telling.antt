@@ -12,6 +12,7 @@ use Rattle.roff_ahead.specs.declared.looked.Looked.{Looked}
 use Rattle.roff_scan.specs.Unread.Calls.{OfSource, OfTexts, PassesFront, front_bytes}
 use Rattle.roff_run.specs.Environments.{text_of}
 use Rattle.roff_composer.specs.Composer.Standing.{StandFor}
+use Rattle.roff_composer.specs.declared.composer.Composer.{Composer as ComposerOf}
 use Rattle.roff_run.specs.Output.{PageHistory}
 use Rattle.roff_run.specs.Reading.Items.{PageUnread}
 use Rattle.roff_run.specs.Reading.{taking}
@@ -38,10 +39,10 @@ use Rattle.roff_engine.specs.declared.running.Running.{Running as Coded}
 use Rattle.roff_engine.specs.Engine.Outcome.{Beginning, Seen, seen}
 use Rattle.roff_engine.specs.Interpreter.Performing.{going}
 use Rattle.roff_formatter.specs.Formatter.Telling.{TellsFront}
-use Rattle.roff_engine.specs.Running.Turning.{GoesPast, IsAt, line_turns, lines_left_in, state_at, turns_of_run}
+use Rattle.roff_engine.specs.Running.Turning.{GoesPast, GoesPastIf, IsAt, line_turns, lines_left_in, state_at, turns_of_run}
 use Rattle.roff_sinks.specs.Sinks.{Sunk}
 use Rattle.roff_formatter.proofs.Telling.{all_by}
-use Rattle.roff_engine.proofs.Passing.{IsAt-leads, few-alone, goes_past_fewer}
+use Rattle.roff_engine.proofs.Passing.{IsAt-leads, few-alone, goes_past_if-fewer}
 use Rattle.roff_engine.specs.Running.Room.{FewFor}
 use Rattle.roff_engine.proofs.TurnsLeft.{turns_of_run-no_more}
 use Rattle.roff_run.specs.Reading.Items.{Taking}
@@ -92,10 +93,26 @@ leads-bytes l reading rs messages phase closed from tape [] i h is_open none_due
 leads-bytes l reading rs messages phase closed from tape (b ∷ bytes) i h is_open none_due none_half fits few prints quiet takes =
     leads-told l reading rs messages phase closed from tape (b ∷ bytes) i h is_open none_due none_half fits few prints quiet (takes (omega arith))
 
--- bytes that the formatter told where nothing is half read
-module _ (old : Coded) (f : Formatter) (front : List ℕ) (count : ℕ) (told : TellsFront front count old.interpreter.formatter f)
-    (none_half : old.unread.input.escapes ≡ []) (none_due : due old.interpreter.reader.reading ≡ None)
-    (prints : (b : ℕ) → is_text_byte b ≡ true → Prints old.interpreter.reader.reading b) where
+-- bytes lead from where this is read to where that is, wherever they come from, in a history for which the environments stand
+pub record LeadsOver (bytes : List ℕ) (reading there : LineState) (es : ComposerOf) : Type 0 where
+  pub leads : (l k : Limits) (rs : AllRegisters) (messages : List ℕ) (phase : Phase) (closed : Bool) (from : Origin) (tape : Tape) (i : PageInput) (h : PageHistory)
+      → IsOpenFor from closed → i.escapes ≡ [] → first_passed l (counts_in rs (record i { ahead = ahead_at from bytes })) ≡ None
+      → i.charge + length bytes ≤ l.bytes → QuietlyTold l.line bytes (text_of h) → (1 ≤ length bytes → TakesText h) → StandFor k h es
+      → Leads l (going (tape_at from bytes tape) (record i { ahead = ahead_at from bytes }) reading rs h messages phase closed [])
+      (going (tape_at from [] tape) (record (behind_bytes from bytes i) { ahead = ahead_at from [] }) there rs (page_told bytes h) messages phase closed [])
+      × (first_passed l (counts_in rs (record (behind_bytes from bytes i) { ahead = ahead_at from [] })) ≡ None)
+
+-- the code where bytes were told, with this formatter and this input, behind which this is read
+abbrev pub told_by : Coded → Formatter → LineState → PageUnread → Coded
+told_by old f there u =
+    record old { interpreter = record old.interpreter { formatter = f; reader = record old.interpreter.reader { reading = there } }; unread = u }
+
+-- bytes that the formatter told where nothing is half read, by which no more turns are to come if this is so
+module _ (P : Type 0) (old : Coded) (f : Formatter) (there : LineState) (front : List ℕ) (count : ℕ) (told : TellsFront front count old.interpreter.formatter f)
+    (none_half : old.unread.input.escapes ≡ []) (over : LeadsOver (take count front) old.interpreter.reader.reading there old.interpreter.formatter.composer)
+    (no_more : (from : Origin) (input : PageInput) → old.unread.input.ahead ≡ ahead_at from (take count front) → input ≡ counted from (take count front) old.unread.input
+    → old.unread.input.charge + length (take count front) ≤ old.unread.limits.bytes → P
+    → turns_of_run (told_by old f there (record old.unread { input = input })) ≤ turns_of_run old) where
   -- the bytes, what is read, and the registers
   abbrev bytes : List ℕ
   bytes = take count front
@@ -106,13 +123,9 @@ module _ (old : Coded) (f : Formatter) (front : List ℕ) (count : ℕ) (told : 
   abbrev rs : AllRegisters
   rs = old.interpreter.reader.registers.all
 
-  -- each byte is told
-  all_print : AllByRecursion (λ b. Prints reading b) bytes
-  all_print = all_by (λ b. is_text_byte b ≡ true) (λ b. Prints reading b) prints bytes told.text
-
   -- the interpreter behind them, and the code, with this input
   abbrev interpreter_behind : Interpreter
-  interpreter_behind = record old.interpreter { formatter = f }
+  interpreter_behind = record old.interpreter { formatter = f; reader = record old.interpreter.reader { reading = there } }
 
   abbrev behind : PageInput → Coded
   behind input = record old { interpreter = interpreter_behind; unread = record old.unread { input = input } }
@@ -132,12 +145,12 @@ module _ (old : Coded) (f : Formatter) (front : List ℕ) (count : ℕ) (told : 
   -- the run is at its place where the definition's leads on over them
   IsAt-told : (whole : Beginning) (tape t : Tape) (start now : Seen) (input : PageInput) (at : IsAt whole tape start now old)
       → Leads old.unread.limits (state_at tape old at.history at.messages) (state_at t (behind input) (page_told bytes at.history) at.messages)
-      → first_passed old.unread.limits (counts_in rs input) ≡ None → FewFor [] reading input.escapes input.ahead → IsAt whole t start now (behind input)
+      → first_passed old.unread.limits (counts_in rs input) ≡ None → FewFor [] there input.escapes input.ahead → IsAt whole t start now (behind input)
   IsAt-told whole tape t start now input at leads within few =
       let from : State = state_at tape old at.history at.messages in
-      let there : State = state_at t (behind input) (page_told bytes at.history) at.messages in
+      let next : State = state_at t (behind input) (page_told bytes at.history) at.messages in
       IsAt-leads whole tape t start now old interpreter_behind (record old.unread { input = input }) (page_told bytes at.history) at
-      (subst (λ (l : Limits). Leads l from there) at.limits leads)
+      (subst (λ (l : Limits). Leads l from next) at.limits leads)
       (written-told old.unread.limits.line bytes at.history (quiet whole tape start now at))
       (told.stands old.limits at.history at.stands) (record { cap = at.ready.cap; line = at.ready.line; within = within }) at.limits few
 
@@ -152,40 +165,29 @@ module _ (old : Coded) (f : Formatter) (front : List ℕ) (count : ℕ) (told : 
       let i : PageInput = old.unread.input in
       let tape : Tape = looked_then old.unread.looked taken in
       let h : PageHistory = page_told bytes at.history in
-      let here : Tape → PageInput → PageHistory → State = λ tape j h. going tape j reading rs h at.messages old.phase (is_closed old.unread.looked) [] in
-      let led = leads-bytes l reading rs at.messages old.phase (is_closed old.unread.looked) from tape bytes i at.history is_open none_due none_half
-      (subst (λ (items : List (Ahead PageEvent)). first_passed l (counts_in rs (record i { ahead = items })) ≡ None) front at.ready.within) few all_print
-      (quiet whole taken start now at) (takes whole taken start now at) in
-      let stands : here (tape_at from bytes tape) (record i { ahead = ahead_at from bytes }) at.history ≡ here tape i at.history =
-      ap (λ (tape : Tape). here tape (record i { ahead = ahead_at from bytes }) at.history) (sym asked)
-      ∙ ap (λ (items : List (Ahead PageEvent)). here tape (record i { ahead = items }) at.history) (sym front) in
+      let here : LineState → Tape → PageInput → PageHistory → State = λ reading tape j h. going tape j reading rs h at.messages old.phase (is_closed old.unread.looked) [] in
+      let led = over.leads l old.limits rs at.messages old.phase (is_closed old.unread.looked) from tape i at.history is_open none_half
+      (subst (λ (items : List (Ahead PageEvent)). first_passed l (counts_in rs (record i { ahead = items })) ≡ None) front at.ready.within) few
+      (quiet whole taken start now at) (takes whole taken start now at) at.stands in
+      let stands : here reading (tape_at from bytes tape) (record i { ahead = ahead_at from bytes }) at.history ≡ here reading tape i at.history =
+      ap (λ (tape : Tape). here reading tape (record i { ahead = ahead_at from bytes }) at.history) (sym asked)
+      ∙ ap (λ (items : List (Ahead PageEvent)). here reading tape (record i { ahead = items }) at.history) (sym front) in
       let same : record (behind_bytes from bytes i) { ahead = ahead_at from [] } ≡ input = counted-behind from bytes i ∙ sym is in
-      let comes : here (tape_at from [] tape) (record (behind_bytes from bytes i) { ahead = ahead_at from [] }) h ≡ here (looked_then old.unread.looked t) input h =
-      ap (λ (j : PageInput). here (tape_at from [] tape) j h) same ∙ ap (λ (tape : Tape). here tape input h) left in
+      let comes : here there (tape_at from [] tape) (record (behind_bytes from bytes i) { ahead = ahead_at from [] }) h ≡ here there (looked_then old.unread.looked t) input h =
+      ap (λ (j : PageInput). here there (tape_at from [] tape) j h) same ∙ ap (λ (tape : Tape). here there tape input h) left in
       IsAt-told whole taken t start now input at
-      (subst (λ (from : State). Leads l from (here (looked_then old.unread.looked t) input h)) stands
-      (subst (λ (there : State). Leads l (here (tape_at from bytes tape) (record i { ahead = ahead_at from bytes }) at.history) there) comes led.0))
+      (subst (λ (from : State). Leads l from (here there (looked_then old.unread.looked t) input h)) stands
+      (subst (λ (next : State). Leads l (here reading (tape_at from bytes tape) (record i { ahead = ahead_at from bytes }) at.history) next) comes led.0))
       (subst (λ (j : PageInput). first_passed l (counts_in rs j) ≡ None) same led.1)
-      (few-alone from bytes reading i input none_half at.few front same)
-
-  -- no more turns are to come
-  turns-told : (from : Origin) (input : PageInput) → old.unread.input.ahead ≡ ahead_at from bytes → input ≡ counted from bytes old.unread.input
-      → turns_of_run (behind input) ≤ turns_of_run old
-  turns-told from input front is =
-      let most : ℕ = old.unread.limits.bytes in
-      let few : turns_within most input ≤ turns_within most old.unread.input =
-      subst (λ (j : PageInput). turns_within most j ≤ turns_within most old.unread.input) (sym is) (turns-counted most from bytes old.unread.input front) in
-      turns_of_run-no_more old (behind input) (omega (arith, few)) refl
-      (lines-told reading prints (lines_left_in interpreter_behind.formatter.composer) (lines_left_in old.interpreter.formatter.composer))
+      (few-alone from bytes reading there i input none_half at.few front same)
 
   -- the run goes past the bytes that were told, wherever they stood
   past-told : (gave gives : Tape → Type 0) (notes : ℕ) (now : Seen) (u : PageUnread) → PassesFront gave gives bytes old.unread u
-      → GoesPast gave gives notes notes old (record old { interpreter = interpreter_behind; unread = u }) now now
+      → GoesPastIf P gave gives notes notes old (record old { interpreter = interpreter_behind; unread = u }) now now
   past-told gave gives notes now u (OfSource passes) =
       let input : PageInput = lines_taken bytes old.unread.input in
       let is : (tape : Tape) → input ≡ counted (FromSource tape) bytes old.unread.input = λ tape. sym (counted-source tape bytes old.unread.input passes.ahead) in
-      let few : turns_of_run (behind input) ≤ turns_of_run old = turns-told (FromSource passes.some.0) input passes.ahead (is passes.some.0) in
-      subst (λ (v : PageUnread). GoesPast gave gives notes notes old (record old { interpreter = interpreter_behind; unread = v }) now now) (sym passes.input) (record {
+      subst (λ (v : PageUnread). GoesPastIf P gave gives notes notes old (record old { interpreter = interpreter_behind; unread = v }) now now) (sym passes.input) (record {
         limits = refl;
         taken = map OneByte bytes;
         before = passes.in_front;
@@ -193,29 +195,61 @@ module _ (old : Coded) (f : Formatter) (front : List ℕ) (count : ℕ) (told : 
             IsAt-from (FromSource tape) t tape (items_then (map OneByte bytes) tape) start now input (ap is_closed passes.looked) passes.ahead (is tape) passes.within
             (ap (λ (looked : Looked). looked_then looked (items_then (map OneByte bytes) tape)) passes.looked)
             (sym (ap (λ (looked : Looked). looked_then looked tape) passes.looked)) at;
-        turns = omega (arith, few);
+        turns = λ so. (let few = no_more (FromSource passes.some.0) input passes.ahead (is passes.some.0) passes.within so in omega (arith, few));
       })
   past-told gave gives notes now u (OfTexts passes) =
       let items : List (Ahead PageEvent) = passes.behind in
       let input : PageInput = bytes_taken bytes items old.unread.input in
       let is : input ≡ counted (FromAhead items) bytes old.unread.input = sym (counted-bytes_taken items bytes old.unread.input passes.in_front) in
-      let few : turns_of_run (behind input) ≤ turns_of_run old = turns-told (FromAhead items) input passes.in_front is in
-      subst (λ (v : PageUnread). GoesPast gave gives notes notes old (record old { interpreter = interpreter_behind; unread = v }) now now) (sym passes.input) (record {
+      subst (λ (v : PageUnread). GoesPastIf P gave gives notes notes old (record old { interpreter = interpreter_behind; unread = v }) now now) (sym passes.input) (record {
         limits = refl;
         taken = [];
         before = passes.stays.before;
         past = λ t tape start may at. IsAt-from (FromAhead items) t tape tape start now input tt passes.in_front is passes.within refl refl at;
-        turns = omega (arith, few);
+        turns = λ so. (let few = no_more (FromAhead items) input passes.in_front is passes.within so in omega (arith, few));
       })
 
   -- the same, as the source counts, and told the bytes that stood in front
+  pub goes_past_front : (gave gives : Tape → Type 0) (ready : List ℕ) (noted notes failed failures : ℕ) (out err : Sunk) (u : PageUnread)
+      → front ≡ front_bytes (length front) ready old.unread → PassesFront gave gives (front_bytes count ready old.unread) old.unread u
+      → notes ≤ noted → failures ≡ failed
+      → GoesPastIf P gave gives noted notes old (record old { interpreter = interpreter_behind; unread = u }) (seen failed out err) (seen failures out err)
+  goes_past_front gave gives ready noted notes failed failures out err u stood passed fewer same_failures =
+      let passes : PassesFront gave gives bytes old.unread u =
+      subst (λ (passed : List ℕ). PassesFront gave gives passed old.unread u) (sym (first_of_front front count ready old.unread stood told.few)) passed in
+      goes_past_if-fewer P gave gives noted noted notes old (record old { interpreter = interpreter_behind; unread = u }) (seen failed out err) (seen failures out err) fewer
+      (subst (λ (n : ℕ). GoesPastIf P gave gives noted noted old (record old { interpreter = interpreter_behind; unread = u }) (seen failed out err) (seen n out err)) (sym same_failures)
+      (past-told gave gives noted (seen failed out err) u passes))
+
+-- bytes of plain text that print where this is read, and leave it so
+module _ (old : Coded) (f : Formatter) (front : List ℕ) (count : ℕ) (told : TellsFront front count old.interpreter.formatter f)
+    (none_half : old.unread.input.escapes ≡ []) (none_due : due old.interpreter.reader.reading ≡ None)
+    (prints : (b : ℕ) → is_text_byte b ≡ true → Prints old.interpreter.reader.reading b) where
+  -- they lead on
+  over_printed : LeadsOver (take count front) old.interpreter.reader.reading old.interpreter.reader.reading old.interpreter.formatter.composer
+  over_printed = record {
+    leads = λ l k rs messages phase closed from tape i h is_open none fits few quiet takes stood.
+        leads-bytes l old.interpreter.reader.reading rs messages phase closed from tape (take count front) i h is_open none_due none fits few
+        (all_by (λ b. is_text_byte b ≡ true) (λ b. Prints old.interpreter.reader.reading b) prints (take count front) told.text) quiet takes;
+  }
+
+  -- no more turns are to come
+  turns-told : (from : Origin) (input : PageInput) → old.unread.input.ahead ≡ ahead_at from (take count front) → input ≡ counted from (take count front) old.unread.input
+      → old.unread.input.charge + length (take count front) ≤ old.unread.limits.bytes → Unit {0}
+      → turns_of_run (told_by old f old.interpreter.reader.reading (record old.unread { input = input })) ≤ turns_of_run old
+  turns-told from input front_is is within so =
+      let most : ℕ = old.unread.limits.bytes in
+      let few : turns_within most input ≤ turns_within most old.unread.input =
+      subst (λ (j : PageInput). turns_within most j ≤ turns_within most old.unread.input) (sym is) (turns-counted most from (take count front) old.unread.input front_is) in
+      turns_of_run-no_more old (told_by old f old.interpreter.reader.reading (record old.unread { input = input })) (omega (arith, few)) refl
+      (lines-told old.interpreter.reader.reading prints (lines_left_in f.composer) (lines_left_in old.interpreter.formatter.composer))
+
+  -- the run goes past those that stood in front
   pub goes_past_told : (gave gives : Tape → Type 0) (ready : List ℕ) (noted notes failed failures : ℕ) (out err : Sunk) (u : PageUnread)
       → front ≡ front_bytes (length front) ready old.unread → PassesFront gave gives (front_bytes count ready old.unread) old.unread u
       → notes ≤ noted → failures ≡ failed
-      → GoesPast gave gives noted notes old (record old { interpreter = interpreter_behind; unread = u }) (seen failed out err) (seen failures out err)
+      → GoesPast gave gives noted notes old (record old { interpreter = record old.interpreter { formatter = f }; unread = u }) (seen failed out err) (seen failures out err)
   goes_past_told gave gives ready noted notes failed failures out err u stood passed fewer same_failures =
-      let passes : PassesFront gave gives bytes old.unread u =
-      subst (λ (passed : List ℕ). PassesFront gave gives passed old.unread u) (sym (first_of_front front count ready old.unread stood told.few)) passed in
-      goes_past_fewer gave gives noted noted notes old (record old { interpreter = interpreter_behind; unread = u }) (seen failed out err) (seen failures out err) fewer
-      (subst (λ (n : ℕ). GoesPast gave gives noted noted old (record old { interpreter = interpreter_behind; unread = u }) (seen failed out err) (seen n out err)) (sym same_failures)
-      (past-told gave gives noted (seen failed out err) u passes))
+      let past = goes_past_front (Unit {0}) old f old.interpreter.reader.reading front count told none_half over_printed turns-told
+      gave gives ready noted notes failed failures out err u stood passed fewer same_failures in
+      record { limits = past.limits; taken = past.taken; before = past.before; past = past.past; turns = past.turns tt }

@@ -255,7 +255,7 @@ module _ (old : Coded) (delimiter : ℕ) (bytes : List ℕ) (in_title : old.inte
       IsAt-leads whole taken t start now old interpreter_behind (record old.unread { input = input }) at.history at
       (subst (λ (l : Limits). Leads l (here tape i rs) (here (looked_then old.unread.looked t) input new)) at.limits leads) refl at.stands
       (record { cap = at.ready.cap; line = at.ready.line; within = subst (λ (j : PageInput). first_passed l (counts_in new j) ≡ None) same led.1 }) at.limits
-      (few-alone from bytes old.interpreter.reader.reading i input none_half at.few front same)
+      (few-alone from bytes old.interpreter.reader.reading _ i input none_half at.few front same)
 
   -- no more turns are to come
   turns-title : (from : Origin) (input : PageInput) → old.unread.input.ahead ≡ ahead_at from bytes → input ≡ counted from bytes old.unread.input

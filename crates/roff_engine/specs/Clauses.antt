@@ -1,6 +1,6 @@
 -- The words of the clauses in `src/`, each with the file that it stands in.
 pub use Rattle.roff_engine.specs.Engine.Outcome.{Beginning, Outcome, OutcomeOf, Seen, seen, Runs}
-pub use Rattle.roff_engine.specs.Interpreter.Performing.{DoesMeaning, DoesTaking, PerformsAll, DoesEvent, sinks}
+pub use Rattle.roff_engine.specs.Interpreter.Performing.{DoesMeaning, DoesTaking, PerformsAll, PerformsLeft, DoesEvent, sinks}
 pub use Rattle.roff_engine.specs.Interpreter.Giving.{Gives}
 pub use Rattle.roff_run.specs.Starts.{pages_given}
 pub use Rattle.roff_run.specs.Messages.{message_line, message_lines, text_told, told_line}

@@ -4,3 +4,4 @@ pub mod Turning
 pub mod Starting
 pub mod Springing
 pub mod Leaving
+pub mod Beginning

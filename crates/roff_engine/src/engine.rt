@@ -8,32 +8,33 @@ use crate::interpreter::Interpreter;
 use crate::running::Running;
 use roff_num::Limits;
 use roff_reader::first_unread;
-use roff_run::{PageEvent, Phase, Start, Status};
-use roff_scan::{ByteSource, Unread};
+use roff_run::{Phase, Start, Status};
+use roff_scan::ByteSource;
 use roff_sinks::ByteSink;
 use std::alloc::{AllocError, Global};
 use std::marker::Model;
 
-/// The formatter before a run. All memory of the run is reserved as it is made.
+/// A run before its first step, and what is given to it. All its memory is reserved as it is made.
 #[derive(Drop)]
 pub struct Engine {
-    limits: Limits,
     start: Start,
-    interpreter: Interpreter,
-    unread: Unread<PageEvent>,
+    running: Running,
 }
 
 impl Model for Engine {
     ghost use Rattle.roff_engine.specs.Clauses.{IsFresh, StandFor, pages_given};
     ghost use Rattle.roff_engine.specs.Engine.Setup.{Setup};
+    ghost use Rattle.std.specs.Prelude.{◌≡◌};
+    ghost use Rattle.roff_run.specs.declared.phase.Phase.TheVariants.{Reading};
 
     ghost Value = { Setup };
 
-    ghost view = { λ e. record { limits = e.limits; start = e.start } };
+    ghost view = { λ e. record { limits = e.running.limits; start = e.start } };
 
     ghost invariant = { λ e.
-        StandFor e.limits (pages_given e.start) e.interpreter.formatter.composer
-        × IsFresh e.limits e.interpreter e.unread };
+        StandFor e.running.limits (pages_given e.start) e.running.interpreter.formatter.composer
+        × IsFresh e.running.limits e.running.interpreter e.running.unread
+        × (e.running.phase ≡ Reading) };
 }
 
 impl Engine {
@@ -47,12 +48,13 @@ impl Engine {
     {
         let interpreter = Interpreter::new(alloc, limits, &start)?;
         let unread = first_unread(alloc, limits)?;
-        Ok(Engine {
+        let running = Running {
             limits,
-            start,
+            phase: Phase::Reading,
             interpreter,
             unread,
-        })
+        };
+        Ok(Engine { start, running })
     }
 
     /// Formats a source: the text goes to `out`, the messages go to `err`.
@@ -71,18 +73,7 @@ impl Engine {
         ensures unread { (tape : Tape) → IsSome (initial self.limits self.start tape).ended
             → source.new ≡ source.old }
     {
-        let Engine {
-            limits,
-            start,
-            interpreter,
-            unread,
-        } = self;
-        let mut running = Running {
-            limits,
-            phase: Phase::Reading,
-            interpreter,
-            unread,
-        };
+        let Engine { start, mut running } = self;
         if let Err(status) = running.begin(&start, err) {
             return status;
         }

@@ -1,24 +1,24 @@
 //! A run under way: what each item of the input does.
 
 ghost use Rattle.std.specs.Prelude.{◌≡◌, ℕ, [], None, IsOkUnless};
-ghost use Rattle.roff_run.specs.Run.{ahead_taken, awaited, byte_taken, in_front_taken, step};
-ghost use Rattle.roff_run.specs.Run.{item_read};
+ghost use Rattle.roff_run.specs.Run.{ahead_taken, byte_taken, in_front_taken, item_read, step};
 ghost use Rattle.roff_ahead.specs.Input.{DoAhead};
-ghost use Rattle.roff_ahead.specs.Shown.{seen_ahead};
 ghost use Rattle.roff_engine.specs.Clauses.{Puts, seen, due, Device};
 
 mod ending;
 mod fronts;
+mod half_read;
 mod passing;
 mod settling;
 mod springing;
 mod starting;
+mod texts;
 
 use crate::interpreter::Interpreter;
 use roff_formatter::Halt;
 use roff_num::Limits;
-use roff_run::{PageEvent, Phase, Status};
-use roff_scan::{ByteSource, Item, Note, Sight, Unread, Waiting};
+use roff_run::{LineState, PageEvent, Phase, Status};
+use roff_scan::{ByteSource, Item, Note, Unread};
 use roff_sinks::ByteSink;
 
 /// A run under way.
@@ -53,14 +53,55 @@ impl Running {
         if self.unread.has_open_escape() {
             self.turn_half_read(source, out, err)
         } else {
-            self.turn_alone(source, out, err)
+            self.turn_beginning(source, out, err)
         }
     }
 
-    /// The same where nothing is half read: most often a byte that stands ready is taken, whether it is
-    /// waited for or not.
+    /// The same where nothing is half read: the front of a text line that begins is told before.
+    #[inline(always)]
+    fn turn_beginning<S: ByteSource, O: ByteSink, E: ByteSink>(
+        &mut self,
+        source: &mut S,
+        out: &mut O,
+        err: &mut E,
+    ) -> Result<(), Status>
+        requires none_due { due self.old.interpreter.reader.reading ≡ None }
+        requires none_half { self.old.unread.input.escapes ≡ [] }
+        ensures { TurnsBy (step self.old.limits)
+            (S.gives source.old) (S.gives source.new) (S.notes source.old) (S.notes source.new)
+            self.old self.new
+            (seen (S.failures source.old) (O.sunk out.old) (E.sunk err.old))
+            (seen (S.failures source.new) (O.sunk out.new) (E.sunk err.new)) result }
+    {
+        self.tell_beginning(source);
+        self.turn_alone(source, out, err)
+    }
+
+    /// The same behind that.
     #[inline(always)]
     fn turn_alone<S: ByteSource, O: ByteSink, E: ByteSink>(
+        &mut self,
+        source: &mut S,
+        out: &mut O,
+        err: &mut E,
+    ) -> Result<(), Status>
+        requires none_half { self.old.unread.input.escapes ≡ [] }
+        ensures { TurnsBy (λ s. item_read self.old.limits s)
+            (S.gives source.old) (S.gives source.new) (S.notes source.old) (S.notes source.new)
+            self.old self.new
+            (seen (S.failures source.old) (O.sunk out.old) (E.sunk err.old))
+            (seen (S.failures source.new) (O.sunk out.new) (E.sunk err.new)) result }
+    {
+        match self.interpreter.reader.reading() {
+            LineState::Text(line) => self.turn_text(line, source, out, err),
+            _ => self.turn_other(source, out, err),
+        }
+    }
+
+    /// The same off a text line: most often a byte that stands ready is taken, whether it is waited
+    /// for or not.
+    #[inline(always)]
+    fn turn_other<S: ByteSource, O: ByteSink, E: ByteSink>(
         &mut self,
         source: &mut S,
         out: &mut O,
@@ -102,78 +143,6 @@ impl Running {
         }
     }
 
-    /// The same where something is half read: it takes the item in front, or waits for a byte, or a
-    /// condition that is read decides.
-    #[inline(always)]
-    fn turn_half_read<S: ByteSource, O: ByteSink, E: ByteSink>(
-        &mut self,
-        source: &mut S,
-        out: &mut O,
-        err: &mut E,
-    ) -> Result<(), Status>
-        ensures { TurnsBy (λ s. item_read self.old.limits s)
-            (S.gives source.old) (S.gives source.new) (S.notes source.old) (S.notes source.new)
-            self.old self.new
-            (seen (S.failures source.old) (O.sunk out.old) (E.sunk err.old))
-            (seen (S.failures source.new) (O.sunk out.new) (E.sunk err.new)) result }
-    {
-        match self.interpreter.reader.waiting(&self.unread) {
-            Waiting::Takes => self.turn_in_front(source, out, err),
-            Waiting::Waits => self.turn_waiting(source, out, err),
-            Waiting::Decides => self.end_escape(out, err),
-        }
-    }
-
-    /// What is half read waits: what stands in front stays, and ends it, or is taken. Most often it is a
-    /// byte that is taken.
-    #[inline(never)]
-    fn turn_waiting<S: ByteSource, O: ByteSink, E: ByteSink>(
-        &mut self,
-        source: &mut S,
-        out: &mut O,
-        err: &mut E,
-    ) -> Result<(), Status>
-        ensures { TurnsBy (λ s. awaited self.old.limits (seen_ahead s.input.ahead) s)
-            (S.gives source.old) (S.gives source.new) (S.notes source.old) (S.notes source.new)
-            self.old self.new
-            (seen (S.failures source.old) (O.sunk out.old) (E.sunk err.old))
-            (seen (S.failures source.new) (O.sunk out.new) (E.sunk err.new)) result }
-    {
-        let line = self.unread.line();
-        match self.unread.take_waiting(source) {
-            Some(byte) => self.take(byte, line, out, err),
-            None => self.turn_looking(source, out, err),
-        }
-    }
-
-    /// What waits looks at the first byte behind any ends of texts.
-    #[inline(always)]
-    fn turn_looking<S: ByteSource, O: ByteSink, E: ByteSink>(
-        &mut self,
-        source: &mut S,
-        out: &mut O,
-        err: &mut E,
-    ) -> Result<(), Status>
-        ensures { TurnsBy (λ s. awaited self.old.limits (seen_ahead s.input.ahead) s)
-            (S.gives source.old) (S.gives source.new) (S.notes source.old) (S.notes source.new)
-            self.old self.new
-            (seen (S.failures source.old) (O.sunk out.old) (E.sunk err.old))
-            (seen (S.failures source.new) (O.sunk out.new) (E.sunk err.new)) result }
-    {
-        let seen = match self.unread.look(source) {
-            Sight::Byte(byte) => Some(byte),
-            Sight::Nothing => None,
-            Sight::SourceEnd => None,
-            Sight::Note(note) => return report_note(&note, err),
-            Sight::Fault => return Err(self.source_failed(err)),
-            Sight::Stop(limit) => return Err(Status::Limit(limit)),
-        };
-        if self.unread.is_ended_by(seen) {
-            return self.end_escape(out, err);
-        }
-        self.turn_above(source, out, err)
-    }
-
     /// Takes the item in front, whatever is half read: most often a byte that stands ready.
     #[inline(always)]
     fn turn_in_front<S: ByteSource, O: ByteSink, E: ByteSink>(
@@ -194,27 +163,6 @@ impl Running {
             Some(byte) => self.take(byte, line, out, err),
             None => self.turn_item(source, out, err),
         }
-    }
-
-    /// The same above what is half read, where the end of a text is often in front.
-    #[inline(always)]
-    fn turn_above<S: ByteSource, O: ByteSink, E: ByteSink>(
-        &mut self,
-        source: &mut S,
-        out: &mut O,
-        err: &mut E,
-    ) -> Result<(), Status>
-        requires { SeesOn self.old.unread.input }
-        ensures { TurnsBy (λ s. in_front_taken self.old.limits s.input.ahead s)
-            (S.gives source.old) (S.gives source.new) (S.notes source.old) (S.notes source.new)
-            self.old self.new
-            (seen (S.failures source.old) (O.sunk out.old) (E.sunk err.old))
-            (seen (S.failures source.new) (O.sunk out.new) (E.sunk err.new)) result }
-    {
-        if self.unread.pass_end() {
-            return Ok(());
-        }
-        self.turn_in_front(source, out, err)
     }
 
     /// Takes the item in front, whatever it is.

@@ -1,5 +1,5 @@
 -- How far an interpreter does what an item of the input means, over the states of the definition.
-use Rattle.std.specs.Prelude.{◌≡◌, ◌≤◌, ℕ, Bool, List, [], ◌∷◌, ◌++◌, Option, None, Result, Ok, Err, OnOk, length}
+use Rattle.std.specs.Prelude.{◌≡◌, ◌≤◌, drop, ℕ, Bool, List, [], ◌∷◌, ◌++◌, Option, None, Result, Ok, Err, OnOk, length}
 use Rattle.std.specs.Io.KnownBytes.{Appends}
 use Rattle.roff_num.specs.declared.limit.Limit.{Limit}
 use Rattle.roff_num.specs.declared.limits.Limits.{Limits}
@@ -65,6 +65,22 @@ pub record PerformsAll (events : List PageEvent) (old new : Interpreter) (out_ol
       → StandFor l h old.formatter.composer → s.registers ≡ old.reader.registers.all
       → Reaches l t before (seen failures out_old err) (acting s (events ++ rest) h)
       → ComesTo l t before (seen failures out_new err) s events h new.reader.meaning.events rest result new.formatter.composer
+  pub reader : KeepsReading old new
+
+-- the definition has performed some of these events, and these are left
+pub record CameSoFar (l : Limits) (t : Beginning) (before now : Seen) (s : State) (events : List PageEvent) (h : PageHistory) (left rest : List PageEvent) (es : ComposerOf) : Type 0 where
+  pub history : PageHistory
+  pub reaches : Reaches l t before now (acting s (left ++ rest) history)
+  pub stands : StandFor l history es
+  pub few : most_left left (lines_left (interrupted_line history)) ≤ most_left events (lines_left (interrupted_line h))
+
+-- An interpreter performed those of the events that it keeps from this index on, or those up to one that sprang something: for each state
+-- of a run that has performed the others.
+pub record PerformsLeft (n : ℕ) (old new : Interpreter) (out_old out_new : Sunk) (result : Result (Option Sprung) Halt) : Type 0 where
+  pub all : (l : Limits) (t : Beginning) (before : Seen) (failures : ℕ) (err : Sunk) (s : State) (h : PageHistory) (rest : List PageEvent)
+      → s.registers ≡ old.reader.registers.all
+      → CameSoFar l t before (seen failures out_old err) s old.reader.meaning.events h (drop n old.reader.meaning.events) rest old.formatter.composer
+      → ComesTo l t before (seen failures out_new err) s old.reader.meaning.events h new.reader.meaning.events rest result new.formatter.composer
   pub reader : KeepsReading old new
 
 -- One step from a state takes an item that means these messages, which are told on this line, and these events,

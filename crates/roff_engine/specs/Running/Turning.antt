@@ -201,6 +201,18 @@ pub record GoesPast (gave gives : Tape → Type 0) (noted notes : ℕ) (old new 
   pub past : (t : Beginning) (tape : Tape) (start : Seen) → gives tape → IsAt t (items_then taken tape) start now old → IsAt t tape start behind new
   pub turns : turns_with new notes ≤ turns_with old noted
 
+-- The same, where it is known of the turns to come if this is so.
+pub record GoesPastIf (P : Type 0) (gave gives : Tape → Type 0) (noted notes : ℕ) (old new : Coded) (now behind : Seen) : Type 0 where
+  pub limits : new.limits ≡ old.limits
+  pub taken : List Item
+  pub before : (tape : Tape) → gives tape → gave (items_then taken tape)
+  pub past : (t : Beginning) (tape : Tape) (start : Seen) → gives tape → IsAt t (items_then taken tape) start now old → IsAt t tape start behind new
+  pub turns : P → turns_with new notes ≤ turns_with old noted
+
+-- what it knows of the interrupted line while bytes are told: the code stands for some history
+abbrev pub StandsForSome : Coded → Type 0
+StandsForSome run = (h : PageHistory) × StandFor run.limits h run.interpreter.formatter.composer
+
 -- the run went past bytes, and fewer turns are to come where a line begins behind them
 pub record GoesFurther (begins : Bool) (gave gives : Tape → Type 0) (noted notes : ℕ) (old new : Coded) (now behind : Seen) : Type 0 where
   pub past : GoesPast gave gives noted notes old new now behind
@@ -210,6 +222,10 @@ pub record GoesFurther (begins : Bool) (gave gives : Tape → Type 0) (noted not
 abbrev pub GoesPastOver : {S : Type 0} → byte_source.Ghosts S → S → S → Coded → Coded → Type 0
 GoesPastOver g was is old new =
     (out err : Sunk) → GoesPast (g.gives was) (g.gives is) (g.notes was) (g.notes is) old new (seen (g.failures was) out err) (seen (g.failures is) out err)
+
+abbrev pub TellsOver : {S : Type 0} → byte_source.Ghosts S → S → S → Coded → Coded → Type 0
+TellsOver g was is old new =
+    (out err : Sunk) → GoesPastIf (StandsForSome old) (g.gives was) (g.gives is) (g.notes was) (g.notes is) old new (seen (g.failures was) out err) (seen (g.failures is) out err)
 
 abbrev pub GoesFurtherOver : {S : Type 0} → Bool → byte_source.Ghosts S → S → S → Coded → Coded → Type 0
 GoesFurtherOver begins g was is old new =

@@ -31,7 +31,7 @@ impl Interpreter {
             (sinks (O.sunk out.new) (E.sunk err.new)) result }
     {
         match self.reader.end_escape(&self.formatter.composer, unread) {
-            Ok(step) => self.perform(step, unread.line(), out, err),
+            Ok(step) => self.perform_seldom(step, unread.line(), out, err),
             Err(limit) => Err(Halt::Refused(limit)),
         }
     }

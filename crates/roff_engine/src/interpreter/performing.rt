@@ -3,7 +3,7 @@
 ghost use Rattle.std.specs.Prelude.{[], ◌≡◌, ◌∷◌, IsOkUnless};
 ghost use Rattle.roff_run.specs.Events.Steps.{events_of, messages_of};
 ghost use Rattle.roff_engine.specs.Clauses.{option_to_list, message_lines, DoesMeaning};
-ghost use Rattle.roff_engine.specs.Clauses.{DoesEvent, PerformsAll, Puts, sinks};
+ghost use Rattle.roff_engine.specs.Clauses.{DoesEvent, PerformsAll, PerformsLeft, Puts, sinks};
 ghost use Rattle.roff_run.specs.declared.event.PageEvent.TheVariants.{Title};
 
 use super::Interpreter;
@@ -60,7 +60,26 @@ impl Interpreter {
         ensures { PerformsAll self.old.reader.meaning.events self.old self.new
             (O.sunk out.old) (O.sunk out.new) result }
     {
-        let mut index = 0;
+        if !self.reader.begins_with_break() {
+            return self.perform_from(0, out);
+        }
+        match self.formatter.perform_step(Step::Break, out) {
+            Ok(None) => self.perform_from(2, out),
+            Ok(Some(sprung)) => Ok(Some(sprung)),
+            Err(halt) => Err(halt),
+        }
+    }
+
+    /// The same of those from an index on, where the others are performed.
+    #[inline(always)]
+    fn perform_from<O: ByteSink>(
+        &mut self,
+        begin: usize,
+        out: &mut O,
+    ) -> Result<Option<Sprung>, Halt>
+        ensures { PerformsLeft begin self.old self.new (O.sunk out.old) (O.sunk out.new) result }
+    {
+        let mut index = begin;
         while let Some(event) = self.reader.event(index) {
             match self.perform_event(event, out) {
                 Ok(None) => index += 1,

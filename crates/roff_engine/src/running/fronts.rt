@@ -5,7 +5,7 @@ ghost use Rattle.roff_fronts.specs.Runs.{IsRun};
 ghost use Rattle.roff_scan.specs.declared.run_kind.RunKind.TheVariants.{Text as TextRun};
 
 use super::Running;
-use roff_fronts::{RunKind, run_half_read, take_run};
+use roff_fronts::{RunKind, run_half_read, take_run, take_string_name};
 use roff_scan::ByteSource;
 
 impl Running {
@@ -28,6 +28,14 @@ impl Running {
         self.interpreter
             .reader
             .take_title_front(&mut self.unread, source);
+    }
+
+    /// Takes bytes of a string's name together that stand in front, where one is read.
+    #[inline(always)]
+    pub(super) fn take_string_name<S: ByteSource>(&mut self, source: &mut S)
+        ensures { GoesPastOver S.ByteSource source.old source.new self.old self.new }
+    {
+        take_string_name(&self.interpreter.reader, &mut self.unread, source);
     }
 
     /// Takes bytes of plain text together that stand in front, and tells them, and then reads the
@@ -53,10 +61,22 @@ impl Running {
         ensures { GoesPastOver S.ByteSource source.old source.new self.old self.new }
     {
         let front = self.unread.front(source);
+        if !begins_above_controls(front) {
+            return false;
+        }
         let count = self.interpreter.formatter.text_front(front);
         let meets_escape = has_backslash_at(front, count);
         self.unread.pass(source, count);
         meets_escape
+    }
+}
+
+/// Whether these bytes begin with one that isn't a control byte. Few fronts behind a tab do.
+#[inline(always)]
+fn begins_above_controls(bytes: &[u8]) -> bool {
+    match bytes {
+        [first, ..] => *first >= b' ',
+        [] => false,
     }
 }
 

@@ -12,7 +12,9 @@ ghost use Rattle.roff_scan.specs.Unread.Calls.{PassesEnd, PassesReturn};
 ghost use Rattle.roff_engine.specs.Clauses.{due, waiting_in};
 
 use super::Running;
-use roff_fronts::{RunKind, begins_control_line, read_control_front, run_kind, take_run};
+use roff_fronts::{
+    ControlRead, RunKind, begins_apart, begins_control_line, read_control_front, run_kind, take_run,
+};
 use roff_scan::ByteSource;
 
 impl Running {
@@ -41,11 +43,20 @@ impl Running {
         requires none_half { self.old.unread.input.escapes ≡ [] }
         ensures { GoesFurtherOver result S.ByteSource source.old source.new self.old self.new }
     {
-        if read_control_front(&mut self.interpreter.reader, &mut self.unread, source) {
-            self.pass_line(source)
-        } else {
-            self.pass_return()
+        match read_control_front(&mut self.interpreter.reader, &mut self.unread, source) {
+            ControlRead::Nothing => self.pass_return(),
+            ControlRead::Front => self.pass_behind_front(source),
+            ControlRead::WholeLine => false,
         }
+    }
+
+    /// What [`pass_line`](Running::pass_line) does. A function of its own, as what it does in place is
+    /// then put into place too.
+    #[inline(never)]
+    fn pass_behind_front<S: ByteSource>(&mut self, source: &mut S) -> bool
+        ensures { GoesFurtherOver result S.ByteSource source.old source.new self.old self.new }
+    {
+        self.pass_line(source)
     }
 
     /// Takes the end of a call at once, if it stands in front. Returns whether it did.
@@ -78,12 +89,25 @@ impl Running {
         ensures { GoesFurtherOver result S.ByteSource source.old source.new self.old self.new }
     {
         match run_kind(&self.interpreter.reader, &self.unread) {
-            None => {
-                self.take_title_front(source);
-                self.pass_end()
-            }
             Some(kind) => self.pass_run(kind, source),
+            None => {
+                if begins_apart(&self.interpreter.reader) {
+                    self.pass_apart(source)
+                } else {
+                    self.pass_end()
+                }
+            }
         }
+    }
+
+    /// The same of bytes of a string's name, or of a title's part.
+    #[inline(never)]
+    fn pass_apart<S: ByteSource>(&mut self, source: &mut S) -> bool
+        ensures { GoesFurtherOver result S.ByteSource source.old source.new self.old self.new }
+    {
+        self.take_string_name(source);
+        self.take_title_front(source);
+        self.pass_end()
     }
 
     /// The same of bytes that do this.

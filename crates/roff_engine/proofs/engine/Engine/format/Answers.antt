@@ -1,4 +1,4 @@
-use Rattle.std.proofs.Common.{◌≡◌, ap, refl, sym, subst, ◌∙◌, arith}
+use Rattle.std.proofs.Common.{◌≡◌, ap, sym, subst, ◌∙◌, arith}
 use Rattle.std.specs.Prelude.{IsSome}
 use Rattle.roff_engine.specs.Engine.Outcome.{Runs, seen}
 use Rattle.roff_engine.specs.Engine.Setup.{Setup}
@@ -6,7 +6,6 @@ use Rattle.roff_engine.specs.Running.Turning.{HasCome}
 use Rattle.roff_engine.specs.declared.running.Running.{Running as Coded}
 use Rattle.roff_run.specs.Reading.Items.{PageUnread}
 use Rattle.roff_run.specs.Run.{initial}
-use Rattle.roff_run.specs.declared.phase.Phase.TheVariants.{Reading}
 use Rattle.roff_ahead.specs.declared.looked.Looked.TheVariants.{Nothing}
 use Rattle.roff_engine.proofs.Passing.{come-past}
 use Rattle.roff_engine.proofs.WholeRuns.{HasRoom-fresh, due_done, due_done_end, ends_unread, fewer_to_come, goes_on, has_ended, initial-fresh, not_refused, started}
@@ -17,19 +16,19 @@ returns-in-Err-clause-runs g c =
     let fresh = c.self.invariant.1 in
     let failures = g.S.ByteSource.failures c.args.source.now in
     let out = g.O.ByteSink.sunk c.args.out.now in
-    let run : Coded = record { limits = c.self.inside.limits; phase = Reading; interpreter = c.self.inside.interpreter; unread = c.self.inside.unread } in
+    let run : Coded = c.self.inside.running in
     let unread : run.unread.looked ≡ Nothing = ap (λ (u : PageUnread). u.looked) fresh.unread in
     subst (λ (v : Setup). Runs v.limits v.start c.in-Err.status (g.S.ByteSource.gives c.args.source.now) (g.S.ByteSource.gives c.args.source.now)
     (seen failures out (g.E.ByteSink.sunk c.args.err.now)) (seen failures out (g.E.ByteSink.sunk c.begin.new.err)))
     c.self.view_is
     (ends_unread _ _ c.in-Err.status _ _ _ (g.met.S.ByteSource.some c.args.source.now)
-    (λ tape. c.in-Err.ensures.ends (HasRoom-fresh run fresh) unread tape (initial-fresh run c.self.inside.start refl fresh tape) failures out))
+    (λ tape. c.in-Err.ensures.ends (HasRoom-fresh run fresh) unread tape (initial-fresh run c.self.inside.start c.self.invariant.2 fresh tape) failures out))
 
 pub loop-running-init : goal.loop-running-init
 loop-running-init g c =
     let begins = c.in_default.ensures.begins in
     let come = started _ _ _ (g.S.ByteSource.failures c.args.source.now) (g.O.ByteSink.sunk c.args.out.now) (g.E.ByteSink.sunk c.args.err.now) (g.S.ByteSource.gives c.args.source.now)
-    refl c.self.invariant.0 c.self.invariant.1 begins in
+    c.self.invariant.2 c.self.invariant.0 c.self.invariant.1 begins in
     record {
       come = rw c.in_default.ensures.err
           (subst (λ (v : Setup). HasCome v.start (g.S.ByteSource.gives c.args.source.now) (g.S.ByteSource.gives c.args.source.now)
@@ -46,7 +45,7 @@ returns-in-Err-do_due-clause-runs g c =
     (c.in-Err-do_due.ensures _ _)
 
 pub returns-in-Err-do_due-clause-unread : goal.returns-in-Err-do_due-clause-unread
-returns-in-Err-do_due-clause-unread g c = λ tape refused. absurd (not_refused _ c.begin.new.self c.self.inside.start refl c.self.invariant.1 c.in_default.ensures.begins tape
+returns-in-Err-do_due-clause-unread g c = λ tape refused. absurd (not_refused _ c.begin.new.self c.self.inside.start c.self.invariant.2 c.self.invariant.1 c.in_default.ensures.begins tape
     (subst (λ (v : Setup). IsSome (initial v.limits v.start tape).ended) (sym c.self.view_is) refused))
 
 pub returns-in-Err-turn-clause-runs : goal.returns-in-Err-turn-clause-runs
@@ -58,7 +57,7 @@ returns-in-Err-turn-clause-runs g c =
     (g.met.S.ByteSource.some c.turn.new.source) c.in-Err-turn.ensures
 
 pub returns-in-Err-turn-clause-unread : goal.returns-in-Err-turn-clause-unread
-returns-in-Err-turn-clause-unread g c = λ tape refused. absurd (not_refused _ c.begin.new.self c.self.inside.start refl c.self.invariant.1 c.in_default.ensures.begins tape
+returns-in-Err-turn-clause-unread g c = λ tape refused. absurd (not_refused _ c.begin.new.self c.self.inside.start c.self.invariant.2 c.self.invariant.1 c.in_default.ensures.begins tape
     (subst (λ (v : Setup). IsSome (initial v.limits v.start tape).ended) (sym c.self.view_is) refused))
 
 pub turn-requires : goal.turn-requires

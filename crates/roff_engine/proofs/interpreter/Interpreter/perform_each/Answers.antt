@@ -1,89 +1,64 @@
-use Rattle.std.proofs.Common.{◌≡◌, ◌≤◌, ◌+◌, ◌++◌, [], ◌∷◌, Ok, Some, None, rules, ap, arith, sym, ◌∙◌}
-use Rattle.std.specs.Prelude.{drop, slice_get}
-use Rattle.roff_reader.specs.Reader.State.{ReaderState}
+use Rattle.std.proofs.Common.{◌≡◌, ◌++◌, [], ◌∷◌, List, Ok, Some, None, refl, rules, ap, arith}
+use Rattle.std.specs.Prelude.{drop}
+use Rattle.roff_lines.specs.declared.event.Event.TheVariants.{Break, WordEnd}
+use Rattle.roff_run.specs.Environments.{interrupted_line}
+use Rattle.roff_run.specs.PageEvents.{PageEvent}
+use Rattle.roff_run.specs.TurnsToCome.{lines_left, most_left}
+use Rattle.roff_run.specs.declared.event.PageEvent.TheVariants.{Text}
 use Rattle.roff_formatter.specs.Formatter.Performing.{behind_event}
-use Rattle.roff_formatter.proofs.EventsLeft.{drop-at, drop-past}
 use Rattle.roff_formatter.proofs.LinesLeft.{more_left}
 use Rattle.roff_formatter.proofs.Performed.{performed_quietly, performed_sprung}
-use Rattle.roff_engine.proofs.SoFar.{came_so_far}
+use Rattle.roff_engine.proofs.SoFar.{came_broken}
 use Rattle.roff_engine.proofs.interpreter.Interpreter.perform_each.Goals as goal
 
-pub loop-event-init : goal.loop-event-init
-loop-event-init g c = record {
-  performed = λ k t before failures err s h rest stood same reached. record { history = h; reaches = reached; stands = stood; few = omega arith };
-  reader = search rules;
-}
-
--- the event at the index stands in front of those that are left
-pub loop-event-preserved : goal.loop-event-preserved
-loop-event-preserved g c =
-    let so_far = c.loop-event.invariant in
-    let n = c.loop-event.index in
+pub returns-in-Ok-None : goal.returns-in-Ok-None
+returns-in-Ok-None g c =
     let events = c.args.self.now.reader.meaning.events in
-    let there = ap (λ (r : ReaderState). slice_get r.meaning.events n) (sym so_far.reader) in
-    let opened : drop n events ≡ c.in-Some.event ∷ drop (n + 1) events = drop-at events n c.in-Some.event (there ∙ sym c.event.ensures.at ∙ c.in-Some.is) in record {
-      performed = λ k t before failures err s h rest stood same reached.
-          let now = so_far.performed k t before failures err s h rest stood same reached in
-          let kept = same ∙ ap (λ (r : ReaderState). r.registers.all) (sym so_far.reader) in
-          let is : c.perform_event.result ≡ Ok None = search rules in
-          let did = performed_quietly k t before _ s (c.in-Some.event ∷ []) now.history _ (drop (n + 1) events ++ rest) c.perform_event.result _ is
-          (c.perform_event.ensures.one k t before failures err s now.history (drop (n + 1) events ++ rest) now.stands kept (rw opened at now.reaches)) in record {
-            history = behind_event s.registers c.in-Some.event now.history;
+    let others : List PageEvent = drop 2 events in
+    let begins : events ≡ Text WordEnd ∷ Text Break ∷ others = c.begins_with_break.ensures (search rules) in record {
+      all = λ l t before failures err s h rest stood same reached.
+          let is : c.perform_step.result ≡ Ok None = search rules in
+          let did = performed_quietly l t before _ s (Text WordEnd ∷ Text Break ∷ []) h _ (others ++ rest) c.perform_step.result _ is
+          (c.perform_step.ensures.performs l t before failures err s h (others ++ rest) stood (refl, (refl, tt)) (rw begins at reached)) in
+          let h1 = behind_event s.registers (Text WordEnd) h in
+          c.perform_from-in-Ok-None.ensures.all l t before failures err s h rest same (record {
+            history = behind_event s.registers (Text Break) h1;
             reaches = did.reaches;
             stands = did.stands;
-            few = omega (arith, more_left s.registers c.in-Some.event (drop (n + 1) events) now.history, (rw opened at now.few));
-          };
-      reader = c.perform_event.ensures.reader ∙ so_far.reader;
+            few = omega (arith, more_left s.registers (Text WordEnd) (Text Break ∷ others) h, more_left s.registers (Text Break) others h1, ap (λ (es : List PageEvent). most_left es (lines_left (interrupted_line h))) begins);
+          });
+      reader = record {
+        reading = c.perform_from-in-Ok-None.ensures.reader.reading;
+        registers = c.perform_from-in-Ok-None.ensures.reader.registers;
+      };
     }
 
 pub returns-in-Ok-Some : goal.returns-in-Ok-Some
 returns-in-Ok-Some g c =
-    let so_far = c.loop-event.invariant in
-    let n = c.loop-event.index in
     let events = c.args.self.now.reader.meaning.events in
-    let there = ap (λ (r : ReaderState). slice_get r.meaning.events n) (sym so_far.reader) in
-    let opened : drop n events ≡ c.in-Some.event ∷ drop (n + 1) events = drop-at events n c.in-Some.event (there ∙ sym c.event.ensures.at ∙ c.in-Some.is) in
-    let short : n ≤ 35 = search rules in
-    let same_reader = c.perform_event.ensures.reader ∙ so_far.reader in record {
+    let others : List PageEvent = drop 2 events in
+    let begins : events ≡ Text WordEnd ∷ Text Break ∷ others = c.begins_with_break.ensures (search rules) in record {
       all = λ l t before failures err s h rest stood same reached.
-          let now = so_far.performed l t before failures err s h rest stood same reached in
-          let kept = same ∙ ap (λ (r : ReaderState). r.registers.all) (sym so_far.reader) in
-          let is : c.perform_event.result ≡ Ok (Some c.in-Ok-Some.sprung) = search rules in
-          let did = performed_sprung l t before _ s (c.in-Some.event ∷ []) now.history _ (drop (n + 1) events ++ rest) c.perform_event.result c.in-Ok-Some.sprung _ is
-          (c.perform_event.ensures.one l t before failures err s now.history (drop (n + 1) events ++ rest) now.stands kept (rw opened at now.reaches)) in
-          rw same_reader (came_so_far l t before _ s events n c.in-Some.event h now.history rest c.in-Ok-Some.sprung c.further.result _ opened (omega (arith, short)) c.further.ensures now.few did);
-      reader = record { reading = ap (λ (r : ReaderState). r.reading) same_reader; registers = ap (λ (r : ReaderState). r.registers) same_reader };
+          let is : c.perform_step.result ≡ Ok (Some c.in-Ok-Some.sprung) = search rules in
+          let did = performed_sprung l t before _ s (Text WordEnd ∷ Text Break ∷ []) h _ (others ++ rest) c.perform_step.result c.in-Ok-Some.sprung _ is
+          (c.perform_step.ensures.performs l t before failures err s h (others ++ rest) stood (refl, (refl, tt)) (rw begins at reached)) in
+          came_broken l t before _ s events others h rest c.in-Ok-Some.sprung _ begins did;
+      reader = record { reading = refl; registers = refl };
     }
 
 pub returns-in-Err : goal.returns-in-Err
 returns-in-Err g c =
-    let so_far = c.loop-event.invariant in
-    let n = c.loop-event.index in
     let events = c.args.self.now.reader.meaning.events in
-    let there = ap (λ (r : ReaderState). slice_get r.meaning.events n) (sym so_far.reader) in
-    let opened : drop n events ≡ c.in-Some.event ∷ drop (n + 1) events = drop-at events n c.in-Some.event (there ∙ sym c.event.ensures.at ∙ c.in-Some.is) in
-    let same_reader = c.perform_event.ensures.reader ∙ so_far.reader in record {
+    let others : List PageEvent = drop 2 events in
+    let begins : events ≡ Text WordEnd ∷ Text Break ∷ others = c.begins_with_break.ensures (search rules) in record {
       all = λ l t before failures err s h rest stood same reached.
-          let now = so_far.performed l t before failures err s h rest stood same reached in
-          let kept = same ∙ ap (λ (r : ReaderState). r.registers.all) (sym so_far.reader) in
-          c.in-Err.ensures.one l t before failures err s now.history (drop (n + 1) events ++ rest) now.stands kept (rw opened at now.reaches);
-      reader = record { reading = ap (λ (r : ReaderState). r.reading) same_reader; registers = ap (λ (r : ReaderState). r.registers) same_reader };
+          c.in-Err.ensures.performs l t before failures err s h (others ++ rest) stood (refl, (refl, tt)) (rw begins at reached);
+      reader = record { reading = refl; registers = refl };
     }
 
-pub returns : goal.returns
-returns g c =
-    let so_far = c.loop-event.invariant in
-    let n = c.loop-event.index in
-    let events = c.args.self.now.reader.meaning.events in
-    let there = ap (λ (r : ReaderState). slice_get r.meaning.events n) (sym so_far.reader) in
-    let closed : drop n events ≡ [] = drop-past events n (there ∙ sym c.event.ensures.at ∙ c.in_default.is) in record {
-      all = λ l t before failures err s h rest stood same reached.
-          let now = so_far.performed l t before failures err s h rest stood same reached in record {
-            history = now.history;
-            reaches = rw closed at now.reaches;
-            stands = now.stands;
-            lines = rw closed at now.few;
-            few = omega arith;
-          };
-      reader = record { reading = ap (λ (r : ReaderState). r.reading) so_far.reader; registers = ap (λ (r : ReaderState). r.registers) so_far.reader };
-    }
+pub returns-then-not-begins_with_break : goal.returns-then-not-begins_with_break
+returns-then-not-begins_with_break g c = record {
+  all = λ l t before failures err s h rest stood same reached.
+      c.perform_from.ensures.all l t before failures err s h rest same (record { history = h; reaches = reached; stands = stood; few = omega arith });
+  reader = c.perform_from.ensures.reader;
+}

@@ -1,9 +1,7 @@
 use Rattle.roff_engine.proofs.PassingEnds.{goes_further_passed}
-use Rattle.roff_engine.proofs.PassingOn.{goes_further_both}
 use Rattle.roff_engine.proofs.running.Running.pass_line.Goals as goal
 
-pub returns-in-None : goal.returns-in-None
-returns-in-None g c = λ out err.
+pub returns-else-begins_apart : goal.returns-else-begins_apart
+returns-else-begins_apart g c = λ out err.
     let ends = c.pass_end.ensures in
-    goes_further_both _ _ _ _ _ _ _ _ _ _ _ _ _ (c.take_title_front.ensures out err)
-    (goes_further_passed _ _ _ ends.none_due ends.takes ends.passes ends.within ends.unchanged ends.others _ _ _)
+    goes_further_passed _ _ _ ends.none_due ends.takes ends.passes ends.within ends.unchanged ends.others _ _ _

@@ -1,5 +1,9 @@
 use Rattle.roff_engine.proofs.Telling.{goes_past_told}
+use Rattle.roff_engine.proofs.PassingOn.{goes_past_none}
 use Rattle.roff_engine.proofs.running.Running.tell_front.Goals as goal
+
+pub returns-then-not-begins_above_controls : goal.returns-then-not-begins_above_controls
+returns-then-not-begins_above_controls g c = λ out err. goes_past_none _ _ _ _
 
 pub returns : goal.returns
 returns g c = λ out err.

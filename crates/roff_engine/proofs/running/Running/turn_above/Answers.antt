@@ -10,9 +10,9 @@ returns-then-pass_end g c =
     let old = c.args.self.now in
     front_end old _ _ _ _ _ _ (omega arith) (omega arith) c.requires (takes_end _ old.unread _ (c.pass_end.ensures.passes c.if-pass_end.true))
 
-pub turn_in_front-requires : goal.turn_in_front-requires
-turn_in_front-requires g c = subst (λ (u : PageUnread). SeesOn u.input) (sym (c.pass_end.ensures.unchanged c.if-pass_end.false)) c.requires
+pub turn_item-requires : goal.turn_item-requires
+turn_item-requires g c = subst (λ (u : PageUnread). SeesOn u.input) (sym (c.pass_end.ensures.unchanged c.if-pass_end.false)) c.requires
 
 pub returns : goal.returns
 returns g c =
-    TurnsBy-same _ _ _ _ _ c.args.self.now c.turn_in_front.new.self c.pass_end.new.self _ _ _ (c.pass_end.ensures.unchanged c.if-pass_end.false) c.turn_in_front.ensures
+    TurnsBy-same _ _ _ _ _ c.args.self.now c.turn_item.new.self c.pass_end.new.self _ _ _ (c.pass_end.ensures.unchanged c.if-pass_end.false) c.turn_item.ensures

@@ -7,8 +7,8 @@ use Rattle.roff_engine.proofs.running.Running.turn_waiting.Goals as goal
 pub returns-in-Some : goal.returns-in-Some
 returns-in-Some g c =
     let shown = c.in-Some.ensures in
-    byte_by c.args.self.now _ _ _ _ _ _ shown.failures shown.notes Waits refl c.in-Some.byte c.line-line.result c.take.new.self _ _ shown.takes shown.waits c.line-line.ensures
-    (c.take.ensures _)
+    byte_by c.args.self.now _ _ _ _ _ _ shown.failures shown.notes Waits refl c.in-Some.byte c.line-line.result c.take_half.new.self _ _ shown.takes shown.waits c.line-line.ensures
+    (c.take_half.ensures _)
 
 pub returns-in-None : goal.returns-in-None
 returns-in-None g c =

@@ -1,6 +1,6 @@
 use Rattle.roff_engine.proofs.Turns.{TurnsBy-same}
 use Rattle.roff_engine.proofs.WaitedBytes.{byte_alone}
-use Rattle.roff_engine.proofs.running.Running.turn_alone.Goals as goal
+use Rattle.roff_engine.proofs.running.Running.turn_other.Goals as goal
 
 pub returns-in-Some : goal.returns-in-Some
 returns-in-Some g c =

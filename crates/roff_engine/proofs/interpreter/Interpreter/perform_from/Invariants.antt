@@ -1,21 +1,19 @@
-use Rattle.std.proofs.Common.{◌≡◌, ℕ, ◌-◌, ◌++◌, List}
+use Rattle.std.proofs.Common.{◌≡◌, ℕ, ◌-◌, List}
 use Rattle.std.specs.Prelude.{drop}
 use Rattle.roff_num.specs.declared.limits.Limits.{Limits}
-use Rattle.roff_engine.specs.Engine.Outcome.{Beginning, Reaches, Seen, seen}
-use Rattle.roff_formatter.specs.Formatter.Performing.{acting}
-use Rattle.roff_engine.proofs.SoFar.{CameSoFar}
-use Rattle.roff_composer.specs.Composer.Standing.{StandFor}
+use Rattle.roff_engine.specs.Engine.Outcome.{Beginning, Seen, seen}
+use Rattle.roff_engine.specs.Interpreter.Performing.{CameSoFar}
 use Rattle.roff_run.specs.Output.{PageHistory}
 use Rattle.roff_run.specs.PageEvents.{PageEvent}
 use Rattle.roff_run.specs.Run.{State}
 use Rattle.roff_sinks.specs.Sinks.{Sunk}
-use Rattle.roff_engine.proofs.interpreter.Interpreter.perform_each.Given as goal
+use Rattle.roff_engine.proofs.interpreter.Interpreter.perform_from.Given as goal
 
 abbrev pub invariant-loop-event : goal.invariant-loop-event
 invariant-loop-event g l = record {
   performed : (k : Limits) (t : Beginning) (before : Seen) (failures : ℕ) (err : Sunk) (s : State) (h : PageHistory) (rest : List PageEvent)
-      → StandFor k h l.initial.self.formatter.composer → s.registers ≡ l.initial.self.reader.registers.all
-      → Reaches k t before (seen failures (g.O.ByteSink.sunk l.initial.out) err) (acting s (l.initial.self.reader.meaning.events ++ rest) h)
+      → s.registers ≡ l.initial.self.reader.registers.all
+      → CameSoFar k t before (seen failures (g.O.ByteSink.sunk l.initial.out) err) s l.initial.self.reader.meaning.events h (drop l.begin l.initial.self.reader.meaning.events) rest l.initial.self.formatter.composer
       → CameSoFar k t before (seen failures (g.O.ByteSink.sunk l.out) err) s l.initial.self.reader.meaning.events h (drop l.index l.initial.self.reader.meaning.events) rest l.self.formatter.composer;
   reader : l.self.reader ≡ l.initial.self.reader;
 }

@@ -1,0 +1,175 @@
+//! Text lines: their bytes one at a time, and their beginnings.
+
+ghost use Rattle.std.specs.Prelude.{◌≡◌, ℕ, [], None, true};
+ghost use Rattle.roff_engine.specs.Clauses.{LineStart, StandFor, due, seen};
+ghost use Rattle.roff_engine.specs.Running.Beginning.{BeginWithText, begins_text};
+ghost use Rattle.roff_num.specs.declared.limits.Limits.{Limits as LimitsOf};
+ghost use Rattle.roff_run.specs.Environments.{PageHistory, interrupted_line};
+ghost use Rattle.roff_run.specs.Run.{byte_taken, item_read};
+ghost use Rattle.roff_run.specs.declared.line_state.LineState.TheVariants.{Text as InText};
+
+use super::Running;
+use roff_run::{LineState, Status, TextLine};
+use roff_scan::ByteSource;
+use roff_sinks::ByteSink;
+
+impl Running {
+    ghost use Rattle.roff_engine.specs.Running.Turning.{DoesItem, TellsOver, TurnsBy};
+
+    /// Takes the item in front on this text line, where nothing is half read: most often a byte that
+    /// stands ready.
+    #[inline(always)]
+    pub(super) fn turn_text<S: ByteSource, O: ByteSink, E: ByteSink>(
+        &mut self,
+        line: TextLine,
+        source: &mut S,
+        out: &mut O,
+        err: &mut E,
+    ) -> Result<(), Status>
+        requires line { self.old.interpreter.reader.reading ≡ InText line }
+        requires none_half { self.old.unread.input.escapes ≡ [] }
+        ensures { TurnsBy (λ s. item_read self.old.limits s)
+            (S.gives source.old) (S.gives source.new) (S.notes source.old) (S.notes source.new)
+            self.old self.new
+            (seen (S.failures source.old) (O.sunk out.old) (E.sunk err.old))
+            (seen (S.failures source.new) (O.sunk out.new) (E.sunk err.new)) result }
+    {
+        let line_before = self.unread.line();
+        match self.unread.take_ready(source) {
+            Some(byte) => self.take_text(line, byte, line_before, out, err),
+            None => self.turn_line(source, out, err),
+        }
+    }
+
+    /// Takes a byte on this text line, where nothing is half read; the byte before it stood on this
+    /// line. Bytes that come often have a copy each, for which the compiler knows the byte.
+    #[inline(always)]
+    fn take_text<O: ByteSink, E: ByteSink>(
+        &mut self,
+        text_line: TextLine,
+        byte: u8,
+        line_before: u32,
+        out: &mut O,
+        err: &mut E,
+    ) -> Result<(), Status>
+        requires line { self.old.interpreter.reader.reading ≡ InText text_line }
+        requires none_half { self.old.unread.input.escapes ≡ [] }
+        ensures { (failures : ℕ) → DoesItem line_before (byte_taken byte) self.old self.new
+            (seen failures (O.sunk out.old) (E.sunk err.old))
+            (seen failures (O.sunk out.new) (E.sunk err.new)) result }
+    {
+        match byte {
+            b'\n' => self.take_on_line(text_line, b'\n', line_before, out, err),
+            b' ' => self.take_on_line(text_line, b' ', line_before, out, err),
+            b'\t' => self.take_on_line(text_line, b'\t', line_before, out, err),
+            _ => self.take_on_line(text_line, byte, line_before, out, err),
+        }
+    }
+
+    /// The same of any byte.
+    #[inline(always)]
+    fn take_on_line<O: ByteSink, E: ByteSink>(
+        &mut self,
+        text_line: TextLine,
+        byte: u8,
+        line_before: u32,
+        out: &mut O,
+        err: &mut E,
+    ) -> Result<(), Status>
+        requires line { self.old.interpreter.reader.reading ≡ InText text_line }
+        requires none_half { self.old.unread.input.escapes ≡ [] }
+        ensures { (failures : ℕ) → DoesItem line_before (byte_taken byte) self.old self.new
+            (seen failures (O.sunk out.old) (E.sunk err.old))
+            (seen failures (O.sunk out.new) (E.sunk err.new)) result }
+    {
+        let line = self.unread.line();
+        match self
+            .interpreter
+            .take_on_line(text_line, byte, &mut self.unread, out, err)
+        {
+            Ok(sprung) => self.go_on(sprung, err),
+            Err(halt) => Err(self.halted(halt, line_before, line, err)),
+        }
+    }
+
+    /// Tells bytes of plain text that stand in front where a line begins, if no interrupted one goes on:
+    /// as many as no limit refuses, and none that finishes a line.
+    #[inline(always)]
+    pub(super) fn tell_beginning<S: ByteSource>(&mut self, source: &mut S)
+        requires none_due { due self.old.interpreter.reader.reading ≡ None }
+        requires none_half { self.old.unread.input.escapes ≡ [] }
+        ensures none_due { due self.new.interpreter.reader.reading ≡ None }
+        ensures none_half { self.new.unread.input.escapes ≡ [] }
+        ensures past { TellsOver S.ByteSource source.old source.new self.old self.new }
+    {
+        match self.interpreter.reader.reading() {
+            LineState::LineStart => self.begin_text(source),
+            _ => {}
+        }
+    }
+
+    /// The same where a line begins.
+    #[inline(always)]
+    fn begin_text<S: ByteSource>(&mut self, source: &mut S)
+        requires begins { self.old.interpreter.reader.reading ≡ LineStart }
+        requires none_half { self.old.unread.input.escapes ≡ [] }
+        ensures none_due { due self.new.interpreter.reader.reading ≡ None }
+        ensures none_half { self.new.unread.input.escapes ≡ [] }
+        ensures past { TellsOver S.ByteSource source.old source.new self.old self.new }
+    {
+        let environments = &self.interpreter.formatter.composer.environments;
+        match environments.interrupted_line() {
+            Some(_) => {}
+            None => self.begin_line(source),
+        }
+    }
+
+    /// The same where no interrupted line goes on.
+    #[inline(always)]
+    fn begin_line<S: ByteSource>(&mut self, source: &mut S)
+        requires begins { self.old.interpreter.reader.reading ≡ LineStart }
+        requires none_half { self.old.unread.input.escapes ≡ [] }
+        requires none_goes_on { (l : LimitsOf) (h : PageHistory)
+            → StandFor l h self.old.interpreter.formatter.composer → interrupted_line h ≡ None }
+        ensures none_due { due self.new.interpreter.reader.reading ≡ None }
+        ensures none_half { self.new.unread.input.escapes ≡ [] }
+        ensures past { TellsOver S.ByteSource source.old source.new self.old self.new }
+    {
+        let front = self.unread.front(source);
+        if !begin_with_text(front) {
+            return;
+        }
+        let count = self.interpreter.formatter.text_front(front);
+        self.unread.pass(source, count);
+        if count > 0 {
+            self.interpreter.reader.go_on(LineState::Text(BEHIND_GLYPH));
+        }
+    }
+}
+
+/// A text line behind a glyph.
+const BEHIND_GLYPH: TextLine = TextLine {
+    has_glyph: true,
+    has_other: false,
+    has_brace: false,
+    leading: 0,
+};
+
+/// Whether a text line begins with the first of these bytes, and it is printed.
+#[inline(always)]
+fn begin_with_text(bytes: &[u8]) -> bool
+    ensures { result ≡ true → BeginWithText bytes.now }
+{
+    match bytes {
+        [first, ..] => begins_text(*first),
+        [] => false,
+    }
+}
+
+/// Whether a text line begins with this byte, and it is printed.
+#[inline(always)]
+fn begins_text(byte: u8) -> bool
+    ensures { result ≡ begins_text byte }
+{
+    byte > b' ' && byte != 127 && byte != b'\\' && byte != b'.' && byte != b'\''
+}
