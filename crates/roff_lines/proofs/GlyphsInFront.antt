@@ -1,16 +1,16 @@
--- The bytes of glyphs in front of a text, and of what is written of it.
-use Rattle.std.proofs.Common.{◌≡◌, ℕ, zero, suc, ◌+◌, ◌<◌, ◌≤◌, true, false, inl, inr, List, [], ◌∷◌, ◌++◌, length, take, drop, slice_index_or, replicate, refl, sym, ap, ap₂, ◌∙◌, arith, ne_eqb, append_assoc, append-nil}
+-- The bytes of glyphs in front of a text.
+use Rattle.std.proofs.Common.{◌≡◌, ℕ, zero, suc, ◌+◌, ◌<◌, ◌≤◌, true, false, inl, inr, List, [], ◌∷◌, ◌++◌, length, take, drop, slice_index_or, refl, sym, ap, ap₂, ◌∙◌, arith, ne_eqb, append_assoc}
 use Rattle.std.specs.List.{prefix_len}
 use Rattle.std.specs.Simd.Lanes.{chunk}
 use Rattle.std.proofs.Math.Seq.{drop-cons, take-add}
 use Rattle.std.proofs.lemmas.Bool.Decides.{nat_tests}
-use Rattle.std.specs.Prelude.{◌==◌, ◌||◌, nat_lt}
-use Rattle.std.proofs.lemmas.Bool.{cases_Bool, ltb-true}
-use Rattle.std.proofs.lemmas.List.{drop-drop, take-append-drop, take_more}
+use Rattle.std.specs.Prelude.{◌==◌, nat_lt}
+use Rattle.std.proofs.lemmas.Bool.{cases_Bool}
+use Rattle.std.proofs.lemmas.List.{drop-drop, take_more}
 use Rattle.std.proofs.lemmas.List.Sums.{take_while-cons}
 use Rattle.roff_lines.specs.Glyphs.{gap_blank, further_blank, glyph_blank}
 use Rattle.roff_lines.specs.Columns.{spread}
-use Rattle.roff_lines.specs.LineBytes.Fronts.{glyphs_in_front}
+use Rattle.roff_lines.specs.GlyphsInFront.{glyphs_in_front}
 
 -- a byte above the blank stands for none
 pub eqb-above : (b c : ℕ) → c ≤ 32 → 32 < b → (b == c) ≡ false
@@ -31,52 +31,6 @@ front-glyph b bytes e = take_while-cons (nat_lt 32) b bytes ∙ rw e refl
 pub front-blank : (b : ℕ) (bytes : List ℕ) → nat_lt 32 b ≡ false → glyphs_in_front (b ∷ bytes) ≡ []
 front-blank b bytes e = rw e refl
 
--- it is written as none above the blank
-spread-blank : (spare gaps i b : ℕ) (text behind : List ℕ) → nat_lt 32 b ≡ false →
-    glyphs_in_front (spread spare gaps i (b ∷ text) ++ behind) ≡ []
-spread-blank spare gaps i b text behind e =
-    elim (cases_Bool (b == gap_blank)) [
-      | inl f ↦ rw f refl
-      | inr f ↦ rw f (elim (cases_Bool (b == further_blank || b == glyph_blank)) [ inl g ↦ rw g refl | inr g ↦ rw (g, e) refl ])
-    ]
-
--- the glyphs in front of what is written, newlines behind it, are those of the text
-pub glyphs_in_front-spread : (spare gaps i newlines : ℕ) (text : List ℕ) →
-    glyphs_in_front (spread spare gaps i text ++ replicate newlines 10) ≡ glyphs_in_front text
-glyphs_in_front-spread spare gaps i zero [] = refl
-glyphs_in_front-spread spare gaps i (suc n) [] = refl
-glyphs_in_front-spread spare gaps i newlines (b ∷ text) =
-    let behind : List ℕ = replicate newlines 10 in
-    elim (cases_Bool (nat_lt 32 b)) [
-      | inl e ↦
-          let first = spread-glyph spare gaps i b text (ltb-true 32 b e) in
-          rw (first, front-glyph b (spread spare gaps i text ++ behind) e, front-glyph b text e)
-          (ap (λ bytes. b ∷ bytes) (glyphs_in_front-spread spare gaps i newlines text))
-      | inr e ↦ spread-blank spare gaps i b text behind e ∙ sym (front-blank b text e)
-    ]
-
--- the first n of these are written as they stand
-spread-glyphs_in_front : (spare gaps i n : ℕ) (text rest : List ℕ) →
-    spread spare gaps i (take n (glyphs_in_front text) ++ rest) ≡ take n (glyphs_in_front text) ++ spread spare gaps i rest
-spread-glyphs_in_front spare gaps i zero text rest = refl
-spread-glyphs_in_front spare gaps i (suc n) [] rest = refl
-spread-glyphs_in_front spare gaps i (suc n) (b ∷ text) rest =
-    elim (cases_Bool (nat_lt 32 b)) [
-      | inl e ↦ rw (front-glyph b text e)
-          (spread-glyph spare gaps i b (take n (glyphs_in_front text) ++ rest) (ltb-true 32 b e)
-          ∙ ap (λ bytes. b ∷ bytes) (spread-glyphs_in_front spare gaps i n text rest))
-      | inr e ↦ rw (front-blank b text e) refl
-    ]
-
--- so what is written of a text is these, and what is written of the rest
-pub take-append-spread : (spare gaps i n count : ℕ) (text behind : List ℕ) → take count text ≡ take n (glyphs_in_front text) →
-    take count text ++ (spread spare gaps i (drop count text) ++ behind) ≡ spread spare gaps i text ++ behind
-take-append-spread spare gaps i n count text behind front =
-    let rest : List ℕ = drop count text in
-    let whole : spread spare gaps i text ≡ take count text ++ spread spare gaps i rest =
-    ap (spread spare gaps i) (sym (take-append-drop count text)) ∙ rw front (spread-glyphs_in_front spare gaps i n text rest) in
-    rw (whole, append_assoc) refl
-
 -- those of a step, and of what is behind them
 glyphs_in_front-behind : (n r : ℕ) (text : List ℕ) → r ≡ prefix_len (nat_lt 32) (take n text)
     → take r text ++ glyphs_in_front (drop r text) ≡ glyphs_in_front text
@@ -88,18 +42,6 @@ glyphs_in_front-behind (suc n) r (b ∷ text) counted =
           let more : r ≡ suc (prefix_len (nat_lt 32) (take n text)) = counted ∙ rw e (omega arith) in
           rw (more, front-glyph b text e) (ap (λ bytes. b ∷ bytes) (glyphs_in_front-behind n (prefix_len (nat_lt 32) (take n text)) text refl))
       | inr e ↦ let none : r ≡ 0 = counted ∙ rw e refl in rw none refl
-    ]
-
--- none stands behind those of a step that hasn't so many
-glyphs_in_front-ended : (n r : ℕ) (text : List ℕ) → r ≡ prefix_len (nat_lt 32) (take n text) → r < n → glyphs_in_front (drop r text) ≡ []
-glyphs_in_front-ended zero r text counted less = absurd (omega (arith, less))
-glyphs_in_front-ended (suc n) r [] counted less = rw counted refl
-glyphs_in_front-ended (suc n) r (b ∷ text) counted less =
-    elim (cases_Bool (nat_lt 32 b)) [
-      | inl e ↦
-          let more : r ≡ suc (prefix_len (nat_lt 32) (take n text)) = counted ∙ rw e (omega arith) in
-          rw more (glyphs_in_front-ended n (prefix_len (nat_lt 32) (take n text)) text refl (omega (arith, more, less)))
-      | inr e ↦ let none : r ≡ 0 = counted ∙ rw e refl in rw none (front-blank b text e)
     ]
 
 module _ (text : List ℕ) (count : ℕ) (so_far : take count text ++ glyphs_in_front (drop count text) ≡ glyphs_in_front text) where
@@ -123,10 +65,3 @@ module _ (text : List ℕ) (count : ℕ) (so_far : take count text ++ glyphs_in_
       let split : drop count text ≡ b ∷ rest = drop-cons text count 0 within ∙ ap (λ m. b ∷ drop m text) next in
       ap (λ (xs : List ℕ). xs ++ glyphs_in_front rest) (take_more text count 0 within) ∙ append_assoc (take count text) (b ∷ []) (glyphs_in_front rest)
       ∙ ap (λ (xs : List ℕ). take count text ++ xs) (sym (ap glyphs_in_front split ∙ front-glyph b rest high)) ∙ so_far
-
-  -- where a step hasn't so many, these are all
-  pub glyphs_in_front-all : (n r : ℕ) → r ≡ prefix_len (nat_lt 32) (chunk count n text) → r < n → take (count + r) text ≡ glyphs_in_front text
-  glyphs_in_front-all n r counted less =
-      let none : glyphs_in_front (drop (count + r) text) ≡ [] =
-      ap glyphs_in_front (sym (drop-drop r count text)) ∙ glyphs_in_front-ended n r (drop count text) counted less in
-      sym (append-nil (take (count + r) text)) ∙ ap (λ (xs : List ℕ). take (count + r) text ++ xs) (sym none) ∙ glyphs_in_front-step n r counted

@@ -1,11 +1,5 @@
-pub mod Blanks
 pub mod GlyphsInFront
-pub mod BlanksInFront
-pub mod SharedColumns
-pub mod SpreadsOver
-pub mod Copied
 pub mod Steps
-pub mod StepsCopied
 pub mod Widths
 pub mod Sentences
 pub mod PendingLine
@@ -31,5 +25,3 @@ pub mod FirstLineOf
 pub mod ToldWords
 pub mod Paragraphs
 pub mod Columns
-pub mod Escaped
-pub mod DivertedLength

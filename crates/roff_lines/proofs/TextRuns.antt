@@ -8,7 +8,7 @@ use Rattle.std.proofs.lemmas.List.{length-append, length-take, take-append-drop}
 use Rattle.roff_lines.specs.Events.{WordEnd, Gap, History}
 use Rattle.roff_lines.specs.Telling.{bytes_told, QuietlyTold}
 use Rattle.roff_lines.specs.Lines.{pending_length}
-use Rattle.roff_lines.specs.LineBytes.Fronts.{glyphs_in_front}
+use Rattle.roff_lines.specs.GlyphsInFront.{glyphs_in_front}
 use Rattle.roff_lines.specs.Env.Kept.{Kept, glyph_room, with_glyphs, with_word_ended, word_finishes}
 use Rattle.roff_lines.specs.Env.Stands.{Stands, StandsBehind}
 use Rattle.roff_lines.specs.Env.Tells.{Tells, TellsFront, EndsGlyphs, EndsBlanks}

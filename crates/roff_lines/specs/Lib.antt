@@ -15,8 +15,7 @@ pub mod Stretch
 pub mod StopTable
 pub mod Env
 pub mod Shape
-pub mod LineBytes
-pub mod DivertedBytes
+pub mod GlyphsInFront
 pub mod Filling
 pub mod FirstLine
 pub mod Paragraphs

@@ -1,8 +1,9 @@
 //! Glyphs: what a line prints in one piece.
 
 ghost use Rattle.std.specs.Prelude.{◌≡◌, length, if◌then◌else◌};
-ghost use Rattle.roff_lines.specs.Clauses.{glyph_text, glyph_width, text_byte, is_closer, is_sentence_mark};
-ghost use Rattle.roff_lines.specs.Clauses.{ends_sentence_behind, ends_sentence_behind_words};
+ghost use Rattle.roff_lines.specs.Clauses.{glyph_text, glyph_width, text_byte, is_closer};
+ghost use Rattle.roff_lines.specs.Clauses.{is_sentence_mark, ends_sentence_behind};
+ghost use Rattle.roff_lines.specs.Clauses.{ends_sentence_behind_words};
 
 use crate::line::UNPADDABLE;
 use roff_num::width_of_byte;
@@ -80,8 +81,8 @@ pub(crate) fn ends_sentence_behind(bytes: &[u8], before: bool) -> bool
     before
 }
 
-/// Whether a sentence ends behind these words of printed bytes, with blanks between them: closers and
-/// blanks leave that as it was before them.
+/// Whether a sentence ends behind these words of printed bytes, with blanks between them: closers
+/// and blanks leave that as it was before them.
 #[tactic(auto, using(crate::proofs::Sentences::ends_sentence_behind_words_push))]
 pub(crate) fn ends_sentence_behind_words(text: &[u8], before: bool) -> bool
     ensures { result ≡ ends_sentence_behind_words text.now before }

@@ -1,21 +1,20 @@
 //! Sixteen bytes of a text in one step.
 
-ghost use Rattle.std.specs.Prelude.{◌≡◌, ◌+◌, ◌-◌, ◌<◌, ◌≤◌, ◌^◌, ◌%◌, length, take, drop, map, nat_lt};
-ghost use Rattle.std.specs.Prelude.{if◌then◌else◌, ◌==◌, slice_index_or};
+ghost use Rattle.std.specs.Prelude.{◌≡◌, ◌+◌, ◌-◌, ◌<◌, ◌≤◌, ◌^◌, ◌%◌, length, take, drop, map};
+ghost use Rattle.std.specs.Prelude.{nat_lt, if◌then◌else◌, ◌==◌, slice_index_or};
 ghost use Rattle.std.specs.Int.{w64, trailing_zeros};
 ghost use Rattle.std.specs.List.{prefix_len};
-ghost use Rattle.std.specs.Simd.Lanes.{chunk, mask_l, put_chunk};
+ghost use Rattle.std.specs.Simd.Lanes.{chunk, mask_l};
 ghost use Rattle.roff_lines.specs.Glyphs.{gap_blank, gaps_in, text_width};
-ghost use Rattle.roff_lines.specs.Columns.{spaces};
 ghost use Rattle.roff_lines.specs.Env.Tells.{GoesOn, IsRun};
 
 use std::simd::prelude::*;
 
 /// How many bytes are looked at in one step.
-pub(crate) const STEP: usize = 16;
+pub const STEP: usize = 16;
 
 /// How many are where a text hasn't so many left.
-pub(crate) const HALF_STEP: usize = 8;
+pub const HALF_STEP: usize = 8;
 
 /// The place of the lowest bit of a mask that is set, or behind all where none of so many is.
 #[inline(always)]
@@ -31,7 +30,7 @@ fn first_set(mask: u64, lanes: usize) -> usize
 
 /// How many bytes of a step, from its first, are above the blank.
 #[inline(always)]
-pub(crate) fn glyphs_of_step(text: &[u8], start: usize) -> usize
+pub fn glyphs_of_step(text: &[u8], start: usize) -> usize
     requires { start + 16 ≤ length text.now }
     ensures { result ≡ prefix_len (nat_lt 32) (chunk start 16 text.now) }
 {
@@ -41,7 +40,7 @@ pub(crate) fn glyphs_of_step(text: &[u8], start: usize) -> usize
 
 /// How many bytes of half a step, from its first, are above the blank.
 #[inline(always)]
-pub(crate) fn glyphs_of_half_step(text: &[u8], start: usize) -> usize
+pub fn glyphs_of_half_step(text: &[u8], start: usize) -> usize
     requires { start + 8 ≤ length text.now }
     ensures { result ≡ prefix_len (nat_lt 32) (chunk start 8 text.now) }
 {
@@ -126,33 +125,4 @@ pub(crate) fn width_of_step(bytes: &[u8], start: usize, count: usize) -> u64
     let step = u8x16::from_slice(&bytes[start..]);
     let wide = step.simd_lt(u8x16::splat(0x80)) | step.simd_ge(u8x16::splat(0xc0));
     u64::from(in_front(wide.to_bitmask(), count).count_ones())
-}
-
-/// Copies a step of a text to a place of a buffer.
-#[inline(always)]
-pub(crate) fn copy_step(text: &[u8], start: usize, out: &mut [u8], place: usize)
-    requires text { start + 16 ≤ length text.now }
-    requires room { place + 16 ≤ length out.old }
-    ensures { out.new ≡ put_chunk place out.old (chunk start 16 text.now) }
-{
-    u8x16::from_slice(&text[start..]).copy_to_slice(&mut out[place..]);
-}
-
-/// Copies half a step of a text to a place of a buffer.
-#[inline(always)]
-pub(crate) fn copy_half_step(text: &[u8], start: usize, out: &mut [u8], place: usize)
-    requires text { start + 8 ≤ length text.now }
-    requires room { place + 8 ≤ length out.old }
-    ensures { out.new ≡ put_chunk place out.old (chunk start 8 text.now) }
-{
-    u8x8::from_slice(&text[start..]).copy_to_slice(&mut out[place..]);
-}
-
-/// Writes a step of blanks to a place of a buffer.
-#[inline(always)]
-pub(crate) fn blank_step(out: &mut [u8], place: usize)
-    requires { place + 16 ≤ length out.old }
-    ensures { out.new ≡ put_chunk place out.old (spaces 16) }
-{
-    u8x16::splat(b' ').copy_to_slice(&mut out[place..]);
 }

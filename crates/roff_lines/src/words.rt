@@ -2,11 +2,12 @@
 
 ghost use Rattle.std.specs.Prelude.{◌≡◌, ◌+◌, ◌-◌, ◌<◌, ◌≤◌, length, take, true, slice_index_or};
 ghost use Rattle.roff_lines.specs.Clauses.{gaps_in, text_width};
-ghost use Rattle.roff_lines.specs.LineBytes.Fronts.{glyphs_in_front};
+ghost use Rattle.roff_lines.specs.GlyphsInFront.{glyphs_in_front};
 ghost use Rattle.roff_lines.specs.Env.Tells.{GoesOn, IsRun, WholeWords};
 
-use crate::lanes::{STEP, behind_last_blank, gaps_of_step, run_of_step, width_of_step};
-use crate::line_bytes::count_of_glyphs;
+use crate::lanes::{
+    STEP, behind_last_blank, gaps_of_step, glyphs_of_step, run_of_step, width_of_step,
+};
 use roff_num::width_of_byte;
 
 /// How many bytes in front are whole words with a blank behind each, whose bytes are characters by
@@ -42,8 +43,8 @@ fn near_last_blank(bytes: &[u8], count: usize) -> usize
     behind_last_blank(bytes, start, count - start)
 }
 
-/// How many bytes in front, of so many, are words with one blank between two of them. Tells also how
-/// many blanks are among them.
+/// How many bytes in front, of so many, are words with one blank between two of them. Tells also
+/// how many blanks are among them.
 #[inline(always)]
 fn run_in_front(bytes: &[u8], end: usize) -> (usize, u64)
     requires { end ≤ length bytes.now }
@@ -101,6 +102,27 @@ fn goes_on(before: u8, byte: u8) -> bool
         return byte < 0x80;
     }
     byte == b' ' && before != b' '
+}
+
+/// How many bytes of glyphs stand in front of a text, at most so many.
+#[inline(always)]
+pub fn count_of_glyphs(text: &[u8], most: usize) -> usize
+    ensures text { result ≤ length text.now }
+    ensures glyphs { take result text.now ≡ take most (glyphs_in_front text.now) }
+{
+    let end = most.min(text.len());
+    let mut count = 0;
+    while count < end && text.len() - count >= STEP {
+        let run = glyphs_of_step(text, count);
+        count += run;
+        if run < STEP {
+            return count.min(end);
+        }
+    }
+    while count < end && text[count] > b' ' {
+        count += 1;
+    }
+    count.min(end)
 }
 
 /// How many bytes of glyphs stand in front of a text, at most so many. Tells also how wide they

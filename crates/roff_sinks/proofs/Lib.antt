@@ -1,2 +1,11 @@
+pub mod Blanks
+pub mod GlyphsSpread
+pub mod BlanksInFront
+pub mod SharedColumns
+pub mod SpreadsOver
+pub mod Copied
+pub mod StepsCopied
+pub mod Escaped
+pub mod DivertedLength
 pub mod Appending
 pub mod TitleParts

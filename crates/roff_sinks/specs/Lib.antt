@@ -1,3 +1,5 @@
+pub mod LineBytes
+pub mod DivertedBytes
 pub mod Sinks
 pub mod Devices
 pub mod Within

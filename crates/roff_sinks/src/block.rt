@@ -6,7 +6,7 @@ ghost use Rattle.std.specs.Prelude.{OnErr, ◌+◌, ◌<◌, ◌^◌, true, fals
 ghost use Rattle.roff_lines.specs.Columns.{device_line, finished_of, line_bytes, printed};
 ghost use Rattle.roff_lines.specs.Columns.{spaces};
 ghost use Rattle.roff_lines.specs.Glyphs.{text_width};
-ghost use Rattle.roff_lines.specs.LineBytes.Fronts.{Moves};
+ghost use Rattle.roff_sinks.specs.LineBytes.Fronts.{Moves};
 ghost use Rattle.roff_sinks.specs.Sinks.{Fails, HoldsBack, Puts};
 ghost use Rattle.roff_sinks.specs.TitleLeft.{title_of};
 ghost use Rattle.roff_sinks.specs.TitleParts.{HasNoBlank};
@@ -17,9 +17,10 @@ mod added_title;
 mod within;
 
 use self::within::add_line;
+use crate::line_bytes::LineBytes;
 use crate::sink::{ByteSink, SinkFault};
 use crate::title::{TitleLine, TitlePieces};
-use roff_lines::{Line, LineBytes};
+use roff_lines::Line;
 use std::alloc::{AllocError, Global};
 use std::marker::Model;
 

@@ -6,6 +6,8 @@ ghost use Rattle.std.specs.Bool.{MatchBool};
 ghost use Rattle.std.specs.List.{AllByRecursion};
 ghost use Rattle.roff_lines.specs.Clauses.{History, bytes_told, QuietlyTold, text_width, gaps_in};
 ghost use Rattle.roff_lines.specs.Clauses.{may_be_wide};
+ghost use Rattle.roff_lines.specs.Env.Kept.{Kept};
+ghost use Rattle.roff_lines.specs.Env.Tells.{EndsGlyphs};
 
 use super::Env;
 use super::words::{moved, push_gap};
@@ -20,7 +22,7 @@ const MOST_COLUMNS: u64 = 1 << 35;
 impl Env {
     ghost use Rattle.roff_lines.specs.Env.Kept.{with_glyphs, with_words, glyph_room, word_finishes};
     ghost use Rattle.roff_lines.specs.Env.Stands.{Stands};
-    ghost use Rattle.roff_lines.specs.Env.Tells.{Tells, TellsFront, HasRoom, EndsGlyphs};
+    ghost use Rattle.roff_lines.specs.Env.Tells.{Tells, TellsFront, HasRoom};
     ghost use Rattle.roff_lines.specs.Env.Tells.{EndsBlanks};
 
     /// Adds bytes of a text line, which are blanks and bytes above the blank: as many of those in
@@ -48,8 +50,21 @@ impl Env {
     }
 
     /// Adds whole words in front, and then glyphs, as many as the limit on the pending line lets
-    /// through. Gives back what is left.
+    /// through. Gives back what is left: all where a blank is in front.
+    #[inline(always)]
     fn text_in_front<'a>(&mut self, bytes: &'a [u8]) -> &'a [u8]
+        ensures told { TellsFront bytes.now result.now self.old self.new }
+        ensures ends { EndsGlyphs result.now self.new }
+    {
+        if begins_with_blank(bytes) {
+            return bytes;
+        }
+        self.words_and_glyphs(bytes)
+    }
+
+    /// The same, whatever is in front.
+    #[inline(never)]
+    fn words_and_glyphs<'a>(&mut self, bytes: &'a [u8]) -> &'a [u8]
         ensures told { TellsFront bytes.now result.now self.old self.new }
         ensures ends { EndsGlyphs result.now self.new }
     {
@@ -91,8 +106,8 @@ impl Env {
         )
     }
 
-    /// Puts words into the pending line, behind its gap, with a gap of one blank behind them. Each of
-    /// their bytes is a column wide.
+    /// Puts words into the pending line, behind its gap, with a gap of one blank behind them. Each
+    /// of their bytes is a column wide.
     #[inline(always)]
     fn words(&mut self, text: &[u8], gaps: u64)
         requires line { self.old.has_line ≡ true }
@@ -184,6 +199,14 @@ impl Env {
         self.gap(1);
         true
     }
+}
+
+/// Whether a blank is the first of these bytes.
+#[inline(always)]
+fn begins_with_blank(bytes: &[u8]) -> bool
+    ensures { result ≡ true → (k : Kept) → EndsGlyphs bytes.now k }
+{
+    matches!(bytes, [b' ', ..])
 }
 
 /// How many bytes of words, which are a column wide each, may stand behind a line and a gap, with a

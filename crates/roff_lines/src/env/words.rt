@@ -1,7 +1,7 @@
 //! Glyphs, tabs and gaps, and the open word on its way into the pending line.
 
-ghost use Rattle.std.specs.Prelude.{◌≡◌, ℕ, ◌+◌, ◌<◌, ◌≤◌, ◌^◌, ◌↔◌, not, ◌∷◌, ◌++◌, length};
-ghost use Rattle.std.specs.Prelude.{false, if◌then◌else◌, OnOk, OnErr, IsErr, IsOkUnless, option_map};
+ghost use Rattle.std.specs.Prelude.{◌≡◌, ℕ, ◌+◌, ◌<◌, ◌≤◌, ◌^◌, ◌↔◌, not, ◌∷◌, ◌++◌, length, false};
+ghost use Rattle.std.specs.Prelude.{if◌then◌else◌, OnOk, OnErr, IsErr, IsOkUnless, option_map};
 ghost use Rattle.roff_lines.specs.Clauses.{Print, Tab, Gap, History, indent_by, moved};
 ghost use Rattle.roff_lines.specs.Clauses.{pending_length, shaped, text_width, gap_text};
 ghost use Rattle.roff_lines.specs.Clauses.{may_be_wide};
@@ -86,8 +86,8 @@ impl Env {
         self.glyph(Glyph::Blanks(columns))
     }
 
-    /// Adds so many blanks to the gap between words. Where no glyph stands on the line of the input,
-    /// it adds none to a gap that is there, and leaves the place on the line.
+    /// Adds so many blanks to the gap between words. Where no glyph stands on the line of the
+    /// input, it adds none to a gap that is there, and leaves the place on the line.
     pub fn gap(&mut self, blanks: u32)
         ensures { StandsBehind self.old (Gap blanks) self.new }
     {
@@ -172,8 +172,8 @@ impl Env {
         )
     }
 
-    /// Puts the open word into the pending line, where that finishes none. Says whether it does; else
-    /// the environment is as it was.
+    /// Puts the open word into the pending line, where that finishes none. Says whether it does;
+    /// else the environment is as it was.
     #[inline(always)]
     pub(super) fn join_word(&mut self) -> bool
         ensures joins { result ≡ not (word_finishes self.old) }

@@ -11,10 +11,11 @@ ghost use Rattle.roff_sinks.specs.Within.{PutsWithin};
 
 use super::added_title::add_title;
 use super::{BLOCK, Block, add_pieces, put};
+use crate::line_bytes::LineBytes;
 use crate::page_fault::PageFault;
 use crate::sink::ByteSink;
 use crate::title::{TitleLine, TitlePieces};
-use roff_lines::{Line, LineBytes};
+use roff_lines::Line;
 
 impl Block {
     /// Writes a line as [`Block::put_line_behind`] does, if that takes so many bytes at most, and

@@ -1,6 +1,6 @@
 use Rattle.std.proofs.Common.{◌≡◌, ◌+◌, ◌-◌, ◌++◌, [], List, ℕ, length, take, replicate, arith, append_assoc, append-nil, refl, sym, ap, ◌∙◌, rules, vec_len}
 use Rattle.std.proofs.lemmas.List.{take_all, length-append, length-replicate}
-use Rattle.roff_lines.specs.LineBytes.Fronts.{Moves}
+use Rattle.roff_sinks.specs.LineBytes.Fronts.{Moves}
 use Rattle.roff_sinks.proofs.block.add_pieces.Goals as goal
 
 -- blanks behind what is held

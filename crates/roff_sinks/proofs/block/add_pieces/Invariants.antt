@@ -1,5 +1,5 @@
 use Rattle.std.proofs.Common.{◌-◌, ◌≤◌, length, vec_capacity}
-use Rattle.roff_lines.specs.LineBytes.Fronts.{Moves}
+use Rattle.roff_sinks.specs.LineBytes.Fronts.{Moves}
 use Rattle.roff_sinks.proofs.block.add_pieces.Given as goal
 
 abbrev pub invariant-loop-piece : goal.invariant-loop-piece

@@ -1,7 +1,7 @@
 use Rattle.std.proofs.Common.{◌≡◌, ◌++◌, ◌∷◌, [], List, ℕ, length, arith, refl, append_assoc, append-nil, sym, ap, ◌∙◌}
 use Rattle.std.proofs.lemmas.List.{length-append}
 use Rattle.std.proofs.lemmas.Result.{err_from_is_err_and, on_ok_weaker, on_err_weaker}
-use Rattle.roff_lines.specs.LineBytes.Fronts.{Moves}
+use Rattle.roff_sinks.specs.LineBytes.Fronts.{Moves}
 use Rattle.roff_sinks.specs.Sinks.{Sunk}
 use Rattle.roff_sinks.proofs.Appending.{Writes-nothing, HoldsBack-push, HoldsBack-keep, HoldsBack-put, Fails-held}
 use Rattle.roff_sinks.proofs.block.put_rest.Invariants.{Begun}

@@ -1,0 +1,12 @@
+use Rattle.std.proofs.Common.{◌≡◌, ◌≤◌, ◌-◌, ◌++◌}
+use Rattle.roff_lines.specs.Columns.{spaces}
+use Rattle.roff_sinks.proofs.line_bytes.LineBytes.take_blanks.Given as goal
+
+abbrev pub invariant-loop-count : goal.invariant-loop-count
+invariant-loop-count l = record {
+  few : l.count ≤ l.most;
+  taken : spaces l.count ++ l.self ≡ l.initial.self;
+}
+
+abbrev pub decreases-loop-count : goal.decreases-loop-count
+decreases-loop-count l = l.most - l.count
