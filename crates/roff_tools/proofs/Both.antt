@@ -1,11 +1,12 @@
 -- Runs of the formatter over a source with the pictures of its tables.
-use Rattle.std.proofs.Common.{ℕ, refl, subst}
+use Rattle.std.proofs.Common.{◌≡◌, ℕ, refl, subst}
 use Rattle.roff_num.specs.declared.limits.Limits.{Limits}
 use Rattle.roff_source.specs.Tape.{Tape}
 use Rattle.roff_run.specs.declared.start.Start.{Start}
 use Rattle.roff_run.specs.declared.status.Status.{Status}
 use Rattle.roff_engine.specs.Engine.Outcome.{Outcome, Runs, Seen}
 use Rattle.tbl_layout.specs.declared.limits.TblLimits.{TblLimits}
+use Rattle.tbl_core.specs.Tables.{TablesState}
 use Rattle.tbl_core.specs.Yields.{At, MayGive, at_start, yields}
 use Rattle.roff_tools.specs.Both.{RunsBoth, RunsOverTables}
 
@@ -30,3 +31,12 @@ module _ (l : Limits) (start : Start) (tables tables' : TblLimits) (line_length 
     some = runs.took.some_given.under;
     some_given = runs.took.some_given.given;
   }
+
+-- the run is over the tapes of a source that has come so far
+pub Runs-at : {S : Type 0} (l : Limits) (start : Start) (status : Status) (gives : S → Tape → Type 0) (s inner : S) (t at : TablesState)
+    (new : Tape → Type 0) (before : S → Seen) (now : Seen) → s ≡ inner → t ≡ at
+    → Runs l start status (MayGive t.limits t.line_length t.at (gives s)) new (before s) now
+    → Runs l start status (MayGive at.limits at.line_length at.at (gives inner)) new (before inner) now
+Runs-at {S = S} l start status gives s inner t at new before now same is runs =
+    subst (λ (i : S). Runs l start status (MayGive at.limits at.line_length at.at (gives i)) new (before i) now) same
+    (subst (λ (u : TablesState). Runs l start status (MayGive u.limits u.line_length u.at (gives s)) new (before s) now) is runs)

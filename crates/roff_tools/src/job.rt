@@ -8,7 +8,7 @@ use roff_num::Limits;
 use roff_scan::ByteSource;
 use roff_sinks::ByteSink;
 use std::alloc::{AllocError, Global};
-use tbl_core::{TblLimits, TblSource};
+use tbl_core::{GatheredSource, TblLimits, TblSource};
 use tbl_run::put_tables;
 
 /// What to run. A line length is in columns; tables are centred within it.
@@ -124,7 +124,7 @@ fn run_both<S: ByteSource, O: ByteSink, E: ByteSink>(
     ensures unread { OnErr result.0 (result.1 ≡ source) }
     ensures unwritten { OnErr result.0 ((out.new ≡ out.old) × (err.new ≡ err.old)) }
 {
-    match TblSource::new(alloc, limits, line_length, source) {
+    match GatheredSource::new(alloc, limits, line_length, source) {
         Ok(tables) => {
             let mut tables = tables;
             let status = engine.format(&mut tables, out, err);

@@ -1,6 +1,7 @@
 -- Bytes that are pending and lie together are given at once.
-use Rattle.std.proofs.Common.{◌≡◌, ℕ, zero, suc, ◌≤◌, Bool, true, List, [], ◌∷◌, Option, None, length, map, take, drop, refl, sym, ap, ◌∙◌, subst, arith}
-use Rattle.std.proofs.lemmas.List.{drop-map, drop_all, length-map, take-map}
+use Rattle.std.proofs.Common.{◌≡◌, ℕ, zero, suc, ◌≤◌, Bool, true, false, List, [], ◌∷◌, Option, length, length-take, map, nat_le, take, drop, refl, sym, ap, ◌∙◌, subst, arith}
+use Rattle.std.proofs.lemmas.Bool.Decides.{nat_tests}
+use Rattle.std.proofs.lemmas.List.{drop-map, drop_all, length-map, length-take-le, take-map, take-take, take_all}
 use Rattle.roff_source.specs.Tape.{Item, OneByte, OneNote, Tape}
 use Rattle.tbl_layout.specs.declared.limits.TblLimits.{TblLimits}
 use Rattle.tbl_layout.specs.declared.message.Told.{Told}
@@ -8,10 +9,10 @@ use Rattle.tbl_layout.specs.Parts.{IsFront}
 use Rattle.tbl_layout.proofs.Slices.{front-few}
 use Rattle.tbl_core.specs.declared.place.Count.{Count}
 use Rattle.tbl_core.specs.declared.place.Position.{Position}
-use Rattle.tbl_core.specs.NotesLeft.{noted}
+use Rattle.tbl_core.specs.NotesLeft.{noted, notes_left}
 use Rattle.tbl_core.specs.Source.{IsAlive, IsSourced, MayGiveSome, NotAsked, WasAsked}
 use Rattle.tbl_core.specs.Tables.{TablesState, behind_given, pending_of, standing_of}
-use Rattle.tbl_core.specs.Yields.{At, at_start}
+use Rattle.tbl_core.specs.Yields.{At}
 use Rattle.tbl_core.proofs.Pending.{Bytes}
 use Rattle.tbl_table.specs.Reading.{KeptTable}
 
@@ -100,3 +101,34 @@ alive_pending gives at front (NotAsked is) first some =
     let few = front-few (map OneByte front) at.pending first in
     absurd (omega (arith, none, few, length-map front OneByte, some))
 alive_pending gives at front (WasAsked tape given) first some = record { some = tape; some_given = given }
+
+-- a part of a front is one
+fewer-front : {A : Type 0} (t : Bool) (k : ℕ) (front all : List A) → nat_le k (length front) ≡ t → IsFront front all → IsFront (take k front) all
+fewer-front true k front all le is =
+    let few : k ≤ length front = grind (arith, nat_tests, le) in
+    ap (λ (n : ℕ). take n all) (length-take-le k front few)
+    ∙ sym (take-take k (length front) all few)
+    ∙ ap (take k) is
+fewer-front {A = A} false k front all le is =
+    let past : length front ≤ k = grind (arith, nat_tests, le) in
+    subst (λ (xs : List A). IsFront xs all) (sym (take_all k front past)) is
+
+-- the bytes that there is room for are the first that are pending
+pub front-pending : (k : ℕ) (known front : List ℕ) (pending : List Item) → IsFront (map OneByte known) pending → front ≡ take k known
+    → IsFront (map OneByte front) pending
+front-pending k known front pending is front_is =
+    let items : map OneByte front ≡ take k (map OneByte known) = ap (map OneByte) front_is ∙ sym (take-map OneByte k known) in
+    subst (λ (xs : List Item). IsFront xs pending) (sym items)
+    (fewer-front (nat_le k (length (map OneByte known))) k (map OneByte known) pending refl is)
+
+-- there is one where one of its part is
+pub front_some : (k : ℕ) (known front : List ℕ) → front ≡ take k known → 1 ≤ length front → 1 ≤ length known
+front_some k known front is some =
+    let few = ap (λ (xs : List ℕ). length xs) is in
+    omega (arith, few, length-take k known, some)
+
+-- no more messages are to come behind bytes that were given
+pub given_fewer : (n : ℕ) (t : TablesState) → noted t.at.pending ≡ 0 → notes_left (behind_given n t) ≤ notes_left t
+given_fewer n t none =
+    let left = noted-drop n t.at.pending none in
+    omega (arith, left, none)

@@ -12,3 +12,4 @@ pub mod Ready
 pub mod Limiting
 pub mod ReadOn
 pub mod Given
+pub mod GatheredBytes

@@ -10,3 +10,4 @@ pub mod Source
 pub mod SourceKept
 pub mod NotesLeft
 pub mod Laws
+pub mod Gathered

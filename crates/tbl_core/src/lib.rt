@@ -1,12 +1,14 @@
-//! Tables: a source in which each table is replaced by its picture (Lesk, "Tbl - A Program to Format
-//! Tables").
+//! Tables: a source in which each table is replaced by its picture (Lesk, "Tbl - A Program to
+//! Format Tables").
 #![tactic(auto)]
 
+mod gathered;
 pub mod laws;
 mod place;
 mod source;
 mod tables;
 
+pub use gathered::GatheredSource;
 pub use source::TblSource;
 pub use tbl_layout::limits::TblLimits;
 pub use tbl_layout::message::{Message, OptionText, Told};

@@ -15,8 +15,8 @@ use std::alloc::{AllocError, Global};
 use std::marker::Model;
 use tbl_layout::limits::TblLimits;
 
-/// A source that gives what its inner source gives, with each table in it as its picture. Bytes outside
-/// tables stand ready where those of the inner source do.
+/// A source that gives what its inner source gives, with each table in it as its picture. Bytes
+/// outside tables stand ready where those of the inner source do.
 #[derive(Drop)]
 pub struct TblSource<S: ByteSource> {
     inner: S,
@@ -132,8 +132,8 @@ impl<S: ByteSource> TblSource<S> {
         }
     }
 
-    /// The next byte to give, where one stands ready: one that is pending where no message is, or one
-    /// of the inner source that passes. Otherwise nothing happens.
+    /// The next byte to give, where one stands ready: one that is pending where no message is, or
+    /// one of the inner source that passes. Otherwise nothing happens.
     #[inline(always)]
     pub fn take_ready(&mut self) -> Option<u8>
         ensures gives { IfSome result (λ b. Answers (source_gives S.gives self.old)

@@ -8,10 +8,10 @@ ghost use Rattle.tbl_core.specs.Machine.{limit_inside, not_ended, own_told, read
 ghost use Rattle.tbl_core.specs.Passing.{passes_next, reads_outside};
 ghost use Rattle.tbl_core.specs.NotesLeft.{gives_byte, noted};
 ghost use Rattle.tbl_layout.specs.Parts.{IsFront};
-ghost use Rattle.tbl_core.specs.Tables.{behind_given};
-ghost use Rattle.tbl_core.specs.Tables.{IsByteGiven, IsGiven, IsRoomFor, begun_behind, byte_step, counted_step};
-ghost use Rattle.tbl_core.specs.Tables.{ending_step, handed, line_of, position_behind};
-ghost use Rattle.tbl_core.specs.Tables.{position_on_start_line, stopped_by, told_at};
+ghost use Rattle.tbl_core.specs.Tables.{behind_given, IsByteGiven, IsGiven, IsRoomFor};
+ghost use Rattle.tbl_core.specs.Tables.{begun_behind, byte_step, counted_step, ending_step, handed};
+ghost use Rattle.tbl_core.specs.Tables.{line_of, position_behind, position_on_start_line};
+ghost use Rattle.tbl_core.specs.Tables.{stopped_by, told_at};
 ghost use Rattle.tbl_core.specs.Yields.{at_start, behind_step};
 
 mod passing;

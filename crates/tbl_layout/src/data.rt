@@ -1,11 +1,11 @@
 //! The data of a table: lines, of which each is a row of fields (Lesk, "Tbl": Data).
 
-ghost use Rattle.std.specs.Prelude.{◌≡◌, ◌+◌, ◌-◌, ◌≤◌, ◌<◌, ◌++◌, length, slice_range, vec_capacity};
-ghost use Rattle.std.specs.Prelude.{IfSome, drop, not, ◌==◌, vec_len};
+ghost use Rattle.std.specs.Prelude.{◌≡◌, ◌+◌, ◌-◌, ◌≤◌, ◌<◌, ◌++◌, length, slice_range};
+ghost use Rattle.std.specs.Prelude.{vec_capacity, IfSome, drop, not, ◌==◌, vec_len};
 ghost use Rattle.std.specs.List.{list_all, position, prefix_len};
 ghost use Rattle.roff_source.specs.Bytes.{blank};
-ghost use Rattle.tbl_layout.specs.Data.{blanks_end_from, in_front_of, is_brace, is_command, is_not_built, is_opening};
-ghost use Rattle.tbl_layout.specs.Data.{is_rule, judged, judged_by};
+ghost use Rattle.tbl_layout.specs.Data.{blanks_end_from, in_front_of, is_brace, is_command};
+ghost use Rattle.tbl_layout.specs.Data.{is_not_built, is_opening, is_rule, judged, judged_by};
 ghost use Rattle.tbl_layout.specs.Data.{kept_fields, last_field_at, opening_at, separator_from};
 ghost use Rattle.tbl_layout.specs.Pieces.{field_of, fields_from};
 

@@ -1,8 +1,8 @@
 //! The format of a table, as it is kept while it is read.
 
 ghost use Rattle.std.specs.Prelude.{◌≡◌, ◌+◌, ◌<◌, ◌≤◌, [], ◌∷◌, length, drop, vec_capacity, IfOk};
-ghost use Rattle.tbl_layout.specs.Format.{asking, format_byte, format_read, greater, has_some, no_format};
-ghost use Rattle.tbl_layout.specs.Format.{with_columns, with_digit};
+ghost use Rattle.tbl_layout.specs.Format.{asking, format_byte, format_read, greater, has_some};
+ghost use Rattle.tbl_layout.specs.Format.{no_format, with_columns, with_digit};
 ghost use Rattle.tbl_layout.specs.KeyCounts.{Counts};
 ghost use Rattle.tbl_layout.specs.Parts.{last_end};
 ghost use Rattle.tbl_layout.specs.Picture.{first_format};
@@ -42,8 +42,8 @@ impl Model for FormatRows {
 }
 
 impl FormatRows {
-    ghost use Rattle.tbl_layout.specs.Format.{at_end, at_fault, behind_other, in_rows, with_digit_of};
-    ghost use Rattle.tbl_layout.specs.Format.{with_key, with_whole};
+    ghost use Rattle.tbl_layout.specs.Format.{at_end, at_fault, behind_other, in_rows};
+    ghost use Rattle.tbl_layout.specs.Format.{with_digit_of, with_key, with_whole};
     ghost use Rattle.tbl_layout.specs.FormatRows.{keeping, key_count};
 
     /// No byte of a format, with room for so many keys and columns.

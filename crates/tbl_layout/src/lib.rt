@@ -1,5 +1,5 @@
-//! What the lines of a table say, and how they are laid out: options, formats, fields, widths and the
-//! pieces of the picture's lines (Lesk, "Tbl - A Program to Format Tables").
+//! What the lines of a table say, and how they are laid out: options, formats, fields, widths and
+//! the pieces of the picture's lines (Lesk, "Tbl - A Program to Format Tables").
 #![tactic(auto)]
 
 pub mod data;

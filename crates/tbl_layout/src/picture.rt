@@ -1,14 +1,16 @@
 //! The picture of a table: its lines, one at a time (Lesk, "Tbl": Formatting).
 
-ghost use Rattle.std.specs.Prelude.{◌≡◌, ℕ, ◌+◌, ◌-◌, ◌*◌, ◌<◌, ◌≤◌, ◌^◌, List, ◌++◌, length, take, drop, min, replicate};
-ghost use Rattle.std.specs.Prelude.{slice_index, slice_range, vec_capacity, vec_len, if◌then◌else◌};
+ghost use Rattle.std.specs.Prelude.{◌≡◌, ℕ, ◌+◌, ◌-◌, ◌*◌, ◌<◌, ◌≤◌, ◌^◌, List, ◌++◌, length, take};
+ghost use Rattle.std.specs.Prelude.{drop, min, replicate, slice_index, slice_range, vec_capacity};
+ghost use Rattle.std.specs.Prelude.{vec_len, if◌then◌else◌};
 ghost use Rattle.std.specs.List.{AllByRecursion};
 ghost use Rattle.roff_source.specs.Bytes.{blank};
-ghost use Rattle.tbl_layout.specs.Picture.{before_lines, behind_lines, first_key, indenting, is_glyph};
-ghost use Rattle.tbl_layout.specs.Picture.{line_of, shift, to_last_glyph};
+ghost use Rattle.tbl_layout.specs.Picture.{before_lines, behind_lines, first_key, indenting};
+ghost use Rattle.tbl_layout.specs.Picture.{is_glyph, line_of, shift, to_last_glyph};
 ghost use Rattle.tbl_layout.specs.Parts.{IsFront};
-ghost use Rattle.tbl_layout.specs.Pieces.{AreGlyphless, AreMeasured, AreWithin, EndsInGlyph, HaveBytes, IsNarrow};
-ghost use Rattle.tbl_layout.specs.Pieces.{bytes_of, bytes_of_all, cells, piece_len, some_piece, texts_of};
+ghost use Rattle.tbl_layout.specs.Pieces.{AreGlyphless, AreMeasured, AreWithin, EndsInGlyph};
+ghost use Rattle.tbl_layout.specs.Pieces.{HaveBytes, IsNarrow, bytes_of, bytes_of_all, cells};
+ghost use Rattle.tbl_layout.specs.Pieces.{piece_len, some_piece, texts_of};
 
 use crate::data::Field;
 use crate::format::Key;

@@ -1,7 +1,8 @@
 //! How wide the texts and the columns of a table are (Lesk, "Tbl": Formatting).
 
 ghost use Rattle.std.specs.Prelude.{◌≡◌, ◌-◌, ◌<◌, ◌≤◌, ◌^◌, length, map, min};
-ghost use Rattle.tbl_layout.specs.Widths.{separation, text_width, width_in_text, widened, width_of_all};
+ghost use Rattle.tbl_layout.specs.Widths.{separation, text_width, width_in_text, widened};
+ghost use Rattle.tbl_layout.specs.Widths.{width_of_all};
 
 use crate::data::Field;
 use roff_num::width_of_byte;

@@ -1,7 +1,7 @@
 -- Bytes that are put at once, as steps of the definition: each is one.
-use Rattle.std.proofs.Common.{◌≡◌, ◌∙◌, ◌⊎◌, ℕ, suc, ◌+◌, ◌-◌, ◌<◌, ◌≤◌, Bool, true, false, List, [], ◌∷◌, ◌++◌, length, map, take, drop, nat_le, nat_lt, Option, None, ap, append_assoc, append-nil, arith, inl, inr, length-append, length-take, refl, subst, sym, if◌then◌else◌}
+use Rattle.std.proofs.Common.{◌≡◌, ◌∙◌, ◌⊎◌, ℕ, suc, ◌+◌, ◌-◌, ◌<◌, ◌≤◌, Bool, true, List, [], ◌∷◌, ◌++◌, length, map, take, drop, nat_lt, Option, None, ap, append_assoc, append-nil, arith, inl, inr, length-append, length-take, refl, subst, sym, if◌then◌else◌}
 use Rattle.std.proofs.lemmas.Bool.Decides.{nat_tests}
-use Rattle.std.proofs.lemmas.List.{length-map, length-take-le, map-append, take-append-drop, take-map, take-take, take_all}
+use Rattle.std.proofs.lemmas.List.{length-map, map-append, take-append-drop}
 use Rattle.std.specs.Io.KnownBytes.{Appends}
 use Rattle.roff_num.specs.declared.limit.Limit.TheVariants.{Output}
 use Rattle.roff_sinks.proofs.Appending.{Appends-append}
@@ -16,34 +16,13 @@ use Rattle.tbl_layout.specs.declared.limits.TblLimits.{TblLimits}
 use Rattle.tbl_layout.specs.declared.message.Message.TheVariants.{LimitReached, WriteFailed}
 use Rattle.tbl_core.specs.Machine.{Standing}
 use Rattle.tbl_core.specs.Source.{MayGiveSome}
-use Rattle.tbl_core.specs.NotesLeft.{noted, notes_left}
-use Rattle.tbl_core.specs.Tables.{TablesState, behind_given, line_of}
-use Rattle.tbl_core.proofs.Given.{noted-drop}
+use Rattle.tbl_core.specs.Tables.{line_of}
 use Rattle.tbl_core.specs.Yields.{At}
 use Rattle.tbl_run.specs.Coming.{HasCome}
 use Rattle.tbl_run.specs.Outcome.{OutputFails, PutsTables}
 use Rattle.tbl_run.specs.Run.{State, Written, ends_telling, initial, step, steps}
 use Rattle.tbl_run.specs.Turns.{Adds, FailsAdding, FrontFails, FrontWritten, Tells}
 use Rattle.tbl_run.proofs.Turning.{Appends-adds, AppendsBetween-fails}
-
--- a part of a front is one
-fewer-front : {A : Type 0} (t : Bool) (k : ℕ) (front all : List A) → nat_le k (length front) ≡ t → IsFront front all → IsFront (take k front) all
-fewer-front true k front all le is =
-    let few : k ≤ length front = grind (arith, nat_tests, le) in
-    ap (λ (n : ℕ). take n all) (length-take-le k front few)
-    ∙ sym (take-take k (length front) all few)
-    ∙ ap (take k) is
-fewer-front {A = A} false k front all le is =
-    let past : length front ≤ k = grind (arith, nat_tests, le) in
-    subst (λ (xs : List A). IsFront xs all) (sym (take_all k front past)) is
-
--- the bytes that there is room for are the first that are pending
-pub front-pending : (k : ℕ) (known front : List ℕ) (pending : List Item) → IsFront (map OneByte known) pending → front ≡ take k known
-    → IsFront (map OneByte front) pending
-front-pending k known front pending is front_is =
-    let items : map OneByte front ≡ take k (map OneByte known) = ap (map OneByte) front_is ∙ sym (take-map OneByte k known) in
-    subst (λ (xs : List Item). IsFront xs pending) (sym items)
-    (fewer-front (nat_le k (length (map OneByte known))) k (map OneByte known) pending refl is)
 
 -- there is room for as many, and no more are pending than there are
 pub front_room : (k written output : ℕ) (known front : List ℕ) → front ≡ take k known → k ≡ output - written → written ≤ output
@@ -52,20 +31,10 @@ front_room k written output known front is most within =
     let few = ap (λ (xs : List ℕ). length xs) is in
     omega (arith, few, length-take k known, most, within)
 
-pub front_some : (k : ℕ) (known front : List ℕ) → front ≡ take k known → 1 ≤ length front → 1 ≤ length known
-front_some k known front is some =
-    let few = ap (λ (xs : List ℕ). length xs) is in
-    omega (arith, few, length-take k known, some)
-
--- fewer bytes may still be written behind them, and no more messages
+-- fewer bytes may still be written behind them
 pub front_falls : (output count more notes fewer n : ℕ) → 1 ≤ n → more ≡ count + n → count + n ≤ output → fewer ≤ notes
     → (output - more) + fewer < (output - count) + notes
 front_falls output count more notes fewer n some is room few = omega (arith, some, is, room, few)
-
-pub given_fewer : (n : ℕ) (t : TablesState) → noted t.at.pending ≡ 0 → notes_left (behind_given n t) ≤ notes_left t
-given_fewer n t none =
-    let left = noted-drop n t.at.pending none in
-    omega (arith, left, none)
 
 -- a list's last element, behind the others
 record Last (xs : List ℕ) : Type 0 where

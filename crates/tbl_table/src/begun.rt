@@ -1,6 +1,7 @@
 //! What is known of a line of the options or the format before it has ended.
 
-ghost use Rattle.std.specs.Prelude.{◌≡◌, ◌+◌, ◌^◌, ◌<◌, ℕ, Bool, not, ◌&&◌, ◌==◌, ◌++◌, [], ◌∷◌, length};
+ghost use Rattle.std.specs.Prelude.{◌≡◌, ◌+◌, ◌^◌, ◌<◌, ℕ, Bool, not, ◌&&◌, ◌==◌, ◌++◌, [], ◌∷◌};
+ghost use Rattle.std.specs.Prelude.{length};
 ghost use Rattle.roff_source.specs.Bytes.{newline};
 ghost use Rattle.tbl_table.specs.Begun.{FewKeys, begun_in, built_begun, count_of, head_begun};
 ghost use Rattle.tbl_layout.specs.Format.{Format, format_read, no_format};

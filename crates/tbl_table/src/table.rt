@@ -1,6 +1,7 @@
 //! The table that is being read.
 
-ghost use Rattle.std.specs.Prelude.{◌≡◌, ℕ, ◌+◌, ◌-◌, ◌<◌, ◌≤◌, ◌++◌, [], ◌∷◌, true, drop, length, IfOk};
+ghost use Rattle.std.specs.Prelude.{◌≡◌, ℕ, ◌+◌, ◌-◌, ◌<◌, ◌≤◌, ◌++◌, [], ◌∷◌, true, drop, length};
+ghost use Rattle.std.specs.Prelude.{IfOk};
 ghost use Rattle.std.specs.Option.{MatchOption};
 ghost use Rattle.tbl_layout.specs.Data.{judged};
 ghost use Rattle.tbl_layout.specs.Parts.{IsFront};
@@ -168,8 +169,8 @@ impl Table {
         judge(self.options.separator, self.format.columns(), line)
     }
 
-    /// The table is cut: the messages of its lines are to tell, but of one that goes on, and no byte
-    /// is to give.
+    /// The table is cut: the messages of its lines are to tell, but of one that goes on, and no
+    /// byte is to give.
     #[tactic(auto, unfolding(crate::specs::Table::told_at_cut, crate::specs::Table::notes))]
     pub fn cut(&mut self)
         ensures told { self.new.told ≡ told_at_cut self.old.reading.table }

@@ -1,6 +1,7 @@
 //! The messages of a table, and those that are to tell.
 
-ghost use Rattle.std.specs.Prelude.{◌≡◌, ◌+◌, ◌-◌, ◌<◌, ◌≤◌, [], ◌∷◌, ◌++◌, true, length, map, slice_range, IfOk};
+ghost use Rattle.std.specs.Prelude.{◌≡◌, ◌+◌, ◌-◌, ◌<◌, ◌≤◌, [], ◌∷◌, ◌++◌, true, length, map};
+ghost use Rattle.std.specs.Prelude.{slice_range, IfOk};
 ghost use Rattle.std.specs.Option.{MatchOption};
 ghost use Rattle.tbl_layout.specs.Notes.{NotesWithin, ignored_message, told_at, told_of_all};
 ghost use Rattle.tbl_layout.specs.Options.{ignored_options};

@@ -12,8 +12,8 @@ use tbl_layout::data::{Field, push_fields};
 use tbl_layout::part_starts::part_start;
 use tbl_layout::widths::{widen, width_of_all};
 
-/// The rows of a table: fields, whose texts are parts of its block. All its memory is reserved as it
-/// is made.
+/// The rows of a table: fields, whose texts are parts of its block. All its memory is reserved as
+/// it is made.
 #[derive(Drop)]
 pub struct TableRows {
     fields: Vec<Field>,

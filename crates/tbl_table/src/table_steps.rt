@@ -1,15 +1,16 @@
 //! What a line of a table does to the parts that keep it.
 
-ghost use Rattle.std.specs.Prelude.{◌≡◌, ◌+◌, ◌-◌, ◌<◌, ◌≤◌, ◌++◌, [], length, slice_range, take, true};
-ghost use Rattle.std.specs.Prelude.{IfSome, unwrap_or, if◌then◌else◌};
+ghost use Rattle.std.specs.Prelude.{◌≡◌, ◌+◌, ◌-◌, ◌<◌, ◌≤◌, ◌++◌, [], length, slice_range, take};
+ghost use Rattle.std.specs.Prelude.{true, IfSome, unwrap_or, if◌then◌else◌};
 ghost use Rattle.tbl_layout.specs.Data.{is_row, kept_fields};
 ghost use Rattle.tbl_layout.specs.Format.{format_read};
 ghost use Rattle.tbl_layout.specs.FormatRows.{key_count, keeping};
 ghost use Rattle.tbl_table.specs.Joined.{ends_joined, goes_on};
 ghost use Rattle.tbl_layout.specs.Notes.{NotesWithin, told_of_all};
 ghost use Rattle.tbl_layout.specs.Pieces.{fields_from};
-ghost use Rattle.tbl_table.specs.Steps.{built_format, built_place, fault_noted, judged_line, notes_judged, phase_at_last, phase_behind};
-ghost use Rattle.tbl_table.specs.Steps.{options_told, phase_judged, rows_judged, rows_started, surplus_line};
+ghost use Rattle.tbl_table.specs.Steps.{built_format, built_place, fault_noted, judged_line};
+ghost use Rattle.tbl_table.specs.Steps.{notes_judged, phase_at_last, phase_behind, options_told};
+ghost use Rattle.tbl_table.specs.Steps.{phase_judged, rows_judged, rows_started, surplus_line};
 ghost use Rattle.tbl_table.specs.Steps.{surplus_noted, with_cause};
 ghost use Rattle.tbl_table.specs.TableRows.{fields_of};
 ghost use Rattle.tbl_layout.specs.declared.notes.Cause.TheVariants.{BadFormat};
@@ -24,7 +25,8 @@ use tbl_layout::format::FormatPlace;
 use tbl_layout::format_rows::FormatRows;
 use tbl_layout::notes::{Cause, KeptNote};
 
-/// Reports a table that can't be formatted, for what stands on this line. Answers what is read then.
+/// Reports a table that can't be formatted, for what stands on this line. Answers what is read
+/// then.
 pub fn refuse(notes: &mut TableNotes, line: u32) -> Phase
     requires { length notes.old.notes < notes.old.note_room }
     ensures notes { notes.new ≡ with_cause line BadFormat notes.old }

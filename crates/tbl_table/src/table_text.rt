@@ -1,9 +1,11 @@
 //! The bytes of a table, as they are kept while they are read.
 
-ghost use Rattle.std.specs.Prelude.{◌≡◌, ◌+◌, ◌<◌, ◌≤◌, ◌++◌, [], ◌∷◌, length, drop, true, is_some, IfOk};
-ghost use Rattle.std.specs.Prelude.{vec_capacity, vec_len};
-ghost use Rattle.tbl_table.specs.Joined.{RiseWithin, behind_joined, ends_joined, goes_on, line_at, unjoined};
-ghost use Rattle.tbl_table.specs.TableText.{block_of, no_text, text_closed, text_ended, text_joined, text_whole};
+ghost use Rattle.std.specs.Prelude.{◌≡◌, ◌+◌, ◌<◌, ◌≤◌, ◌++◌, [], ◌∷◌, length, drop, true, is_some};
+ghost use Rattle.std.specs.Prelude.{IfOk, vec_capacity, vec_len};
+ghost use Rattle.tbl_table.specs.Joined.{RiseWithin, behind_joined, ends_joined, goes_on, line_at};
+ghost use Rattle.tbl_table.specs.Joined.{unjoined};
+ghost use Rattle.tbl_table.specs.TableText.{block_of, no_text, text_closed, text_ended};
+ghost use Rattle.tbl_table.specs.TableText.{text_joined, text_whole};
 
 use std::alloc::{AllocError, Global};
 use std::marker::Model;

@@ -66,8 +66,8 @@ pub(super) fn line_front(bytes: &[u8]) -> &[u8]
     at_most(bytes, memchr(b'\n', bytes).unwrap_or(bytes.len()))
 }
 
-/// The bytes of a line in front of the one that makes it a `.TS` line, where it begins so. Behind its
-/// first bytes none is looked at.
+/// The bytes of a line in front of the one that makes it a `.TS` line, where it begins so. Behind
+/// its first bytes none is looked at.
 #[inline]
 fn before_table(front: Front, line: &[u8]) -> &[u8]
     requires { IsWithinLine line.now }

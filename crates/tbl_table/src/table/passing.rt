@@ -45,7 +45,8 @@ impl Table {
     /// Tells what is to tell of a line that is begun, or that goes on.
     fn tell_last(&mut self, number: u32)
         requires room { length (bytes_read self.old.reading) ≤ self.old.limits.text }
-        ensures answer { is_bad self.new.reading.table ≡ is_bad (last_read number self.old.reading) }
+        ensures answer { is_bad self.new.reading.table
+            ≡ is_bad (last_read number self.old.reading) }
         ensures told { notes self.new.reading.table ≡ notes (last_read number self.old.reading) }
         ensures bytes { bytes_read self.new.reading ≡ bytes_read self.old.reading }
         ensures limits { self.new.limits ≡ self.old.limits }

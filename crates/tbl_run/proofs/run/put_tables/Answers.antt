@@ -3,7 +3,8 @@ use Rattle.std.proofs.lemmas.Bool.Decides.{nat_tests}
 use Rattle.roff_sinks.specs.Devices.{seen}
 use Rattle.tbl_layout.specs.declared.limits.TblLimits.{TblLimits}
 use Rattle.tbl_core.specs.NotesLeft.{notes_left}
-use Rattle.tbl_run.proofs.Fronts.{front-pending, front_falls, front_goes_on, front_has_ended, front_room, front_some, given_fewer}
+use Rattle.tbl_core.proofs.Given.{front-pending, front_some, given_fewer}
+use Rattle.tbl_run.proofs.Fronts.{front_falls, front_goes_on, front_has_ended, front_room}
 use Rattle.tbl_run.proofs.Turning.{falls, goes_on, has_ended, starts}
 use Rattle.tbl_run.proofs.run.put_tables.Goals as goal
 

@@ -1,0 +1,220 @@
+//! A source over a source with pictures, of which bytes are gathered.
+
+ghost use Rattle.std.specs.Prelude.{◌≡◌, ◌+◌, ◌<◌, ◌≤◌, ◌++◌, [], length, vec_capacity, vec_len, IfErr, IfOk};
+ghost use Rattle.roff_num.specs.Faults.{Rises};
+ghost use Rattle.roff_source.specs.Tape.{Answers, Ends, Failed, Gives, OneByte, OneNote, answer_of};
+ghost use Rattle.tbl_core.specs.NotesLeft.{notes_left};
+ghost use Rattle.tbl_core.specs.Yields.{at_start};
+
+use crate::source::TblSource;
+use roff_source::{ByteSource, Taken, at_most};
+use std::alloc::{AllocError, Global};
+use tbl_layout::limits::TblLimits;
+
+/// How many bytes are gathered at most.
+const GATHERED: usize = 1_024;
+
+/// How many pieces are gathered at most.
+const PIECES: usize = 128;
+
+/// A source that gives what a [`TblSource`] gives. Bytes that are pending there are gathered as they
+/// come: so they stand ready together.
+#[derive(Drop)]
+pub struct GatheredSource<S: ByteSource> {
+    source: TblSource<S>,
+    gathered: Vec<u8>,
+    /// How many of those were given.
+    next: usize,
+    ghost room: { 1024 ≤ vec_capacity gathered },
+    ghost within: { vec_len gathered ≤ 1024 },
+    ghost order: { next ≤ vec_len gathered },
+}
+
+impl<S: ByteSource> GatheredSource<S> {
+    ghost use Rattle.tbl_core.specs.Gathered.{KeepsGiven, gathered_gives, inner_of, left_of, tables_of};
+
+    /// A source over `inner`, of which nothing is read yet. The line length is in columns.
+    ///
+    /// # Errors
+    ///
+    /// [`AllocError`] and the inner source as it was, if the room can't be had.
+    pub fn new(
+        alloc: Global,
+        limits: TblLimits,
+        line_length: u32,
+        inner: S,
+    ) -> Result<Self, (AllocError, S)>
+        ensures tables { IfOk result (λ s. tables_of s
+            ≡ record { limits = limits; line_length = line_length; at = at_start }) }
+        ensures inner { IfOk result (λ s. inner_of s ≡ inner) }
+        ensures refused { IfErr result (λ e. e.1 ≡ inner) }
+    {
+        let gathered = match Vec::with_capacity(alloc, GATHERED) {
+            Ok(gathered) => gathered,
+            Err(error) => return Err((error, inner)),
+        };
+        match TblSource::new(alloc, limits, line_length, inner) {
+            Ok(source) => Ok(GatheredSource {
+                source,
+                gathered,
+                next: 0,
+            }),
+            Err(refused) => Err(refused),
+        }
+    }
+
+    /// The inner source.
+    pub fn into_inner(self) -> S
+        ensures { result ≡ inner_of self }
+    {
+        let GatheredSource {
+            source,
+            gathered: _,
+            next: _,
+        } = self;
+        source.into_inner()
+    }
+
+    /// Takes the next byte that was gathered.
+    #[inline(always)]
+    fn take_gathered(&mut self) -> u8
+        requires { self.old.next < vec_len self.old.gathered }
+        ensures gives { Answers (gathered_gives S.gives self.old) (gathered_gives S.gives self.new)
+            (Gives (OneByte result)) }
+        ensures notes { notes_left self.new.source.tables ≤ notes_left self.old.source.tables }
+        ensures inner { inner_of self.new ≡ inner_of self.old }
+    {
+        let byte = self.gathered[self.next];
+        self.next += 1;
+        self.gather_more();
+        byte
+    }
+
+    /// The next item of the source, where no byte that was gathered is left.
+    #[inline(never)]
+    fn take_next(&mut self) -> Taken
+        requires { left_of self.old ≡ [] }
+        ensures gives { Answers (gathered_gives S.gives self.old) (gathered_gives S.gives self.new)
+            (answer_of result) }
+        ensures notes { notes_left self.new.source.tables ≤ notes_left self.old.source.tables }
+        ensures note { (m : _) → answer_of result ≡ Gives (OneNote m)
+            → notes_left self.new.source.tables < notes_left self.old.source.tables }
+        ensures failures { S.failures (inner_of self.old) ≤ S.failures (inner_of self.new) }
+        ensures fault { answer_of result ≡ Ends Failed
+            → Rises (S.failures (inner_of self.old)) (S.failures (inner_of self.new)) }
+    {
+        let taken = self.source.take();
+        self.gather();
+        taken
+    }
+
+    /// Gathers bytes, unless some are left.
+    #[inline(always)]
+    fn gather_more(&mut self)
+        ensures { KeepsGiven self.old self.new }
+    {
+        if self.next >= self.gathered.len() {
+            self.gather();
+        }
+    }
+
+    /// Gathers the bytes that are pending, up to a message, as many as there is room for.
+    #[inline(never)]
+    fn gather(&mut self)
+        requires { left_of self.old ≡ [] }
+        ensures { KeepsGiven self.old self.new }
+    {
+        self.gathered.clear();
+        self.next = 0;
+        self.gather_pieces();
+    }
+
+    /// The same behind those that are gathered.
+    #[inline(always)]
+    fn gather_pieces(&mut self)
+        ensures { KeepsGiven self.old self.new }
+    {
+        for _ in 0..PIECES {
+            if !self.gather_piece() {
+                return;
+            }
+        }
+    }
+
+    /// The same of the next bytes that lie together. Answers whether there were some.
+    #[inline(always)]
+    fn gather_piece(&mut self) -> bool
+        ensures { KeepsGiven self.old self.new }
+    {
+        let room = GATHERED - self.gathered.len();
+        let piece = at_most(self.source.pending(), room);
+        let count = piece.len();
+        if count == 0 {
+            return false;
+        }
+        append(&mut self.gathered, piece);
+        self.source.give_bytes(count);
+        true
+    }
+}
+
+impl<S: ByteSource> ByteSource for GatheredSource<S> {
+    ghost use Rattle.tbl_core.specs.Gathered.{gathered_gives, gathered_ready, inner_of, some_gathered};
+
+    ghost gives = { gathered_gives S.gives };
+
+    ghost ready = { gathered_ready S.ready };
+
+    ghost notes = { λ s. notes_left s.source.tables };
+
+    ghost failures = { λ s. S.failures (inner_of s) };
+
+    #[inline(always)]
+    fn next_byte(&mut self) -> Taken {
+        if self.next < self.gathered.len() {
+            Taken::Byte(self.take_gathered())
+        } else {
+            self.take_next()
+        }
+    }
+
+    #[inline(always)]
+    fn ready_byte(&mut self) -> Option<u8> {
+        if self.next < self.gathered.len() {
+            Some(self.take_gathered())
+        } else {
+            self.source.take_ready()
+        }
+    }
+
+    #[inline(always)]
+    fn buffered(&self) -> &[u8] {
+        if self.next < self.gathered.len() {
+            self.gathered.as_slice().split_at(self.next).1
+        } else {
+            self.source.buffered()
+        }
+    }
+
+    #[inline(always)]
+    fn pass(&mut self, count: usize) {
+        if self.next < self.gathered.len() {
+            self.next += count;
+            self.gather_more();
+        } else {
+            self.source.pass(count);
+        }
+    }
+
+    ghost some = { some_gathered S.gives S.some };
+}
+
+/// Puts bytes behind others.
+#[inline(always)]
+fn append(bytes: &mut Vec<u8>, more: &[u8])
+    requires { vec_len bytes.old + length more.now ≤ vec_capacity bytes.old }
+    ensures items { bytes.new.items ≡ bytes.old.items ++ more.now }
+    ensures capacity { vec_capacity bytes.old ≤ vec_capacity bytes.new }
+{
+    bytes.extend_from_slice(more).unwrap();
+}
