@@ -4,11 +4,11 @@ ghost use Rattle.std.specs.Prelude.{◌≡◌, ℕ, ◌+◌, ◌<◌, ◌≤◌,
 ghost use Rattle.std.specs.Prelude.{IfOk, ◌==◌, true};
 ghost use Rattle.std.specs.Option.{option_copied};
 ghost use Rattle.roff_arguments.specs.Arguments.{AreFewer, Arguments, no_arguments, with_unit};
-ghost use Rattle.roff_arguments.specs.Arguments.{is_behind_quote, with_argument_byte};
-ghost use Rattle.roff_arguments.specs.Arguments.{with_kept, with_plain, with_byte, with_whole, settled};
+ghost use Rattle.roff_arguments.specs.Arguments.{is_behind_quote, with_argument_byte, with_kept};
+ghost use Rattle.roff_arguments.specs.Arguments.{with_plain, with_byte, with_whole, settled};
 ghost use Rattle.roff_arguments.specs.Arguments.{finished, held, kept, in_argument, total_length};
-ghost use Rattle.roff_arguments.specs.ArgumentTexts.Ends.{is_kept, last_end, EndWithin, EndWithin-prop};
-ghost use Rattle.roff_arguments.specs.ArgumentTexts.Ends.{texts_ending};
+ghost use Rattle.roff_arguments.specs.ArgumentTexts.Ends.{is_kept, last_end, EndWithin};
+ghost use Rattle.roff_arguments.specs.ArgumentTexts.Ends.{EndWithin-prop, texts_ending};
 
 use roff_escape::CopyUnit;
 use roff_source::is_argument_byte;
@@ -88,7 +88,8 @@ impl Place {
 }
 
 impl ArgumentTexts {
-    ghost use Rattle.roff_arguments.specs.ArgumentTexts.Kept.{KeptArguments, keeping, Keeps, TakesFront};
+    ghost use Rattle.roff_arguments.specs.ArgumentTexts.Kept.{KeptArguments, keeping, Keeps};
+    ghost use Rattle.roff_arguments.specs.ArgumentTexts.Kept.{TakesFront};
     ghost use Rattle.roff_arguments.specs.ArgumentList.{listed};
 
     /// No argument, with room for so many bytes.

@@ -1,18 +1,20 @@
 -- Bytes of a condition that are taken at once: what is half read behind them.
-use Rattle.std.proofs.Common.{◌≡◌, ℕ, suc, ◌+◌, ◌==◌, ◌≤◌, ◌<◌, Bool, true, false, not, ◌&&◌, ◌||◌, if◌then◌else◌, List, [], ◌∷◌, ◌++◌, length, take, get_or, Some, None, refl, sym, ap, subst, ◌∙◌, arith, length-append}
+use Rattle.std.proofs.Common.{◌≡◌, ℕ, suc, ◌+◌, ◌==◌, ◌≤◌, ◌<◌, Bool, true, false, not, ◌&&◌, ◌||◌, if◌then◌else◌, List, [], ◌∷◌, ◌++◌, length, take, get_or, Option, Some, None, refl, sym, ap, subst, ◌∙◌, arith, length-append}
 use Rattle.std.specs.Prelude.{codes, nat_le}
 use Rattle.std.proofs.Math.Seq.{take-suc}
 use Rattle.std.proofs.lemmas.Bool.{and_parts, leb-true, lt-leb, ne_eqb}
-use Rattle.roff_source.specs.Bytes.{backslash, blank, is_digit, is_dropped, is_silent, newline, tab}
+use Rattle.roff_source.specs.Bytes.{backslash, blank, is_argument_byte, is_digit, is_dropped, is_silent, newline, tab}
 use Rattle.roff_escape.specs.ConditionFronts.{ByteTaken, HalvesTaken, HoldsOn, IsHeld, IsRead, NothingTaken, TakesByte, TakesFront, TakesOn, is_of_expression}
-use Rattle.roff_escape.specs.Conditions.{begins_expression, expression_over, is_among, to_decide}
+use Rattle.roff_escape.specs.Conditions.{begins_expression, byte_or_backslash, choice_made, delimiter_met, expression_over, is_among, to_decide}
+use Rattle.roff_escape.specs.EscapeFronts.{ReadsByte, ReadsOn}
 use Rattle.roff_escape.specs.OpenEscape.{OpenEscape, Backslash, Condition, Reads as ReadsOf, text_held, texts_held}
-use Rattle.roff_escape.specs.EscapeTexts.{IsOnTop, KeptEscapes}
+use Rattle.roff_escape.specs.EscapeTexts.{IsOnTop, KeptEscapes, leaving}
 use Rattle.roff_escape.specs.declared.open_escape.ConditionPart.{ConditionPart}
 use Rattle.roff_escape.specs.declared.open_escape.ConditionPart.TheVariants.{Choice, Compared, Expression}
 use Rattle.roff_escape.specs.declared.open_escape.CopyUnit.TheVariants.{Byte}
 use Rattle.roff_escape.specs.declared.open_escape.Decision.TheVariants.{Is, OnPages}
 use Rattle.roff_escape.specs.declared.open_escape.HeldEscape.TheVariants.{Condition as ConditionRead}
+use Rattle.roff_escape.specs.declared.open_escape.Found.{Found}
 use Rattle.roff_escape.specs.declared.open_escape.Found.TheVariants.{GoesOn, Holds}
 
 -- one byte more is held of a condition
@@ -122,6 +124,124 @@ takes-digit negated begin b old now new top digit is held =
     takes-held b old new there
     (subst (λ (half : List OpenEscape). HoldsOn half b there) (sym top.same) (holds-digit negated top.text top.rest b digit))
     (held ∙ ap (λ (k : KeptEscapes). record k { escapes = text_held (Byte b) k.escapes }) is)
+
+-- none of three tests holds
+none_of_three : (first second third : Bool) → not (first || (second || third)) ≡ true → (first ≡ false) × ((second ≡ false) × (third ≡ false))
+none_of_three true second third none = absurd (cc)
+none_of_three false true third none = absurd (cc)
+none_of_three false false true none = absurd (cc)
+none_of_three false false false none = (refl, (refl, refl))
+
+-- what a byte of a choice gives that begins no number, by the tests on it
+abbrev chosen : Bool → List ℕ → List OpenEscape → ℕ → Bool → Bool → Bool → Bool → Bool → Bool → Bool → ReadsOf
+chosen negated text rest b blanks bang o e t n number =
+    if blanks then (GoesOn, Condition (Choice negated) text ∷ rest)
+    else if bang then (GoesOn, Condition (Choice true) text ∷ rest)
+    else if o then (GoesOn, to_decide rest text (OnPages (not negated)) None)
+    else if e then (GoesOn, to_decide rest text (OnPages negated) None)
+    else if t then (GoesOn, to_decide rest text (Is negated) None)
+    else if n then (GoesOn, to_decide rest text (Is (not negated)) None)
+    else if number then (Holds (Byte b), Condition (Expression negated) text ∷ rest)
+    else (GoesOn, Condition (Compared negated b None) text ∷ rest)
+
+-- it gives nothing yet, and holds no more
+record GoesOnWith (half : List OpenEscape) (r : ReadsOf) : Type 0 where
+  found : r ≡ (GoesOn, r.1)
+  held : texts_held r.1 ≡ texts_held half
+
+chosen-goes : (negated : Bool) (text : List ℕ) (rest : List OpenEscape) (b : ℕ) (blanks bang o e t n : Bool)
+    → GoesOnWith (Condition (Choice negated) text ∷ rest) (chosen negated text rest b blanks bang o e t n false)
+chosen-goes negated text rest b true bang o e t n = record { found = refl; held = refl }
+chosen-goes negated text rest b false true o e t n = record { found = refl; held = refl }
+chosen-goes negated text rest b false false true e t n = record { found = refl; held = refl }
+chosen-goes negated text rest b false false false true t n = record { found = refl; held = refl }
+chosen-goes negated text rest b false false false false true n = record { found = refl; held = refl }
+chosen-goes negated text rest b false false false false false true = record { found = refl; held = refl }
+chosen-goes negated text rest b false false false false false false = record { found = refl; held = refl }
+
+choice-goes : (negated : Bool) (text : List ℕ) (rest : List OpenEscape) (b : ℕ) → begins_expression b ≡ false
+    → GoesOnWith (Condition (Choice negated) text ∷ rest) (choice_made rest negated text b)
+choice-goes negated text rest b no_number =
+    subst (λ (c : Bool). GoesOnWith (Condition (Choice negated) text ∷ rest)
+    (chosen negated text rest b (b == blank && not negated) (b == 33 && not negated) (b == 111) (b == 101) (b == 116) (b == 110) c))
+    (sym no_number)
+    (chosen-goes negated text rest b (b == blank && not negated) (b == 33 && not negated) (b == 111) (b == 101) (b == 116) (b == 110))
+
+-- a byte that begins no number says what is asked, or delimits texts
+reads-choice : (negated : Bool) (text : List ℕ) (rest : List OpenEscape) (b : ℕ) → is_argument_byte b ≡ true → begins_expression b ≡ false
+    → ReadsOn (Condition (Choice negated) text ∷ rest) b (choice_made rest negated text b).1
+reads-choice negated text rest b is no_number =
+    let none = none_of_three (b == backslash) (is_dropped b) (b == newline) is in
+    let half : List OpenEscape = Condition (Choice negated) text ∷ rest in
+    let goes = choice-goes negated text rest b no_number in
+    record {
+      stands = none.1.0;
+      no_newline = none.1.1;
+      stays = none.1.1;
+      goes_on = λ base. ap (λ (c : Bool). if c then (GoesOn, Backslash ∷ half) else choice_made rest negated text b) none.0 ∙ goes.found;
+      held = goes.held;
+    }
+
+-- it was read
+pub reads-chosen : (negated : Bool) (begin b : ℕ) (found : Found) (old new : KeptEscapes) (top : IsOnTop (ConditionRead (Choice negated) begin) old.escapes)
+    → is_argument_byte b ≡ true → begins_expression b ≡ false → (found, new) ≡ leaving (choice_made top.rest negated top.text b) old → ReadsByte b true old new
+reads-chosen negated begin b found old new top is no_number made =
+    let there : new ≡ record old { escapes = (choice_made top.rest negated top.text b).1 } = ap (λ (p : Found × KeptEscapes). p.1) made in
+    record {
+      read = λ is_so. subst (λ (half : List OpenEscape). ReadsOn half b new.escapes) (sym top.same)
+          (subst (λ (next : List OpenEscape). ReadsOn (Condition (Choice negated) top.text ∷ top.rest) b next) (sym (ap (λ (k : KeptEscapes). k.escapes) there))
+          (reads-choice negated top.text top.rest b is no_number));
+      kept = λ isnt. absurd (cc);
+      room = ap (λ (k : KeptEscapes). k.room) there;
+    }
+
+-- texts that are compared are ended or parted by their delimiter
+met-goes : (negated : Bool) (d : ℕ) (first : Option ℕ) (text : List ℕ) (rest : List OpenEscape)
+    → GoesOnWith (Condition (Compared negated d first) text ∷ rest) (delimiter_met rest negated d first text)
+met-goes negated d None text rest = record { found = refl; held = refl }
+met-goes negated d (Some first) text rest = record { found = refl; held = refl }
+
+-- the delimiter was taken
+pub takes-delimiter : (negated : Bool) (d : ℕ) (first : Option ℕ) (begin b : ℕ) (found : Found) (old new : KeptEscapes)
+    (top : IsOnTop (ConditionRead (Compared negated d first) begin) old.escapes)
+    → is_argument_byte b ≡ true → (b == d) ≡ true → (found, new) ≡ leaving (delimiter_met top.rest negated d first top.text) old → TakesByte b true old new
+takes-delimiter negated d first begin b found old new top is same made =
+    let none = none_of_three (b == backslash) (is_dropped b) (b == newline) is in
+    let half : List OpenEscape = Condition (Compared negated d first) top.text ∷ top.rest in
+    let next : ReadsOf = delimiter_met top.rest negated d first top.text in
+    let goes = met-goes negated d first top.text top.rest in
+    let there : new ≡ record old { escapes = next.1 } = ap (λ (p : Found × KeptEscapes). p.1) made in
+    let reads : ReadsOn half b next.1 = record {
+      stands = none.1.0;
+      no_newline = none.1.1;
+      stays = none.1.1;
+      goes_on = λ base. ap (λ (c : Bool). if c then next else byte_or_backslash top.rest (Compared negated d first) top.text b) same ∙ goes.found;
+      held = goes.held;
+    } in
+    record {
+      taken = λ is_so. IsRead (subst (λ (h : List OpenEscape). ReadsOn h b new.escapes) (sym top.same)
+          (subst (λ (h : List OpenEscape). ReadsOn half b h) (sym (ap (λ (k : KeptEscapes). k.escapes) there)) reads));
+      kept = λ isnt. absurd (cc);
+      room = ap (λ (k : KeptEscapes). k.room) there;
+    }
+
+-- a byte of the texts was taken, and is held
+pub takes-text : (negated : Bool) (d : ℕ) (first : Option ℕ) (begin b : ℕ) (old new : KeptEscapes) → IsOnTop (ConditionRead (Compared negated d first) begin) old.escapes
+    → is_argument_byte b ≡ true → (b == d) ≡ false → new ≡ record old { escapes = text_held (Byte b) old.escapes } → TakesByte b true old new
+takes-text negated d first begin b old new top is other held =
+    let none = none_of_three (b == backslash) (is_dropped b) (b == newline) is in
+    let part : ConditionPart = Compared negated d first in
+    let half : List OpenEscape = Condition part top.text ∷ top.rest in
+    let holds : HoldsOn half b half = record {
+      stands = none.1.0;
+      no_newline = none.1.1;
+      stays = none.1.1;
+      holds = λ base.
+          ap (λ (c : Bool). if c then delimiter_met top.rest negated d first top.text else byte_or_backslash top.rest part top.text b) other
+          ∙ ap (λ (c : Bool). if c then (GoesOn, Backslash ∷ half) else (Holds (Byte b), half)) none.0;
+      held = held-one part part top.text top.rest b;
+    } in
+    takes-held b old new old.escapes (subst (λ (h : List OpenEscape). HoldsOn h b h) (sym top.same) holds) held
 
 -- one byte more is held at the most
 pub taken-held : (half next : List OpenEscape) (b : ℕ) → TakesOn half b next → texts_held next ≤ texts_held half + 1

@@ -1,8 +1,9 @@
 //! Conditions: what `.if` and `.ie` ask.
 
 ghost use Rattle.std.specs.Prelude.{◌≡◌, ℕ, Option};
-ghost use Rattle.roff_escape.specs.Conditions.{begins_expression, ends_at_backslash, ends_condition};
-ghost use Rattle.roff_escape.specs.Conditions.{is_read_in_arguments, so_unless, text_is_same};
+ghost use Rattle.roff_escape.specs.Conditions.{begins_expression, ends_at_backslash};
+ghost use Rattle.roff_escape.specs.Conditions.{ends_condition, is_read_in_arguments, so_unless};
+ghost use Rattle.roff_escape.specs.Conditions.{text_is_same};
 
 use crate::open_escape::ConditionPart;
 

@@ -1,6 +1,6 @@
 //! Conditions.
 
-ghost use Rattle.std.specs.Prelude.{◌≡◌, ℕ, false, List, None, [], ◌∷◌, drop, IfSome};
+ghost use Rattle.std.specs.Prelude.{◌≡◌, ℕ, true, false, List, None, [], ◌∷◌, drop, IfSome};
 ghost use Rattle.roff_escape.specs.OpenEscape.{OpenEscape, Condition as OpenCondition, texts_held};
 ghost use Rattle.roff_escape.specs.EscapeTexts.{IsOnTop, leaving};
 ghost use Rattle.roff_escape.specs.OpenEscapes.{reading_ended};
@@ -52,6 +52,41 @@ impl OpenEscapes {
                 Some(so)
             }
             _ => None,
+        }
+    }
+
+    /// Ends the expression of the condition on top, if it is read and is a number: it decides next.
+    /// Whether it did; else nothing happens.
+    pub fn decide_expression(&mut self) -> bool
+        ensures ended { result ≡ true → (base : Surroundings)
+            → (Found.GoesOn, self.new) ≡ leaving (reading_ended base self.old.escapes) self.old }
+        ensures kept { result ≡ false → self.new ≡ self.old }
+    {
+        match self.top() {
+            Some(HeldEscape::Condition(ConditionPart::Expression { negated }, begin)) => {
+                self.decide_number(negated, begin)
+            }
+            _ => false,
+        }
+    }
+
+    /// The same of an expression on top, behind a `!` or not.
+    #[inline(always)]
+    fn decide_number(&mut self, negated: bool, begin: usize) -> bool
+        requires nested { IsNested self.old.escapes }
+        requires on_top { IsOnTop
+            (HeldEscape.Condition (ConditionPart.Expression negated) begin) self.old.escapes }
+        ensures ended { result ≡ true → (base : Surroundings)
+            → (Found.GoesOn, self.new) ≡ leaving (reading_ended base self.old.escapes) self.old }
+        ensures kept { result ≡ false → self.new ≡ self.old }
+    {
+        match eval(self.text(begin), 0, Scale::Units, Some(0)) {
+            Ok((value, _)) => {
+                let is_true = so_unless(negated, value.0 > 0);
+                let _ = self.decide_next(Decision::Is(is_true), None);
+                true
+            }
+            Err(_) => false,
         }
     }
 
@@ -124,7 +159,7 @@ impl OpenEscapes {
     }
 
     /// The byte that says what the condition on top asks.
-    fn choose(&mut self, negated: bool, byte: u8) -> Found
+    pub(super) fn choose(&mut self, negated: bool, byte: u8) -> Found
         requires { IsNested self.old.escapes }
         ensures { (text : List ℕ) (rest : List OpenEscape)
             → self.old.escapes ≡ OpenCondition (ConditionPart.Choice negated) text ∷ rest
@@ -164,7 +199,7 @@ impl OpenEscapes {
     }
 
     /// The delimiter of the texts on top: behind it is the second, or both are read.
-    fn meet_delimiter(
+    pub(super) fn meet_delimiter(
         &mut self,
         negated: bool,
         delimiter: u8,

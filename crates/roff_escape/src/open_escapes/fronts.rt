@@ -11,6 +11,7 @@ ghost use Rattle.roff_escape.specs.EscapeTexts.{IsOnTop};
 ghost use Rattle.roff_escape.specs.Nesting.{IsNested};
 
 use super::OpenEscapes;
+use crate::conditions::begins_expression;
 use crate::escapes::NameUse;
 use crate::open_escape::{ConditionPart, CopyUnit, HeldEscape, NamePart};
 use roff_source::is_argument_byte;
@@ -141,7 +142,11 @@ impl OpenEscapes {
                 true
             }
             ConditionPart::Choice { negated } => self.take_first(negated, begin, byte),
-            ConditionPart::Compared { .. } => false,
+            ConditionPart::Compared {
+                negated,
+                delimiter,
+                first,
+            } => self.take_on_in_texts(negated, delimiter, first, begin, byte),
             ConditionPart::Decided { .. } => false,
         }
     }
@@ -163,7 +168,7 @@ impl OpenEscapes {
         true
     }
 
-    /// The same of a byte that is no digit: a blank in front of what is asked is passed over.
+    /// The same of a byte that is no digit: it says what is asked, unless it begins an expression.
     #[inline(always)]
     fn pass_first(&mut self, negated: bool, begin: usize, byte: u8) -> bool
         requires nested { IsNested self.old.escapes }
@@ -171,12 +176,40 @@ impl OpenEscapes {
             (HeldEscape.Condition (ConditionPart.Choice negated) begin) self.old.escapes }
         ensures { ReadsByte byte result self.old self.new }
     {
-        if negated {
+        if !is_argument_byte(byte) {
             return self.begin_escape(byte);
         }
-        if byte != b' ' {
-            return self.begin_escape(byte);
+        if begins_expression(byte) {
+            return false;
         }
+        let _ = self.choose(negated, byte);
+        true
+    }
+
+    /// The same of two texts that are compared.
+    fn take_on_in_texts(
+        &mut self,
+        negated: bool,
+        delimiter: u8,
+        first: Option<usize>,
+        begin: usize,
+        byte: u8,
+    ) -> bool
+        requires room { texts_held self.old.escapes < self.old.room }
+        requires nested { IsNested self.old.escapes }
+        requires on_top { IsOnTop
+            (HeldEscape.Condition (ConditionPart.Compared negated delimiter first) begin)
+            self.old.escapes }
+        ensures { TakesByte byte result self.old self.new }
+    {
+        if !is_argument_byte(byte) {
+            return false;
+        }
+        if byte == delimiter {
+            let _ = self.meet_delimiter(negated, delimiter, first, begin);
+            return true;
+        }
+        self.hold(CopyUnit::Byte(byte));
         true
     }
 }

@@ -22,8 +22,8 @@ impl OpenEscapes {
         }
     }
 
-    /// What the reading on top does at the next item; above a text line, above arguments, or in copy
-    /// mode.
+    /// What the reading on top does at the next item; above a text line, above arguments, or in
+    /// copy mode.
     #[inline(always)]
     pub fn waiting(&self, base: Surroundings) -> Waiting
         ensures { result ≡ waiting_of base self.now.escapes }
