@@ -3,16 +3,16 @@ use Rattle.std.proofs.Common.{◌≡◌, ◌≢◌, ◌<◌, ◌≤◌, ℕ, Lis
 use Rattle.std.proofs.lemmas.List.{drop_all, take-append-drop, take-append-le}
 use Rattle.std.proofs.lemmas.List.Elements.{All-cons, All-tail}
 use Rattle.std.proofs.lemmas.List.Sums.{sum_by-cons}
-use Rattle.roff_ahead.specs.Input.{Ahead, ByteAhead, DoAhead, bytes_ahead, ends_ahead, events_ahead, first, frees_ahead}
+use Rattle.roff_input.specs.Input.{Ahead, ByteAhead, DoAhead, bytes_ahead, ends_ahead, events_ahead, first, frees_ahead}
 use Rattle.roff_ahead.specs.InputAhead.Bodies.{leases_in, with_bodies}
 use Rattle.roff_ahead.specs.InputAhead.Calls.{TakesFront}
 use Rattle.roff_ahead.specs.InputAhead.Kept.{AheadAndTexts, Gives, IsSound, kept_by}
 use Rattle.roff_ahead.specs.PushedTexts.Held.{Held}
-use Rattle.roff_ahead.specs.Shown.{ShowsByte}
+use Rattle.roff_input.specs.Shown.{ShowsByte}
 use Rattle.roff_ahead.specs.declared.input_ahead.EventOrBody.{EventOrBody}
 use Rattle.roff_ahead.specs.declared.input_ahead.EventOrBody.TheVariants.{Body}
 use Rattle.roff_ahead.proofs.Bodies.{rest_is}
-use Rattle.roff_ahead.proofs.Counts.{bytes_ahead-bytes, ends_ahead-bytes, events_ahead-bytes, frees_ahead-bytes}
+use Rattle.roff_input.proofs.Counts.{bytes_ahead-bytes, ends_ahead-bytes, events_ahead-bytes, frees_ahead-bytes}
 use Rattle.roff_ahead.proofs.Leased.{some-giving, given-bytes, given-rest, with_bodies-same, others-behind, once-behind, other-passed, other-released, lease-passed, kept-passed, kept-released, live-passed, live-released}
 use Rattle.roff_store.proofs.LyingSums.{sum_by-same}
 use Rattle.roff_store.specs.declared.text.LeaseId.{LeaseId}

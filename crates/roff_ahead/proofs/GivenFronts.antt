@@ -6,9 +6,9 @@ use Rattle.roff_ahead.specs.InputAhead.Calls.{GivesByte, GivesFront, GivesOne}
 use Rattle.roff_ahead.specs.InputAhead.Kept.{AheadAndTexts}
 use Rattle.roff_escape.specs.OpenEscape.{OpenEscape, texts_held}
 use Rattle.roff_escape.specs.EscapeTexts.{KeptEscapes}
-use Rattle.roff_ahead.specs.Input.{Ahead, ByteAhead, bytes_ahead}
+use Rattle.roff_input.specs.Input.{Ahead, ByteAhead, bytes_ahead}
 use Rattle.roff_escape.proofs.ConditionFronts.{HalvesTaken-last, taken-held}
-use Rattle.roff_ahead.proofs.Counts.{bytes_ahead-bytes}
+use Rattle.roff_input.proofs.Counts.{bytes_ahead-bytes}
 
 -- each byte that is taken is held at the most
 pub HalvesTaken-held : (half last : List OpenEscape) (bytes : List ℕ) → HalvesTaken half bytes last → texts_held last ≤ texts_held half + length bytes

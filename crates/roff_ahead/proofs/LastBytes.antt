@@ -4,7 +4,7 @@ use Rattle.std.specs.Prelude.{not, reverse, ◌==◌}
 use Rattle.std.specs.List.{last_or}
 use Rattle.std.proofs.lemmas.List.{reverse-append, reverse-reverse}
 use Rattle.roff_source.specs.Bytes.{newline}
-use Rattle.roff_ahead.specs.Input.Calls.{lacks_newline}
+use Rattle.roff_input.specs.Input.Calls.{lacks_newline}
 
 -- whether a byte that comes last isn't a newline
 abbrev pub is_no_newline : Option ℕ → Bool

@@ -4,7 +4,7 @@ use Rattle.std.proofs.lemmas.List.{length-map, take-append-le, take_min}
 use Rattle.std.proofs.Math.Seq.{drop-append_seam}
 use Rattle.roff_ahead.specs.InputAhead.Bodies.{with_bodies}
 use Rattle.roff_ahead.specs.InputAhead.Kept.{AheadAndTexts}
-use Rattle.roff_ahead.specs.Input.{Ahead, ByteAhead, FreeAhead, EndAhead, ReturnAhead, DoAhead, first, is_none_ahead, leading}
+use Rattle.roff_input.specs.Input.{Ahead, ByteAhead, FreeAhead, EndAhead, ReturnAhead, DoAhead, first, is_none_ahead, leading}
 use Rattle.roff_ahead.specs.PushedTexts.Held.{Held}
 use Rattle.roff_ahead.specs.declared.input_ahead.EventOrBody.{EventOrBody}
 use Rattle.roff_ahead.specs.declared.input_ahead.EventOrBody.TheVariants.{Body}

@@ -4,7 +4,7 @@ use Rattle.std.specs.Prelude.{Option, AllPairs}
 use Rattle.std.proofs.lemmas.List.{get_or-set_same, get_or-set_other}
 use Rattle.std.proofs.lemmas.List.Elements.{All-tail}
 use Rattle.std.proofs.lemmas.List.Sums.{sum_by-set}
-use Rattle.roff_ahead.specs.Input.{Ahead, ByteAhead, FreeAhead, EndAhead, ReturnAhead, DoAhead}
+use Rattle.roff_input.specs.Input.{Ahead, ByteAhead, FreeAhead, EndAhead, ReturnAhead, DoAhead}
 use Rattle.roff_ahead.specs.InputAhead.Bodies.{leases_in, with_bodies}
 use Rattle.roff_ahead.specs.declared.input_ahead.EventOrBody.{EventOrBody}
 use Rattle.roff_ahead.specs.declared.input_ahead.EventOrBody.TheVariants.{Event, Body}

@@ -1,6 +1,5 @@
 pub mod LastBytes
 pub mod Counts
-pub mod FewEvents
 pub mod Pushing
 pub mod Standing
 pub mod Taking

@@ -4,7 +4,7 @@ use Rattle.std.specs.Prelude.{Option, AllPairs, set, sum_by, ◌==◌, if◌then
 use Rattle.std.proofs.lemmas.Bool.Decides.{nat_tests}
 use Rattle.std.proofs.lemmas.List.{get_or_append_left, get_or_push, get_or-set_same, get_or-set_other}
 use Rattle.std.proofs.lemmas.List.Sums.{sum_by-cons, sum_by-set, sum_by_push}
-use Rattle.roff_ahead.specs.Input.{Ahead, ByteAhead, DoAhead, bytes_ahead, ends_ahead, events_ahead}
+use Rattle.roff_input.specs.Input.{Ahead, ByteAhead, DoAhead, bytes_ahead, ends_ahead, events_ahead}
 use Rattle.roff_ahead.specs.InputAhead.Bodies.{leases_in, with_bodies}
 use Rattle.roff_ahead.specs.InputAhead.Calls.{PutsBytes}
 use Rattle.roff_ahead.specs.InputAhead.Kept.{Gives, IsSound, is_end_next, kept_by}
@@ -12,7 +12,7 @@ use Rattle.roff_ahead.specs.declared.input_ahead.EventOrBody.{EventOrBody}
 use Rattle.roff_ahead.specs.declared.input_ahead.EventOrBody.TheVariants.{Body}
 use Rattle.roff_ahead.specs.declared.input_ahead.InputAhead.TheInside.{Inside}
 use Rattle.roff_ahead.proofs.Bodies.{bodies-few, bodies-fewer, bytes-with_bodies, ends-with_bodies, events-with_bodies}
-use Rattle.roff_ahead.proofs.Counts.{bytes_ahead-bytes, ends_ahead-bytes, events_ahead-bytes, frees_ahead-bytes}
+use Rattle.roff_input.proofs.Counts.{bytes_ahead-bytes, ends_ahead-bytes, events_ahead-bytes, frees_ahead-bytes}
 use Rattle.roff_ahead.proofs.Leased.{with_bodies-same}
 use Rattle.roff_store.proofs.LyingSums.{sum_by-same}
 use Rattle.roff_store.specs.declared.text.LeaseId.{LeaseId}

@@ -2,11 +2,11 @@
 use Rattle.std.proofs.Common.{◌≡◌, ◌<◌, ◌≤◌, ◌+◌, ℕ, List, [], ◌∷◌, ◌++◌, length, length-append, map, refl, arith}
 use Rattle.std.specs.Prelude.{reverse}
 use Rattle.std.proofs.lemmas.List.{length-reverse}
-use Rattle.roff_ahead.specs.Input.{ByteAhead, FreeAhead, EndAhead, bytes_ahead, ends_ahead, frees_ahead, most_frees}
+use Rattle.roff_input.specs.Input.{ByteAhead, FreeAhead, EndAhead, bytes_ahead, ends_ahead, frees_ahead, most_frees}
 use Rattle.roff_ahead.specs.PushedTexts.Held.{Held, HasRoom}
 use Rattle.roff_ahead.specs.PushedTexts.Standing.{standing, IsStacked}
 use Rattle.roff_ahead.specs.declared.pushed_texts.MarkAt.{MarkAt}
-use Rattle.roff_ahead.proofs.Counts.{bytes_ahead-bytes, ends_ahead-bytes, events_ahead-bytes, frees_ahead-bytes, bytes_ahead-frees, ends_ahead-frees, events_ahead-frees, frees_ahead-frees}
+use Rattle.roff_input.proofs.Counts.{bytes_ahead-bytes, ends_ahead-bytes, events_ahead-bytes, frees_ahead-bytes, bytes_ahead-frees, ends_ahead-frees, events_ahead-frees, frees_ahead-frees}
 use Rattle.roff_ahead.proofs.Standing.{standing-text, IsStacked-more}
 
 module _ {E : Type 0} where

@@ -1,8 +1,8 @@
 -- What is seen ahead, with bodies in the place of their bytes.
 use Rattle.std.proofs.Common.{get_or, ◌≡◌, ◌<◌, ℕ, List, [], ◌∷◌, ◌++◌, length, map, refl, arith, All, Some, None, ap, ◌∙◌, sym, subst}
 use Rattle.std.specs.Prelude.{Option, take}
-use Rattle.roff_ahead.specs.Input.{Ahead, ByteAhead, FreeAhead, EndAhead, ReturnAhead, DoAhead, first_but_ends}
-use Rattle.roff_ahead.specs.Shown.{Sighted, SeesByte, seen_ahead}
+use Rattle.roff_input.specs.Input.{Ahead, ByteAhead, FreeAhead, EndAhead, ReturnAhead, DoAhead, first_but_ends}
+use Rattle.roff_input.specs.Shown.{Sighted, SeesByte, seen_ahead}
 use Rattle.roff_ahead.specs.InputAhead.Bodies.{items_of, leases_in, with_bodies}
 use Rattle.roff_ahead.specs.InputAhead.Kept.{AheadAndTexts, Gives, IsSound, kept_by}
 use Rattle.roff_ahead.specs.declared.input_ahead.EventOrBody.{EventOrBody}

@@ -4,7 +4,7 @@ use Rattle.std.specs.Prelude.{reverse}
 use Rattle.std.proofs.lemmas.Bool.Decides.{nat_tests}
 use Rattle.std.proofs.Math.Seq.{drop-length, take-length}
 use Rattle.std.proofs.lemmas.List.{drop-append-le, take-append-le, reverse-append, reverse-reverse, map-append}
-use Rattle.roff_ahead.specs.Input.{Ahead, ByteAhead, EndAhead, is_none_ahead}
+use Rattle.roff_input.specs.Input.{Ahead, ByteAhead, EndAhead, is_none_ahead}
 use Rattle.roff_ahead.specs.PushedTexts.Standing.{standing, items_of, IsStacked}
 use Rattle.roff_ahead.specs.declared.pushed_texts.MarkAt.{MarkAt}
 use Rattle.roff_ahead.specs.declared.pushed_texts.Mark.TheVariants.{Ends, Return, Free, Do}

@@ -3,7 +3,7 @@ use Rattle.std.proofs.Common.{true, false, ◌≡◌, ◌<◌, ◌≤◌, ◌+�
 use Rattle.std.specs.Prelude.{replicate}
 use Rattle.std.proofs.lemmas.Bool.Decides.{nat_tests}
 use Rattle.std.proofs.lemmas.List.{take_more, take_all}
-use Rattle.roff_ahead.specs.Input.{Ahead, ByteAhead, EndAhead, first_but_ends}
+use Rattle.roff_input.specs.Input.{Ahead, ByteAhead, EndAhead, first_but_ends}
 use Rattle.roff_ahead.specs.PushedTexts.Standing.{standing, items_of, is_byte_next, IsStacked}
 use Rattle.roff_ahead.specs.declared.pushed_texts.MarkAt.{MarkAt}
 use Rattle.roff_ahead.proofs.Standing.{standing-append, standing_mark}

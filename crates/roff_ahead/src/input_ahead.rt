@@ -1,7 +1,7 @@
 //! Frames: what stands ahead of the source. Bodies of strings and macros are read where they lie.
 
 ghost use Rattle.std.specs.Prelude.{◌≡◌, ◌≤◌, [], IfOk};
-ghost use Rattle.roff_ahead.specs.Input.{is_none_ahead, bytes_ahead, ends_ahead};
+ghost use Rattle.roff_input.specs.Input.{is_none_ahead, bytes_ahead, ends_ahead};
 ghost use Rattle.roff_ahead.specs.InputAhead.Kept.{IsSound};
 
 mod fronts;
@@ -55,7 +55,7 @@ impl<E> Model for InputAhead<E> {
 }
 
 impl<E: Copy> InputAhead<E> {
-    ghost use Rattle.roff_ahead.specs.Shown.{no_texts};
+    ghost use Rattle.roff_input.specs.Shown.{no_texts};
 
     /// Nothing stands ahead, and no name stands for anything. There is room for so many names
     /// beyond the limit.

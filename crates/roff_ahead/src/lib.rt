@@ -2,10 +2,6 @@
 #![tactic(auto)]
 
 mod input_ahead;
-mod item;
-mod looked;
 mod pushed_texts;
 
 pub use input_ahead::InputAhead;
-pub use item::{Item, Sight};
-pub use looked::Looked;

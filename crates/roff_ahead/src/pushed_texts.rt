@@ -5,9 +5,9 @@ ghost use Rattle.std.specs.Prelude.{length, IfOk, option_map, vec_len, vec_capac
 ghost use Rattle.roff_ahead.specs.PushedTexts.Held.{most_marks, most_used};
 ghost use Rattle.roff_ahead.specs.PushedTexts.Standing.{standing, items_of, item_of, is_byte_next};
 ghost use Rattle.roff_ahead.specs.PushedTexts.Standing.{IsStacked};
-ghost use Rattle.roff_ahead.specs.Input.{is_none_ahead, first, first_but_ends, ByteAhead, FreeAhead};
-ghost use Rattle.roff_ahead.specs.Input.{EndAhead, ReturnAhead, DoAhead, bytes_ahead, ends_ahead};
-ghost use Rattle.roff_ahead.specs.Input.{events_ahead, frees_ahead, most_frees};
+ghost use Rattle.roff_input.specs.Input.{is_none_ahead, first, first_but_ends, ByteAhead, FreeAhead};
+ghost use Rattle.roff_input.specs.Input.{EndAhead, ReturnAhead, DoAhead, bytes_ahead, ends_ahead};
+ghost use Rattle.roff_input.specs.Input.{events_ahead, frees_ahead, most_frees};
 
 use std::alloc::{AllocError, Global};
 use std::marker::Model;

@@ -25,8 +25,8 @@ use Rattle.roff_pages.specs.Queries.{takes_text}
 use Rattle.roff_run.specs.Titles.{put_back, told}
 use Rattle.roff_run.specs.declared.request.Called.{Called}
 use Rattle.roff_run.specs.declared.request.Called.TheVariants.{Request as ARequest, Body as ABody, Nothing as Unknown}
-use Rattle.roff_ahead.specs.Input.Calls.{called_text}
-use Rattle.roff_ahead.specs.Input.Names.{body_named}
+use Rattle.roff_input.specs.Input.Calls.{called_text}
+use Rattle.roff_input.specs.Input.Names.{body_named}
 use Rattle.roff_num.specs.ShortNames.{name_bytes}
 use Rattle.roff_num.specs.declared.short_name.ShortName.{ShortName}
 use Rattle.roff_run.specs.Run.Counts.{first_passed, names_counted}

@@ -1,23 +1,21 @@
 -- Which events reading means: none of them begins the first page, closes the run, or diverts.
 use Rattle.std.proofs.Common.{◌≡◌, ◌<◌, ◌++◌, ℕ, Bool, true, false, List, [], ◌∷◌, map, length, Option, Some, None, refl, sym, subst}
 use Rattle.std.specs.Prelude.{◌&&◌, nat_le, if◌then◌else◌}
-use Rattle.roff_ahead.specs.Input.{Ahead, ByteAhead, FreeAhead, EndAhead, ReturnAhead, DoAhead}
-use Rattle.roff_ahead.specs.Input.Names.{calling, calling_on, texts_of}
+use Rattle.roff_input.specs.Input.{Ahead, ByteAhead, FreeAhead, EndAhead, ReturnAhead, DoAhead}
+use Rattle.roff_input.specs.Input.Names.{calling, calling_on, texts_of}
 use Rattle.roff_escape.specs.OpenEscape.{unit_bytes}
 use Rattle.roff_escape.specs.declared.open_escape.CopyUnit.{CopyUnit}
 use Rattle.roff_num.specs.ShortNames.{name_bytes}
 use Rattle.roff_num.specs.declared.short_name.ShortName.{ShortName}
 use Rattle.roff_store.specs.TextCalls.{Call, DropOpen, PushOpen, Enter, Set as SetName}
 use Rattle.roff_store.specs.Texts.{Body, has_body, newest}
-use Rattle.roff_run.specs.Reading.{interrupted}
 use Rattle.roff_run.specs.Reading.Arguments.{calling_all}
 use Rattle.roff_run.specs.Reading.Branches.{with_result_if}
 use Rattle.roff_run.specs.Reading.Calls.{holding_call}
 use Rattle.roff_run.specs.Reading.Definitions.{definition_dropped, definition_grown}
 use Rattle.roff_run.specs.Reading.Strings.{string_begun, string_emptied, string_entered, string_grown}
-use Rattle.roff_run.specs.Reading.Units.{holding}
+use Rattle.roff_run.specs.Reading.Units.{holding, interrupted}
 use Rattle.roff_run.specs.declared.line_state.LineState.{LineState}
-use Rattle.roff_run.specs.declared.line_state.LineState.TheVariants.{LineStart, Branch, Braced, Text as InText, Control, Name, Arguments as InArguments, Deciding, StringName, StringText, Skipping, Dropped, Telling, Told, Exiting, Calling, Defining, TitleFront, Title as InTitle}
 use Rattle.roff_pages.specs.declared.layout_event.LayoutEvent.{LayoutEvent}
 use Rattle.roff_pages.specs.declared.layout_event.LayoutEvent.TheVariants.{ListPages, Begin, Close, Space, Need, Eject, EjectTo, EjectOn, EjectLast, Length, Offset, Next, Number, NoSpace, Plant, Uproot, MoveTrap, RemoveTrap, DiversionTrap, NoDiversionTrap, Divert, EndDivert}
 use Rattle.roff_run.specs.Reading.Items.{PageInput, Taking}
@@ -251,22 +249,4 @@ ahead-result false so i = refl
 
 -- and so does what isn't a byte of the line
 pub ahead-interrupted : (reading : LineState) (i : PageInput) → (interrupted reading i).ahead ≡ i.ahead
-ahead-interrupted LineStart i = refl
-ahead-interrupted Branch i = refl
-ahead-interrupted Braced i = refl
-ahead-interrupted (InText line) i = refl
-ahead-interrupted (Control breaks) i = refl
-ahead-interrupted (Name breaks first) i = refl
-ahead-interrupted (InArguments breaks request) i = refl
-ahead-interrupted (Deciding keeping) i = refl
-ahead-interrupted (StringName appends) i = refl
-ahead-interrupted (StringText name appends is_front) i = refl
-ahead-interrupted (Calling name) i = refl
-ahead-interrupted (Defining name appends end matched) i = refl
-ahead-interrupted (Skipping opened closed behind) i = refl
-ahead-interrupted Dropped i = refl
-ahead-interrupted (Telling aborts is_front) i = refl
-ahead-interrupted (Told aborts) i = refl
-ahead-interrupted Exiting i = refl
-ahead-interrupted TitleFront i = refl
-ahead-interrupted (InTitle delimiter) i = refl
+ahead-interrupted reading i = refl

@@ -13,11 +13,11 @@ use Rattle.roff_escape.specs.declared.open_escape.CopyUnit.{CopyUnit}
 use Rattle.roff_escape.specs.declared.open_escape.CopyUnit.TheVariants.{Byte, Kept}
 use Rattle.roff_escape.specs.declared.open_escape.Found.{Found}
 use Rattle.roff_escape.specs.declared.open_escape.Found.TheVariants.{GoesOn, Unit as GivesUnit, Holds, Escape, Asks, Motion, Measures, Tells, Decides}
-use Rattle.roff_ahead.specs.Input.Calls.{arguments_given}
-use Rattle.roff_run.specs.declared.line_state.LineState.TheVariants.{Title as InTitle, TitleFront}
+use Rattle.roff_input.specs.Input.Calls.{arguments_given}
+use Rattle.roff_run.specs.declared.line_state.LineState.TheVariants.{Title as InTitle}
 use Rattle.roff_run.specs.declared.request.Request.TheVariants.{Title as TitleRequest}
 use Rattle.roff_run.specs.Reading.Items.{PageInput}
-use Rattle.roff_run.specs.Reading.Titles.{behind_part, character_put, escape_in_title, title_character, title_ended, title_found, title_front_found, title_front_unit, title_name}
+use Rattle.roff_run.specs.Reading.Titles.{behind_part, character_put, escape_in_title, title_character, title_ended, title_found, title_front_unit, title_name}
 use Rattle.roff_run.specs.Registers.{Known}
 use Rattle.roff_run.specs.declared.title.TitlePart.{TitlePart}
 use Rattle.roff_run.specs.declared.title.TitlePart.TheVariants.{Left, Centre, Right}
@@ -81,21 +81,10 @@ Means-title_found k i delimiter (Measures width) = Means-no_unit_found k i (InTi
 Means-title_found k i delimiter (Tells remark) = (tt, Stays)
 Means-title_found k i delimiter (Decides decision freed) = (tt, Stays)
 
--- what was found in front of the parts
-Means-title_front_unit : (k : Known) (i : PageInput) (unit : CopyUnit) → Means i.ahead (title_front_unit k i unit)
+-- a unit in front of the parts
+pub Means-title_front_unit : (k : Known) (i : PageInput) (unit : CopyUnit) → Means i.ahead (title_front_unit k i unit)
 Means-title_front_unit k i (Byte b) = Means-if i.ahead (b == newline) _ _ (Means-title_ended k i) (Means-if i.ahead (b == blank) _ _ (tt, Stays) (tt, Stays))
 Means-title_front_unit k i (Kept b) = (tt, Stays)
-
-pub Means-title_front_found : (k : Known) (i : PageInput) (found : Found) → Means i.ahead (title_front_found k i found)
-Means-title_front_found k i (GivesUnit unit) = Means-title_front_unit k i unit
-Means-title_front_found k i (Escape b) = Means-title_front_unit k i (Kept b)
-Means-title_front_found k i GoesOn = Means-no_unit_found k i TitleFront GoesOn
-Means-title_front_found k i (Holds unit) = Means-no_unit_found k i TitleFront (Holds unit)
-Means-title_front_found k i (Asks purpose name) = Means-no_unit_found k i TitleFront (Asks purpose name)
-Means-title_front_found k i (Motion columns remark) = Means-no_unit_found k i TitleFront (Motion columns remark)
-Means-title_front_found k i (Measures width) = Means-no_unit_found k i TitleFront (Measures width)
-Means-title_front_found k i (Tells remark) = Means-no_unit_found k i TitleFront (Tells remark)
-Means-title_front_found k i (Decides decision freed) = Means-no_unit_found k i TitleFront (Decides decision freed)
 
 -- a delimiter
 pub Means-behind_part : (i : PageInput) (delimiter : ℕ) (part : TitlePart) → Means i.ahead (behind_part i delimiter part)

@@ -9,7 +9,7 @@ use Rattle.roff_lines.specs.declared.event.Event.TheVariants.{WordEnd, Break}
 use Rattle.roff_num.specs.declared.limit.Limit.{Limit}
 use Rattle.roff_num.specs.declared.limits.Limits.{Limits}
 use Rattle.roff_num.specs.declared.num.Num.{Num}
-use Rattle.roff_ahead.specs.Input.{Ahead, DoAhead, item_taken}
+use Rattle.roff_input.specs.Input.{Ahead, DoAhead, item_taken}
 use Rattle.roff_pages.specs.Happenings.{Does}
 use Rattle.roff_pages.specs.Layout.{Layout}
 use Rattle.roff_pages.specs.Queries.{takes_text}

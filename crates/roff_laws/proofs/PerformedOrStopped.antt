@@ -10,7 +10,7 @@ use Rattle.roff_run.specs.declared.event.PageEvent.TheVariants.{Text, Page, Inte
 use Rattle.roff_num.specs.declared.limit.Limit.{Limit}
 use Rattle.roff_num.specs.declared.limits.Limits.{Limits}
 use Rattle.roff_num.specs.declared.short_name.ShortName.{ShortName}
-use Rattle.roff_ahead.specs.Input.{putting_all_back}
+use Rattle.roff_input.specs.Input.{putting_all_back}
 use Rattle.roff_run.specs.PageEvents.{PageEvent, PageHistory}
 use Rattle.roff_run.specs.Output.{layout_of}
 use Rattle.roff_run.specs.Run.{State, done_if, ending_as, stopped_by, unless_refused, performed, performing, sprung_at}

@@ -14,25 +14,26 @@ use Rattle.roff_escape.specs.declared.open_escape.Decision.TheVariants.{Is}
 use Rattle.roff_escape.specs.declared.open_escape.Found.{Found}
 use Rattle.roff_escape.specs.declared.open_escape.Found.TheVariants.{GoesOn, Unit as GivesUnit, Holds, Escape, Asks, Motion, Measures, Tells, Decides}
 use Rattle.roff_escape.specs.declared.open_escape.Surroundings.TheVariants.{Arguments as AboveArguments, Copy as AboveCopy}
-use Rattle.roff_ahead.specs.Input.{beginning_line, choosing}
-use Rattle.roff_ahead.specs.Input.Calls.{arguments_given, called_text, last_result, without_last}
-use Rattle.roff_ahead.specs.Input.Names.{body_named}
+use Rattle.roff_input.specs.Input.{beginning_line, choosing}
+use Rattle.roff_input.specs.Input.Calls.{arguments_given, called_text, last_result, without_last}
+use Rattle.roff_input.specs.Input.Names.{body_named}
 use Rattle.roff_escape.specs.OpenEscape.{unit_bytes}
 use Rattle.roff_run.specs.Definitions.{end_mark, front_of, line_from}
 use Rattle.roff_run.specs.Reading.{undropped_taking, taking, escape_ended, title_read}
-use Rattle.roff_run.specs.Reading.Arguments.{arguments_ended, arguments_found, line_ended, unit_found}
+use Rattle.roff_run.specs.Reading.Arguments.{arguments_ended, line_ended, unit_found}
 use Rattle.roff_run.specs.Reading.Beginnings.{at_start}
 use Rattle.roff_run.specs.Reading.Branches.{branch_taking, condition_begun, condition_found, decided, is_so, reads_else, skipping_taking, with_result_if}
-use Rattle.roff_run.specs.Reading.Calls.{call_found, call_unit, called_last, last_called}
+use Rattle.roff_run.specs.Reading.Collecting.{collected, unit_taking}
+use Rattle.roff_run.specs.Reading.Calls.{call_unit, called_last, last_called}
 use Rattle.roff_run.specs.Reading.ControlLines.{called_taking, ends_name, line_taking, name_ended_taking, behind_called, behind_name}
-use Rattle.roff_run.specs.Reading.DefinedLines.{behind_definition, definition_found, definition_unit}
+use Rattle.roff_run.specs.Reading.DefinedLines.{behind_definition, definition_found, definition_line, definition_unit}
 use Rattle.roff_run.specs.Reading.Definitions.{definition_named, lines_begun}
 use Rattle.roff_run.specs.Reading.Ends.{end_taking, interrupted_end}
 use Rattle.roff_run.specs.Reading.Found.{found_in, place_in}
 use Rattle.roff_run.specs.Reading.Items.{PageInput}
-use Rattle.roff_run.specs.Reading.Messages.{message_found, message_unit}
-use Rattle.roff_run.specs.Reading.Strings.{name_read, string_line_ended, string_name_behind, string_name_found, string_name_or_text, string_name_unit, string_text_found, string_unit, string_begun, string_entered}
-use Rattle.roff_run.specs.Reading.Units.{holding, settling}
+use Rattle.roff_run.specs.Reading.Messages.{message_unit}
+use Rattle.roff_run.specs.Reading.Strings.{name_read, string_line_ended, string_name_behind, string_name_or_text, string_name_unit, string_unit, string_begun, string_entered}
+use Rattle.roff_run.specs.Reading.Units.{holding, interrupted, no_unit_found, settling, unit_in}
 use Rattle.roff_run.specs.Registers.{Known}
 use Rattle.roff_run.specs.Requests.{called_by, request_effect, row_of}
 use Rattle.roff_run.specs.Requests.Effects.{Effect}
@@ -50,9 +51,15 @@ use Rattle.roff_run.specs.declared.request.LinesFor.TheVariants.{Macro, Nobody}
 use Rattle.roff_run.specs.declared.request.Request.{Request}
 use Rattle.roff_laws.proofs.MeantEvents.{Stays, AreMeant, Grows, Means, Means-if, Means-same, ahead-called, ahead-calling_all, ahead-definition_dropped, ahead-definition_grown, ahead-holding_call, ahead-interrupted, ahead-result, ahead-same, ahead-string_begun, ahead-string_emptied, ahead-string_entered, ahead-string_grown}
 use Rattle.roff_lines.specs.Words.{is_empty}
-use Rattle.roff_laws.proofs.MeantTitles.{Means-behind_part, Means-title_ended, Means-title_found, Means-title_front_found}
+use Rattle.roff_laws.proofs.MeantTitles.{Means-behind_part, Means-title_ended, Means-title_found, Means-title_front_unit}
+use Rattle.roff_run.proofs.Collected.{of-collected, of-unit_or}
 use Rattle.roff_laws.proofs.TextEvents.{meant-line_end, Means-text_found, Means-beginning_found, Means-no_unit_found}
 use Rattle.roff_laws.proofs.RequestEvents.{meant-request_effect}
+
+-- what was found where a line collects units
+Means-collected : (k : Known) (i : PageInput) (reading : LineState) (found : Found) → ((unit : CopyUnit) → Means i.ahead (unit_taking k i reading unit))
+    → Means i.ahead (collected k i reading found)
+Means-collected k i reading found means = of-collected (Means i.ahead) k i reading found means (Means-no_unit_found k (interrupted reading i) reading found)
 
 -- the end of a request's line
 Means-definition_named : (i : PageInput) (appends : Bool) (name : Option (Option ShortName)) (end : Option ShortName) → Means i.ahead (definition_named i appends name end)
@@ -83,17 +90,6 @@ Means-unit_found : (k : Known) (i : PageInput) (breaks : Bool) (request : Reques
 Means-unit_found k i breaks request (Byte b) =
     Means-if i.ahead (b == newline) _ _ (Means-arguments_ended k i breaks request (row_of request).line) (tt, Stays)
 Means-unit_found k i breaks request (Kept b) = (tt, Stays)
-
-Means-arguments_found : (k : Known) (i : PageInput) (breaks : Bool) (request : Request) (found : Found) → Means i.ahead (arguments_found k i breaks request found)
-Means-arguments_found k i breaks request (GivesUnit unit) = Means-unit_found k i breaks request unit
-Means-arguments_found k i breaks request (Escape b) = Means-unit_found k i breaks request (Kept b)
-Means-arguments_found k i breaks request GoesOn = Means-no_unit_found k (settling i) (InArguments breaks request) GoesOn
-Means-arguments_found k i breaks request (Holds unit) = Means-no_unit_found k (settling i) (InArguments breaks request) (Holds unit)
-Means-arguments_found k i breaks request (Asks purpose name) = Means-no_unit_found k (settling i) (InArguments breaks request) (Asks purpose name)
-Means-arguments_found k i breaks request (Motion columns remark) = Means-no_unit_found k (settling i) (InArguments breaks request) (Motion columns remark)
-Means-arguments_found k i breaks request (Measures width) = Means-no_unit_found k (settling i) (InArguments breaks request) (Measures width)
-Means-arguments_found k i breaks request (Tells remark) = Means-no_unit_found k (settling i) (InArguments breaks request) (Tells remark)
-Means-arguments_found k i breaks request (Decides decision freed) = Means-no_unit_found k (settling i) (InArguments breaks request) (Decides decision freed)
 
 -- a branch
 Means-skipping_taking : (i : PageInput) (opened closed : ℕ) (behind : Bool) (b : ℕ) → Means i.ahead (skipping_taking i opened closed behind b)
@@ -156,44 +152,10 @@ Means-string_name_unit i appends (Byte b) =
     (Means-string_name_or_text (settling i) appends (Byte b) (name_read (settling i))))
 Means-string_name_unit i appends (Kept b) = Means-string_name_or_text (settling i) appends (Kept b) (name_read (settling i))
 
-Means-string_name_found : (k : Known) (i : PageInput) (appends : Bool) (found : Found) → Means i.ahead (string_name_found k i appends found)
-Means-string_name_found k i appends (GivesUnit unit) = Means-string_name_unit i appends unit
-Means-string_name_found k i appends (Escape b) = Means-string_name_unit i appends (Kept b)
-Means-string_name_found k i appends GoesOn = Means-no_unit_found k (settling i) (StringName appends) GoesOn
-Means-string_name_found k i appends (Holds unit) = Means-no_unit_found k (settling i) (StringName appends) (Holds unit)
-Means-string_name_found k i appends (Asks purpose name) = Means-no_unit_found k (settling i) (StringName appends) (Asks purpose name)
-Means-string_name_found k i appends (Motion columns remark) = Means-no_unit_found k (settling i) (StringName appends) (Motion columns remark)
-Means-string_name_found k i appends (Measures width) = Means-no_unit_found k (settling i) (StringName appends) (Measures width)
-Means-string_name_found k i appends (Tells remark) = Means-no_unit_found k (settling i) (StringName appends) (Tells remark)
-Means-string_name_found k i appends (Decides decision freed) = Means-no_unit_found k (settling i) (StringName appends) (Decides decision freed)
-
-Means-string_text_found : (k : Known) (i : PageInput) (name : Option ShortName) (appends is_front : Bool) (found : Found)
-    → Means i.ahead (string_text_found k i name appends is_front found)
-Means-string_text_found k i name appends is_front (GivesUnit unit) = Means-string_unit i name appends is_front unit
-Means-string_text_found k i name appends is_front (Escape b) = Means-string_unit i name appends is_front (Kept b)
-Means-string_text_found k i name appends is_front GoesOn = Means-no_unit_found k i (StringText name appends is_front) GoesOn
-Means-string_text_found k i name appends is_front (Holds unit) = Means-no_unit_found k i (StringText name appends is_front) (Holds unit)
-Means-string_text_found k i name appends is_front (Asks purpose asked) = Means-no_unit_found k i (StringText name appends is_front) (Asks purpose asked)
-Means-string_text_found k i name appends is_front (Motion columns remark) = Means-no_unit_found k i (StringText name appends is_front) (Motion columns remark)
-Means-string_text_found k i name appends is_front (Measures width) = Means-no_unit_found k i (StringText name appends is_front) (Measures width)
-Means-string_text_found k i name appends is_front (Tells remark) = Means-no_unit_found k i (StringText name appends is_front) (Tells remark)
-Means-string_text_found k i name appends is_front (Decides decision freed) = Means-no_unit_found k i (StringText name appends is_front) (Decides decision freed)
-
 -- a message
 Means-message_unit : (i : PageInput) (aborts is_front : Bool) (unit : CopyUnit) → Means i.ahead (message_unit i aborts is_front unit)
 Means-message_unit i aborts is_front (Byte b) = Means-if i.ahead (b == newline) _ _ (tt, Stays) (Means-if i.ahead (is_front && b == blank) _ _ (tt, Stays) (tt, Stays))
 Means-message_unit i aborts is_front (Kept b) = (tt, Stays)
-
-Means-message_found : (k : Known) (i : PageInput) (aborts is_front : Bool) (found : Found) → Means i.ahead (message_found k i aborts is_front found)
-Means-message_found k i aborts is_front (GivesUnit unit) = Means-message_unit i aborts is_front unit
-Means-message_found k i aborts is_front (Escape b) = Means-message_unit i aborts is_front (Kept b)
-Means-message_found k i aborts is_front GoesOn = Means-no_unit_found k i (Telling aborts is_front) GoesOn
-Means-message_found k i aborts is_front (Holds unit) = Means-no_unit_found k i (Telling aborts is_front) (Holds unit)
-Means-message_found k i aborts is_front (Asks purpose name) = Means-no_unit_found k i (Telling aborts is_front) (Asks purpose name)
-Means-message_found k i aborts is_front (Motion columns remark) = Means-no_unit_found k i (Telling aborts is_front) (Motion columns remark)
-Means-message_found k i aborts is_front (Measures width) = Means-no_unit_found k i (Telling aborts is_front) (Measures width)
-Means-message_found k i aborts is_front (Tells remark) = Means-no_unit_found k i (Telling aborts is_front) (Tells remark)
-Means-message_found k i aborts is_front (Decides decision freed) = Means-no_unit_found k i (Telling aborts is_front) (Decides decision freed)
 
 -- a call
 Means-call_unit : (i : PageInput) (name : ShortName) (unit : CopyUnit) → Means i.ahead (call_unit i name unit)
@@ -202,38 +164,34 @@ Means-call_unit i name (Byte b) =
     (Means-if i.ahead (b == quote) _ _ (tt, ahead-same (ahead-holding_call (Byte b) i)) (tt, ahead-same (ahead-holding_call (Byte b) (settling i))))
 Means-call_unit i name (Kept b) = (tt, ahead-same (ahead-holding_call (Kept b) (settling i)))
 
-Means-call_found : (k : Known) (i : PageInput) (name : ShortName) (found : Found) → Means i.ahead (call_found k i name found)
-Means-call_found k i name (GivesUnit unit) = Means-call_unit i name unit
-Means-call_found k i name (Escape b) = Means-call_unit i name (Kept b)
-Means-call_found k i name GoesOn = Means-no_unit_found k (settling i) (Calling name) GoesOn
-Means-call_found k i name (Holds unit) = Means-no_unit_found k (settling i) (Calling name) (Holds unit)
-Means-call_found k i name (Asks purpose asked) = Means-no_unit_found k (settling i) (Calling name) (Asks purpose asked)
-Means-call_found k i name (Motion columns remark) = Means-no_unit_found k (settling i) (Calling name) (Motion columns remark)
-Means-call_found k i name (Measures width) = Means-no_unit_found k (settling i) (Calling name) (Measures width)
-Means-call_found k i name (Tells remark) = Means-no_unit_found k (settling i) (Calling name) (Tells remark)
-Means-call_found k i name (Decides decision freed) = Means-no_unit_found k (settling i) (Calling name) (Decides decision freed)
-
 -- a byte behind a name
 Means-line_taking : (k : Known) (i : PageInput) (breaks : Bool) (request : Request) (line : LineReading) (b : ℕ) → Means i.ahead (line_taking k i breaks request line b)
 Means-line_taking k i breaks request ByArguments b =
-    let read = byte_read AboveArguments i.escapes b in Means-arguments_found k (record i { escapes = read.1 }) breaks request read.0
+    let read = byte_read AboveArguments i.escapes b in let j : PageInput = record i { escapes = read.1 } in
+    Means-collected k j (InArguments breaks request) read.0 (Means-unit_found k j breaks request)
 Means-line_taking k i breaks request (ByCondition keeps) b = Means-condition_begun k i keeps b
 Means-line_taking k i breaks request (ByString appends) b =
-    let read = byte_read AboveArguments i.escapes b in Means-string_name_found k (record i { escapes = read.1 }) appends read.0
+    let read = byte_read AboveArguments i.escapes b in let j : PageInput = record i { escapes = read.1 } in
+    Means-collected k j (StringName appends) read.0 (Means-string_name_unit j appends)
 Means-line_taking k i breaks request ByLastLine b =
-    let read = byte_read AboveArguments i.escapes b in Means-arguments_found k (record i { escapes = read.1 }) breaks request read.0
+    let read = byte_read AboveArguments i.escapes b in let j : PageInput = record i { escapes = read.1 } in
+    Means-collected k j (InArguments breaks request) read.0 (Means-unit_found k j breaks request)
 Means-line_taking k i breaks request (ByMessage aborts) b =
-    let read = byte_read AboveCopy i.escapes b in Means-message_found k (record i { escapes = read.1 }) aborts true read.0
+    let read = byte_read AboveCopy i.escapes b in let j : PageInput = record i { escapes = read.1 } in
+    Means-collected k j (Telling aborts true) read.0 (Means-message_unit j aborts true)
 Means-line_taking k i breaks request (ByLines lines) b =
-    let read = byte_read AboveArguments i.escapes b in Means-arguments_found k (record i { escapes = read.1 }) breaks request read.0
+    let read = byte_read AboveArguments i.escapes b in let j : PageInput = record i { escapes = read.1 } in
+    Means-collected k j (InArguments breaks request) read.0 (Means-unit_found k j breaks request)
 Means-line_taking k i breaks request ByTitle b =
-    let read = byte_read AboveArguments i.escapes b in Means-title_front_found k (record i { escapes = read.1 }) read.0
+    let read = byte_read AboveArguments i.escapes b in let j : PageInput = record i { escapes = read.1 } in
+    Means-collected k j TitleFront read.0 (Means-title_front_unit k j)
 Means-line_taking k i breaks request ByElse b = Means-branch_taking k (without_last i) (reads_else (last_result i)) b
 
 Means-called_taking : (k : Known) (i : PageInput) (breaks : Bool) (called : Called) (b : ℕ) → Means i.ahead (called_taking k i breaks called b)
 Means-called_taking k i breaks (ARequest request) b = Means-line_taking k i breaks request (row_of request).line b
 Means-called_taking k i breaks (ABody name) b =
-    let read = byte_read AboveArguments i.escapes b in Means-call_found k (record i { escapes = read.1 }) name read.0
+    let read = byte_read AboveArguments i.escapes b in let j : PageInput = record i { escapes = read.1 } in
+    Means-collected k j (Calling name) read.0 (Means-call_unit j name)
 Means-called_taking k i breaks Unknown b = (tt, Stays)
 
 Means-name_ended_taking : (k : Known) (i : PageInput) (breaks : Bool) (name : ShortName) (b : ℕ) → Means i.ahead (name_ended_taking k i breaks name b)
@@ -270,17 +228,10 @@ Means-definition_unit k i name appends end front unit IsText = (tt, ahead-same (
 
 Means-definition_found : (k : Known) (i : PageInput) (name : Option ShortName) (appends : Bool) (end : Option ShortName) (matched : Option ℕ) (found : Found)
     → Means i.ahead (definition_found k i name appends end matched found)
-Means-definition_found k i name appends end matched (GivesUnit unit) =
-    Means-definition_unit k i name appends end (front_of (end_mark end) matched) unit (line_from (end_mark end) matched unit)
-Means-definition_found k i name appends end matched (Escape b) =
-    Means-definition_unit k i name appends end (front_of (end_mark end) matched) (Kept b) (line_from (end_mark end) matched (Kept b))
-Means-definition_found k i name appends end matched GoesOn = Means-no_unit_found k i (Defining name appends end matched) GoesOn
-Means-definition_found k i name appends end matched (Holds unit) = Means-no_unit_found k i (Defining name appends end matched) (Holds unit)
-Means-definition_found k i name appends end matched (Asks purpose asked) = Means-no_unit_found k i (Defining name appends end matched) (Asks purpose asked)
-Means-definition_found k i name appends end matched (Motion columns remark) = Means-no_unit_found k i (Defining name appends end matched) (Motion columns remark)
-Means-definition_found k i name appends end matched (Measures width) = Means-no_unit_found k i (Defining name appends end matched) (Measures width)
-Means-definition_found k i name appends end matched (Tells remark) = Means-no_unit_found k i (Defining name appends end matched) (Tells remark)
-Means-definition_found k i name appends end matched (Decides decision freed) = Means-no_unit_found k i (Defining name appends end matched) (Decides decision freed)
+Means-definition_found k i name appends end matched found =
+    of-unit_or (Means i.ahead) (definition_line k i name appends end matched) (no_unit_found k i (Defining name appends end matched) found) (unit_in found)
+    (λ unit. Means-definition_unit k i name appends end (front_of (end_mark end) matched) unit (line_from (end_mark end) matched unit))
+    (Means-no_unit_found k i (Defining name appends end matched) found)
 
 -- what was found where this is read
 Means-found_in : (k : Known) (i : PageInput) (reading : LineState) (found : Found) → Means i.ahead (found_in k i reading found)
@@ -288,12 +239,12 @@ Means-found_in k i LineStart found = Means-beginning_found k i LineStart found
 Means-found_in k i Branch found = Means-beginning_found k i Branch found
 Means-found_in k i Braced found = Means-beginning_found k i Braced found
 Means-found_in k i (InText line) found = Means-text_found k i line found
-Means-found_in k i (InArguments breaks request) found = Means-arguments_found k i breaks request found
+Means-found_in k i (InArguments breaks request) found = Means-collected k i (InArguments breaks request) found (Means-unit_found k i breaks request)
 Means-found_in k i (Deciding keeps) found = Means-condition_found k i keeps found
-Means-found_in k i (StringName appends) found = Means-string_name_found k i appends found
-Means-found_in k i (StringText name appends is_front) found = Means-string_text_found k i name appends is_front found
-Means-found_in k i (Telling aborts is_front) found = Means-message_found k i aborts is_front found
-Means-found_in k i (Calling name) found = Means-call_found k i name found
+Means-found_in k i (StringName appends) found = Means-collected k i (StringName appends) found (Means-string_name_unit i appends)
+Means-found_in k i (StringText name appends is_front) found = Means-collected k i (StringText name appends is_front) found (Means-string_unit i name appends is_front)
+Means-found_in k i (Telling aborts is_front) found = Means-collected k i (Telling aborts is_front) found (Means-message_unit i aborts is_front)
+Means-found_in k i (Calling name) found = Means-collected k i (Calling name) found (Means-call_unit i name)
 Means-found_in k i (Defining name appends end matched) found = Means-definition_found k i name appends end matched found
 Means-found_in k i (Control breaks) found = (tt, Stays)
 Means-found_in k i (Name breaks first) found = (tt, Stays)
@@ -301,7 +252,7 @@ Means-found_in k i (Skipping opened closed behind) found = (tt, Stays)
 Means-found_in k i Dropped found = (tt, Stays)
 Means-found_in k i (Told aborts) found = (tt, Stays)
 Means-found_in k i Exiting found = (tt, Stays)
-Means-found_in k i TitleFront found = Means-title_front_found k i found
+Means-found_in k i TitleFront found = Means-collected k i TitleFront found (Means-title_front_unit k i)
 Means-found_in k i (InTitle delimiter) found = Means-title_found k i delimiter found
 
 -- a byte that isn't dropped

@@ -2,7 +2,7 @@
 use Rattle.std.proofs.Common.{◌≡◌, inl, inr, List, Option, [], ◌∷◌, Some, None, refl, ap, sym, subst, ◌∙◌}
 use Rattle.roff_num.specs.declared.limit.Limit.{Limit}
 use Rattle.roff_num.specs.declared.limits.Limits.{Limits}
-use Rattle.roff_ahead.specs.Input.{item_taken}
+use Rattle.roff_input.specs.Input.{item_taken}
 use Rattle.roff_run.specs.Run.{State, ending_as, phase_ended, step_with, stopped_by}
 use Rattle.roff_run.specs.Requests.{called_by}
 use Rattle.roff_run.specs.Springs.{next}

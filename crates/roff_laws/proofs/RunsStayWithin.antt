@@ -25,7 +25,7 @@ use Rattle.roff_laws.proofs.InputLeaving.{IsLeft-left_in}
 use Rattle.roff_laws.proofs.PerformedOrStopped.{PerformedOrStopped, Performed, Sprang, EndsOver, StoppedAt, first_of, left_behind, performed_or_stopped}
 use Rattle.roff_run.proofs.Readings.{IsMade, ReadsOn, LimitStops, AheadTaken, ByteTaken, NoteTaken, HalfEnds, InputLeft, LineEnds, PhaseEnds, MessageTold, RunAborts, SourceFails, SourceStops, SprungRead, ReadsOn-with_sprung, within}
 use Rattle.roff_run.proofs.Behind.{Behind-byte_taken, Behind-sprung_read, Behind-ahead_taken, Behind-escape_ends, Behind-line_ends, Passed-phase_ended}
-use Rattle.roff_ahead.specs.Input.{counting, item_taken}
+use Rattle.roff_input.specs.Input.{counting, item_taken}
 use Rattle.roff_num.specs.declared.num.Num.{Num}
 use Rattle.roff_pages.specs.DeviceText.{device_lines}
 use Rattle.roff_pages.specs.Happenings.{Happening, Does, Titles}

@@ -19,7 +19,7 @@ use Rattle.roff_num.specs.declared.num.Num.{Num}
 use Rattle.roff_run.specs.Results.{last_state}
 use Rattle.roff_laws.specs.Statuses.{HasMet, Tells, EachStatusTells}
 use Rattle.roff_run.specs.declared.status.Status.{Status}
-use Rattle.roff_ahead.specs.Input.{item_taken}
+use Rattle.roff_input.specs.Input.{item_taken}
 use Rattle.roff_source.specs.Tape.{Tape, Item, Ending, Ends, Ended, Failed, Stopped, front}
 use Rattle.roff_laws.proofs.Stages.{Stage, Stage-event, Stage-given, Stage-paged, Stage-read, ended-over}
 use Rattle.roff_laws.proofs.Endings.{at_last_state, ended_or_not, step-ended, step-going}

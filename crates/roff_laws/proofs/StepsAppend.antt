@@ -11,9 +11,9 @@ use Rattle.roff_escape.specs.Waiting.{is_ended_by}
 use Rattle.roff_escape.specs.declared.open_escape.Waiting.{Waiting}
 use Rattle.roff_escape.specs.declared.open_escape.Waiting.TheVariants.{Takes, Decides, Waits}
 use Rattle.roff_run.specs.Reading.Waiting.{waiting_in}
-use Rattle.roff_ahead.specs.Input.{Ahead, ByteAhead, FreeAhead, EndAhead, ReturnAhead, DoAhead, cost, item_taken, counting}
+use Rattle.roff_input.specs.Input.{Ahead, ByteAhead, FreeAhead, EndAhead, ReturnAhead, DoAhead, cost, item_taken, counting}
 use Rattle.roff_source.specs.Tape.{Answer, Gives, Ends, OneByte, OneNote, Ended, Failed, Stopped}
-use Rattle.roff_ahead.specs.Shown.{Sighted, SeesByte, SeesNothing, SeesNote, SeesEnding, seen_ahead}
+use Rattle.roff_input.specs.Shown.{Sighted, SeesByte, SeesNothing, SeesNote, SeesEnding, seen_ahead}
 use Rattle.roff_escape.specs.OpenEscape.{OpenEscape}
 use Rattle.roff_laws.specs.Laws.{OnlyCuts}
 use Rattle.roff_num.specs.Lists.{IsBeginning}

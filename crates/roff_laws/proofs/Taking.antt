@@ -20,7 +20,7 @@ use Rattle.roff_run.specs.Results.{last_state}
 use Rattle.roff_run.specs.Run.{State, initial, moved, paged_state, stopped_by, unless_refused, with_registers, step_with, step, after}
 use Rattle.roff_laws.specs.Taken.{bytes_of, newlines_in, line_of_last, Takes, EachItemIsTakenOnce, EachRunLeavesItsRest}
 use Rattle.roff_source.specs.Bytes.{newline}
-use Rattle.roff_ahead.specs.Input.{Ahead, counting, item_taken}
+use Rattle.roff_input.specs.Input.{Ahead, counting, item_taken}
 use Rattle.roff_source.specs.Tape.{Tape, Item, Ending, OneByte, OneNote, Gives, front, behind_front}
 use Rattle.roff_laws.proofs.Endings.{at_last_state}
 use Rattle.roff_laws.proofs.InputLeaving.{IsLeft-left_in}

@@ -6,9 +6,9 @@ use Rattle.std.specs.Prelude.{◌||◌, decimal, if◌then◌else◌, ◌==◌}
 use Rattle.roff_lines.specs.declared.event.Event.TheVariants.{Print, WordEnd, LineEnd, Count, Break, Tab}
 use Rattle.roff_lines.specs.declared.glyph.Glyph.{Glyph}
 use Rattle.roff_lines.specs.declared.glyph.Glyph.TheVariants.{Blanks, Printed}
-use Rattle.roff_ahead.specs.Input.{Ahead}
-use Rattle.roff_ahead.specs.Input.Calls.{arguments_live}
-use Rattle.roff_ahead.specs.Input.Names.{body_named}
+use Rattle.roff_input.specs.Input.{Ahead}
+use Rattle.roff_input.specs.Input.Calls.{arguments_live}
+use Rattle.roff_input.specs.Input.Names.{body_named}
 use Rattle.roff_source.specs.Bytes.{tab, newline, blank, apostrophe, dot, is_silent}
 use Rattle.roff_escape.specs.Characters.{character}
 use Rattle.roff_escape.specs.Escapes.{escape_of}

@@ -6,7 +6,7 @@ use Rattle.roff_run.specs.PageEvents.{PageEvent}
 use Rattle.roff_run.specs.Events.Lines.{closing_events}
 use Rattle.roff_run.specs.Run.{State, input_left, known, left_in, moved, phase_ended}
 use Rattle.roff_run.specs.Reading.Returns.{gone_back_to}
-use Rattle.roff_ahead.specs.Input.{Ahead, ByteAhead, FreeAhead, EndAhead, ReturnAhead, DoAhead, cost, item_taken, counting, outermost_back}
+use Rattle.roff_input.specs.Input.{Ahead, ByteAhead, FreeAhead, EndAhead, ReturnAhead, DoAhead, cost, item_taken, counting, outermost_back}
 use Rattle.roff_source.specs.Tape.{Tape, Item, Gives, OneByte, OneNote, front, behind_front}
 use Rattle.roff_run.specs.TurnsToCome.{begun, endings_of, free_ahead, lines_left, most_left, phases_left, turns_of}
 use Rattle.roff_run.specs.Environments.{interrupted_line}

@@ -3,7 +3,7 @@ use Rattle.std.specs.Prelude.{◌≡◌, ◌≢◌, ◌⊎◌, ℕ, suc, ◌<◌
 use Rattle.std.specs.List.{AllByRecursion}
 use Rattle.roff_num.specs.declared.limits.Limits.{Limits}
 use Rattle.roff_num.specs.declared.short_name.ShortName.{ShortName}
-use Rattle.roff_ahead.specs.Input.{Ahead, DoAhead}
+use Rattle.roff_input.specs.Input.{Ahead, DoAhead}
 use Rattle.roff_pages.specs.declared.layout_event.LayoutEvent.{LayoutEvent}
 use Rattle.roff_pages.specs.declared.layout_event.LayoutEvent.TheVariants.{Eject, EjectOn, EjectTo}
 use Rattle.roff_pages.specs.declared.trap.Trap.{Trap}

@@ -20,7 +20,7 @@ use Rattle.roff_escape.specs.declared.open_escape.CopyUnit.{CopyUnit}
 use Rattle.roff_escape.specs.declared.open_escape.CopyUnit.TheVariants.{Byte, Kept}
 use Rattle.roff_escape.specs.declared.open_escape.Found.TheVariants.{GoesOn, Unit as GivesUnit}
 use Rattle.roff_escape.specs.declared.open_escape.Surroundings.TheVariants.{Arguments as AboveArguments}
-use Rattle.roff_ahead.specs.Input.Names.{body_named}
+use Rattle.roff_input.specs.Input.Names.{body_named}
 use Rattle.roff_num.specs.ShortNames.{name_bytes}
 use Rattle.roff_rewriting.proofs.Ways.{Done, One, Two, Way}
 use Rattle.roff_rewriting.specs.Parts.{IsOnlyCopied}
@@ -36,7 +36,7 @@ use Rattle.roff_run.proofs.NameBytes.{stage}
 use Rattle.roff_run.specs.Reading.{undropped_taking}
 use Rattle.roff_run.specs.Reading.Calls.{call_unit, holding_call}
 use Rattle.roff_run.specs.Reading.Units.{settling}
-use Rattle.roff_ahead.specs.Input.Calls.{calling_body}
+use Rattle.roff_input.specs.Input.Calls.{calling_body}
 use Rattle.roff_run.specs.Reading.Found.{read_in}
 use Rattle.roff_run.specs.Reading.Items.{PageInput, Taking, going_on}
 use Rattle.roff_run.specs.Stages.{Stage, Turns, input_at}

@@ -11,8 +11,8 @@ use Rattle.roff_source.specs.Tape.{OneByte, Tape, items_then}
 use Rattle.roff_escape.specs.OpenEscape.{OpenEscape}
 use Rattle.roff_store.specs.Named.{Named}
 use Rattle.roff_store.specs.Texts.{Entry}
-use Rattle.roff_ahead.specs.Input.{Ahead, ByteAhead, bytes_ahead, ends_ahead, lines_taken}
-use Rattle.roff_ahead.specs.Input.Names.{stored}
+use Rattle.roff_input.specs.Input.{Ahead, ByteAhead, bytes_ahead, ends_ahead, lines_taken}
+use Rattle.roff_input.specs.Input.Names.{stored}
 use Rattle.roff_rewriting.proofs.MessageLines.{split-ahead}
 use Rattle.roff_rewriting.proofs.PartRuns.{behind_bytes-append, bytes_ahead-front, ends_ahead-front}
 use Rattle.roff_rewriting.proofs.ReadTexts.{charged, split-tape}

@@ -1,7 +1,7 @@
 -- Where a word's end springs a macro, a gap, a line's end or a break is put back first.
 use Rattle.std.proofs.Common.{◌≡◌, Bool, true, false, List, [], ◌∷◌, ◌++◌, map, Option, Some, None, inl, inr, refl, sym, ◌∙◌, ap, subst}
 use Rattle.roff_num.specs.declared.limits.Limits.{Limits}
-use Rattle.roff_ahead.specs.Input.{Ahead, DoAhead}
+use Rattle.roff_input.specs.Input.{Ahead, DoAhead}
 use Rattle.roff_lines.specs.declared.event.Event.TheVariants.{Print, Tab, WordEnd, Gap, LineEnd, Count, Break, Interrupt as Interrupted, Resume, Set}
 use Rattle.roff_pages.specs.Happenings.{Does}
 use Rattle.roff_pages.specs.Springs.{goes_on}

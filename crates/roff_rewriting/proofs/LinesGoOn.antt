@@ -1,7 +1,7 @@
 -- A line that a macro interrupted between two words goes on with another word.
 use Rattle.std.proofs.Common.{◌≡◌, inl, inr, ℕ, zero, suc, false, List, [], ◌∷◌, Option, Some, None, refl, sym, ◌∙◌, ap, subst}
 use Rattle.roff_num.specs.declared.limits.Limits.{Limits}
-use Rattle.roff_ahead.specs.Input.{Ahead, DoAhead, item_taken}
+use Rattle.roff_input.specs.Input.{Ahead, DoAhead, item_taken}
 use Rattle.roff_lines.specs.Words.{has_open_word}
 use Rattle.roff_lines.specs.declared.event.Event.TheVariants.{Print, Tab, WordEnd, Gap, LineEnd, Count, Break, Interrupt as Interrupted, Resume, Set}
 use Rattle.roff_pages.specs.declared.layout_event.LayoutEvent.TheVariants.{Begin}

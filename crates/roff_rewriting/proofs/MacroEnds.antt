@@ -4,9 +4,9 @@ use Rattle.std.specs.Prelude.{IsSome}
 use Rattle.roff_num.specs.ShortNames.{name_bytes}
 use Rattle.roff_num.specs.declared.limits.Limits.{Limits}
 use Rattle.roff_num.specs.declared.limit.Limit.{Limit}
-use Rattle.roff_ahead.specs.Input.{Ahead, ReturnAhead, ByteAhead}
-use Rattle.roff_ahead.specs.Input.Calls.{called_text}
-use Rattle.roff_ahead.specs.Input.Names.{body_named}
+use Rattle.roff_input.specs.Input.{Ahead, ReturnAhead, ByteAhead}
+use Rattle.roff_input.specs.Input.Calls.{called_text}
+use Rattle.roff_input.specs.Input.Names.{body_named}
 use Rattle.roff_run.specs.PageEvents.{PageEvent}
 use Rattle.roff_run.specs.Reading.Returns.{back_of, behind_return, gone_back_to, in_sprung}
 use Rattle.roff_run.specs.Run.{Leads, State, after, made, step, step_with, grown, sprung_read, unless_refused}

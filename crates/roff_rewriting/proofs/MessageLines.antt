@@ -12,9 +12,9 @@ use Rattle.roff_arguments.specs.Arguments.{Arguments, held, no_arguments}
 use Rattle.roff_source.specs.Bytes.{blank, newline}
 use Rattle.roff_store.specs.Named.{Named}
 use Rattle.roff_store.specs.Texts.{Entry}
-use Rattle.roff_ahead.specs.Input.Calls.{arguments_live}
-use Rattle.roff_ahead.specs.Input.Names.{body_named}
-use Rattle.roff_ahead.specs.Input.{Ahead, ByteAhead, EndAhead, bytes_ahead, depth, ends_ahead, item_taken, pushed, pushing}
+use Rattle.roff_input.specs.Input.Calls.{arguments_live}
+use Rattle.roff_input.specs.Input.Names.{body_named}
+use Rattle.roff_input.specs.Input.{Ahead, ByteAhead, EndAhead, bytes_ahead, depth, ends_ahead, item_taken, pushed, pushing}
 use Rattle.roff_escape.specs.OpenEscape.{OpenEscape}
 use Rattle.roff_escape.specs.declared.escapes.NameUse.{NameUse}
 use Rattle.roff_escape.specs.declared.escapes.NameUse.TheVariants.{Register}

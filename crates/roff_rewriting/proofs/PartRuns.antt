@@ -8,11 +8,12 @@ use Rattle.roff_arguments.specs.Arguments.{Arguments, held, live_bytes}
 use Rattle.roff_source.specs.Bytes.{newline}
 use Rattle.roff_store.specs.Named.{Named}
 use Rattle.roff_store.specs.Texts.{Entry}
-use Rattle.roff_ahead.specs.Input.{Ahead, ByteAhead, EndAhead, bytes_ahead, ends_ahead}
+use Rattle.roff_input.specs.Input.{Ahead, ByteAhead, EndAhead, bytes_ahead, ends_ahead}
 use Rattle.roff_rewriting.proofs.ReadTexts.{AreAsMany, IsMore, IsOfOneLine, IsRead, behind_read, charged, in_front, more-behind, part-many, read-cost, read-escapes, read-of_line, read-same, reads-end, reads-text, standing}
 use Rattle.roff_rewriting.proofs.Ways.{Way, after-Way, held-Way, small-Way}
 use Rattle.roff_rewriting.specs.Parts.{Part, Written, bytes_of, bytes_of_part, cost_of_texts, known_behind_part, registers_behind, registers_behind_part, rewritten, rewritten_part}
-use Rattle.roff_rules.proofs.Interpolation.{ReadsEscapes-reads_escapes, held-settled_for, settled_for}
+use Rattle.roff_rules.proofs.Interpolation.{ReadsEscapes-reads_escapes, held-settled_for}
+use Rattle.roff_run.specs.Reading.Units.{settled_for}
 use Rattle.roff_run.specs.Environments.{environments}
 use Rattle.roff_run.specs.Output.{PageHistory, written}
 use Rattle.roff_run.specs.Layouts.{layout_of}

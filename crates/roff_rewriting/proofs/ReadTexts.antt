@@ -15,6 +15,7 @@ use Rattle.roff_num.specs.Ranges.{is_in_range}
 use Rattle.roff_escape.specs.declared.escapes.NameUse.TheVariants.{Register}
 use Rattle.roff_rules.proofs.WidthLaws.{measured_texts_of_the_source_read_as_digits, measured_texts_read_as_digits}
 use Rattle.roff_rules.specs.WidthLaws.{IsPlain, MayDelimit, measures_texts, text_units, width_escape, with_width_ahead}
+use Rattle.roff_run.specs.Reading.Units.{settled_for}
 use Rattle.roff_run.proofs.ItemsTaken.{not-second}
 use Rattle.roff_run.specs.Messages.{message_lines}
 use Rattle.roff_run.specs.Registers.{AllRegisters, Known, StepBy, changed_by, is_page, is_read_only, is_step_out_of_range, number_in_range, page_register}
@@ -35,10 +36,10 @@ use Rattle.roff_escape.specs.Waiting.{decides, is_ended_by}
 use Rattle.roff_escape.specs.declared.escapes.NameUse.{NameUse}
 use Rattle.roff_escape.specs.declared.open_escape.Waiting.{Waiting}
 use Rattle.roff_escape.specs.declared.open_escape.Waiting.TheVariants.{Decides, Takes, Waits}
-use Rattle.roff_ahead.specs.Input.{Ahead, ByteAhead, EndAhead, item_taken, pushing}
-use Rattle.roff_ahead.specs.Shown.{seen_ahead}
+use Rattle.roff_input.specs.Input.{Ahead, ByteAhead, EndAhead, item_taken, pushing}
+use Rattle.roff_input.specs.Shown.{seen_ahead}
 use Rattle.roff_rules.proofs.InterpolatedNames.{escapes_of_the_source_read_as_texts, escapes_read_as_texts, with_text_ahead-arguments}
-use Rattle.roff_rules.proofs.Interpolation.{ReadsEscapes, ReadsEscapes-reads_escapes, interrupted-arguments, is_no_newline, none_due-reads, settled_for}
+use Rattle.roff_rules.proofs.Interpolation.{ReadsEscapes, ReadsEscapes-reads_escapes, is_no_newline, none_due-reads}
 use Rattle.roff_rewriting.proofs.MessageLines.{same-text, split-ahead}
 use Rattle.roff_rules.specs.InterpolationLaws.{IsEscapeOf, Long, LongString, OfArgument, Short, ShortString, StandsForItself, reads_above, reads_escapes, stepped, text_named, with_source_behind, with_text_ahead}
 use Rattle.roff_rewriting.specs.Parts.{Escape, Measured, Part, Written, bytes_of_part, cost_of_texts, known_behind_part, registers_behind_part, registers_stepped, rewritten_part, steps_quietly}
@@ -243,8 +244,7 @@ with_text-ahead purpose name bytes taken rest u on quiet =
 with_width-ahead : (width taken : ℕ) (rest : List (Ahead PageEvent)) (u : State) → ReadsEscapes u.reading → u.input.escapes ≡ []
     → with_width_ahead width [] taken rest u ≡ with_text u u.reading u.input.arguments rest (decimal width) (charged taken u.input)
 with_width-ahead width taken rest u on half =
-    ap (λ (i : PageInput). record u { input = pushing (decimal width) (record i { ahead = rest; escapes = []; charge = u.input.charge + taken }) }) (interrupted-arguments u.reading u.input on)
-    ∙ ap (λ (h : List OpenEscape). record u {
+    ap (λ (h : List OpenEscape). record u {
       input = pushing (decimal width) (record u.input { ahead = rest; escapes = h; arguments = settled_for u.reading u.input.arguments; charge = u.input.charge + taken });
     }) (sym half)
 

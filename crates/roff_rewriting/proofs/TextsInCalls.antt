@@ -20,7 +20,7 @@ use Rattle.roff_arguments.specs.declared.arguments.Place.TheVariants.{BehindQuot
 use Rattle.roff_source.specs.Bytes.{backslash, blank, is_dropped, is_silent, newline, tab}
 use Rattle.roff_store.specs.Named.{Named}
 use Rattle.roff_store.specs.Texts.{Entry}
-use Rattle.roff_ahead.specs.Input.{bytes_ahead, counting, ends_ahead, lines_taken}
+use Rattle.roff_input.specs.Input.{bytes_ahead, counting, ends_ahead, lines_taken}
 use Rattle.roff_rewriting.proofs.PartRuns.{NoPart, OnBytes, OnText, PartsPath, RoomFor, after-parts, behind_bytes-append, behind_bytes-charged, bytes_ahead-front, ends_ahead-front, knows-behind}
 use Rattle.roff_rewriting.proofs.ReadTexts.{ByName, ByWidth, IsOfOneLine, IsRead, More, charged}
 use Rattle.roff_rewriting.proofs.CallUnits.{AreUnits, agrees-units, call_unit_held, held-units, units-append, units-line, way-call}

@@ -10,8 +10,8 @@ use Rattle.roff_store.specs.Named.{Named}
 use Rattle.roff_store.specs.Texts.{Entry}
 use Rattle.roff_escape.specs.EscapeLaws.{copied}
 use Rattle.roff_escape.specs.declared.open_escape.CopyUnit.TheVariants.{Byte}
-use Rattle.roff_ahead.specs.Input.{bytes_ahead, ends_ahead, lines_taken}
-use Rattle.roff_ahead.specs.Input.Names.{stored}
+use Rattle.roff_input.specs.Input.{bytes_ahead, ends_ahead, lines_taken}
+use Rattle.roff_input.specs.Input.Names.{stored}
 use Rattle.roff_rewriting.proofs.CopiedMarks.{ended_from, mark-ends, path-parts_of_mark}
 use Rattle.roff_rewriting.proofs.CopiedParts.{AtMark, SoFar, copies-newline, reads-copies}
 use Rattle.roff_rewriting.proofs.PartRuns.{ComesTo, Knows, RoomFor, after-bytes, after-parts, behind_bytes-append, behind_bytes-charged, comes-on, knows-behind, one-of_line}

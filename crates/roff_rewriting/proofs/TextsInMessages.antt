@@ -11,7 +11,7 @@ use Rattle.roff_source.specs.Bytes.{blank, newline}
 use Rattle.roff_store.specs.Named.{Named}
 use Rattle.roff_store.specs.Texts.{Entry}
 use Rattle.roff_escape.specs.OpenEscape.{OpenEscape}
-use Rattle.roff_ahead.specs.Input.{bytes_ahead, ends_ahead, lines_taken}
+use Rattle.roff_input.specs.Input.{bytes_ahead, ends_ahead, lines_taken}
 use Rattle.roff_rewriting.proofs.PartRuns.{NoPart, OnBytes, OnText, PartsPath, RoomFor, after-parts, behind_bytes-append, behind_bytes-charged, bytes_ahead-front, ends_ahead-front, knows-behind}
 use Rattle.roff_rewriting.proofs.ReadTexts.{ByName, More, charged}
 use Rattle.roff_rewriting.proofs.TextsInCalls.{line_front, lines_taken-charged, name-of_line, paid}

@@ -12,8 +12,8 @@ use Rattle.roff_store.specs.Named.{Named}
 use Rattle.roff_store.specs.Texts.{Entry}
 use Rattle.roff_escape.specs.EscapeLaws.{copied}
 use Rattle.roff_escape.specs.OpenEscape.{unit_bytes}
-use Rattle.roff_ahead.specs.Input.{bytes_ahead, ends_ahead, lines_taken}
-use Rattle.roff_ahead.specs.Input.Names.{stored}
+use Rattle.roff_input.specs.Input.{bytes_ahead, ends_ahead, lines_taken}
+use Rattle.roff_input.specs.Input.Names.{stored}
 use Rattle.roff_rewriting.proofs.CopiedParts.{copied-behind, copied-part, part-of_line}
 use Rattle.roff_rewriting.proofs.PartRuns.{NoPart, OnBytes, OnText, PartsPath, RoomFor, after-parts, behind_bytes-append, behind_bytes-charged, bytes_ahead-front, ends_ahead-front, knows-behind}
 use Rattle.roff_rewriting.proofs.ReadTexts.{ByName, IsOfOneLine, More, charged}

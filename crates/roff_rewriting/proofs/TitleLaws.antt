@@ -3,7 +3,7 @@ use Rattle.std.proofs.Common.{◌≡◌, ℕ, ◌+◌, ◌≤◌, Bool, true, fa
 use Rattle.std.specs.Prelude.{All, ℤ, ◌==◌}
 use Rattle.std.proofs.lemmas.List.{append-nil, length-append}
 use Rattle.std.proofs.lemmas.List.Elements.{All-weaker}
-use Rattle.roff_ahead.specs.Input.{lines_taken}
+use Rattle.roff_input.specs.Input.{lines_taken}
 use Rattle.roff_arguments.specs.Arguments.{Arguments, no_arguments}
 use Rattle.roff_escape.specs.OpenEscape.{OpenEscape}
 use Rattle.roff_lines.specs.Events.{settings_after}

@@ -2,7 +2,7 @@
 use Rattle.std.specs.Prelude.{◌≡◌, ◌⊎◌, ℕ, suc, List, ◌∷◌, ◌++◌, IsSome}
 use Rattle.roff_num.specs.declared.limits.Limits.{Limits}
 use Rattle.roff_num.specs.declared.short_name.ShortName.{ShortName}
-use Rattle.roff_ahead.specs.Input.{Ahead, ReturnAhead, item_taken}
+use Rattle.roff_input.specs.Input.{Ahead, ReturnAhead, item_taken}
 use Rattle.roff_run.specs.PageEvents.{PageEvent}
 use Rattle.roff_run.specs.Reading.Returns.{back_of}
 use Rattle.roff_run.specs.Requests.{called_by}

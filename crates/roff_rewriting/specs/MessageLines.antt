@@ -4,7 +4,7 @@ use Rattle.roff_num.specs.declared.limits.Limits.{Limits}
 use Rattle.roff_num.specs.declared.short_name.ShortName.{ShortName}
 use Rattle.roff_num.specs.ShortNames.{name_bytes}
 use Rattle.roff_source.specs.Bytes.{blank, newline}
-use Rattle.roff_ahead.specs.Input.{Ahead, ByteAhead, depth, pushed}
+use Rattle.roff_input.specs.Input.{Ahead, ByteAhead, depth, pushed}
 use Rattle.roff_escape.specs.declared.escapes.NameUse.{NameUse}
 use Rattle.roff_escape.specs.declared.escapes.NameUse.TheVariants.{Register}
 use Rattle.roff_rules.specs.CallLaws.{BeginsLine}

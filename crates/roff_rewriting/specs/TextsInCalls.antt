@@ -7,7 +7,7 @@ use Rattle.roff_escape.specs.declared.open_escape.CopyUnit.{CopyUnit}
 use Rattle.roff_escape.specs.declared.open_escape.CopyUnit.TheVariants.{Byte, Kept}
 use Rattle.roff_source.specs.Bytes.{backslash, dot, tab}
 use Rattle.roff_source.specs.Tape.{Tape, OneByte, items_then}
-use Rattle.roff_ahead.specs.Input.{Ahead, ByteAhead, depth, lines_taken, pushed}
+use Rattle.roff_input.specs.Input.{Ahead, ByteAhead, depth, lines_taken, pushed}
 use Rattle.roff_rewriting.specs.Parts.{AreParts, Escape, IsOnlyCopied, Measured, Part, Written, bytes_of, cost_of_texts, known_behind_part, registers_behind, rewritten}
 use Rattle.roff_rules.specs.CallLaws.{BeginsLine, with_call}
 use Rattle.roff_rules.specs.InterpolationLaws.{text_named}

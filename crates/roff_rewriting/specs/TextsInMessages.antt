@@ -7,7 +7,7 @@ use Rattle.roff_store.specs.Named.{Named}
 use Rattle.roff_store.specs.Texts.{Entry}
 use Rattle.roff_source.specs.Tape.{Tape, OneByte, items_then}
 use Rattle.roff_escape.specs.EscapeLaws.{copied}
-use Rattle.roff_ahead.specs.Input.{Ahead, ByteAhead, lines_taken}
+use Rattle.roff_input.specs.Input.{Ahead, ByteAhead, lines_taken}
 use Rattle.roff_rewriting.specs.Parts.{AreParts, IsCopiedPart, Part, bytes_of, cost_of_texts, registers_behind, rewritten}
 use Rattle.roff_rewriting.specs.TextsInCalls.{HasRoomForTexts}
 use Rattle.roff_rules.specs.CallLaws.{BeginsLine, IsControl}

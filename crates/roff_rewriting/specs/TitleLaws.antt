@@ -12,7 +12,7 @@ use Rattle.roff_source.specs.Bytes.{backslash, blank}
 use Rattle.roff_source.specs.Tape.{Tape, OneByte, items_then}
 use Rattle.roff_store.specs.Named.{Named}
 use Rattle.roff_store.specs.Texts.{Entry}
-use Rattle.roff_ahead.specs.Input.{Ahead, ByteAhead, lines_taken}
+use Rattle.roff_input.specs.Input.{Ahead, ByteAhead, lines_taken}
 use Rattle.roff_rules.specs.CallLaws.{BeginsLine, IsControl}
 use Rattle.roff_rules.specs.TextLaws.{AllQuiet, all_performed}
 use Rattle.roff_rules.specs.WordCalls.{call_with}

@@ -2,7 +2,7 @@
 use Rattle.std.specs.Prelude.{◌≡◌, List, [], ◌∷◌}
 use Rattle.roff_num.specs.declared.limits.Limits.{Limits}
 use Rattle.roff_num.specs.declared.short_name.ShortName.{ShortName}
-use Rattle.roff_ahead.specs.Input.{Ahead, DoAhead}
+use Rattle.roff_input.specs.Input.{Ahead, DoAhead}
 use Rattle.roff_lines.specs.declared.event.Event.TheVariants.{WordEnd}
 use Rattle.roff_escape.specs.declared.open_escape.Found.{Found}
 use Rattle.roff_run.specs.PageEvents.{PageEvent}

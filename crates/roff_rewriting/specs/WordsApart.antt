@@ -3,7 +3,7 @@ use Rattle.std.specs.Prelude.{◌≡◌, ◌<◌, ℕ, suc, true, false, List, [
 use Rattle.std.specs.List.{flat_map}
 use Rattle.roff_num.specs.declared.limits.Limits.{Limits}
 use Rattle.roff_num.specs.declared.short_name.ShortName.{ShortName}
-use Rattle.roff_ahead.specs.Input.{Ahead, DoAhead}
+use Rattle.roff_input.specs.Input.{Ahead, DoAhead}
 use Rattle.roff_lines.specs.Events.{History}
 use Rattle.roff_lines.specs.declared.event.Event.{Event}
 use Rattle.roff_lines.specs.declared.event.Event.TheVariants.{Print, Tab, WordEnd, Gap, LineEnd, Break}

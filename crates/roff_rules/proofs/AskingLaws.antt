@@ -11,7 +11,7 @@ use Rattle.roff_num.specs.ShortNames.{name_bytes}
 use Rattle.roff_arguments.specs.Arguments.{Arguments, live_bytes, no_arguments}
 use Rattle.roff_source.specs.Bytes.{blank}
 use Rattle.roff_source.specs.Tape.{Answer, Tape, Ended, Ends, Gives, OneByte, front}
-use Rattle.roff_ahead.specs.Input.{Ahead, ByteAhead, bytes_ahead}
+use Rattle.roff_input.specs.Input.{Ahead, ByteAhead, bytes_ahead}
 use Rattle.roff_escape.specs.ConditionFronts.{HalvesTaken, is_of_expression}
 use Rattle.roff_escape.specs.Conditions.{ends_condition, ends_expression, expression_valued, is_decided, so_unless}
 use Rattle.roff_escape.specs.declared.open_escape.ConditionPart.{ConditionPart}

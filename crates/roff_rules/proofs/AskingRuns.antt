@@ -10,7 +10,7 @@ use Rattle.roff_arguments.specs.Arguments.{held, live_bytes, no_arguments}
 use Rattle.roff_source.specs.Bytes.{blank, is_dropped}
 use Rattle.roff_store.specs.Named.{Named}
 use Rattle.roff_store.specs.Texts.{Entry}
-use Rattle.roff_ahead.specs.Input.{Ahead, ByteAhead, bytes_ahead}
+use Rattle.roff_input.specs.Input.{Ahead, ByteAhead, bytes_ahead}
 use Rattle.roff_escape.proofs.ConditionFronts.{taken-held}
 use Rattle.roff_escape.specs.ConditionFronts.{ByteTaken, HalvesTaken, IsHeld, IsRead, NothingTaken, TakesOn}
 use Rattle.roff_escape.specs.OpenEscape.{OpenEscape, Reads, texts_held}

@@ -11,7 +11,7 @@ use Rattle.roff_num.specs.ShortNames.{name_bytes}
 use Rattle.roff_arguments.specs.Arguments.{live_bytes, no_arguments}
 use Rattle.roff_source.specs.Bytes.{blank, newline}
 use Rattle.roff_source.specs.Tape.{Answer, Tape, front}
-use Rattle.roff_ahead.specs.Input.{Ahead, ByteAhead}
+use Rattle.roff_input.specs.Input.{Ahead, ByteAhead}
 use Rattle.roff_escape.specs.ConditionFronts.{NothingTaken}
 use Rattle.roff_escape.specs.Conditions.{ends_condition, expression_valued, so_unless, text_is_same}
 use Rattle.roff_escape.specs.declared.open_escape.ConditionPart.{ConditionPart}

@@ -8,7 +8,7 @@ use Rattle.roff_num.specs.declared.limit.Limit.TheVariants.{Bytes}
 use Rattle.roff_num.specs.declared.limits.Limits.{Limits}
 use Rattle.roff_arguments.specs.Arguments.{live_bytes, Arguments, no_arguments}
 use Rattle.roff_escape.specs.OpenEscape.{OpenEscape}
-use Rattle.roff_ahead.specs.Input.{Ahead, ReturnAhead, bytes_ahead, counting, ends_ahead, item_taken, lines_taken, results_below}
+use Rattle.roff_input.specs.Input.{Ahead, ReturnAhead, bytes_ahead, counting, ends_ahead, item_taken, lines_taken, results_below}
 use Rattle.roff_rules.proofs.AskingLaws.{conditions_choose_their_branch, conditions_of_the_source_choose_their_branch, expressions_choose_their_branch, expressions_of_the_source_choose_their_branch}
 use Rattle.roff_rules.specs.AskingLaws.{asking, asking_line, question_bytes}
 use Rattle.roff_rules.specs.BranchLaws.{AreKeptOutside, AreKeptWithin, ExactlyOneBranchIsRead, ExactlyOneBranchOfTheSourceIsRead, OneBranchOfAnExpressionIsRead, OneBranchOfAnExpressionOfTheSourceIsRead, OneIsRead, ResultsEndWithTheirBody}
@@ -25,7 +25,7 @@ use Rattle.roff_run.specs.declared.line_state.LineState.{LineState}
 use Rattle.roff_run.specs.declared.line_state.LineState.TheVariants.{LineStart, Control, Name}
 use Rattle.roff_num.specs.declared.short_name.ShortName.{ShortName}
 use Rattle.roff_source.specs.Bytes.{blank, is_dropped}
-use Rattle.roff_ahead.specs.Input.Calls.{last_result, with_result, without_last}
+use Rattle.roff_input.specs.Input.Calls.{last_result, with_result, without_last}
 use Rattle.roff_store.specs.Named.{Named}
 use Rattle.roff_store.specs.Texts.{Entry}
 use Rattle.roff_rules.proofs.LineNames.{Allows, onward, turns-control}

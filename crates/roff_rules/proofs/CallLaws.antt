@@ -6,9 +6,9 @@ use Rattle.roff_num.specs.declared.limits.Limits.{Limits}
 use Rattle.roff_arguments.specs.Arguments.{Arguments, finished, no_arguments, only_kept, total_length}
 use Rattle.roff_source.specs.Bytes.{blank, newline}
 use Rattle.roff_escape.specs.OpenEscape.{OpenEscape}
-use Rattle.roff_ahead.specs.Input.{ByteAhead, ReturnAhead, lines_taken}
-use Rattle.roff_ahead.specs.Input.Calls.{called_text, calling_body}
-use Rattle.roff_ahead.specs.Input.Names.{body_named}
+use Rattle.roff_input.specs.Input.{ByteAhead, ReturnAhead, lines_taken}
+use Rattle.roff_input.specs.Input.Calls.{called_text, calling_body}
+use Rattle.roff_input.specs.Input.Names.{body_named}
 use Rattle.roff_arguments.specs.Quoting.{quoted_line}
 use Rattle.roff_store.specs.Named.{Named, entry_of}
 use Rattle.roff_store.specs.Texts.{Entry, Body, body_if_any}

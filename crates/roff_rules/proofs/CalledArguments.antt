@@ -12,8 +12,8 @@ use Rattle.roff_arguments.specs.Arguments.{Arguments, finished, held, kept_behin
 use Rattle.roff_source.specs.Bytes.{backslash, blank, is_dropped, newline, quote}
 use Rattle.roff_escape.specs.OpenEscape.{Backslash}
 use Rattle.roff_escape.specs.OpenEscapes.{byte_read}
-use Rattle.roff_ahead.specs.Input.Calls.{calling_body}
-use Rattle.roff_ahead.specs.Input.Names.{body_named}
+use Rattle.roff_input.specs.Input.Calls.{calling_body}
+use Rattle.roff_input.specs.Input.Names.{body_named}
 use Rattle.roff_arguments.specs.Quoting.{quoted_byte, quoted_line}
 use Rattle.roff_arguments.specs.declared.arguments.Place.{Place}
 use Rattle.roff_arguments.specs.declared.arguments.Place.TheVariants.{BehindQuote, Between, InQuotes}

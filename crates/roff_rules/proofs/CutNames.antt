@@ -7,7 +7,7 @@ use Rattle.roff_num.specs.declared.limits.Limits.{Limits}
 use Rattle.roff_arguments.specs.Arguments.{Arguments}
 use Rattle.roff_source.specs.Bytes.{backslash, newline}
 use Rattle.roff_source.specs.Tape.{Answer, Tape, Ended, Ends, Gives, OneByte, front}
-use Rattle.roff_ahead.specs.Input.{Ahead, ByteAhead}
+use Rattle.roff_input.specs.Input.{Ahead, ByteAhead}
 use Rattle.roff_escape.specs.EscapeLaws.{sign}
 use Rattle.roff_escape.specs.OpenEscape.{OpenEscape, Backslash, Name, names_in}
 use Rattle.roff_escape.specs.OpenEscapes.{byte_read, most_names, name_ended}
@@ -19,10 +19,11 @@ use Rattle.roff_escape.specs.declared.open_escape.NamePart.{NamePart}
 use Rattle.roff_escape.specs.declared.open_escape.NamePart.TheVariants.{First, Nothing, Opened}
 use Rattle.roff_escape.specs.declared.open_escape.Surroundings.{Surroundings}
 use Rattle.roff_rules.proofs.InterpolatedNames.{Interpolates, AnArgument, ARegister, AString, asked, charge-asked, read_from, read_from-asked, read_in-asks, taken_as-asking}
-use Rattle.roff_rules.proofs.Interpolation.{AtLast, Behind, FindsAtLast, IsRead, IsRead-itself, Means, OnText, ReadsEscapes, ReadsEscapes-reads_escapes, after-escape, held-settled_for, interrupted-arguments, is-going, is_no_newline, line_behind, none_due-reads, settled_for, settled_for-settled_for, source_behind, taking-nothing}
+use Rattle.roff_rules.proofs.Interpolation.{AtLast, Behind, FindsAtLast, IsRead, IsRead-itself, Means, OnText, ReadsEscapes, ReadsEscapes-reads_escapes, after-escape, held-settled_for, is-going, is_no_newline, line_behind, none_due-reads, settled_for-settled_for, source_behind, taking-nothing}
 use Rattle.roff_rules.proofs.NamesAsked.{begun-names, byte_read-backslash, byte_read-n, byte_read-opened, byte_read-opening, finds-signed, finds-string, goes_on-escape, goes_on-names, name_given-names}
 use Rattle.roff_rules.specs.CutNames.{AtNewline, AtTheEnd, CutNamesAreTheirFirstByte, CutNamesOfTheSourceAreTheirFirstByte, CutRegister, CutString, CutsLine, IsCutEscapeOf, IsNameless, NamelessCharactersAreTold, NamelessCharactersOfTheSourceAreTold, NamelessEscapesOfTheSourceReadAsNothing, NamelessEscapesReadAsNothing, NoArgument, NoRegister, NoString, nameless_character, with_no_character, with_nothing_read}
 use Rattle.roff_rules.specs.InterpolationLaws.{reads_above, reads_escapes}
+use Rattle.roff_run.specs.Reading.Units.{settled_for}
 use Rattle.roff_run.proofs.ItemsTaken.{Fits, Fits-IsWithin, FromAhead, FromSource, Origin, ahead_at, going, input_of, made-Fits, step-reads, tape_at, taken_as-going_on}
 use Rattle.roff_run.proofs.Leads.{after-add}
 use Rattle.roff_run.proofs.PlainRuns.{bytes_ahead-behind, ends_ahead-behind_all}
@@ -213,12 +214,8 @@ unread_from from taken s = with_nothing_read taken (ahead_at from []) (source_be
 unread_from-going : (s : State) (reading : LineState) (from : Origin) (bytes : List ℕ) (a : Arguments) (names : List OpenEscape) (charge taken line : ℕ) → ReadsEscapes reading
     → unread_from from taken (going s reading from bytes a names charge line)
     ≡ going s reading from [] (settled_for reading a) names (charge + taken) (line_behind from s line)
-unread_from-going s reading (FromAhead rest) bytes a names charge taken line on =
-    let first : State = going s reading (FromAhead rest) bytes a names charge line in
-    ap (λ (i : PageInput). record first { input = record i { ahead = rest; charge = charge + taken } }) (interrupted-arguments reading first.input on)
-unread_from-going s reading (FromSource tape) bytes a names charge taken line on =
-    let first : State = going s reading (FromSource tape) [] a names charge (s.input.newlines + 1) in
-    ap (λ (i : PageInput). record first { input = record i { ahead = []; charge = charge + taken } }) (interrupted-arguments reading first.input on)
+unread_from-going s reading (FromAhead rest) bytes a names charge taken line on = refl
+unread_from-going s reading (FromSource tape) bytes a names charge taken line on = refl
 
 -- bytes behind a backslash leave the name half read of something for which nothing is read
 record LeavesNameless (base : Surroundings) (names : List OpenEscape) (bytes : List ℕ) : Type 0 where

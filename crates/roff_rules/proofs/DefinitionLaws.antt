@@ -9,8 +9,8 @@ use Rattle.roff_num.specs.declared.limits.Limits.{Limits}
 use Rattle.roff_arguments.specs.Arguments.{Arguments, held}
 use Rattle.roff_source.specs.Bytes.{newline, backslash, dot, is_dropped, tab}
 use Rattle.roff_escape.specs.OpenEscape.{OpenEscape, Backslash, unit_bytes}
-use Rattle.roff_ahead.specs.Input.{lines_taken}
-use Rattle.roff_ahead.specs.Input.Names.{body_named, calling_on, stored}
+use Rattle.roff_input.specs.Input.{lines_taken}
+use Rattle.roff_input.specs.Input.Names.{body_named, calling_on, stored}
 use Rattle.roff_escape.specs.declared.open_escape.CopyUnit.TheVariants.{Byte, Kept}
 use Rattle.roff_store.specs.Named.{Named, with_entry}
 use Rattle.roff_store.specs.TextCalls.{Enter}

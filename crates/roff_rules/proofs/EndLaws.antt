@@ -7,7 +7,7 @@ use Rattle.roff_num.specs.declared.limits.Limits.{Limits}
 use Rattle.roff_num.specs.declared.num.Num.{Num}
 use Rattle.roff_num.specs.declared.short_name.ShortName.{ShortName}
 use Rattle.roff_escape.specs.OpenEscape.{OpenEscape}
-use Rattle.roff_ahead.specs.Input.{Ahead}
+use Rattle.roff_input.specs.Input.{Ahead}
 use Rattle.roff_source.specs.Tape.{Answer, Ended, Ends, front}
 use Rattle.roff_rules.specs.EndLaws.{ExClosesTheInput, ExIsIgnoredAsTheRunCloses, GivenRegistersRead, IsReadThrough, NamesNone, TheLastMacroIsRead, ThenTheLineIsPlaced, ThenTheRunIsDone, WithoutOneNothingIsRead}
 use Rattle.roff_run.specs.Reading.Calls.{called_last, last_called}

@@ -17,8 +17,8 @@ use Rattle.roff_store.specs.Texts.{Entry}
 use Rattle.roff_escape.specs.OpenEscape.{OpenEscape}
 use Rattle.roff_escape.specs.declared.open_escape.Waiting.{Waiting}
 use Rattle.roff_escape.specs.declared.open_escape.Waiting.TheVariants.{Takes}
-use Rattle.roff_ahead.specs.Input.{Ahead, counting, lines_taken}
-use Rattle.roff_ahead.specs.Input.Names.{calling_on, dropping}
+use Rattle.roff_input.specs.Input.{Ahead, counting, lines_taken}
+use Rattle.roff_input.specs.Input.Names.{calling_on, dropping}
 use Rattle.roff_rules.proofs.DefinedBytes.{Allows, Definition, defining, newest-last}
 use Rattle.roff_rules.proofs.DefinitionLaws.{making-length, making-stored, remove-last, path-lines}
 use Rattle.roff_rules.proofs.Skipping.{IsPlain, IsPlain-counting, skipped_behind, step-counting, taking-goes_on, run_at as skips_at}

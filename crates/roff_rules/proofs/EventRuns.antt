@@ -4,7 +4,7 @@ use Rattle.std.specs.Prelude.{⊤, map}
 use Rattle.std.proofs.lemmas.List.{append-nil, length-append}
 use Rattle.roff_num.specs.declared.limits.Limits.{Limits}
 use Rattle.roff_num.specs.declared.limit.Limit.{Limit}
-use Rattle.roff_ahead.specs.Input.{ByteAhead}
+use Rattle.roff_input.specs.Input.{ByteAhead}
 use Rattle.roff_run.proofs.ItemsTaken.{Fits, Fits-IsWithin, FromAhead, FromSource, Origin, bytes_ahead_are_taken, bytes_of_the_source_are_taken, made-Fits}
 use Rattle.roff_run.proofs.Leads.{after-add}
 use Rattle.roff_run.proofs.PlainRuns.{behind_byte, behind_bytes, run_at}

@@ -9,7 +9,7 @@ use Rattle.roff_escape.specs.EscapeLaws.{sign}
 use Rattle.roff_escape.specs.declared.escapes.NameUse.{NameUse}
 use Rattle.roff_escape.specs.declared.escapes.NameUse.TheVariants.{Register, Text as OfText, Argument}
 use Rattle.roff_escape.specs.OpenEscapes.{byte_read, most_names}
-use Rattle.roff_ahead.specs.Input.{Ahead, pushing}
+use Rattle.roff_input.specs.Input.{Ahead, pushing}
 use Rattle.roff_escape.specs.OpenEscape.{OpenEscape, Backslash, Name, names_in}
 use Rattle.roff_escape.specs.declared.open_escape.NamePart.TheVariants.{Nothing}
 use Rattle.roff_escape.specs.declared.open_escape.Found.TheVariants.{Asks}
@@ -18,12 +18,13 @@ use Rattle.roff_num.specs.declared.direction.Direction.{Direction}
 use Rattle.roff_run.specs.declared.line_state.LineState.{LineState}
 use Rattle.roff_run.specs.declared.line_state.LineState.TheVariants.{LineStart, Branch, Braced, Text as InText, Control, Name as NameOf, Arguments as InArguments, Deciding, StringName, StringText, Skipping, Dropped, Telling, Told, Exiting, Calling, Defining, TitleFront, Title as InTitle}
 use Rattle.roff_run.specs.declared.line_state.TextLine.{TextLine}
-use Rattle.roff_rules.proofs.Interpolation.{AtLast, Behind, IsRead, IsRead-itself, Means, ReadsEscapes, AtBeginning, AtBranch, AtBraced, OnText, OnArguments, OnCondition, OnStringName, OnCall, OnStringText, OnDefinition, OnMessage, ReadsEscapes-reads_escapes, after-escape, interrupted-arguments, is-going, is_no_newline, line_behind, settled_for, settled_for-settled_for, settled_input, source_behind, taking-reads}
+use Rattle.roff_rules.proofs.Interpolation.{AtLast, Behind, IsRead, IsRead-itself, Means, ReadsEscapes, AtBeginning, AtBranch, AtBraced, OnText, OnArguments, OnCondition, OnStringName, OnCall, OnStringText, OnDefinition, OnMessage, ReadsEscapes-reads_escapes, after-escape, is-going, is_no_newline, line_behind, settled_for-settled_for, settled_input, source_behind, taking-reads}
 use Rattle.roff_run.proofs.ItemsTaken.{Fits-IsWithin, FromAhead, FromSource, Origin, ahead_at, going, input_of, not-first, tape_at}
 use Rattle.roff_rules.specs.InterpolationLaws.{IsEscapeOf, Short, Long, ShortString, LongString, OfArgument, reads_text, reads_escapes, reads_above, stepped, text_named, with_text_ahead, EscapesReadAsTexts, EscapesOfTheSourceReadAsTexts, EscapesOfTextReadAsTexts}
 use Rattle.roff_run.specs.ItemsTaken.{TakesItems}
 use Rattle.roff_run.specs.Within.{IsWithin}
-use Rattle.roff_run.specs.Reading.{taking, interrupted}
+use Rattle.roff_run.specs.Reading.{taking}
+use Rattle.roff_run.specs.Reading.Units.{interrupted, settled_for}
 use Rattle.roff_run.specs.Reading.Beginnings.{first_name}
 use Rattle.roff_run.specs.Reading.Escapes.{asking}
 use Rattle.roff_run.specs.Reading.Found.{place_in, read_in}
@@ -117,9 +118,7 @@ pub with_text_ahead-arguments : (asks : NameUse) (name : List ℕ) (taken : ℕ)
     ≡ record (stepped asks name s) {
       input = pushing (text_named (known s) s.input asks name) (record s.input { ahead = rest; arguments = settled_for s.reading s.input.arguments; charge = s.input.charge + taken });
     }
-with_text_ahead-arguments asks name taken rest s on =
-    ap (λ (i : PageInput). record (stepped asks name s) { input = pushing (text_named (known s) s.input asks name) (record i { ahead = rest; charge = s.input.charge + taken }) })
-    (interrupted-arguments s.reading s.input on)
+with_text_ahead-arguments asks name taken rest s on = refl
 
 -- so it is the text that was asked for
 pub read_from-asked : (s : State) (reading : LineState) (from : Origin) (bytes : List ℕ) (a : Arguments) (half : List OpenEscape) (charge taken line : ℕ)

@@ -4,11 +4,11 @@ use Rattle.std.specs.Prelude.{not, ◌||◌, map, IsTrue, if◌then◌else◌, �
 use Rattle.std.proofs.lemmas.List.Sums.{sum_by-cons}
 use Rattle.roff_num.specs.declared.limits.Limits.{Limits}
 use Rattle.roff_arguments.proofs.Settling.{settled-only_kept, held-only_kept-settled}
-use Rattle.roff_arguments.specs.Arguments.{Arguments, settled, only_kept, held}
+use Rattle.roff_arguments.specs.Arguments.{Arguments, held}
 use Rattle.roff_source.specs.Bytes.{newline, backslash, is_dropped}
 use Rattle.roff_escape.specs.OpenEscapes.{byte_read}
 use Rattle.roff_escape.specs.Waiting.{is_ended_by, decides}
-use Rattle.roff_ahead.specs.Input.{Ahead, ByteAhead, EndAhead, cost}
+use Rattle.roff_input.specs.Input.{Ahead, ByteAhead, EndAhead, cost}
 use Rattle.roff_source.specs.Tape.{Tape, Answer, Gives, Ends, OneByte, OneNote, Ended, Failed, Stopped, front}
 use Rattle.roff_escape.specs.OpenEscape.{OpenEscape, Backslash, texts_held}
 use Rattle.roff_escape.specs.declared.open_escape.Found.{Found}
@@ -22,7 +22,8 @@ use Rattle.roff_run.specs.declared.request.Request.{Request}
 use Rattle.roff_run.specs.declared.status.Status.{Status}
 use Rattle.roff_rules.specs.InterpolationLaws.{StandsForItself, reads_escapes, with_source_behind, cost_of_all, TextsCostTheirBytesAndOne, StepsFollowTheTape, UnreadInputIsTheTape}
 use Rattle.roff_run.specs.ItemsTaken.{TakesItems}
-use Rattle.roff_run.specs.Reading.{taking, undropped_taking, interrupted}
+use Rattle.roff_run.specs.Reading.{taking, undropped_taking}
+use Rattle.roff_run.specs.Reading.Units.{interrupted, settled_for}
 use Rattle.roff_run.specs.Reading.Ends.{due}
 use Rattle.roff_run.specs.Reading.Items.{PageInput, Taking, going_on}
 use Rattle.roff_run.specs.Reading.Found.{place_in, read_in}
@@ -30,7 +31,7 @@ use Rattle.roff_run.specs.Registers.{AllRegisters, Known}
 use Rattle.roff_run.specs.PageEvents.{PageEvent}
 use Rattle.roff_run.specs.Run.{State, known, made, byte_taken, taken_as, step, after, answered, awaited, awaited_of_source, escape_ends, front_seen, in_front_taken, read_waiting, source_answer}
 use Rattle.roff_run.proofs.ItemsTaken.{Origin, ahead_at, tape_at, input_of, going, bytes_ahead_are_taken, bytes_of_the_source_are_taken, not-first, not-second, Fits, made-Fits, taken_as-going_on, FromAhead, FromSource, step-TakesItems}
-use Rattle.roff_ahead.specs.Shown.{seen_ahead}
+use Rattle.roff_input.specs.Shown.{seen_ahead}
 use Rattle.roff_escape.specs.declared.open_escape.Waiting.{Waiting}
 use Rattle.roff_escape.specs.declared.open_escape.Waiting.TheVariants.{Takes, Decides, Waits}
 use Rattle.roff_run.specs.Reading.Waiting.{waiting_in}
@@ -150,13 +151,6 @@ pub taking-reads : (k : Known) (reading : LineState) (i : PageInput) (b : ℕ) �
 taking-reads k reading i b on read =
     ap (λ (d : Bool). if d then going_on (interrupted reading i) reading else undropped_taking k reading i b) (not-first (is_dropped b) (b == newline) read)
     ∙ undropped_taking-reads k reading i b on
-
--- the arguments of a line where no quote follows the quote before
-abbrev pub settled_for : LineState → Arguments → Arguments
-settled_for (InArguments breaks request) a = only_kept (settled a)
-settled_for (StringName appends) a = only_kept (settled a)
-settled_for (Calling name) a = only_kept (settled a)
-settled_for (_) a = a
 
 -- the input where this is half read, and no quote follows
 abbrev pub settled_input : LineState → List OpenEscape → PageInput → PageInput
@@ -327,21 +321,6 @@ is_no_newline b may = not-second (is_dropped b) (b == newline) (IsRead-itself b 
 abbrev pub source_behind : Origin → State → State
 source_behind (FromAhead rest) s = s
 source_behind (FromSource tape) s = with_source_behind tape s
-
--- what isn't a byte of the line changes the arguments alone
-pub interrupted-arguments : (reading : LineState) (i : PageInput) → ReadsEscapes reading
-    → interrupted reading i ≡ record i { arguments = settled_for reading i.arguments }
-interrupted-arguments _ i AtBeginning = refl
-interrupted-arguments _ i AtBranch = refl
-interrupted-arguments _ i AtBraced = refl
-interrupted-arguments _ i (OnText line) = refl
-interrupted-arguments _ i (OnArguments breaks request) = refl
-interrupted-arguments _ i (OnCondition keeps) = refl
-interrupted-arguments _ i (OnStringName appends) = refl
-interrupted-arguments _ i (OnCall string) = refl
-interrupted-arguments _ i (OnStringText string appends is_front) = refl
-interrupted-arguments _ i (OnDefinition string appends end matched) = refl
-interrupted-arguments _ i (OnMessage aborts is_front) = refl
 
 -- where escapes are read, text is or arguments or conditions are
 pub ReadsEscapes-reads_escapes : (reading : LineState) → reads_escapes reading ≡ true → ReadsEscapes reading

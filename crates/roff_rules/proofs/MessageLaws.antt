@@ -24,7 +24,7 @@ use Rattle.roff_run.specs.declared.request.LineReading.{LineReading}
 use Rattle.roff_rules.proofs.CalledArguments.{most_of}
 use Rattle.roff_arguments.proofs.KeptArguments.{reverse-cons}
 use Rattle.roff_escape.specs.OpenEscapes.{byte_read}
-use Rattle.roff_ahead.specs.Input.{holding_plain}
+use Rattle.roff_input.specs.Input.{holding_plain}
 use Rattle.roff_escape.specs.declared.open_escape.CopyUnit.TheVariants.{Byte}
 use Rattle.roff_escape.specs.OpenEscape.{OpenEscape, Backslash}
 use Rattle.roff_escape.specs.declared.open_escape.Found.TheVariants.{GoesOn, Unit as GivesUnit}

@@ -10,7 +10,7 @@ use Rattle.roff_arguments.specs.Arguments.{Arguments, arguments_read, no_argumen
 use Rattle.roff_arguments.specs.Quoting.{quoted, quoted_byte}
 use Rattle.roff_arguments.specs.declared.arguments.Place.TheVariants.{BehindQuote, InQuotes}
 use Rattle.roff_source.specs.Bytes.{blank, quote}
-use Rattle.roff_ahead.specs.Input.{lines_taken}
+use Rattle.roff_input.specs.Input.{lines_taken}
 use Rattle.roff_rules.proofs.QuotedArguments.{itself-quoted}
 use Rattle.roff_rules.proofs.WordArguments.{behind, behind-blanks, behind-part, behind-word, themselves-blanks, themselves-word, whole_ones}
 use Rattle.roff_rules.proofs.WordCalls.{bodies_get_the_arguments_read, bodies_of_the_source_get_the_arguments_read}

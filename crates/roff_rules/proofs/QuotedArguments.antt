@@ -7,7 +7,7 @@ use Rattle.std.proofs.lemmas.List.Elements.{All-nil, All-cons, All-head, All-tai
 use Rattle.roff_arguments.proofs.KeptArguments.{only_kept-finished, only_kept-with_unit}
 use Rattle.roff_arguments.proofs.QuotedArguments.{quoted_arguments_read_back}
 use Rattle.roff_arguments.specs.Arguments.{Arguments, no_arguments, with_argument_byte, finished, arguments_read, kept, only_kept}
-use Rattle.roff_ahead.specs.Input.Calls.{arguments_given}
+use Rattle.roff_input.specs.Input.Calls.{arguments_given}
 use Rattle.roff_source.specs.Bytes.{newline, blank, quote, backslash, is_dropped}
 use Rattle.roff_arguments.specs.Quoting.{quoted_byte, quoted, quoted_line}
 use Rattle.roff_escape.specs.OpenEscapes.{byte_read}

@@ -7,7 +7,7 @@ use Rattle.roff_num.specs.declared.limits.Limits.{Limits}
 use Rattle.roff_source.specs.Bytes.{newline, is_dropped, backslash}
 use Rattle.roff_escape.specs.OpenEscape.{OpenEscape}
 use Rattle.roff_escape.specs.Waiting.{is_ended_by}
-use Rattle.roff_ahead.specs.Input.{counting, lines_taken}
+use Rattle.roff_input.specs.Input.{counting, lines_taken}
 use Rattle.roff_source.specs.Tape.{Tape, OneByte, items_then}
 use Rattle.roff_run.proofs.ItemsTaken.{Fits-IsWithin, made-Fits, taken_as-going_on, bytes_of_the_source_are_taken}
 use Rattle.roff_rules.specs.ConditionLaws.{is_whole, escapes_among, MayEnd, AreKept, RunsPassOverSkippedBranches, SkippedBranchesDoNothing, BranchesAreSkippedToTheirEnd}

@@ -21,7 +21,8 @@ use Rattle.roff_run.proofs.Leads.{after-add}
 use Rattle.roff_run.proofs.PlainRuns.{behind_byte, behind_bytes, counted, counted-ahead, counted-last, counted-source, is-run_at}
 use Rattle.roff_run.proofs.TextBytes.{heard-text, is_other, kept-text, prints_text}
 use Rattle.roff_run.specs.Environments.{PageHistory, interrupted_line}
-use Rattle.roff_run.specs.Reading.{interrupted, undropped_taking}
+use Rattle.roff_run.specs.Reading.{undropped_taking}
+use Rattle.roff_run.specs.Reading.Units.{interrupted}
 use Rattle.roff_run.specs.Reading.Beginnings.{at_start, beginning_text, going_on_told, line_begun, line_begun_as}
 use Rattle.roff_run.specs.Reading.Ends.{due}
 use Rattle.roff_run.specs.Reading.Found.{read_in}

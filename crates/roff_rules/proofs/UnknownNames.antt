@@ -6,7 +6,7 @@ use Rattle.roff_num.specs.declared.limits.Limits.{Limits}
 use Rattle.roff_arguments.specs.Arguments.{Arguments, no_arguments}
 use Rattle.roff_source.specs.Bytes.{blank, is_dropped, newline}
 use Rattle.roff_escape.specs.OpenEscape.{OpenEscape}
-use Rattle.roff_ahead.specs.Input.{bytes_ahead, ends_ahead}
+use Rattle.roff_input.specs.Input.{bytes_ahead, ends_ahead}
 use Rattle.roff_store.specs.Named.{Named, entry_of}
 use Rattle.roff_store.specs.Texts.{Entry}
 use Rattle.roff_run.proofs.ItemsTaken.{FromAhead, FromSource, Origin, ahead_at, tape_at, taken_as-going_on}

@@ -19,14 +19,15 @@ use Rattle.roff_source.specs.Bytes.{newline, backslash, is_dropped}
 use Rattle.roff_escape.specs.OpenEscape.{OpenEscape, Backslash, Width}
 use Rattle.roff_escape.specs.OpenEscapes.{Reads, byte_read, reading_ended, reads_widths}
 use Rattle.roff_escape.specs.Waiting.{is_ended_by}
-use Rattle.roff_ahead.specs.Input.{pushing, Ahead}
+use Rattle.roff_input.specs.Input.{pushing, Ahead}
 use Rattle.roff_escape.specs.Measures.{byte_columns, most_width, wider}
 use Rattle.roff_source.specs.Tape.{Answer}
-use Rattle.roff_ahead.specs.Shown.{seen_ahead}
+use Rattle.roff_input.specs.Shown.{seen_ahead}
 use Rattle.roff_escape.specs.declared.open_escape.Found.TheVariants.{GoesOn, Measures}
 use Rattle.roff_escape.specs.declared.open_escape.Surroundings.{Surroundings}
 use Rattle.roff_escape.specs.declared.open_escape.Surroundings.TheVariants.{Text as AboveText, Arguments as AboveArguments, Copy as AboveCopy}
-use Rattle.roff_rules.proofs.Interpolation.{FindsAtLast, AtLast, Behind, IsRead, IsRead-itself, Means, ReadsEscapes, AtBeginning, AtBranch, AtBraced, OnText, OnArguments, OnCondition, OnStringName, OnCall, OnStringText, OnDefinition, OnMessage, ReadsEscapes-reads_escapes, after-escape, interrupted-arguments, is-going, is_no_newline, line_behind, settled_for, settled_for-settled_for, settled_input, source_behind, step-byte, taking-reads, none_due-reads}
+use Rattle.roff_rules.proofs.Interpolation.{FindsAtLast, AtLast, Behind, IsRead, IsRead-itself, Means, ReadsEscapes, AtBeginning, AtBranch, AtBraced, OnText, OnArguments, OnCondition, OnStringName, OnCall, OnStringText, OnDefinition, OnMessage, ReadsEscapes-reads_escapes, after-escape, is-going, is_no_newline, line_behind, settled_for-settled_for, settled_input, source_behind, step-byte, taking-reads, none_due-reads}
+use Rattle.roff_run.specs.Reading.Units.{settled_for}
 use Rattle.roff_run.proofs.ItemsTaken.{Fits-IsWithin, FromAhead, FromSource, Origin, ahead_at, going, input_of, not-first, not-second, tape_at, taken_as-going_on, made-Fits, step-TakesItems}
 use Rattle.roff_rules.specs.InterpolationLaws.{StandsForItself, reads_escapes}
 use Rattle.roff_run.specs.ItemsTaken.{TakesItems}
@@ -90,9 +91,7 @@ width_from from width half taken s = with_width_ahead width half taken (ahead_at
 with_width_ahead-arguments : (width : ℕ) (half : List OpenEscape) (taken : ℕ) (rest : List (Ahead PageEvent)) (s : State) → ReadsEscapes s.reading
     → with_width_ahead width half taken rest s
     ≡ record s { input = pushing (decimal width) (record (settled_input s.reading half s.input) { ahead = rest; charge = s.input.charge + taken }) }
-with_width_ahead-arguments width half taken rest s on =
-    ap (λ (i : PageInput). record s { input = pushing (decimal width) (record i { ahead = rest; escapes = half; charge = s.input.charge + taken }) })
-    (interrupted-arguments s.reading s.input on)
+with_width_ahead-arguments width half taken rest s on = refl
 
 -- so it is the width that was measured
 width_from-measured : (s : State) (reading : LineState) (from : Origin) (bytes : List ℕ) (a : Arguments) (half behind : List OpenEscape)

@@ -10,7 +10,7 @@ use Rattle.roff_arguments.specs.declared.arguments.Place.TheVariants.{Between}
 use Rattle.roff_source.specs.Bytes.{blank, newline}
 use Rattle.roff_store.specs.Named.{Named}
 use Rattle.roff_store.specs.Texts.{Entry}
-use Rattle.roff_ahead.specs.Input.{lines_taken}
+use Rattle.roff_input.specs.Input.{lines_taken}
 use Rattle.roff_rules.proofs.CallLaws.{ReadsCall, called_from, newline-calls, reads-body}
 use Rattle.roff_rules.proofs.LineNames.{ReadsName, onward, reads-name}
 use Rattle.roff_rules.proofs.CalledArguments.{call_byte, most_of, turns-call}

@@ -14,7 +14,7 @@ use Rattle.roff_store.specs.Texts.{Entry}
 use Rattle.roff_escape.specs.ConditionFronts.{is_of_expression}
 use Rattle.roff_escape.specs.Conditions.{begins_expression, so_unless}
 use Rattle.roff_escape.specs.EscapeLaws.{delimits_texts, is_between, two_texts}
-use Rattle.roff_ahead.specs.Input.{Ahead, ByteAhead, lines_taken, pushed}
+use Rattle.roff_input.specs.Input.{Ahead, ByteAhead, lines_taken, pushed}
 use Rattle.roff_rules.specs.CallLaws.{BeginsLine, IsControl}
 use Rattle.roff_rules.specs.ConditionLaws.{AreKept}
 use Rattle.roff_run.specs.Reading.Branches.{branch_of, with_result_if}

@@ -7,7 +7,7 @@ use Rattle.roff_num.specs.ShortNames.{name_bytes}
 use Rattle.roff_source.specs.Bytes.{newline}
 use Rattle.roff_source.specs.Tape.{Tape, OneByte, front, items_then}
 use Rattle.roff_escape.specs.Conditions.{so_unless}
-use Rattle.roff_ahead.specs.Input.{Ahead, ByteAhead, lines_taken, pushed}
+use Rattle.roff_input.specs.Input.{Ahead, ByteAhead, lines_taken, pushed}
 use Rattle.roff_rules.specs.AskingLaws.{AreDelimited, EndsExpression, EndsIt, HasCondition, IsExpression, asking, asking_line, with_branch}
 use Rattle.roff_rules.specs.CallLaws.{BeginsLine}
 use Rattle.roff_rules.specs.CutNames.{CutsLine}

@@ -5,7 +5,7 @@ use Rattle.roff_num.specs.declared.num.Num.{Num}
 use Rattle.roff_num.specs.declared.short_name.ShortName.{ShortName}
 use Rattle.roff_source.specs.Tape.{Tape, OneByte, front, items_then}
 use Rattle.roff_escape.specs.Conditions.{so_unless}
-use Rattle.roff_ahead.specs.Input.{Ahead, ByteAhead, ReturnAhead, lines_taken, pushed}
+use Rattle.roff_input.specs.Input.{Ahead, ByteAhead, ReturnAhead, lines_taken, pushed}
 use Rattle.roff_rules.specs.AskingLaws.{EndsExpression, EndsIt, HasCondition, IsExpression, IsQuestion, Question, asking, asking_line, is_answered, question_bytes, with_branch}
 use Rattle.roff_rules.specs.CallLaws.{BeginsLine}
 use Rattle.roff_rules.specs.ElseLaws.{HasElse, else_front}

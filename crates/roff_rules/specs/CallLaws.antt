@@ -3,8 +3,8 @@ use Rattle.std.specs.Prelude.{◌≡◌, ℕ, ◌+◌, ◌≤◌, false, List, [
 use Rattle.roff_num.specs.declared.limits.Limits.{Limits}
 use Rattle.roff_arguments.specs.Arguments.{no_arguments}
 use Rattle.roff_source.specs.Bytes.{apostrophe, blank, dot, newline}
-use Rattle.roff_ahead.specs.Input.{Ahead, ByteAhead, ReturnAhead, lines_taken}
-use Rattle.roff_ahead.specs.Input.Calls.{called_text}
+use Rattle.roff_input.specs.Input.{Ahead, ByteAhead, ReturnAhead, lines_taken}
+use Rattle.roff_input.specs.Input.Calls.{called_text}
 use Rattle.roff_arguments.specs.Quoting.{quoted_line}
 use Rattle.roff_source.specs.Tape.{Tape, OneByte, items_then}
 use Rattle.roff_store.specs.Named.{Named, entry_of}

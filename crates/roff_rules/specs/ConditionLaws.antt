@@ -5,7 +5,7 @@
 use Rattle.std.specs.Prelude.{◌≡◌, ℕ, ◌+◌, ◌≤◌, Bool, true, false, not, List, [], ◌∷◌, ◌++◌, length, map, All, if◌then◌else◌, ◌==◌}
 use Rattle.roff_num.specs.declared.limits.Limits.{Limits}
 use Rattle.roff_source.specs.Bytes.{newline, backslash, is_dropped}
-use Rattle.roff_ahead.specs.Input.{lines_taken}
+use Rattle.roff_input.specs.Input.{lines_taken}
 use Rattle.roff_source.specs.Tape.{Tape, OneByte, items_then}
 use Rattle.roff_run.specs.ItemsTaken.{TakesItems}
 use Rattle.roff_run.specs.Within.{IsWithin}

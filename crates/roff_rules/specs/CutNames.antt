@@ -9,11 +9,11 @@ use Rattle.roff_escape.specs.OpenEscapes.{most_names}
 use Rattle.roff_escape.specs.declared.escapes.NameUse.{NameUse}
 use Rattle.roff_escape.specs.declared.escapes.NameUse.TheVariants.{Register, Text as OfText}
 use Rattle.roff_num.specs.declared.direction.Direction.{Direction}
-use Rattle.roff_ahead.specs.Input.{Ahead, ByteAhead}
+use Rattle.roff_input.specs.Input.{Ahead, ByteAhead}
 use Rattle.roff_rules.specs.InterpolationLaws.{StandsForItself, reads_above, reads_escapes, with_source_behind, with_text_ahead}
 use Rattle.roff_run.specs.ItemsTaken.{TakesItems}
 use Rattle.roff_run.specs.Messages.{message_lines}
-use Rattle.roff_run.specs.Reading.{interrupted}
+use Rattle.roff_run.specs.Reading.Units.{interrupted}
 use Rattle.roff_run.specs.Run.{State, after}
 use Rattle.roff_run.specs.Within.{IsWithin}
 use Rattle.roff_run.specs.PageEvents.{PageEvent}

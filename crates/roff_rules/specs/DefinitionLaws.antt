@@ -4,8 +4,8 @@ use Rattle.std.specs.List.{flat_map}
 use Rattle.roff_num.specs.declared.limits.Limits.{Limits}
 use Rattle.roff_source.specs.Bytes.{is_dropped, newline}
 use Rattle.roff_escape.specs.EscapeLaws.{copied, is_only_copied}
-use Rattle.roff_ahead.specs.Input.{Ahead, ByteAhead, lines_taken}
-use Rattle.roff_ahead.specs.Input.Names.{body_named, stored}
+use Rattle.roff_input.specs.Input.{Ahead, ByteAhead, lines_taken}
+use Rattle.roff_input.specs.Input.Names.{body_named, stored}
 use Rattle.roff_source.specs.Tape.{Tape, OneByte, items_then}
 use Rattle.roff_store.specs.Named.{with_entry}
 use Rattle.roff_store.specs.Texts.{Body}

@@ -6,9 +6,9 @@ use Rattle.roff_num.specs.ShortNames.{name_bytes}
 use Rattle.roff_num.specs.declared.limits.Limits.{Limits}
 use Rattle.roff_num.specs.declared.num.Num.{Num}
 use Rattle.roff_num.specs.declared.short_name.ShortName.{ShortName}
-use Rattle.roff_ahead.specs.Input.{ByteAhead, ReturnAhead, leaving, outermost_back, without_arguments}
-use Rattle.roff_ahead.specs.Input.Calls.{called_text}
-use Rattle.roff_ahead.specs.Input.Names.{body_named}
+use Rattle.roff_input.specs.Input.{ByteAhead, ReturnAhead, leaving, outermost_back, without_arguments}
+use Rattle.roff_input.specs.Input.Calls.{called_text}
+use Rattle.roff_input.specs.Input.Names.{body_named}
 use Rattle.roff_source.specs.Tape.{Ended, Ends, front}
 use Rattle.roff_run.specs.Reading.Ends.{due, is_unfinished}
 use Rattle.roff_run.specs.Reading.Returns.{gone_back_to}

@@ -6,7 +6,7 @@ use Rattle.roff_num.specs.declared.limits.Limits.{Limits}
 use Rattle.roff_num.specs.declared.short_name.ShortName.{ShortName}
 use Rattle.roff_source.specs.Bytes.{blank}
 use Rattle.roff_source.specs.Tape.{Tape, Ended, Ends, OneByte, front, items_then}
-use Rattle.roff_ahead.specs.Input.{lines_taken}
+use Rattle.roff_input.specs.Input.{lines_taken}
 use Rattle.roff_rules.specs.CallLaws.{BeginsLine}
 use Rattle.roff_rules.specs.ConditionLaws.{AreKept, MayEnd}
 use Rattle.roff_rules.specs.DefinitionLaws.{AreItsLines, BeginsDefinition, HasRoomFor, bytes_of_lines, text_of_lines}

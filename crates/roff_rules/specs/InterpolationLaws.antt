@@ -6,9 +6,9 @@ use Rattle.roff_source.specs.Bytes.{newline, backslash, is_dropped}
 use Rattle.roff_escape.specs.EscapeLaws.{is_special, short_escape, long_escape, string_escape, argument_escape}
 use Rattle.roff_escape.specs.OpenEscape.{OpenEscape, Backslash, Comment, Name as OpenName, Size, Delimited, Width, Condition, names_in}
 use Rattle.roff_escape.specs.OpenEscapes.{most_names}
-use Rattle.roff_ahead.specs.Input.{Ahead, ByteAhead, pushing, item_taken, cost, counting}
-use Rattle.roff_ahead.specs.Input.Calls.{arguments_live}
-use Rattle.roff_ahead.specs.Input.Names.{body_named}
+use Rattle.roff_input.specs.Input.{Ahead, ByteAhead, pushing, item_taken, cost, counting}
+use Rattle.roff_input.specs.Input.Calls.{arguments_live}
+use Rattle.roff_input.specs.Input.Names.{body_named}
 use Rattle.roff_escape.specs.declared.escapes.NameUse.{NameUse}
 use Rattle.roff_escape.specs.declared.escapes.NameUse.TheVariants.{Register, Text as OfText, Argument}
 use Rattle.roff_escape.specs.declared.open_escape.ConditionPart.{ConditionPart}
@@ -17,7 +17,7 @@ use Rattle.roff_source.specs.Tape.{Tape, OneByte, front, items_then}
 use Rattle.roff_num.specs.declared.direction.Direction.{Direction}
 use Rattle.roff_run.specs.Within.{IsWithin}
 use Rattle.roff_run.specs.Messages.{message_lines}
-use Rattle.roff_run.specs.Reading.{interrupted}
+use Rattle.roff_run.specs.Reading.Units.{interrupted}
 use Rattle.roff_run.specs.Reading.Escapes.{argument_named}
 use Rattle.roff_run.specs.Reading.Items.{PageInput}
 use Rattle.roff_run.specs.Registers.{Known, StepBy, changed_by, known_stepped, page_stepped, step_messages, text_of_register}

@@ -6,7 +6,7 @@ use Rattle.roff_num.specs.declared.short_name.ShortName.{ShortName}
 use Rattle.roff_arguments.specs.Quoting.{quoted}
 use Rattle.roff_source.specs.Bytes.{blank}
 use Rattle.roff_source.specs.Tape.{Tape, OneByte, items_then}
-use Rattle.roff_ahead.specs.Input.{Ahead, ByteAhead, lines_taken}
+use Rattle.roff_input.specs.Input.{Ahead, ByteAhead, lines_taken}
 use Rattle.roff_rules.specs.CallLaws.{BeginsLine, with_call}
 use Rattle.roff_rules.specs.InterpolationLaws.{StandsForItself}
 use Rattle.roff_rules.specs.WordArguments.{IsWord}

@@ -8,7 +8,7 @@ use Rattle.roff_source.specs.Tape.{Tape, OneByte, items_then}
 use Rattle.roff_store.specs.Named.{Named}
 use Rattle.roff_store.specs.Texts.{Entry}
 use Rattle.roff_escape.specs.EscapeLaws.{copied, is_only_copied}
-use Rattle.roff_ahead.specs.Input.{Ahead, ByteAhead, lines_taken, pushed}
+use Rattle.roff_input.specs.Input.{Ahead, ByteAhead, lines_taken, pushed}
 use Rattle.roff_rules.specs.CallLaws.{BeginsLine, IsControl}
 use Rattle.roff_rules.specs.ConditionLaws.{is_whole}
 use Rattle.roff_rules.specs.DefinitionLaws.{HasRoomFor, IsOfLine, with_definition}

@@ -11,14 +11,14 @@ use Rattle.roff_num.specs.declared.limit.Limit.TheVariants.{Line}
 use Rattle.roff_num.specs.declared.limits.Limits.{Limits}
 use Rattle.roff_source.specs.Bytes.{newline, backslash, is_dropped}
 use Rattle.roff_escape.specs.OpenEscape.{OpenEscape, Width}
-use Rattle.roff_ahead.specs.Input.{Ahead, ByteAhead, pushing}
+use Rattle.roff_input.specs.Input.{Ahead, ByteAhead, pushing}
 use Rattle.roff_escape.specs.Measures.{byte_columns, most_width}
 use Rattle.roff_source.specs.Tape.{Tape, Gives, OneByte, Ends, Ended, items_then}
 use Rattle.roff_rules.specs.InterpolationLaws.{StandsForItself, reads_escapes, with_source_behind}
 use Rattle.roff_run.specs.ItemsTaken.{TakesItems}
 use Rattle.roff_run.specs.Within.{IsWithin}
 use Rattle.roff_run.specs.Output.{PageHistory, text_of}
-use Rattle.roff_run.specs.Reading.{interrupted}
+use Rattle.roff_run.specs.Reading.Units.{interrupted}
 use Rattle.roff_run.specs.PageEvents.{PageEvent}
 use Rattle.roff_run.specs.declared.event.PageEvent.TheVariants.{Text}
 use Rattle.roff_run.specs.Run.{State, step, after, source_answer}

@@ -9,7 +9,7 @@ use Rattle.roff_source.specs.Bytes.{blank, newline}
 use Rattle.roff_source.specs.Tape.{Tape, OneByte, items_then}
 use Rattle.roff_store.specs.Named.{Named, entry_of}
 use Rattle.roff_store.specs.Texts.{Entry, Body}
-use Rattle.roff_ahead.specs.Input.{Ahead, ByteAhead, lines_taken}
+use Rattle.roff_input.specs.Input.{Ahead, ByteAhead, lines_taken}
 use Rattle.roff_rules.specs.CallLaws.{BeginsLine, IsControl, with_call}
 use Rattle.roff_rules.specs.InterpolationLaws.{StandsForItself}
 use Rattle.roff_rules.specs.WordArguments.{AreWords, IsWord, words_line, words_of}

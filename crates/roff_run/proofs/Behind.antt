@@ -3,15 +3,15 @@
 -- Each function f of the run has its lemma Behind-f or Passed-f here.
 use Rattle.std.proofs.Common.{◌≡◌, ℕ, ◌+◌, ◌*◌, Bool, true, false, List, ◌∷◌, ◌-◌, refl, arith}
 use Rattle.std.specs.Prelude.{if◌then◌else◌, ◌==◌}
-use Rattle.roff_ahead.specs.Input.{Ahead, ByteAhead, FreeAhead, EndAhead, ReturnAhead, DoAhead}
+use Rattle.roff_input.specs.Input.{Ahead, ByteAhead, FreeAhead, EndAhead, ReturnAhead, DoAhead}
 use Rattle.roff_escape.specs.OpenEscape.{OpenEscape}
 use Rattle.roff_run.specs.Requests.{PageEvent}
 use Rattle.roff_run.specs.declared.request.Called.{Called}
 use Rattle.roff_run.specs.declared.request.Called.TheVariants.{Request as ARequest, Body as ABody, Nothing as Unknown}
 use Rattle.roff_num.specs.ShortNames.{name_bytes}
-use Rattle.roff_ahead.specs.Input.Calls.{called_text}
-use Rattle.roff_ahead.specs.Input.Names.{body_named}
-use Rattle.roff_ahead.proofs.FewEvents.{few-called, few-more}
+use Rattle.roff_input.specs.Input.Calls.{called_text}
+use Rattle.roff_input.specs.Input.Names.{body_named}
+use Rattle.roff_input.proofs.FewEvents.{few-called, few-more}
 use Rattle.roff_run.specs.Reading.Returns.{back_of, behind_return, gone_back_to, line_of}
 use Rattle.roff_run.specs.declared.line_state.LineState.{LineState}
 use Rattle.roff_run.specs.declared.line_state.LineState.TheVariants.{LineStart, Branch, Braced, Text as InText, Control, Name, Arguments as InArguments, Deciding, StringName, StringText, Skipping, Dropped, Telling, Told, Exiting, Calling, Defining, TitleFront, Title as InTitle}

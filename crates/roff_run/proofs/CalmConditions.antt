@@ -1,6 +1,6 @@
 -- Where a condition is read, what is done with an item sets the page's number at the most: nothing springs, and nothing is put back.
 use Rattle.std.proofs.Common.{ℕ, Bool, true, false, [], Some, None}
-use Rattle.std.specs.Prelude.{◌||◌, ◌&&◌, ◌==◌, if◌then◌else◌}
+use Rattle.std.specs.Prelude.{◌||◌, ◌&&◌, ◌==◌}
 use Rattle.roff_lines.specs.Words.{is_empty}
 use Rattle.roff_source.specs.Bytes.{tab, newline, blank, is_dropped}
 use Rattle.roff_escape.specs.OpenEscapes.{byte_read, reading_ended}
@@ -15,8 +15,8 @@ use Rattle.roff_run.specs.Requests.{called_by}
 use Rattle.roff_run.specs.declared.line_state.LineState.{LineState}
 use Rattle.roff_run.specs.declared.line_state.LineState.TheVariants.{LineStart, Branch, Braced, Text as InText, Control, Name, Arguments as InArguments, Deciding, StringName, StringText, Skipping, Dropped, Telling, Told, Exiting, Calling, Defining, TitleFront, Title as InTitle}
 use Rattle.roff_run.proofs.NoConditions.{Over-text_found, Over-beginning_found}
-use Rattle.roff_run.proofs.TitlesOver.{Over-behind_part, Over-title_found, Over-title_front_found}
-use Rattle.roff_run.proofs.CalmFound.{Calm, Calm-if, calm-anywhere, over-calm, Calm-arguments_found, Calm-skipping_taking, Calm-condition_found, Calm-string_name_found, Calm-string_text_found, Calm-message_found, Calm-call_found, Calm-dropped_taking, Calm-name_ended_taking, Calm-behind_called, Calm-definition_found}
+use Rattle.roff_run.proofs.TitlesOver.{Over-behind_part, Over-title_found, Over-title_front_unit}
+use Rattle.roff_run.proofs.CalmFound.{Calm, Calm-if, calm-anywhere, over-calm, Calm-collected, Calm-unit_found, Calm-skipping_taking, Calm-condition_found, Calm-string_name_unit, Calm-string_unit, Calm-message_unit, Calm-call_unit, Calm-dropped_taking, Calm-name_ended_taking, Calm-behind_called, Calm-definition_found}
 
 -- what was found where this is read
 Calm-found_in : (k : Known) (i : PageInput) (reading : LineState) (found : Found) → Calm (found_in k i reading found)
@@ -24,12 +24,12 @@ Calm-found_in k i LineStart found = over-calm _ _ (Over-beginning_found k i Line
 Calm-found_in k i Branch found = over-calm _ _ (Over-beginning_found k i Branch found tt)
 Calm-found_in k i Braced found = over-calm _ _ (Over-beginning_found k i Braced found tt)
 Calm-found_in k i (InText line) found = over-calm _ _ (Over-text_found k i line found)
-Calm-found_in k i (InArguments breaks request) found = Calm-arguments_found k i breaks request found
+Calm-found_in k i (InArguments breaks request) found = Calm-collected k i (InArguments breaks request) found (Calm-unit_found k i breaks request)
 Calm-found_in k i (Deciding keeps) found = Calm-condition_found k i keeps found
-Calm-found_in k i (StringName appends) found = Calm-string_name_found k i appends found
-Calm-found_in k i (StringText name appends is_front) found = Calm-string_text_found k i name appends is_front found
-Calm-found_in k i (Telling aborts is_front) found = Calm-message_found k i aborts is_front found
-Calm-found_in k i (Calling name) found = Calm-call_found k i name found
+Calm-found_in k i (StringName appends) found = Calm-collected k i (StringName appends) found (Calm-string_name_unit i appends)
+Calm-found_in k i (StringText name appends is_front) found = Calm-collected k i (StringText name appends is_front) found (Calm-string_unit i name appends is_front)
+Calm-found_in k i (Telling aborts is_front) found = Calm-collected k i (Telling aborts is_front) found (Calm-message_unit i aborts is_front)
+Calm-found_in k i (Calling name) found = Calm-collected k i (Calling name) found (Calm-call_unit i name)
 Calm-found_in k i (Defining name appends end matched) found = Calm-definition_found k i name appends end matched found
 Calm-found_in k i (Control breaks) found = tt
 Calm-found_in k i (Name breaks first) found = tt
@@ -37,7 +37,7 @@ Calm-found_in k i (Skipping opened closed behind) found = tt
 Calm-found_in k i Dropped found = tt
 Calm-found_in k i (Told aborts) found = tt
 Calm-found_in k i Exiting found = tt
-Calm-found_in k i TitleFront found = over-calm _ _ (Over-title_front_found k i found)
+Calm-found_in k i TitleFront found = Calm-collected k i TitleFront found (λ unit. over-calm _ _ (Over-title_front_unit k i unit))
 Calm-found_in k i (InTitle delimiter) found = over-calm _ _ (Over-title_found k i delimiter found)
 
 -- a byte that isn't dropped

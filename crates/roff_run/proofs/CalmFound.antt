@@ -13,20 +13,21 @@ use Rattle.roff_escape.specs.declared.open_escape.Decision.TheVariants.{Is}
 use Rattle.roff_escape.specs.declared.open_escape.Found.{Found}
 use Rattle.roff_escape.specs.declared.open_escape.Found.TheVariants.{GoesOn, Unit as GivesUnit, Holds, Escape, Asks, Motion, Measures, Tells, Decides}
 use Rattle.roff_escape.specs.declared.open_escape.Surroundings.TheVariants.{Arguments as AboveArguments, Copy as AboveCopy}
-use Rattle.roff_ahead.specs.Input.{beginning_line, choosing}
-use Rattle.roff_ahead.specs.Input.Calls.{arguments_given, last_result, without_last}
+use Rattle.roff_input.specs.Input.{beginning_line, choosing}
+use Rattle.roff_input.specs.Input.Calls.{arguments_given, last_result, without_last}
 use Rattle.roff_run.specs.Definitions.{end_mark, front_of, line_from}
-use Rattle.roff_run.specs.Reading.Arguments.{arguments_ended, arguments_found, line_ended, reading_behind, unit_found}
+use Rattle.roff_run.specs.Reading.Arguments.{arguments_ended, line_ended, reading_behind, unit_found}
 use Rattle.roff_run.specs.Reading.Beginnings.{at_start}
 use Rattle.roff_run.specs.Reading.Branches.{branch_of, branch_taking, condition_begun, condition_found, decided, is_so, reads_else, skipping_taking, with_result_if}
-use Rattle.roff_run.specs.Reading.Calls.{call_found, call_unit}
+use Rattle.roff_run.specs.Reading.Collecting.{collected, unit_taking}
+use Rattle.roff_run.specs.Reading.Calls.{call_unit}
 use Rattle.roff_run.specs.Reading.ControlLines.{called_taking, dropped_taking, line_taking, name_ended_taking, behind_called, behind_name}
-use Rattle.roff_run.specs.Reading.DefinedLines.{behind_definition, definition_found, definition_unit}
+use Rattle.roff_run.specs.Reading.DefinedLines.{behind_definition, definition_found, definition_line, definition_unit}
 use Rattle.roff_run.specs.Reading.Definitions.{definition_named, lines_begun}
 use Rattle.roff_run.specs.Reading.Items.{PageInput, Taking}
-use Rattle.roff_run.specs.Reading.Messages.{message_found, message_unit}
-use Rattle.roff_run.specs.Reading.Strings.{name_read, string_line_ended, string_name_behind, string_name_found, string_name_or_text, string_name_unit, string_text_found, string_unit, string_begun, string_entered}
-use Rattle.roff_run.specs.Reading.Units.{holding, settling}
+use Rattle.roff_run.specs.Reading.Messages.{message_unit}
+use Rattle.roff_run.specs.Reading.Strings.{name_read, string_line_ended, string_name_behind, string_name_or_text, string_name_unit, string_unit, string_begun, string_entered}
+use Rattle.roff_run.specs.Reading.Units.{holding, interrupted, no_unit_found, settling, unit_in}
 use Rattle.roff_run.specs.Registers.{Known, page_stepped}
 use Rattle.roff_run.specs.Requests.{PageEvent, Page, called_by, row_of}
 use Rattle.roff_run.specs.declared.definition.DefinitionLine.{DefinitionLine}
@@ -45,10 +46,10 @@ use Rattle.roff_pages.specs.declared.layout_event.LayoutEvent.TheVariants.{Numbe
 use Rattle.roff_escape.specs.declared.escapes.NameUse.{NameUse}
 use Rattle.roff_escape.specs.declared.escapes.NameUse.TheVariants.{Register, Text as OfText, Argument, Character, Font, LeftOut as NameLeftOut}
 use Rattle.roff_run.specs.Reading.Escapes.{asking}
-use Rattle.roff_run.specs.Reading.Units.{no_unit_found}
 use Rattle.roff_run.specs.Requests.Effects.{page_numbered}
 use Rattle.roff_run.proofs.NoConditions.{NoCondition, Over-beginning_found}
-use Rattle.roff_run.proofs.TitlesOver.{Over-title_front_found}
+use Rattle.roff_run.proofs.TitlesOver.{Over-title_front_unit}
+use Rattle.roff_run.proofs.Collected.{of-collected, of-unit_or}
 
 -- these set the page's number at the most
 abbrev pub IsCalm : List PageEvent → Type 0
@@ -140,6 +141,11 @@ Calm-no_unit_found k i reading (Escape b) = calm-anywhere reading [] tt
 Calm-no_unit_found k i reading (Motion columns remark) = calm-anywhere reading [] tt
 Calm-no_unit_found k i reading (Decides decision freed) = calm-anywhere reading [] tt
 
+-- what was found where a line collects units
+pub Calm-collected : (k : Known) (i : PageInput) (reading : LineState) (found : Found) → ((unit : CopyUnit) → Calm (unit_taking k i reading unit))
+    → Calm (collected k i reading found)
+Calm-collected k i reading found calm = of-collected Calm k i reading found calm (Calm-no_unit_found k (interrupted reading i) reading found)
+
 -- behind a request's line no condition is read
 pub over-reading_behind : (line : LineReading) → NoCondition (reading_behind line)
 over-reading_behind ByArguments = tt
@@ -178,17 +184,6 @@ pub Calm-unit_found : (k : Known) (i : PageInput) (breaks : Bool) (request : Req
 Calm-unit_found k i breaks request (Byte b) =
     Calm-if (b == newline) _ _ (Calm-arguments_ended k i breaks request (row_of request).line) tt
 Calm-unit_found k i breaks request (Kept b) = tt
-
-pub Calm-arguments_found : (k : Known) (i : PageInput) (breaks : Bool) (request : Request) (found : Found) → Calm (arguments_found k i breaks request found)
-Calm-arguments_found k i breaks request (GivesUnit unit) = Calm-unit_found k i breaks request unit
-Calm-arguments_found k i breaks request (Escape b) = Calm-unit_found k i breaks request (Kept b)
-Calm-arguments_found k i breaks request GoesOn = Calm-no_unit_found k (settling i) (InArguments breaks request) GoesOn
-Calm-arguments_found k i breaks request (Holds unit) = Calm-no_unit_found k (settling i) (InArguments breaks request) (Holds unit)
-Calm-arguments_found k i breaks request (Asks purpose name) = Calm-no_unit_found k (settling i) (InArguments breaks request) (Asks purpose name)
-Calm-arguments_found k i breaks request (Motion columns remark) = Calm-no_unit_found k (settling i) (InArguments breaks request) (Motion columns remark)
-Calm-arguments_found k i breaks request (Measures width) = Calm-no_unit_found k (settling i) (InArguments breaks request) (Measures width)
-Calm-arguments_found k i breaks request (Tells remark) = Calm-no_unit_found k (settling i) (InArguments breaks request) (Tells remark)
-Calm-arguments_found k i breaks request (Decides decision freed) = Calm-no_unit_found k (settling i) (InArguments breaks request) (Decides decision freed)
 
 -- a branch
 pub Calm-skipping_taking : (i : PageInput) (opened closed : ℕ) (behind : Bool) (b : ℕ) → Calm (skipping_taking i opened closed behind b)
@@ -250,76 +245,37 @@ Calm-string_name_unit i appends (Byte b) =
     (Calm-string_name_or_text (settling i) appends (Byte b) (name_read (settling i))))
 Calm-string_name_unit i appends (Kept b) = Calm-string_name_or_text (settling i) appends (Kept b) (name_read (settling i))
 
-pub Calm-string_name_found : (k : Known) (i : PageInput) (appends : Bool) (found : Found) → Calm (string_name_found k i appends found)
-Calm-string_name_found k i appends (GivesUnit unit) = Calm-string_name_unit i appends unit
-Calm-string_name_found k i appends (Escape b) = Calm-string_name_unit i appends (Kept b)
-Calm-string_name_found k i appends GoesOn = Calm-no_unit_found k (settling i) (StringName appends) GoesOn
-Calm-string_name_found k i appends (Holds unit) = Calm-no_unit_found k (settling i) (StringName appends) (Holds unit)
-Calm-string_name_found k i appends (Asks purpose name) = Calm-no_unit_found k (settling i) (StringName appends) (Asks purpose name)
-Calm-string_name_found k i appends (Motion columns remark) = Calm-no_unit_found k (settling i) (StringName appends) (Motion columns remark)
-Calm-string_name_found k i appends (Measures width) = Calm-no_unit_found k (settling i) (StringName appends) (Measures width)
-Calm-string_name_found k i appends (Tells remark) = Calm-no_unit_found k (settling i) (StringName appends) (Tells remark)
-Calm-string_name_found k i appends (Decides decision freed) = Calm-no_unit_found k (settling i) (StringName appends) (Decides decision freed)
-
-pub Calm-string_text_found : (k : Known) (i : PageInput) (name : Option ShortName) (appends is_front : Bool) (found : Found)
-    → Calm (string_text_found k i name appends is_front found)
-Calm-string_text_found k i name appends is_front (GivesUnit unit) = Calm-string_unit i name appends is_front unit
-Calm-string_text_found k i name appends is_front (Escape b) = Calm-string_unit i name appends is_front (Kept b)
-Calm-string_text_found k i name appends is_front GoesOn = Calm-no_unit_found k i (StringText name appends is_front) GoesOn
-Calm-string_text_found k i name appends is_front (Holds unit) = Calm-no_unit_found k i (StringText name appends is_front) (Holds unit)
-Calm-string_text_found k i name appends is_front (Asks purpose asked) = Calm-no_unit_found k i (StringText name appends is_front) (Asks purpose asked)
-Calm-string_text_found k i name appends is_front (Motion columns remark) = Calm-no_unit_found k i (StringText name appends is_front) (Motion columns remark)
-Calm-string_text_found k i name appends is_front (Measures width) = Calm-no_unit_found k i (StringText name appends is_front) (Measures width)
-Calm-string_text_found k i name appends is_front (Tells remark) = Calm-no_unit_found k i (StringText name appends is_front) (Tells remark)
-Calm-string_text_found k i name appends is_front (Decides decision freed) = Calm-no_unit_found k i (StringText name appends is_front) (Decides decision freed)
-
 -- a message
 pub Calm-message_unit : (i : PageInput) (aborts is_front : Bool) (unit : CopyUnit) → Calm (message_unit i aborts is_front unit)
 Calm-message_unit i aborts is_front (Byte b) = Calm-if (b == newline) _ _ tt (Calm-if (is_front && b == blank) _ _ tt tt)
 Calm-message_unit i aborts is_front (Kept b) = tt
-
-pub Calm-message_found : (k : Known) (i : PageInput) (aborts is_front : Bool) (found : Found) → Calm (message_found k i aborts is_front found)
-Calm-message_found k i aborts is_front (GivesUnit unit) = Calm-message_unit i aborts is_front unit
-Calm-message_found k i aborts is_front (Escape b) = Calm-message_unit i aborts is_front (Kept b)
-Calm-message_found k i aborts is_front GoesOn = Calm-no_unit_found k i (Telling aborts is_front) GoesOn
-Calm-message_found k i aborts is_front (Holds unit) = Calm-no_unit_found k i (Telling aborts is_front) (Holds unit)
-Calm-message_found k i aborts is_front (Asks purpose name) = Calm-no_unit_found k i (Telling aborts is_front) (Asks purpose name)
-Calm-message_found k i aborts is_front (Motion columns remark) = Calm-no_unit_found k i (Telling aborts is_front) (Motion columns remark)
-Calm-message_found k i aborts is_front (Measures width) = Calm-no_unit_found k i (Telling aborts is_front) (Measures width)
-Calm-message_found k i aborts is_front (Tells remark) = Calm-no_unit_found k i (Telling aborts is_front) (Tells remark)
-Calm-message_found k i aborts is_front (Decides decision freed) = Calm-no_unit_found k i (Telling aborts is_front) (Decides decision freed)
 
 -- a call
 pub Calm-call_unit : (i : PageInput) (name : ShortName) (unit : CopyUnit) → Calm (call_unit i name unit)
 Calm-call_unit i name (Byte b) = Calm-if (b == newline) _ _ tt (Calm-if (b == quote) _ _ tt tt)
 Calm-call_unit i name (Kept b) = tt
 
-pub Calm-call_found : (k : Known) (i : PageInput) (name : ShortName) (found : Found) → Calm (call_found k i name found)
-Calm-call_found k i name (GivesUnit unit) = Calm-call_unit i name unit
-Calm-call_found k i name (Escape b) = Calm-call_unit i name (Kept b)
-Calm-call_found k i name GoesOn = Calm-no_unit_found k (settling i) (Calling name) GoesOn
-Calm-call_found k i name (Holds unit) = Calm-no_unit_found k (settling i) (Calling name) (Holds unit)
-Calm-call_found k i name (Asks purpose asked) = Calm-no_unit_found k (settling i) (Calling name) (Asks purpose asked)
-Calm-call_found k i name (Motion columns remark) = Calm-no_unit_found k (settling i) (Calling name) (Motion columns remark)
-Calm-call_found k i name (Measures width) = Calm-no_unit_found k (settling i) (Calling name) (Measures width)
-Calm-call_found k i name (Tells remark) = Calm-no_unit_found k (settling i) (Calling name) (Tells remark)
-Calm-call_found k i name (Decides decision freed) = Calm-no_unit_found k (settling i) (Calling name) (Decides decision freed)
-
 -- a byte behind a name
 pub Calm-line_taking : (k : Known) (i : PageInput) (breaks : Bool) (request : Request) (line : LineReading) (b : ℕ) → Calm (line_taking k i breaks request line b)
 Calm-line_taking k i breaks request ByArguments b =
-    let read = byte_read AboveArguments i.escapes b in Calm-arguments_found k (record i { escapes = read.1 }) breaks request read.0
+    let read = byte_read AboveArguments i.escapes b in let j : PageInput = record i { escapes = read.1 } in
+    Calm-collected k j (InArguments breaks request) read.0 (Calm-unit_found k j breaks request)
 Calm-line_taking k i breaks request (ByCondition keeps) b = Calm-condition_begun k i keeps b
 Calm-line_taking k i breaks request (ByString appends) b =
-    let read = byte_read AboveArguments i.escapes b in Calm-string_name_found k (record i { escapes = read.1 }) appends read.0
+    let read = byte_read AboveArguments i.escapes b in let j : PageInput = record i { escapes = read.1 } in
+    Calm-collected k j (StringName appends) read.0 (Calm-string_name_unit j appends)
 Calm-line_taking k i breaks request ByLastLine b =
-    let read = byte_read AboveArguments i.escapes b in Calm-arguments_found k (record i { escapes = read.1 }) breaks request read.0
+    let read = byte_read AboveArguments i.escapes b in let j : PageInput = record i { escapes = read.1 } in
+    Calm-collected k j (InArguments breaks request) read.0 (Calm-unit_found k j breaks request)
 Calm-line_taking k i breaks request (ByMessage aborts) b =
-    let read = byte_read AboveCopy i.escapes b in Calm-message_found k (record i { escapes = read.1 }) aborts true read.0
+    let read = byte_read AboveCopy i.escapes b in let j : PageInput = record i { escapes = read.1 } in
+    Calm-collected k j (Telling aborts true) read.0 (Calm-message_unit j aborts true)
 Calm-line_taking k i breaks request (ByLines lines) b =
-    let read = byte_read AboveArguments i.escapes b in Calm-arguments_found k (record i { escapes = read.1 }) breaks request read.0
+    let read = byte_read AboveArguments i.escapes b in let j : PageInput = record i { escapes = read.1 } in
+    Calm-collected k j (InArguments breaks request) read.0 (Calm-unit_found k j breaks request)
 Calm-line_taking k i breaks request ByTitle b =
-    let read = byte_read AboveArguments i.escapes b in over-calm _ _ (Over-title_front_found k (record i { escapes = read.1 }) read.0)
+    let read = byte_read AboveArguments i.escapes b in let j : PageInput = record i { escapes = read.1 } in
+    Calm-collected k j TitleFront read.0 (λ unit. over-calm _ _ (Over-title_front_unit k j unit))
 Calm-line_taking k i breaks request ByElse b = Calm-branch_taking k (without_last i) (reads_else (last_result i)) b
 
 pub over-dropped : (ends : Bool) → NoCondition (if ends then LineStart else Dropped)
@@ -332,7 +288,8 @@ Calm-dropped_taking i b = over-calm _ _ (over-dropped (b == newline))
 pub Calm-called_taking : (k : Known) (i : PageInput) (breaks : Bool) (called : Called) (b : ℕ) → Calm (called_taking k i breaks called b)
 Calm-called_taking k i breaks (ARequest request) b = Calm-line_taking k i breaks request (row_of request).line b
 Calm-called_taking k i breaks (ABody name) b =
-    let read = byte_read AboveArguments i.escapes b in Calm-call_found k (record i { escapes = read.1 }) name read.0
+    let read = byte_read AboveArguments i.escapes b in let j : PageInput = record i { escapes = read.1 } in
+    Calm-collected k j (Calling name) read.0 (Calm-call_unit j name)
 Calm-called_taking k i breaks Unknown b = Calm-dropped_taking i b
 
 pub Calm-name_ended_taking : (k : Known) (i : PageInput) (breaks : Bool) (name : ShortName) (b : ℕ) → Calm (name_ended_taking k i breaks name b)
@@ -367,14 +324,7 @@ Calm-definition_unit k i name appends end front unit IsText = tt
 
 pub Calm-definition_found : (k : Known) (i : PageInput) (name : Option ShortName) (appends : Bool) (end : Option ShortName) (matched : Option ℕ) (found : Found)
     → Calm (definition_found k i name appends end matched found)
-Calm-definition_found k i name appends end matched (GivesUnit unit) =
-    Calm-definition_unit k i name appends end (front_of (end_mark end) matched) unit (line_from (end_mark end) matched unit)
-Calm-definition_found k i name appends end matched (Escape b) =
-    Calm-definition_unit k i name appends end (front_of (end_mark end) matched) (Kept b) (line_from (end_mark end) matched (Kept b))
-Calm-definition_found k i name appends end matched GoesOn = Calm-no_unit_found k i (Defining name appends end matched) GoesOn
-Calm-definition_found k i name appends end matched (Holds unit) = Calm-no_unit_found k i (Defining name appends end matched) (Holds unit)
-Calm-definition_found k i name appends end matched (Asks purpose asked) = Calm-no_unit_found k i (Defining name appends end matched) (Asks purpose asked)
-Calm-definition_found k i name appends end matched (Motion columns remark) = Calm-no_unit_found k i (Defining name appends end matched) (Motion columns remark)
-Calm-definition_found k i name appends end matched (Measures width) = Calm-no_unit_found k i (Defining name appends end matched) (Measures width)
-Calm-definition_found k i name appends end matched (Tells remark) = Calm-no_unit_found k i (Defining name appends end matched) (Tells remark)
-Calm-definition_found k i name appends end matched (Decides decision freed) = Calm-no_unit_found k i (Defining name appends end matched) (Decides decision freed)
+Calm-definition_found k i name appends end matched found =
+    of-unit_or Calm (definition_line k i name appends end matched) (no_unit_found k i (Defining name appends end matched) found) (unit_in found)
+    (λ unit. Calm-definition_unit k i name appends end (front_of (end_mark end) matched) unit (line_from (end_mark end) matched unit))
+    (Calm-no_unit_found k i (Defining name appends end matched) found)

@@ -4,15 +4,15 @@ use Rattle.std.proofs.Common.{◌≡◌, ℕ, ◌+◌, Bool, true, false, List, 
 use Rattle.std.specs.Prelude.{nat_lt, ◌&&◌, is_none, if◌then◌else◌}
 use Rattle.roff_num.specs.declared.limits.Limits.{Limits}
 use Rattle.roff_escape.specs.Waiting.{is_ended_by}
-use Rattle.roff_ahead.specs.Input.{Ahead, ByteAhead, FreeAhead, EndAhead, ReturnAhead, DoAhead, cost, item_taken}
+use Rattle.roff_input.specs.Input.{Ahead, ByteAhead, FreeAhead, EndAhead, ReturnAhead, DoAhead, cost, item_taken}
 use Rattle.roff_source.specs.Tape.{Tape, Item, Answer, Gives, Ends, OneByte, OneNote, Ending, Ended, Failed, Stopped, front, behind_front, items_then, only, Took}
-use Rattle.roff_ahead.specs.declared.looked.Looked.{Looked}
-use Rattle.roff_ahead.specs.declared.looked.Looked.TheVariants.{Nothing, Byte, Closed}
-use Rattle.roff_ahead.specs.Looking.{answer_behind, is_closed, is_nothing, looked_then}
-use Rattle.roff_ahead.specs.Unread.{Unread, taking, taking_ahead, taking_answer, asks_to_take, looking, looking_at, looking_past, asks_to_look, Asked}
-use Rattle.roff_ahead.specs.Shown.{Shown, ShowsByte, ShowsEnd, ShowsReturn, ShowsDo, ShowsNote, ShowsEnding, ShowsRefusal, shown_ahead, Sighted, SeesByte, SeesNothing, SeesNote, SeesEnding, seen_ahead}
+use Rattle.roff_input.specs.declared.looked.Looked.{Looked}
+use Rattle.roff_input.specs.declared.looked.Looked.TheVariants.{Nothing, Byte, Closed}
+use Rattle.roff_input.specs.Looking.{answer_behind, is_closed, is_nothing, looked_then}
+use Rattle.roff_input.specs.Unread.{Unread, taking, taking_ahead, taking_answer, asks_to_take, looking, looking_at, looking_past, asks_to_look, Asked}
+use Rattle.roff_input.specs.Shown.{Shown, ShowsByte, ShowsEnd, ShowsReturn, ShowsDo, ShowsNote, ShowsEnding, ShowsRefusal, shown_ahead, Sighted, SeesByte, SeesNothing, SeesNote, SeesEnding, seen_ahead}
 use Rattle.roff_run.proofs.InputCounts.{one_of}
-use Rattle.roff_run.specs.Reading.{interrupted}
+use Rattle.roff_run.specs.Reading.Units.{interrupted}
 use Rattle.roff_run.specs.Reading.Returns.{behind_return}
 use Rattle.roff_run.specs.Reading.Items.{PageInput}
 use Rattle.roff_run.specs.Requests.{PageEvent}

@@ -7,20 +7,19 @@ use Rattle.roff_num.specs.declared.limit.Limit.TheVariants.{Stack, Depth, Condit
 use Rattle.roff_num.specs.declared.limits.Limits.{Limits}
 use Rattle.roff_arguments.specs.Arguments.{held, settled, no_arguments}
 use Rattle.roff_escape.specs.OpenEscape.{texts_held}
-use Rattle.roff_ahead.specs.Input.{Ahead, ByteAhead, FreeAhead, EndAhead, ReturnAhead, DoAhead, counting, item_taken, leaving, pushed, depth, result_count, bytes_ahead, ends_ahead, calls_behind, results_behind, results_below}
+use Rattle.roff_input.specs.Input.{Ahead, ByteAhead, FreeAhead, EndAhead, ReturnAhead, DoAhead, counting, item_taken, leaving, pushed, depth, result_count, bytes_ahead, ends_ahead, calls_behind, results_behind, results_below}
 use Rattle.roff_arguments.specs.Arguments.{live_bytes}
-use Rattle.roff_ahead.specs.Input.Names.{names_added, stored}
+use Rattle.roff_input.specs.Input.Names.{names_added, stored}
 use Rattle.roff_source.specs.Tape.{Answer, Gives, Ends, OneByte, OneNote}
-use Rattle.roff_ahead.specs.declared.looked.Looked.{Looked}
-use Rattle.roff_ahead.specs.Looking.{answer_behind}
-use Rattle.roff_ahead.specs.Unread.{Unread, IsWithin, taking, taking_answer, input_refusal}
-use Rattle.roff_ahead.specs.Shown.{Shown}
+use Rattle.roff_input.specs.declared.looked.Looked.{Looked}
+use Rattle.roff_input.specs.Looking.{answer_behind}
+use Rattle.roff_input.specs.Unread.{Unread, IsWithin, taking, taking_answer, input_refusal}
+use Rattle.roff_input.specs.Shown.{Shown}
 use Rattle.roff_store.specs.Named.{Named}
 use Rattle.roff_store.specs.Texts.{Entry, bytes_in}
 use Rattle.roff_arguments.proofs.KeptArguments.{held-only_kept, held-settled}
-use Rattle.roff_run.specs.Reading.{interrupted}
 use Rattle.roff_run.specs.Reading.Items.{PageInput}
-use Rattle.roff_run.specs.Reading.Units.{settling}
+use Rattle.roff_run.specs.Reading.Units.{interrupted, settling}
 use Rattle.roff_run.specs.Registers.{AllRegisters}
 use Rattle.roff_run.specs.Requests.{PageEvent}
 use Rattle.roff_run.specs.TitleTexts.{title_length}

@@ -10,10 +10,10 @@ use Rattle.roff_arguments.specs.Arguments.{Arguments}
 use Rattle.roff_escape.specs.Waiting.{decides, is_ended_by}
 use Rattle.roff_escape.specs.declared.open_escape.Waiting.{Waiting}
 use Rattle.roff_escape.specs.declared.open_escape.Waiting.TheVariants.{Takes, Decides, Waits}
-use Rattle.roff_ahead.specs.Input.{Ahead, ByteAhead, counting, item_taken, pushed, depth, result_count}
-use Rattle.roff_ahead.specs.Input.Names.{names_added, stored}
+use Rattle.roff_input.specs.Input.{Ahead, ByteAhead, counting, item_taken, pushed, depth, result_count}
+use Rattle.roff_input.specs.Input.Names.{names_added, stored}
 use Rattle.roff_source.specs.Tape.{Tape, Answer, Gives, Ends, Ended, OneByte, front, items_then}
-use Rattle.roff_ahead.specs.Shown.{seen_ahead}
+use Rattle.roff_input.specs.Shown.{seen_ahead}
 use Rattle.roff_escape.specs.OpenEscape.{OpenEscape}
 use Rattle.roff_run.specs.declared.line_state.LineState.{LineState}
 use Rattle.roff_run.specs.ItemsTaken.{TakesItems, BytesAheadAreTaken, BytesOfTheSourceAreTaken}

@@ -7,10 +7,10 @@ use Rattle.std.specs.Prelude.{◌&&◌, ◌||◌, ◌==◌}
 use Rattle.roff_lines.specs.Words.{is_empty}
 use Rattle.roff_source.specs.Bytes.{tab, newline, blank, is_dropped}
 use Rattle.roff_escape.specs.OpenEscapes.{byte_read, reading_ended}
-use Rattle.roff_ahead.specs.Input.{choosing}
-use Rattle.roff_ahead.specs.Input.Calls.{arguments_given, called_text}
-use Rattle.roff_ahead.specs.Input.Names.{body_named}
-use Rattle.roff_ahead.proofs.FewEvents.{few-called, few-more}
+use Rattle.roff_input.specs.Input.{choosing}
+use Rattle.roff_input.specs.Input.Calls.{arguments_given, called_text}
+use Rattle.roff_input.specs.Input.Names.{body_named}
+use Rattle.roff_input.proofs.FewEvents.{few-called, few-more}
 use Rattle.roff_escape.specs.OpenEscape.{OpenEscape}
 use Rattle.roff_escape.specs.declared.open_escape.Surroundings.{Surroundings}
 use Rattle.roff_escape.specs.declared.open_escape.Surroundings.TheVariants.{Text as AboveText, Arguments as AboveArguments, Copy as AboveCopy}
@@ -20,7 +20,8 @@ use Rattle.roff_num.specs.declared.short_name.ShortName.{ShortName}
 use Rattle.roff_run.specs.declared.request.Called.{Called}
 use Rattle.roff_run.specs.declared.request.Called.TheVariants.{Request as ARequest, Body as ABody, Nothing as Unknown}
 use Rattle.roff_num.specs.ShortNames.{name_at, name_bytes}
-use Rattle.roff_run.specs.Reading.{undropped_taking, interrupted, taking, escape_ended}
+use Rattle.roff_run.specs.Reading.{undropped_taking, taking, escape_ended}
+use Rattle.roff_run.specs.Reading.Units.{interrupted}
 use Rattle.roff_run.specs.Reading.Beginnings.{at_start}
 use Rattle.roff_run.specs.Reading.ControlLines.{ends_name}
 use Rattle.roff_run.specs.Reading.Definitions.{definition_dropped}
@@ -34,8 +35,8 @@ use Rattle.roff_run.specs.Requests.{called_by}
 use Rattle.roff_run.specs.TurnsToCome.{begun, endings_of}
 use Rattle.roff_run.proofs.EscapeCounts.{Falls, Leaves, endings-byte_read, endings-reading_ended, some_ending}
 use Rattle.roff_run.proofs.KeepingText.{Keeps, KeepsBy, free_ahead-called, Keeps-if, Stays-skipping_taking, Stays-dropped_taking, Keeps-with_escapes, Keeps-text_found, Keeps-beginning_found}
-use Rattle.roff_run.proofs.KeepingTitles.{Keeps-title_ended, Keeps-title_found, Keeps-title_front_found}
-use Rattle.roff_run.proofs.KeepingLines.{Keeps-alike, Alike-string_entered, Alike-definition_dropped, Keeps-arguments_found, Keeps-string_line_ended, Keeps-string_name_found, Keeps-string_text_found, Keeps-message_found, Keeps-call_found}
+use Rattle.roff_run.proofs.KeepingTitles.{Keeps-title_ended, Keeps-title_found, Keeps-title_front_unit}
+use Rattle.roff_run.proofs.KeepingLines.{Keeps-alike, Alike-string_entered, Alike-definition_dropped, Keeps-collected, Keeps-unit_found, Keeps-string_line_ended, Keeps-string_name_unit, Keeps-string_unit, Keeps-message_unit, Keeps-call_unit}
 use Rattle.roff_run.proofs.KeepingNames.{Keeps-condition_found, KeepsTwoMore, TwoMore, KeepsTwoMore-same, TwoMore-stays, Keeps-same_reading, Keeps-name_ended_taking, Keeps-definition_found, Keeps-behind_called, Keeps-title_read}
 
 -- a byte that isn't dropped
@@ -55,52 +56,39 @@ Keeps-undropped_taking k (Name breaks first) i b =
     (record { first = first; second = None }))
     (Keeps-behind_called i breaks first (called_by (record { first = first; second = Some b }) i.names))
 Keeps-undropped_taking k (InArguments breaks request) i b =
-    Keeps-arguments_found _ k i _ breaks request (byte_read AboveArguments i.escapes b).0 (Keeps-same_reading AboveArguments i (InArguments breaks request) b)
+    Keeps-collected _ k i _ (InArguments breaks request) (byte_read AboveArguments i.escapes b).0 (Keeps-same_reading AboveArguments i (InArguments breaks request) b)
+    (Keeps-unit_found _ k i _ breaks request)
 Keeps-undropped_taking k (Deciding keeping) i b =
     let read : Leaves (endings_of i.escapes + 1) (byte_read AboveArguments i.escapes b) = endings-byte_read AboveArguments i.escapes b in
     Keeps-condition_found (2 * endings_of (byte_read AboveArguments i.escapes b).1) _ k i (record i { escapes = (byte_read AboveArguments i.escapes b).1 }) keeping (byte_read AboveArguments i.escapes b).0
     (Keeps-with_escapes _ _ i i (Deciding keeping) (Deciding keeping) (byte_read AboveArguments i.escapes b).1 (KeepsTwoMore-same i (Deciding keeping)) (omega arith)) (omega (arith, read))
 Keeps-undropped_taking k (StringName appends) i b =
-    Keeps-string_name_found _ k i _ appends (byte_read AboveArguments i.escapes b).0 (Keeps-same_reading AboveArguments i (StringName appends) b)
+    Keeps-collected _ k i _ (StringName appends) (byte_read AboveArguments i.escapes b).0 (Keeps-same_reading AboveArguments i (StringName appends) b)
+    (Keeps-string_name_unit _ i _ _ appends)
 Keeps-undropped_taking k (StringText name appends is_front) i b =
-    Keeps-string_text_found _ k i _ name appends is_front (byte_read AboveCopy i.escapes b).0
-    (Keeps-same_reading AboveCopy i (StringText name appends is_front) b)
+    Keeps-collected _ k i _ (StringText name appends is_front) (byte_read AboveCopy i.escapes b).0
+    (Keeps-same_reading AboveCopy i (StringText name appends is_front) b) (Keeps-string_unit _ i _ _ name appends is_front)
 Keeps-undropped_taking k (Calling name) i b =
-    Keeps-call_found _ k i _ name (byte_read AboveArguments i.escapes b).0 (Keeps-same_reading AboveArguments i (Calling name) b)
+    Keeps-collected _ k i _ (Calling name) (byte_read AboveArguments i.escapes b).0 (Keeps-same_reading AboveArguments i (Calling name) b)
+    (Keeps-call_unit _ i _ name)
 Keeps-undropped_taking k (Defining name appends end matched) i b =
     Keeps-definition_found _ k i _ name appends end matched (byte_read AboveCopy i.escapes b).0 (Keeps-same_reading AboveCopy i (Defining name appends end matched) b)
     (omega arith)
 Keeps-undropped_taking k (Skipping opened closed behind) i b = TwoMore-stays i (Skipping opened closed behind) _ (Stays-skipping_taking i opened closed behind b)
 Keeps-undropped_taking k Dropped i b = TwoMore-stays i Dropped _ (Stays-dropped_taking i b)
 Keeps-undropped_taking k (Telling aborts is_front) i b =
-    Keeps-message_found _ k i _ aborts is_front (byte_read AboveCopy i.escapes b).0 (Keeps-same_reading AboveCopy i (Telling aborts is_front) b)
+    Keeps-collected _ k i _ (Telling aborts is_front) (byte_read AboveCopy i.escapes b).0 (Keeps-same_reading AboveCopy i (Telling aborts is_front) b)
+    (Keeps-message_unit _ i _ aborts is_front)
 Keeps-undropped_taking k (Told aborts) i b = KeepsTwoMore-same i (Told aborts)
 Keeps-undropped_taking k Exiting i b = KeepsTwoMore-same i Exiting
 Keeps-undropped_taking k TitleFront i b =
-    Keeps-title_front_found _ k i _ (byte_read AboveArguments i.escapes b).0 (Keeps-same_reading AboveArguments i TitleFront b)
+    Keeps-collected _ k i _ TitleFront (byte_read AboveArguments i.escapes b).0 (Keeps-same_reading AboveArguments i TitleFront b)
+    (Keeps-title_front_unit _ k i _)
 Keeps-undropped_taking k (InTitle delimiter) i b = Keeps-title_read k i delimiter b (is_empty i.escapes && b == delimiter)
 
 -- what isn't a byte of the line
 pub Keeps-interrupted : (reading : LineState) (i : PageInput) → KeepsTwoMore i reading (interrupted reading i) reading
-Keeps-interrupted LineStart i = KeepsTwoMore-same i LineStart
-Keeps-interrupted Branch i = KeepsTwoMore-same i Branch
-Keeps-interrupted Braced i = KeepsTwoMore-same i Braced
-Keeps-interrupted (InText line) i = KeepsTwoMore-same i (InText line)
-Keeps-interrupted (Control breaks) i = KeepsTwoMore-same i (Control breaks)
-Keeps-interrupted (Name breaks first) i = KeepsTwoMore-same i (Name breaks first)
-Keeps-interrupted (InArguments breaks request) i = record { charge = refl; newlines = refl; line = refl; free = refl; few = λ room within few. few; escapes = omega arith }
-Keeps-interrupted (Deciding keeping) i = KeepsTwoMore-same i (Deciding keeping)
-Keeps-interrupted (StringName appends) i = record { charge = refl; newlines = refl; line = refl; free = refl; few = λ room within few. few; escapes = omega arith }
-Keeps-interrupted (StringText name appends is_front) i = KeepsTwoMore-same i (StringText name appends is_front)
-Keeps-interrupted (Calling name) i = record { charge = refl; newlines = refl; line = refl; free = refl; few = λ room within few. few; escapes = omega arith }
-Keeps-interrupted (Defining name appends end matched) i = KeepsTwoMore-same i (Defining name appends end matched)
-Keeps-interrupted (Skipping opened closed behind) i = KeepsTwoMore-same i (Skipping opened closed behind)
-Keeps-interrupted Dropped i = KeepsTwoMore-same i Dropped
-Keeps-interrupted (Telling aborts is_front) i = KeepsTwoMore-same i (Telling aborts is_front)
-Keeps-interrupted (Told aborts) i = KeepsTwoMore-same i (Told aborts)
-Keeps-interrupted Exiting i = KeepsTwoMore-same i Exiting
-Keeps-interrupted TitleFront i = KeepsTwoMore-same i TitleFront
-Keeps-interrupted (InTitle delimiter) i = KeepsTwoMore-same i (InTitle delimiter)
+Keeps-interrupted reading i = record { charge = refl; newlines = refl; line = refl; free = refl; few = λ room within few. few; escapes = omega arith }
 
 -- a byte
 pub Keeps-taking : (k : Known) (reading : LineState) (i : PageInput) (b : ℕ) → TwoMore i reading (taking k reading i b)
@@ -137,28 +125,34 @@ Keeps-escape_ended k (InText line) i first others is =
 Keeps-escape_ended k (Control breaks) i first others is = Keeps-ended (AboveText (pos 0)) i (Control breaks) first others is
 Keeps-escape_ended k (Name breaks byte) i first others is = Keeps-ended (AboveText (pos 0)) i (Name breaks byte) first others is
 Keeps-escape_ended k (InArguments breaks request) i first others is =
-    Keeps-arguments_found _ k i _ breaks request (reading_ended AboveArguments i.escapes).0 (Keeps-ended AboveArguments i (InArguments breaks request) first others is)
+    Keeps-collected _ k i _ (InArguments breaks request) (reading_ended AboveArguments i.escapes).0 (Keeps-ended AboveArguments i (InArguments breaks request) first others is)
+    (Keeps-unit_found _ k i _ breaks request)
 Keeps-escape_ended k (Deciding keeping) i first others is =
     let fewer : Falls (endings_of i.escapes) (reading_ended AboveArguments i.escapes) = falls_ended AboveArguments i.escapes first others is in
     Keeps-condition_found (2 * endings_of (reading_ended AboveArguments i.escapes).1) _ k i (record i { escapes = (reading_ended AboveArguments i.escapes).1 }) keeping (reading_ended AboveArguments i.escapes).0
     (Keeps-with_escapes _ _ i i (Deciding keeping) (Deciding keeping) (reading_ended AboveArguments i.escapes).1 (KeepsTwoMore-same i (Deciding keeping)) (omega arith)) (omega (arith, fewer))
 Keeps-escape_ended k (StringName appends) i first others is =
-    Keeps-string_name_found _ k i _ appends (reading_ended AboveArguments i.escapes).0 (Keeps-ended AboveArguments i (StringName appends) first others is)
+    Keeps-collected _ k i _ (StringName appends) (reading_ended AboveArguments i.escapes).0 (Keeps-ended AboveArguments i (StringName appends) first others is)
+    (Keeps-string_name_unit _ i _ _ appends)
 Keeps-escape_ended k (StringText name appends is_front) i first others is =
-    Keeps-string_text_found _ k i _ name appends is_front (reading_ended AboveCopy i.escapes).0 (Keeps-ended AboveCopy i (StringText name appends is_front) first others is)
+    Keeps-collected _ k i _ (StringText name appends is_front) (reading_ended AboveCopy i.escapes).0 (Keeps-ended AboveCopy i (StringText name appends is_front) first others is)
+    (Keeps-string_unit _ i _ _ name appends is_front)
 Keeps-escape_ended k (Calling name) i first others is =
-    Keeps-call_found _ k i _ name (reading_ended AboveArguments i.escapes).0 (Keeps-ended AboveArguments i (Calling name) first others is)
+    Keeps-collected _ k i _ (Calling name) (reading_ended AboveArguments i.escapes).0 (Keeps-ended AboveArguments i (Calling name) first others is)
+    (Keeps-call_unit _ i _ name)
 Keeps-escape_ended k (Defining name appends end matched) i first others is =
     Keeps-definition_found _ k i _ name appends end matched (reading_ended AboveCopy i.escapes).0 (Keeps-ended AboveCopy i (Defining name appends end matched) first others is)
     (let some : 1 ≤ endings_of i.escapes = rw is (omega (arith, some_ending first others)) in omega (arith, some))
 Keeps-escape_ended k (Skipping opened closed behind) i first others is = Keeps-ended (AboveText (pos 0)) i (Skipping opened closed behind) first others is
 Keeps-escape_ended k Dropped i first others is = Keeps-ended (AboveText (pos 0)) i Dropped first others is
 Keeps-escape_ended k (Telling aborts is_front) i first others is =
-    Keeps-message_found _ k i _ aborts is_front (reading_ended AboveCopy i.escapes).0 (Keeps-ended AboveCopy i (Telling aborts is_front) first others is)
+    Keeps-collected _ k i _ (Telling aborts is_front) (reading_ended AboveCopy i.escapes).0 (Keeps-ended AboveCopy i (Telling aborts is_front) first others is)
+    (Keeps-message_unit _ i _ aborts is_front)
 Keeps-escape_ended k (Told aborts) i first others is = Keeps-ended (AboveText (pos 0)) i (Told aborts) first others is
 Keeps-escape_ended k Exiting i first others is = Keeps-ended (AboveText (pos 0)) i Exiting first others is
 Keeps-escape_ended k TitleFront i first others is =
-    Keeps-title_front_found _ k i _ (reading_ended AboveArguments i.escapes).0 (Keeps-ended AboveArguments i TitleFront first others is)
+    Keeps-collected _ k i _ TitleFront (reading_ended AboveArguments i.escapes).0 (Keeps-ended AboveArguments i TitleFront first others is)
+    (Keeps-title_front_unit _ k i _)
 Keeps-escape_ended k (InTitle delimiter) i first others is =
     Keeps-title_found _ k i _ delimiter (reading_ended (AboveText (pos 0)) i.escapes).0 (Keeps-ended (AboveText (pos 0)) i (InTitle delimiter) first others is)
 

@@ -6,15 +6,15 @@
 use Rattle.std.proofs.Common.{◌≡◌, ℕ, ◌≤◌, Bool, true, false, List, [], ◌∷◌, Option, Some, None, refl, sym, subst, ap, ◌∙◌, arith}
 use Rattle.std.specs.Prelude.{◌&&◌, length, nat_le, if◌then◌else◌, ◌==◌}
 use Rattle.roff_source.specs.Bytes.{newline, blank, quote}
-use Rattle.roff_ahead.specs.Input.Calls.{arguments_given, called_text, calling_body}
-use Rattle.roff_ahead.specs.Input.Names.{body_named, calling, calling_on}
+use Rattle.roff_input.specs.Input.Calls.{arguments_given, called_text, calling_body}
+use Rattle.roff_input.specs.Input.Names.{body_named, calling, calling_on}
 use Rattle.roff_escape.specs.declared.open_escape.CopyUnit.{CopyUnit}
 use Rattle.roff_escape.specs.declared.open_escape.CopyUnit.TheVariants.{Byte, Kept}
 use Rattle.roff_escape.specs.OpenEscape.{unit_bytes}
 use Rattle.roff_escape.specs.declared.open_escape.Found.{Found}
 use Rattle.roff_escape.specs.declared.open_escape.Found.TheVariants.{GoesOn, Unit as GivesUnit, Holds, Escape, Asks, Motion, Measures, Tells, Decides}
 use Rattle.roff_run.specs.declared.line_state.LineState.{LineState}
-use Rattle.roff_run.specs.declared.line_state.LineState.TheVariants.{LineStart, Arguments as InArguments, StringName, StringText, Telling, Calling, Defining}
+use Rattle.roff_run.specs.declared.line_state.LineState.TheVariants.{LineStart, Arguments as InArguments, Telling, Calling, Defining}
 use Rattle.roff_num.specs.declared.short_name.ShortName.{ShortName}
 use Rattle.roff_run.specs.declared.request.LineReading.{LineReading}
 use Rattle.roff_run.specs.declared.request.LineReading.TheVariants.{ByArguments, ByCondition, ByElse, ByLastLine, ByMessage, ByString, ByLines, ByTitle}
@@ -22,23 +22,25 @@ use Rattle.roff_run.specs.declared.request.LinesFor.{LinesFor}
 use Rattle.roff_run.specs.declared.request.LinesFor.TheVariants.{Macro, Nobody}
 use Rattle.roff_num.specs.ShortNames.{name_at, name_bytes, name_or_none}
 use Rattle.roff_run.specs.declared.request.Request.{Request}
-use Rattle.roff_run.specs.Reading.Arguments.{unit_found, arguments_ended, arguments_found, reading_behind, calling_all, ended_by}
-use Rattle.roff_run.specs.Reading.Calls.{holding_call, call_unit, call_found}
+use Rattle.roff_run.specs.Reading.Arguments.{unit_found, arguments_ended, reading_behind, calling_all, ended_by}
+use Rattle.roff_run.specs.Reading.Collecting.{collected, unit_taking}
+use Rattle.roff_run.specs.Reading.Calls.{holding_call, call_unit}
 use Rattle.roff_run.specs.Reading.Definitions.{lines_begun, definition_begun, definition_named, definition_dropped, definition_grown}
 use Rattle.roff_run.specs.Reading.Items.{PageInput, going_on}
-use Rattle.roff_run.specs.Reading.Messages.{message_found, message_unit}
-use Rattle.roff_run.specs.Reading.Strings.{name_read, string_begun, string_emptied, string_entered, string_grown, string_line_ended, string_name_behind, string_name_found, string_name_or_text, string_name_unit, string_text_found, string_unit}
-use Rattle.roff_run.specs.Reading.Units.{settling, no_unit_found, holding}
+use Rattle.roff_run.specs.Reading.Messages.{message_unit}
+use Rattle.roff_run.specs.Reading.Strings.{name_read, string_begun, string_emptied, string_entered, string_grown, string_line_ended, string_name_behind, string_name_or_text, string_name_unit, string_unit}
+use Rattle.roff_run.specs.Reading.Units.{holding, interrupted, no_unit_found, settling}
 use Rattle.roff_arguments.specs.Arguments.{no_arguments}
 use Rattle.roff_store.specs.TextCalls.{Call, DropOpen, PushOpen, Enter}
 use Rattle.roff_store.specs.Texts.{newest}
 use Rattle.roff_run.specs.Registers.{Known}
 use Rattle.roff_run.specs.Requests.{Effect, row_of, request_effect}
 use Rattle.roff_run.specs.TurnsToCome.{begun, endings_of, free_ahead}
-use Rattle.roff_ahead.specs.Input.{Ahead}
-use Rattle.roff_ahead.specs.Input.Few.{AreFewFrom}
+use Rattle.roff_input.specs.Input.{Ahead}
+use Rattle.roff_input.specs.Input.Few.{AreFewFrom}
 use Rattle.roff_run.specs.Requests.{PageEvent}
-use Rattle.roff_ahead.proofs.FewEvents.{few-called, few-more}
+use Rattle.roff_input.proofs.FewEvents.{few-called, few-more}
+use Rattle.roff_run.proofs.Collected.{of-collected}
 use Rattle.roff_run.proofs.KeepingText.{Keeps, KeepsBy, Keeps-if, free_ahead-called, Keeps-measuring, Keeps-holding_text, Keeps-asking}
 
 -- an input that differs from another in its arguments and texts alone
@@ -190,7 +192,7 @@ Keeps-arguments_ended most k i j old breaks request ByTitle keeps some =
     Keeps-line_ended_by most k i j old breaks request keeps some
 
 -- a unit of a line of arguments
-Keeps-unit_found : (most : ℕ) (k : Known) (i j : PageInput) (breaks : Bool) (request : Request) (unit : CopyUnit) → Keeps most i j (InArguments breaks request)
+pub Keeps-unit_found : (most : ℕ) (k : Known) (i j : PageInput) (breaks : Bool) (request : Request) (unit : CopyUnit) → Keeps most i j (InArguments breaks request)
     → KeepsBy most i (unit_found k j breaks request unit)
 Keeps-unit_found most k i j breaks request (Byte b) keeps =
     Keeps-if most i (b == newline) _ _
@@ -212,28 +214,16 @@ Keeps-no_unit_found most k i j reading (Escape b) keeps = keeps
 Keeps-no_unit_found most k i j reading (Motion columns remark) keeps = keeps
 Keeps-no_unit_found most k i j reading (Decides decision freed) keeps = keeps
 
--- and behind which no quote follows
-Keeps-settled : (most : ℕ) (k : Known) (i j : PageInput) (reading : LineState) (found : Found) → Keeps most i j reading
-    → KeepsBy most i (no_unit_found k (settling j) reading found)
-Keeps-settled most k i j reading found keeps =
-    Keeps-no_unit_found most k i (settling j) reading found
-    (record { charge = keeps.charge; newlines = keeps.newlines; line = keeps.line; free = keeps.free; few = keeps.few; escapes = keeps.escapes })
-
--- what was found of a line of arguments
-pub Keeps-arguments_found : (most : ℕ) (k : Known) (i j : PageInput) (breaks : Bool) (request : Request) (found : Found) → Keeps most i j (InArguments breaks request)
-    → KeepsBy most i (arguments_found k j breaks request found)
-Keeps-arguments_found most k i j breaks request (GivesUnit unit) keeps = Keeps-unit_found most k i j breaks request unit keeps
-Keeps-arguments_found most k i j breaks request (Escape b) keeps = Keeps-unit_found most k i j breaks request (Kept b) keeps
-Keeps-arguments_found most k i j breaks request GoesOn keeps = Keeps-settled most k i j (InArguments breaks request) GoesOn keeps
-Keeps-arguments_found most k i j breaks request (Asks purpose name) keeps = Keeps-settled most k i j (InArguments breaks request) (Asks purpose name) keeps
-Keeps-arguments_found most k i j breaks request (Holds unit) keeps = Keeps-settled most k i j (InArguments breaks request) (Holds unit) keeps
-Keeps-arguments_found most k i j breaks request (Motion columns remark) keeps = Keeps-settled most k i j (InArguments breaks request) (Motion columns remark) keeps
-Keeps-arguments_found most k i j breaks request (Measures width) keeps = Keeps-settled most k i j (InArguments breaks request) (Measures width) keeps
-Keeps-arguments_found most k i j breaks request (Tells remark) keeps = Keeps-settled most k i j (InArguments breaks request) (Tells remark) keeps
-Keeps-arguments_found most k i j breaks request (Decides decision freed) keeps = Keeps-settled most k i j (InArguments breaks request) (Decides decision freed) keeps
+-- what was found where a line collects units
+pub Keeps-collected : (most : ℕ) (k : Known) (i j : PageInput) (reading : LineState) (found : Found) → Keeps most i j reading
+    → ((unit : CopyUnit) → Keeps most i j reading → KeepsBy most i (unit_taking k j reading unit)) → KeepsBy most i (collected k j reading found)
+Keeps-collected most k i j reading found keeps units =
+    of-collected (KeepsBy most i) k j reading found (λ unit. units unit keeps)
+    (Keeps-no_unit_found most k i (interrupted reading j) reading found
+    (record { charge = keeps.charge; newlines = keeps.newlines; line = keeps.line; free = keeps.free; few = keeps.few; escapes = keeps.escapes }))
 
 -- a unit of a string's text
-Keeps-string_unit : (most : ℕ) (i j : PageInput) (old : LineState) (name : Option ShortName) (appends is_front : Bool) (unit : CopyUnit) → Keeps most i j old
+pub Keeps-string_unit : (most : ℕ) (i j : PageInput) (old : LineState) (name : Option ShortName) (appends is_front : Bool) (unit : CopyUnit) → Keeps most i j old
     → KeepsBy most i (string_unit j name appends is_front unit)
 Keeps-string_unit most i j old name appends is_front (Byte b) keeps =
     Keeps-if most i (b == newline) _ _ (Keeps-alike most i j old _ LineStart keeps (Alike-string_entered name appends j) refl)
@@ -267,7 +257,7 @@ Keeps-string_name_or_text most i j old appends unit None keeps =
 Keeps-string_name_or_text most i j old appends unit (Some name) keeps =
     Keeps-string_unit most i (string_begun name j) LineStart name appends true unit (Keeps-alike most i j old _ LineStart keeps (Alike-string_begun name j) refl)
 
-Keeps-string_name_unit : (most : ℕ) (i j : PageInput) (old : LineState) (appends : Bool) (unit : CopyUnit) → Keeps most i j old
+pub Keeps-string_name_unit : (most : ℕ) (i j : PageInput) (old : LineState) (appends : Bool) (unit : CopyUnit) → Keeps most i j old
     → KeepsBy most i (string_name_unit j appends unit)
 Keeps-string_name_unit most i j old appends (Byte b) keeps =
     Keeps-if most i (b == newline) _ _ (Keeps-string_line_ended most i j old appends (name_at 0 (arguments_given j)) keeps)
@@ -278,34 +268,8 @@ Keeps-string_name_unit most i j old appends (Kept b) keeps =
     Keeps-string_name_or_text most i (settling j) old appends (Kept b) (name_read (settling j))
     (record { charge = keeps.charge; newlines = keeps.newlines; line = keeps.line; free = keeps.free; few = keeps.few; escapes = keeps.escapes })
 
--- what was found of a string's name
-pub Keeps-string_name_found : (most : ℕ) (k : Known) (i j : PageInput) (appends : Bool) (found : Found) → Keeps most i j (StringName appends)
-    → KeepsBy most i (string_name_found k j appends found)
-Keeps-string_name_found most k i j appends (GivesUnit unit) keeps = Keeps-string_name_unit most i j _ appends unit keeps
-Keeps-string_name_found most k i j appends (Escape b) keeps = Keeps-string_name_unit most i j _ appends (Kept b) keeps
-Keeps-string_name_found most k i j appends GoesOn keeps = Keeps-settled most k i j (StringName appends) GoesOn keeps
-Keeps-string_name_found most k i j appends (Asks purpose text) keeps = Keeps-settled most k i j (StringName appends) (Asks purpose text) keeps
-Keeps-string_name_found most k i j appends (Holds unit) keeps = Keeps-settled most k i j (StringName appends) (Holds unit) keeps
-Keeps-string_name_found most k i j appends (Motion columns remark) keeps = Keeps-settled most k i j (StringName appends) (Motion columns remark) keeps
-Keeps-string_name_found most k i j appends (Measures width) keeps = Keeps-settled most k i j (StringName appends) (Measures width) keeps
-Keeps-string_name_found most k i j appends (Tells remark) keeps = Keeps-settled most k i j (StringName appends) (Tells remark) keeps
-Keeps-string_name_found most k i j appends (Decides decision freed) keeps = Keeps-settled most k i j (StringName appends) (Decides decision freed) keeps
-
--- what was found of its text
-pub Keeps-string_text_found : (most : ℕ) (k : Known) (i j : PageInput) (name : Option ShortName) (appends is_front : Bool) (found : Found) → Keeps most i j (StringText name appends is_front)
-    → KeepsBy most i (string_text_found k j name appends is_front found)
-Keeps-string_text_found most k i j name appends is_front (GivesUnit unit) keeps = Keeps-string_unit most i j _ name appends is_front unit keeps
-Keeps-string_text_found most k i j name appends is_front (Escape b) keeps = Keeps-string_unit most i j _ name appends is_front (Kept b) keeps
-Keeps-string_text_found most k i j name appends is_front GoesOn keeps = Keeps-no_unit_found most k i j (StringText name appends is_front) GoesOn keeps
-Keeps-string_text_found most k i j name appends is_front (Asks purpose text) keeps = Keeps-no_unit_found most k i j (StringText name appends is_front) (Asks purpose text) keeps
-Keeps-string_text_found most k i j name appends is_front (Holds unit) keeps = Keeps-no_unit_found most k i j (StringText name appends is_front) (Holds unit) keeps
-Keeps-string_text_found most k i j name appends is_front (Motion columns remark) keeps = Keeps-no_unit_found most k i j (StringText name appends is_front) (Motion columns remark) keeps
-Keeps-string_text_found most k i j name appends is_front (Measures width) keeps = Keeps-no_unit_found most k i j (StringText name appends is_front) (Measures width) keeps
-Keeps-string_text_found most k i j name appends is_front (Tells remark) keeps = Keeps-no_unit_found most k i j (StringText name appends is_front) (Tells remark) keeps
-Keeps-string_text_found most k i j name appends is_front (Decides decision freed) keeps = Keeps-no_unit_found most k i j (StringText name appends is_front) (Decides decision freed) keeps
-
 -- a unit of a message's text
-Keeps-message_unit : (most : ℕ) (i j : PageInput) (aborts is_front : Bool) (unit : CopyUnit) → Keeps most i j (Telling aborts is_front)
+pub Keeps-message_unit : (most : ℕ) (i j : PageInput) (aborts is_front : Bool) (unit : CopyUnit) → Keeps most i j (Telling aborts is_front)
     → KeepsBy most i (message_unit j aborts is_front unit)
 Keeps-message_unit most i j aborts is_front (Byte b) keeps =
     Keeps-if most i (b == newline) _ _
@@ -315,19 +279,6 @@ Keeps-message_unit most i j aborts is_front (Byte b) keeps =
     (record { charge = keeps.charge; newlines = keeps.newlines; line = keeps.line; free = keeps.free; few = keeps.few; escapes = keeps.escapes }))
 Keeps-message_unit most i j aborts is_front (Kept b) keeps =
     record { charge = keeps.charge; newlines = keeps.newlines; line = keeps.line; free = keeps.free; few = keeps.few; escapes = keeps.escapes }
-
--- what was found of it
-pub Keeps-message_found : (most : ℕ) (k : Known) (i j : PageInput) (aborts is_front : Bool) (found : Found) → Keeps most i j (Telling aborts is_front)
-    → KeepsBy most i (message_found k j aborts is_front found)
-Keeps-message_found most k i j aborts is_front (GivesUnit unit) keeps = Keeps-message_unit most i j aborts is_front unit keeps
-Keeps-message_found most k i j aborts is_front (Escape b) keeps = Keeps-message_unit most i j aborts is_front (Kept b) keeps
-Keeps-message_found most k i j aborts is_front GoesOn keeps = Keeps-no_unit_found most k i j (Telling aborts is_front) GoesOn keeps
-Keeps-message_found most k i j aborts is_front (Asks purpose text) keeps = Keeps-no_unit_found most k i j (Telling aborts is_front) (Asks purpose text) keeps
-Keeps-message_found most k i j aborts is_front (Holds unit) keeps = Keeps-no_unit_found most k i j (Telling aborts is_front) (Holds unit) keeps
-Keeps-message_found most k i j aborts is_front (Motion columns remark) keeps = Keeps-no_unit_found most k i j (Telling aborts is_front) (Motion columns remark) keeps
-Keeps-message_found most k i j aborts is_front (Measures width) keeps = Keeps-no_unit_found most k i j (Telling aborts is_front) (Measures width) keeps
-Keeps-message_found most k i j aborts is_front (Tells remark) keeps = Keeps-no_unit_found most k i j (Telling aborts is_front) (Tells remark) keeps
-Keeps-message_found most k i j aborts is_front (Decides decision freed) keeps = Keeps-no_unit_found most k i j (Telling aborts is_front) (Decides decision freed) keeps
 
 -- a body that a line calls is in front
 pub Keeps-called : (most : ℕ) (i j : PageInput) (old : LineState) (name : ShortName) → Keeps most i j old
@@ -342,7 +293,7 @@ Keeps-called most i j old name keeps = record {
 }
 
 -- a unit behind the name of a body that a line calls
-Keeps-call_unit : (most : ℕ) (i j : PageInput) (name : ShortName) (unit : CopyUnit) → Keeps most i j (Calling name) → KeepsBy most i (call_unit j name unit)
+pub Keeps-call_unit : (most : ℕ) (i j : PageInput) (name : ShortName) (unit : CopyUnit) → Keeps most i j (Calling name) → KeepsBy most i (call_unit j name unit)
 Keeps-call_unit most i j name (Byte b) keeps =
     Keeps-if most i (b == newline) _ _ (Keeps-called most i j (Calling name) name keeps)
     (Keeps-if most i (b == quote) _ _
@@ -354,16 +305,3 @@ Keeps-call_unit most i j name (Kept b) keeps =
     Keeps-no_more most i (settling j) (Calling name) _ (Calling name)
     (record { charge = keeps.charge; newlines = keeps.newlines; line = keeps.line; free = keeps.free; few = keeps.few; escapes = keeps.escapes })
     (Alike-holding_call (Kept b) (settling j)) (omega arith)
-
--- what was found there
-pub Keeps-call_found : (most : ℕ) (k : Known) (i j : PageInput) (name : ShortName) (found : Found) → Keeps most i j (Calling name)
-    → KeepsBy most i (call_found k j name found)
-Keeps-call_found most k i j name (GivesUnit unit) keeps = Keeps-call_unit most i j name unit keeps
-Keeps-call_found most k i j name (Escape b) keeps = Keeps-call_unit most i j name (Kept b) keeps
-Keeps-call_found most k i j name GoesOn keeps = Keeps-settled most k i j (Calling name) GoesOn keeps
-Keeps-call_found most k i j name (Asks purpose text) keeps = Keeps-settled most k i j (Calling name) (Asks purpose text) keeps
-Keeps-call_found most k i j name (Holds unit) keeps = Keeps-settled most k i j (Calling name) (Holds unit) keeps
-Keeps-call_found most k i j name (Motion columns remark) keeps = Keeps-settled most k i j (Calling name) (Motion columns remark) keeps
-Keeps-call_found most k i j name (Measures width) keeps = Keeps-settled most k i j (Calling name) (Measures width) keeps
-Keeps-call_found most k i j name (Tells remark) keeps = Keeps-settled most k i j (Calling name) (Tells remark) keeps
-Keeps-call_found most k i j name (Decides decision freed) keeps = Keeps-settled most k i j (Calling name) (Decides decision freed) keeps

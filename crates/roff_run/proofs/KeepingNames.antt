@@ -6,10 +6,9 @@ use Rattle.std.proofs.Common.{◌≡◌, ℕ, ◌+◌, ◌*◌, ◌-◌, ◌≤�
 use Rattle.std.specs.Prelude.{◌==◌}
 use Rattle.roff_source.specs.Bytes.{newline}
 use Rattle.roff_escape.specs.OpenEscapes.{byte_read}
-use Rattle.roff_ahead.specs.Input.{beginning_line, choosing}
-use Rattle.roff_ahead.specs.Input.Calls.{last_result, without_last}
+use Rattle.roff_input.specs.Input.{beginning_line, choosing}
+use Rattle.roff_input.specs.Input.Calls.{last_result, without_last}
 use Rattle.roff_escape.specs.declared.open_escape.CopyUnit.{CopyUnit}
-use Rattle.roff_escape.specs.declared.open_escape.CopyUnit.TheVariants.{Kept}
 use Rattle.roff_escape.specs.OpenEscape.{OpenEscape, unit_bytes}
 use Rattle.roff_escape.specs.declared.open_escape.Decision.{Decision}
 use Rattle.roff_escape.specs.declared.open_escape.Decision.TheVariants.{Is}
@@ -36,15 +35,16 @@ use Rattle.roff_run.specs.Reading.DefinedLines.{behind_definition, definition_un
 use Rattle.roff_run.specs.Reading.Definitions.{definition_grown}
 use Rattle.roff_run.specs.Reading.Items.{PageInput, Taking}
 use Rattle.roff_run.specs.Reading.Strings.{string_entered}
-use Rattle.roff_run.specs.Reading.Units.{no_unit_found}
+use Rattle.roff_run.specs.Reading.Units.{no_unit_found, unit_in}
 use Rattle.roff_run.specs.Registers.{Known}
 use Rattle.roff_run.specs.Requests.{called_by, row_of}
 use Rattle.roff_run.specs.TurnsToCome.{begun, endings_of}
 use Rattle.roff_run.proofs.EscapeCounts.{Leaves, freed_endings, endings-byte_read}
 use Rattle.roff_run.proofs.MarkEnds.{ends-line_from, ends_mark-begins_nothing, ends_mark-chooses_nothing}
 use Rattle.roff_run.proofs.KeepingText.{Keeps, KeepsBy, Keeps-if, Stays, Keeps-stays, Stays-skipping_taking, Stays-dropped_taking, unnamed-branch_of, Keeps-with_escapes, Keeps-beginning_found}
-use Rattle.roff_run.proofs.KeepingTitles.{Keeps-behind_part, Keeps-title_found, Keeps-title_front_found}
-use Rattle.roff_run.proofs.KeepingLines.{Alike-same, Keeps-alike, Keeps-no_more, Alike-string_entered, Alike-definition_grown, Keeps-no_unit_found, Keeps-arguments_found, Keeps-string_name_found, Keeps-message_found, Keeps-call_found}
+use Rattle.roff_run.proofs.KeepingTitles.{Keeps-behind_part, Keeps-title_found, Keeps-title_front_unit}
+use Rattle.roff_run.proofs.Collected.{of-unit_or}
+use Rattle.roff_run.proofs.KeepingLines.{Alike-same, Keeps-alike, Keeps-no_more, Alike-string_entered, Alike-definition_grown, Keeps-no_unit_found, Keeps-collected, Keeps-unit_found, Keeps-string_name_unit, Keeps-message_unit, Keeps-call_unit}
 
 -- the first byte of a branch
 pub Keeps-branch_taking : (less most : ℕ) (k : Known) (i j : PageInput) (old : LineState) (so : Bool) (b : ℕ) → Keeps less i j old → less + 2 ≤ most
@@ -137,18 +137,24 @@ module _ (some most : ℕ) (k : Known) (i j : PageInput) (b : ℕ) (keeps : Keep
   -- the first byte behind a request's name
   Keeps-line_taking : (breaks : Bool) (request : Request) (line : LineReading) → KeepsBy most i (line_taking k j breaks request line b)
   Keeps-line_taking breaks request ByArguments =
-      Keeps-arguments_found most k i _ breaks request (byte_read AboveArguments j.escapes b).0 (Keeps-begins AboveArguments (InArguments breaks request) (omega arith))
+      Keeps-collected most k i _ (InArguments breaks request) (byte_read AboveArguments j.escapes b).0 (Keeps-begins AboveArguments (InArguments breaks request) (omega arith))
+      (Keeps-unit_found _ k i _ breaks request)
   Keeps-line_taking breaks request (ByCondition keeping) = Keeps-condition_begun keeping
   Keeps-line_taking breaks request (ByString appends) =
-      Keeps-string_name_found most k i _ appends (byte_read AboveArguments j.escapes b).0 (Keeps-begins AboveArguments (StringName appends) (omega arith))
+      Keeps-collected most k i _ (StringName appends) (byte_read AboveArguments j.escapes b).0 (Keeps-begins AboveArguments (StringName appends) (omega arith))
+      (Keeps-string_name_unit _ i _ _ appends)
   Keeps-line_taking breaks request ByLastLine =
-      Keeps-arguments_found most k i _ breaks request (byte_read AboveArguments j.escapes b).0 (Keeps-begins AboveArguments (InArguments breaks request) (omega arith))
+      Keeps-collected most k i _ (InArguments breaks request) (byte_read AboveArguments j.escapes b).0 (Keeps-begins AboveArguments (InArguments breaks request) (omega arith))
+      (Keeps-unit_found _ k i _ breaks request)
   Keeps-line_taking breaks request (ByMessage aborts) =
-      Keeps-message_found most k i _ aborts true (byte_read AboveCopy j.escapes b).0 (Keeps-begins AboveCopy (Telling aborts true) (omega arith))
+      Keeps-collected most k i _ (Telling aborts true) (byte_read AboveCopy j.escapes b).0 (Keeps-begins AboveCopy (Telling aborts true) (omega arith))
+      (Keeps-message_unit _ i _ aborts true)
   Keeps-line_taking breaks request (ByLines lines) =
-      Keeps-arguments_found most k i _ breaks request (byte_read AboveArguments j.escapes b).0 (Keeps-begins AboveArguments (InArguments breaks request) (omega arith))
+      Keeps-collected most k i _ (InArguments breaks request) (byte_read AboveArguments j.escapes b).0 (Keeps-begins AboveArguments (InArguments breaks request) (omega arith))
+      (Keeps-unit_found _ k i _ breaks request)
   Keeps-line_taking breaks request ByTitle =
-      Keeps-title_front_found most k i _ (byte_read AboveArguments j.escapes b).0 (Keeps-begins AboveArguments TitleFront (omega arith))
+      Keeps-collected most k i _ TitleFront (byte_read AboveArguments j.escapes b).0 (Keeps-begins AboveArguments TitleFront (omega arith))
+      (Keeps-title_front_unit _ k i _)
   Keeps-line_taking breaks request ByElse =
       Keeps-branch_taking (2 * endings_of j.escapes) most k i (without_last j) LineStart (reads_else (last_result j)) b
       (record { charge = keeps.charge; newlines = keeps.newlines; line = keeps.line; free = keeps.free; few = keeps.few; escapes = omega arith }) (omega (arith, few))
@@ -157,7 +163,8 @@ module _ (some most : ℕ) (k : Known) (i j : PageInput) (b : ℕ) (keeps : Keep
   Keeps-called_taking : (breaks : Bool) (called : Called) → KeepsBy most i (called_taking k j breaks called b)
   Keeps-called_taking breaks (ARequest request) = Keeps-line_taking breaks request (row_of request).line
   Keeps-called_taking breaks (ABody name) =
-      Keeps-call_found most k i _ name (byte_read AboveArguments j.escapes b).0 (Keeps-begins AboveArguments (Calling name) (omega arith))
+      Keeps-collected most k i _ (Calling name) (byte_read AboveArguments j.escapes b).0 (Keeps-begins AboveArguments (Calling name) (omega arith))
+      (Keeps-call_unit _ i _ name)
   Keeps-called_taking breaks Unknown =
       Keeps-stays most i j LineStart _ (Keeps-with_escapes _ most i j LineStart LineStart j.escapes keeps (omega (arith, few))) (Stays-dropped_taking j b)
 
@@ -193,18 +200,12 @@ Keeps-definition_line most k i j name appends end matched unit keeps few =
     Keeps-definition_unit most k i j name appends end matched (front_of (end_mark end) matched) unit (line_from (end_mark end) matched unit)
     (λ b last. ends-line_from (end_mark end) matched unit b last) keeps few
 
--- what was found of a definition's text
+-- what was found of it
 pub Keeps-definition_found : (most : ℕ) (k : Known) (i j : PageInput) (name : Option ShortName) (appends : Bool) (end : Option ShortName) (matched : Option ℕ) (found : Found)
     → Keeps most i j (Defining name appends end matched) → 4 ≤ most → KeepsBy most i (definition_found k j name appends end matched found)
-Keeps-definition_found most k i j name appends end matched (GivesUnit unit) keeps few = Keeps-definition_line most k i j name appends end matched unit keeps few
-Keeps-definition_found most k i j name appends end matched (Escape b) keeps few = Keeps-definition_line most k i j name appends end matched (Kept b) keeps few
-Keeps-definition_found most k i j name appends end matched GoesOn keeps few = Keeps-no_unit_found most k i j (Defining name appends end matched) GoesOn keeps
-Keeps-definition_found most k i j name appends end matched (Asks purpose text) keeps few = Keeps-no_unit_found most k i j (Defining name appends end matched) (Asks purpose text) keeps
-Keeps-definition_found most k i j name appends end matched (Holds unit) keeps few = Keeps-no_unit_found most k i j (Defining name appends end matched) (Holds unit) keeps
-Keeps-definition_found most k i j name appends end matched (Motion columns remark) keeps few = Keeps-no_unit_found most k i j (Defining name appends end matched) (Motion columns remark) keeps
-Keeps-definition_found most k i j name appends end matched (Measures width) keeps few = Keeps-no_unit_found most k i j (Defining name appends end matched) (Measures width) keeps
-Keeps-definition_found most k i j name appends end matched (Tells remark) keeps few = Keeps-no_unit_found most k i j (Defining name appends end matched) (Tells remark) keeps
-Keeps-definition_found most k i j name appends end matched (Decides decision freed) keeps few = Keeps-no_unit_found most k i j (Defining name appends end matched) (Decides decision freed) keeps
+Keeps-definition_found most k i j name appends end matched found keeps few =
+    of-unit_or (KeepsBy most i) (definition_line k j name appends end matched) (no_unit_found k j (Defining name appends end matched) found) (unit_in found)
+    (λ unit. Keeps-definition_line most k i j name appends end matched unit keeps few) (Keeps-no_unit_found most k i j (Defining name appends end matched) found keeps)
 
 -- what is read behind a request's name
 Keeps-behind_name : (i : PageInput) (breaks : Bool) (first : ℕ) (request : Request) (line : LineReading) → TwoMore i (Name breaks first) (behind_name i breaks request line)

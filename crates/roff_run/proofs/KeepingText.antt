@@ -8,11 +8,11 @@ use Rattle.roff_lines.specs.declared.glyph.Glyph.TheVariants.{Printed}
 use Rattle.roff_source.specs.Bytes.{tab, newline, blank, apostrophe, dot, backslash, is_silent}
 use Rattle.roff_escape.specs.Characters.{character}
 use Rattle.roff_escape.specs.Escapes.{escape_of}
-use Rattle.roff_ahead.specs.Input.{Ahead, ByteAhead, EndAhead, ReturnAhead, holding_text}
-use Rattle.roff_ahead.specs.Input.Calls.{arguments_live}
-use Rattle.roff_ahead.specs.Input.Few.{AreFewFrom}
-use Rattle.roff_ahead.proofs.FewEvents.{few-more, few-text}
-use Rattle.roff_ahead.specs.Input.Names.{body_named}
+use Rattle.roff_input.specs.Input.{Ahead, ByteAhead, EndAhead, ReturnAhead, holding_text}
+use Rattle.roff_input.specs.Input.Calls.{arguments_live}
+use Rattle.roff_input.specs.Input.Few.{AreFewFrom}
+use Rattle.roff_input.proofs.FewEvents.{few-more, few-text}
+use Rattle.roff_input.specs.Input.Names.{body_named}
 use Rattle.roff_escape.specs.declared.escapes.Escape.{Escape as Kind}
 use Rattle.roff_escape.specs.declared.escapes.Escape.TheVariants.{Prints, Blank, NoWidth, Nothing as GivesNothing, Brace, LeftOut as IsLeftOut, Comment as BeginsComment, Size as BeginsSize, Name as BeginsName, Text as BeginsText, Width as BeginsWidth, Tab as GivesTab, Interrupts}
 use Rattle.roff_escape.specs.declared.escapes.NameUse.{NameUse}

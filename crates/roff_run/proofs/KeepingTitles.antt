@@ -13,18 +13,18 @@ use Rattle.roff_escape.specs.declared.open_escape.CopyUnit.{CopyUnit}
 use Rattle.roff_escape.specs.declared.open_escape.CopyUnit.TheVariants.{Byte, Kept}
 use Rattle.roff_escape.specs.declared.open_escape.Found.{Found}
 use Rattle.roff_escape.specs.declared.open_escape.Found.TheVariants.{GoesOn, Unit as GivesUnit, Holds, Escape, Asks, Motion, Measures, Tells, Decides}
-use Rattle.roff_ahead.specs.Input.Calls.{arguments_given}
+use Rattle.roff_input.specs.Input.Calls.{arguments_given}
 use Rattle.roff_run.specs.declared.line_state.LineState.{LineState}
 use Rattle.roff_run.specs.declared.line_state.LineState.TheVariants.{Title as InTitle, TitleFront}
 use Rattle.roff_run.specs.declared.request.Request.TheVariants.{Title as TitleRequest}
 use Rattle.roff_run.specs.Reading.Items.{PageInput}
-use Rattle.roff_run.specs.Reading.Titles.{behind_part, character_put, escape_in_title, title_byte, title_character, title_ended, title_found, title_front_found, title_front_unit, title_name}
+use Rattle.roff_run.specs.Reading.Titles.{behind_part, character_put, escape_in_title, title_byte, title_character, title_ended, title_found, title_front_unit, title_name}
 use Rattle.roff_run.specs.Registers.{Known}
 use Rattle.roff_run.specs.Requests.{request_effect}
 use Rattle.roff_run.specs.TitleTexts.{TitlePart, Left, Centre, Right}
 use Rattle.roff_run.specs.TurnsToCome.{endings_of}
 use Rattle.roff_run.proofs.KeepingText.{Keeps, KeepsBy, Keeps-asking, Keeps-holding_text, Keeps-if, Keeps-measuring, Keeps-unnamed}
-use Rattle.roff_run.proofs.KeepingLines.{Keeps-ended_by, Keeps-no_unit_found}
+use Rattle.roff_run.proofs.KeepingLines.{Keeps-ended_by}
 
 -- the end of its line
 pub Keeps-title_ended : (most : ℕ) (k : Known) (i j : PageInput) (old : LineState) → Keeps most i j old → KeepsBy most i (title_ended k j)
@@ -90,25 +90,12 @@ Keeps-title_found most k i j delimiter (Tells remark) keeps = keeps
 Keeps-title_found most k i j delimiter (Decides decision freed) keeps = keeps
 
 -- a unit in front of the parts
-Keeps-title_front_unit : (most : ℕ) (k : Known) (i j : PageInput) (unit : CopyUnit) → Keeps most i j TitleFront
+pub Keeps-title_front_unit : (most : ℕ) (k : Known) (i j : PageInput) (unit : CopyUnit) → Keeps most i j TitleFront
     → KeepsBy most i (title_front_unit k j unit)
 Keeps-title_front_unit most k i j (Byte b) keeps =
     Keeps-if most i (b == newline) _ _ (Keeps-title_ended most k i j TitleFront keeps)
     (Keeps-if most i (b == blank) _ _ keeps (Keeps-unnamed most i j TitleFront (InTitle b) keeps refl))
 Keeps-title_front_unit most k i j (Kept b) keeps = Keeps-unnamed most i j TitleFront _ keeps refl
-
--- what was found there
-pub Keeps-title_front_found : (most : ℕ) (k : Known) (i j : PageInput) (found : Found) → Keeps most i j TitleFront
-    → KeepsBy most i (title_front_found k j found)
-Keeps-title_front_found most k i j (GivesUnit unit) keeps = Keeps-title_front_unit most k i j unit keeps
-Keeps-title_front_found most k i j (Escape b) keeps = Keeps-title_front_unit most k i j (Kept b) keeps
-Keeps-title_front_found most k i j GoesOn keeps = Keeps-no_unit_found most k i j TitleFront GoesOn keeps
-Keeps-title_front_found most k i j (Asks purpose name) keeps = Keeps-no_unit_found most k i j TitleFront (Asks purpose name) keeps
-Keeps-title_front_found most k i j (Holds unit) keeps = Keeps-no_unit_found most k i j TitleFront (Holds unit) keeps
-Keeps-title_front_found most k i j (Motion columns remark) keeps = Keeps-no_unit_found most k i j TitleFront (Motion columns remark) keeps
-Keeps-title_front_found most k i j (Measures width) keeps = Keeps-no_unit_found most k i j TitleFront (Measures width) keeps
-Keeps-title_front_found most k i j (Tells remark) keeps = Keeps-no_unit_found most k i j TitleFront (Tells remark) keeps
-Keeps-title_front_found most k i j (Decides decision freed) keeps = Keeps-no_unit_found most k i j TitleFront (Decides decision freed) keeps
 
 -- a delimiter: arguments may follow
 pub Keeps-behind_part : (most : ℕ) (i j : PageInput) (delimiter : ℕ) (part : TitlePart) → Keeps most i j (InTitle delimiter)

@@ -2,6 +2,7 @@ pub mod Leads
 pub mod Readings
 pub mod Behind
 pub mod MarkEnds
+pub mod Collected
 pub mod KeepingText
 pub mod KeepingLines
 pub mod KeepingTitles

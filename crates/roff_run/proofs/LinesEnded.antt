@@ -1,7 +1,7 @@
 -- What the end of a line with the input leaves to come: where a line begins nothing changes, and else fewer turns are to come.
 use Rattle.std.proofs.Common.{◌≡◌, ℕ, ◌+◌, ◌-◌, ◌≤◌, Bool, false, List, [], Some, None, refl, sym, subst, arith}
 use Rattle.roff_source.specs.Bytes.{newline}
-use Rattle.roff_ahead.specs.Input.Calls.{arguments_given, last_result, without_last}
+use Rattle.roff_input.specs.Input.Calls.{arguments_given, last_result, without_last}
 use Rattle.roff_escape.specs.OpenEscape.{OpenEscape}
 use Rattle.roff_escape.specs.declared.open_escape.Decision.TheVariants.{Is}
 use Rattle.roff_escape.specs.declared.open_escape.Found.TheVariants.{Decides}

@@ -7,7 +7,7 @@ use Rattle.roff_arguments.specs.Arguments.{Arguments, held}
 use Rattle.roff_source.specs.Bytes.{newline}
 use Rattle.roff_escape.specs.OpenEscape.{OpenEscape, texts_held}
 use Rattle.roff_escape.specs.Waiting.{is_ended_by}
-use Rattle.roff_ahead.specs.Input.{Ahead, ByteAhead, bytes_ahead, ends_ahead, lines_taken}
+use Rattle.roff_input.specs.Input.{Ahead, ByteAhead, bytes_ahead, ends_ahead, lines_taken}
 use Rattle.roff_arguments.specs.Arguments.{live_bytes}
 use Rattle.roff_source.specs.Tape.{Tape}
 use Rattle.roff_store.specs.Named.{Named}

@@ -1,7 +1,7 @@
 -- Events that are put back count as nothing else, and are few.
 use Rattle.std.proofs.Common.{◌≡◌, ◌≤◌, true, List, [], ◌∷◌, ◌++◌, length, Some, refl, arith}
 use Rattle.std.specs.Prelude.{map}
-use Rattle.roff_ahead.specs.Input.{Ahead, DoAhead, bytes_ahead, ends_ahead}
+use Rattle.roff_input.specs.Input.{Ahead, DoAhead, bytes_ahead, ends_ahead}
 use Rattle.roff_lines.specs.declared.event.Event.TheVariants.{Print, Tab, WordEnd, Gap, LineEnd, Count, Break, Interrupt as Interrupted, Resume, Set}
 use Rattle.roff_num.specs.declared.short_name.ShortName.{ShortName}
 use Rattle.roff_run.specs.PageEvents.{PageEvent, PageHistory, Title}

@@ -10,7 +10,8 @@ use Rattle.roff_escape.specs.OpenEscape.{OpenEscape, Backslash}
 use Rattle.roff_escape.specs.OpenEscapes.{byte_read}
 use Rattle.roff_escape.specs.declared.open_escape.CopyUnit.TheVariants.{Byte}
 use Rattle.roff_escape.specs.declared.open_escape.Found.TheVariants.{GoesOn, Unit as GivesUnit}
-use Rattle.roff_run.specs.Reading.{interrupted, undropped_taking}
+use Rattle.roff_run.specs.Reading.{undropped_taking}
+use Rattle.roff_run.specs.Reading.Units.{interrupted}
 use Rattle.roff_run.specs.Reading.Items.{PageInput, Taking, going_on, meaning_events}
 use Rattle.roff_run.specs.Reading.TextLines.{blank_taking, glyph_taking, on_line, other_taking, tab_taking, text_line_end, text_taking}
 use Rattle.roff_run.specs.Reading.Found.{read_in}

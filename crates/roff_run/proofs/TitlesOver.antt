@@ -13,9 +13,9 @@ use Rattle.roff_escape.specs.declared.open_escape.CopyUnit.{CopyUnit}
 use Rattle.roff_escape.specs.declared.open_escape.CopyUnit.TheVariants.{Byte, Kept}
 use Rattle.roff_escape.specs.declared.open_escape.Found.{Found}
 use Rattle.roff_escape.specs.declared.open_escape.Found.TheVariants.{GoesOn, Unit as GivesUnit, Holds, Escape, Asks, Motion, Measures, Tells, Decides}
-use Rattle.roff_run.specs.declared.line_state.LineState.TheVariants.{Title as InTitle, TitleFront}
+use Rattle.roff_run.specs.declared.line_state.LineState.TheVariants.{Title as InTitle}
 use Rattle.roff_run.specs.Reading.Items.{PageInput}
-use Rattle.roff_run.specs.Reading.Titles.{behind_part, character_put, escape_in_title, title_character, title_ended, title_found, title_front_found, title_front_unit, title_name}
+use Rattle.roff_run.specs.Reading.Titles.{behind_part, character_put, escape_in_title, title_character, title_ended, title_found, title_front_unit, title_name}
 use Rattle.roff_run.specs.Registers.{Known}
 use Rattle.roff_run.specs.TitleTexts.{TitlePart, Left, Centre, Right}
 use Rattle.roff_run.proofs.NoConditions.{Over, Over-if, Over-asking}
@@ -71,21 +71,10 @@ Over-title_found k i delimiter (Measures width) = tt
 Over-title_found k i delimiter (Tells remark) = tt
 Over-title_found k i delimiter (Decides decision freed) = tt
 
--- what was found in front of the parts
-Over-title_front_unit : (k : Known) (i : PageInput) (unit : CopyUnit) → Over (title_front_unit k i unit)
+-- a unit in front of the parts
+pub Over-title_front_unit : (k : Known) (i : PageInput) (unit : CopyUnit) → Over (title_front_unit k i unit)
 Over-title_front_unit k i (Byte b) = Over-if (b == newline) _ _ (Over-title_ended k i) (Over-if (b == blank) _ _ tt tt)
 Over-title_front_unit k i (Kept b) = tt
-
-pub Over-title_front_found : (k : Known) (i : PageInput) (found : Found) → Over (title_front_found k i found)
-Over-title_front_found k i (GivesUnit unit) = Over-title_front_unit k i unit
-Over-title_front_found k i (Escape b) = Over-title_front_unit k i (Kept b)
-Over-title_front_found k i GoesOn = tt
-Over-title_front_found k i (Holds unit) = tt
-Over-title_front_found k i (Asks purpose name) = Over-asking k i TitleFront purpose name tt
-Over-title_front_found k i (Motion columns remark) = tt
-Over-title_front_found k i (Measures width) = tt
-Over-title_front_found k i (Tells remark) = tt
-Over-title_front_found k i (Decides decision freed) = tt
 
 -- a delimiter
 pub Over-behind_part : (i : PageInput) (delimiter : ℕ) (part : TitlePart) → Over (behind_part i delimiter part)

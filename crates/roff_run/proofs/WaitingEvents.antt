@@ -14,23 +14,24 @@ use Rattle.roff_escape.specs.declared.open_escape.Decision.TheVariants.{Is}
 use Rattle.roff_escape.specs.declared.open_escape.Found.{Found}
 use Rattle.roff_escape.specs.declared.open_escape.Found.TheVariants.{GoesOn, Unit as GivesUnit, Holds, Escape, Asks, Motion, Measures, Tells, Decides}
 use Rattle.roff_escape.specs.declared.open_escape.Surroundings.TheVariants.{Arguments as AboveArguments, Copy as AboveCopy}
-use Rattle.roff_ahead.specs.Input.{beginning_line, choosing}
-use Rattle.roff_ahead.specs.Input.Calls.{arguments_given, last_result, without_last}
+use Rattle.roff_input.specs.Input.{beginning_line, choosing}
+use Rattle.roff_input.specs.Input.Calls.{arguments_given, last_result, without_last}
 use Rattle.roff_run.specs.Definitions.{end_mark, front_of, line_from}
 use Rattle.roff_run.specs.Reading.{undropped_taking, taking, escape_ended, title_read}
-use Rattle.roff_run.specs.Reading.Arguments.{arguments_ended, arguments_found, unit_found}
+use Rattle.roff_run.specs.Reading.Arguments.{arguments_ended, unit_found}
 use Rattle.roff_run.specs.Reading.Beginnings.{at_start}
 use Rattle.roff_run.specs.Reading.Branches.{branch_taking, condition_begun, condition_found, decided, is_so, reads_else, skipping_taking, with_result_if}
-use Rattle.roff_run.specs.Reading.Calls.{call_found, call_unit}
+use Rattle.roff_run.specs.Reading.Collecting.{collected, unit_taking}
+use Rattle.roff_run.specs.Reading.Calls.{call_unit}
 use Rattle.roff_run.specs.Reading.ControlLines.{called_taking, ends_name, line_taking, name_ended_taking, behind_called, behind_name}
-use Rattle.roff_run.specs.Reading.DefinedLines.{behind_definition, definition_found, definition_unit}
+use Rattle.roff_run.specs.Reading.DefinedLines.{behind_definition, definition_found, definition_line, definition_unit}
 use Rattle.roff_run.specs.Reading.Definitions.{definition_named, lines_begun}
 use Rattle.roff_run.specs.Reading.Ends.{end_taking, interrupted_end}
 use Rattle.roff_run.specs.Reading.Found.{found_in, place_in}
 use Rattle.roff_run.specs.Reading.Items.{PageInput}
-use Rattle.roff_run.specs.Reading.Messages.{message_found, message_unit}
-use Rattle.roff_run.specs.Reading.Strings.{name_read, string_line_ended, string_name_behind, string_name_found, string_name_or_text, string_name_unit, string_text_found, string_unit, string_begun, string_entered}
-use Rattle.roff_run.specs.Reading.Units.{holding, settling}
+use Rattle.roff_run.specs.Reading.Messages.{message_unit}
+use Rattle.roff_run.specs.Reading.Strings.{name_read, string_line_ended, string_name_behind, string_name_or_text, string_name_unit, string_unit, string_begun, string_entered}
+use Rattle.roff_run.specs.Reading.Units.{holding, interrupted, no_unit_found, settling, unit_in}
 use Rattle.roff_run.specs.Registers.{Known}
 use Rattle.roff_run.specs.Requests.{called_by, row_of}
 use Rattle.roff_run.proofs.WaitingFew.{FewWait, few-waiting}
@@ -47,9 +48,15 @@ use Rattle.roff_run.specs.declared.request.LineReading.TheVariants.{ByArguments,
 use Rattle.roff_run.specs.declared.request.LinesFor.{LinesFor}
 use Rattle.roff_run.specs.declared.request.LinesFor.TheVariants.{Macro, Nobody}
 use Rattle.roff_run.specs.declared.request.Request.{Request}
-use Rattle.roff_run.proofs.WaitingTitles.{Waits-behind_part, Waits-title_ended, Waits-title_found, Waits-title_front_found}
+use Rattle.roff_run.proofs.WaitingTitles.{Waits-behind_part, Waits-title_ended, Waits-title_found, Waits-title_front_unit}
+use Rattle.roff_run.proofs.Collected.{of-collected, of-unit_or}
 use Rattle.roff_run.proofs.WaitingText.{Waits, Waits-if, waits-line_end, Waits-text_found, Waits-beginning_found, Waits-no_unit_found}
 use Rattle.roff_run.proofs.WaitingRequests.{waits-request_effect}
+
+-- what was found where a line collects units
+Waits-collected : (k : Known) (i : PageInput) (reading : LineState) (found : Found) → ((unit : CopyUnit) → Waits (unit_taking k i reading unit))
+    → Waits (collected k i reading found)
+Waits-collected k i reading found waits = of-collected Waits k i reading found waits (Waits-no_unit_found k (interrupted reading i) reading found)
 
 -- the end of a request's line
 Waits-definition_named : (i : PageInput) (appends : Bool) (name : Option (Option ShortName)) (end : Option ShortName) → Waits (definition_named i appends name end)
@@ -75,17 +82,6 @@ Waits-unit_found : (k : Known) (i : PageInput) (breaks : Bool) (request : Reques
 Waits-unit_found k i breaks request (Byte b) =
     Waits-if (b == newline) _ _ (Waits-arguments_ended k i breaks request (row_of request).line) tt
 Waits-unit_found k i breaks request (Kept b) = tt
-
-Waits-arguments_found : (k : Known) (i : PageInput) (breaks : Bool) (request : Request) (found : Found) → Waits (arguments_found k i breaks request found)
-Waits-arguments_found k i breaks request (GivesUnit unit) = Waits-unit_found k i breaks request unit
-Waits-arguments_found k i breaks request (Escape b) = Waits-unit_found k i breaks request (Kept b)
-Waits-arguments_found k i breaks request GoesOn = Waits-no_unit_found k (settling i) (InArguments breaks request) GoesOn
-Waits-arguments_found k i breaks request (Holds unit) = Waits-no_unit_found k (settling i) (InArguments breaks request) (Holds unit)
-Waits-arguments_found k i breaks request (Asks purpose name) = Waits-no_unit_found k (settling i) (InArguments breaks request) (Asks purpose name)
-Waits-arguments_found k i breaks request (Motion columns remark) = Waits-no_unit_found k (settling i) (InArguments breaks request) (Motion columns remark)
-Waits-arguments_found k i breaks request (Measures width) = Waits-no_unit_found k (settling i) (InArguments breaks request) (Measures width)
-Waits-arguments_found k i breaks request (Tells remark) = Waits-no_unit_found k (settling i) (InArguments breaks request) (Tells remark)
-Waits-arguments_found k i breaks request (Decides decision freed) = Waits-no_unit_found k (settling i) (InArguments breaks request) (Decides decision freed)
 
 -- a branch
 Waits-skipping_taking : (i : PageInput) (opened closed : ℕ) (behind : Bool) (b : ℕ) → Waits (skipping_taking i opened closed behind b)
@@ -143,82 +139,44 @@ Waits-string_name_unit i appends (Byte b) =
     (Waits-string_name_or_text (settling i) appends (Byte b) (name_read (settling i))))
 Waits-string_name_unit i appends (Kept b) = Waits-string_name_or_text (settling i) appends (Kept b) (name_read (settling i))
 
-Waits-string_name_found : (k : Known) (i : PageInput) (appends : Bool) (found : Found) → Waits (string_name_found k i appends found)
-Waits-string_name_found k i appends (GivesUnit unit) = Waits-string_name_unit i appends unit
-Waits-string_name_found k i appends (Escape b) = Waits-string_name_unit i appends (Kept b)
-Waits-string_name_found k i appends GoesOn = Waits-no_unit_found k (settling i) (StringName appends) GoesOn
-Waits-string_name_found k i appends (Holds unit) = Waits-no_unit_found k (settling i) (StringName appends) (Holds unit)
-Waits-string_name_found k i appends (Asks purpose name) = Waits-no_unit_found k (settling i) (StringName appends) (Asks purpose name)
-Waits-string_name_found k i appends (Motion columns remark) = Waits-no_unit_found k (settling i) (StringName appends) (Motion columns remark)
-Waits-string_name_found k i appends (Measures width) = Waits-no_unit_found k (settling i) (StringName appends) (Measures width)
-Waits-string_name_found k i appends (Tells remark) = Waits-no_unit_found k (settling i) (StringName appends) (Tells remark)
-Waits-string_name_found k i appends (Decides decision freed) = Waits-no_unit_found k (settling i) (StringName appends) (Decides decision freed)
-
-Waits-string_text_found : (k : Known) (i : PageInput) (name : Option ShortName) (appends is_front : Bool) (found : Found)
-    → Waits (string_text_found k i name appends is_front found)
-Waits-string_text_found k i name appends is_front (GivesUnit unit) = Waits-string_unit i name appends is_front unit
-Waits-string_text_found k i name appends is_front (Escape b) = Waits-string_unit i name appends is_front (Kept b)
-Waits-string_text_found k i name appends is_front GoesOn = Waits-no_unit_found k i (StringText name appends is_front) GoesOn
-Waits-string_text_found k i name appends is_front (Holds unit) = Waits-no_unit_found k i (StringText name appends is_front) (Holds unit)
-Waits-string_text_found k i name appends is_front (Asks purpose asked) = Waits-no_unit_found k i (StringText name appends is_front) (Asks purpose asked)
-Waits-string_text_found k i name appends is_front (Motion columns remark) = Waits-no_unit_found k i (StringText name appends is_front) (Motion columns remark)
-Waits-string_text_found k i name appends is_front (Measures width) = Waits-no_unit_found k i (StringText name appends is_front) (Measures width)
-Waits-string_text_found k i name appends is_front (Tells remark) = Waits-no_unit_found k i (StringText name appends is_front) (Tells remark)
-Waits-string_text_found k i name appends is_front (Decides decision freed) = Waits-no_unit_found k i (StringText name appends is_front) (Decides decision freed)
-
 -- a message
 Waits-message_unit : (i : PageInput) (aborts is_front : Bool) (unit : CopyUnit) → Waits (message_unit i aborts is_front unit)
 Waits-message_unit i aborts is_front (Byte b) = Waits-if (b == newline) _ _ tt (Waits-if (is_front && b == blank) _ _ tt tt)
 Waits-message_unit i aborts is_front (Kept b) = tt
-
-Waits-message_found : (k : Known) (i : PageInput) (aborts is_front : Bool) (found : Found) → Waits (message_found k i aborts is_front found)
-Waits-message_found k i aborts is_front (GivesUnit unit) = Waits-message_unit i aborts is_front unit
-Waits-message_found k i aborts is_front (Escape b) = Waits-message_unit i aborts is_front (Kept b)
-Waits-message_found k i aborts is_front GoesOn = Waits-no_unit_found k i (Telling aborts is_front) GoesOn
-Waits-message_found k i aborts is_front (Holds unit) = Waits-no_unit_found k i (Telling aborts is_front) (Holds unit)
-Waits-message_found k i aborts is_front (Asks purpose name) = Waits-no_unit_found k i (Telling aborts is_front) (Asks purpose name)
-Waits-message_found k i aborts is_front (Motion columns remark) = Waits-no_unit_found k i (Telling aborts is_front) (Motion columns remark)
-Waits-message_found k i aborts is_front (Measures width) = Waits-no_unit_found k i (Telling aborts is_front) (Measures width)
-Waits-message_found k i aborts is_front (Tells remark) = Waits-no_unit_found k i (Telling aborts is_front) (Tells remark)
-Waits-message_found k i aborts is_front (Decides decision freed) = Waits-no_unit_found k i (Telling aborts is_front) (Decides decision freed)
 
 -- a call
 Waits-call_unit : (i : PageInput) (name : ShortName) (unit : CopyUnit) → Waits (call_unit i name unit)
 Waits-call_unit i name (Byte b) = Waits-if (b == newline) _ _ tt (Waits-if (b == quote) _ _ tt tt)
 Waits-call_unit i name (Kept b) = tt
 
-Waits-call_found : (k : Known) (i : PageInput) (name : ShortName) (found : Found) → Waits (call_found k i name found)
-Waits-call_found k i name (GivesUnit unit) = Waits-call_unit i name unit
-Waits-call_found k i name (Escape b) = Waits-call_unit i name (Kept b)
-Waits-call_found k i name GoesOn = Waits-no_unit_found k (settling i) (Calling name) GoesOn
-Waits-call_found k i name (Holds unit) = Waits-no_unit_found k (settling i) (Calling name) (Holds unit)
-Waits-call_found k i name (Asks purpose asked) = Waits-no_unit_found k (settling i) (Calling name) (Asks purpose asked)
-Waits-call_found k i name (Motion columns remark) = Waits-no_unit_found k (settling i) (Calling name) (Motion columns remark)
-Waits-call_found k i name (Measures width) = Waits-no_unit_found k (settling i) (Calling name) (Measures width)
-Waits-call_found k i name (Tells remark) = Waits-no_unit_found k (settling i) (Calling name) (Tells remark)
-Waits-call_found k i name (Decides decision freed) = Waits-no_unit_found k (settling i) (Calling name) (Decides decision freed)
-
 -- a byte behind a name
 Waits-line_taking : (k : Known) (i : PageInput) (breaks : Bool) (request : Request) (line : LineReading) (b : ℕ) → Waits (line_taking k i breaks request line b)
 Waits-line_taking k i breaks request ByArguments b =
-    let read = byte_read AboveArguments i.escapes b in Waits-arguments_found k (record i { escapes = read.1 }) breaks request read.0
+    let read = byte_read AboveArguments i.escapes b in let j : PageInput = record i { escapes = read.1 } in
+    Waits-collected k j (InArguments breaks request) read.0 (Waits-unit_found k j breaks request)
 Waits-line_taking k i breaks request (ByCondition keeps) b = Waits-condition_begun k i keeps b
 Waits-line_taking k i breaks request (ByString appends) b =
-    let read = byte_read AboveArguments i.escapes b in Waits-string_name_found k (record i { escapes = read.1 }) appends read.0
+    let read = byte_read AboveArguments i.escapes b in let j : PageInput = record i { escapes = read.1 } in
+    Waits-collected k j (StringName appends) read.0 (Waits-string_name_unit j appends)
 Waits-line_taking k i breaks request ByLastLine b =
-    let read = byte_read AboveArguments i.escapes b in Waits-arguments_found k (record i { escapes = read.1 }) breaks request read.0
+    let read = byte_read AboveArguments i.escapes b in let j : PageInput = record i { escapes = read.1 } in
+    Waits-collected k j (InArguments breaks request) read.0 (Waits-unit_found k j breaks request)
 Waits-line_taking k i breaks request (ByMessage aborts) b =
-    let read = byte_read AboveCopy i.escapes b in Waits-message_found k (record i { escapes = read.1 }) aborts true read.0
+    let read = byte_read AboveCopy i.escapes b in let j : PageInput = record i { escapes = read.1 } in
+    Waits-collected k j (Telling aborts true) read.0 (Waits-message_unit j aborts true)
 Waits-line_taking k i breaks request (ByLines lines) b =
-    let read = byte_read AboveArguments i.escapes b in Waits-arguments_found k (record i { escapes = read.1 }) breaks request read.0
+    let read = byte_read AboveArguments i.escapes b in let j : PageInput = record i { escapes = read.1 } in
+    Waits-collected k j (InArguments breaks request) read.0 (Waits-unit_found k j breaks request)
 Waits-line_taking k i breaks request ByTitle b =
-    let read = byte_read AboveArguments i.escapes b in Waits-title_front_found k (record i { escapes = read.1 }) read.0
+    let read = byte_read AboveArguments i.escapes b in let j : PageInput = record i { escapes = read.1 } in
+    Waits-collected k j TitleFront read.0 (Waits-title_front_unit k j)
 Waits-line_taking k i breaks request ByElse b = Waits-branch_taking k (without_last i) (reads_else (last_result i)) b
 
 Waits-called_taking : (k : Known) (i : PageInput) (breaks : Bool) (called : Called) (b : ℕ) → Waits (called_taking k i breaks called b)
 Waits-called_taking k i breaks (ARequest request) b = Waits-line_taking k i breaks request (row_of request).line b
 Waits-called_taking k i breaks (ABody name) b =
-    let read = byte_read AboveArguments i.escapes b in Waits-call_found k (record i { escapes = read.1 }) name read.0
+    let read = byte_read AboveArguments i.escapes b in let j : PageInput = record i { escapes = read.1 } in
+    Waits-collected k j (Calling name) read.0 (Waits-call_unit j name)
 Waits-called_taking k i breaks Unknown b = tt
 
 Waits-name_ended_taking : (k : Known) (i : PageInput) (breaks : Bool) (name : ShortName) (b : ℕ) → Waits (name_ended_taking k i breaks name b)
@@ -253,17 +211,10 @@ Waits-definition_unit k i name appends end front unit IsText = tt
 
 Waits-definition_found : (k : Known) (i : PageInput) (name : Option ShortName) (appends : Bool) (end : Option ShortName) (matched : Option ℕ) (found : Found)
     → Waits (definition_found k i name appends end matched found)
-Waits-definition_found k i name appends end matched (GivesUnit unit) =
-    Waits-definition_unit k i name appends end (front_of (end_mark end) matched) unit (line_from (end_mark end) matched unit)
-Waits-definition_found k i name appends end matched (Escape b) =
-    Waits-definition_unit k i name appends end (front_of (end_mark end) matched) (Kept b) (line_from (end_mark end) matched (Kept b))
-Waits-definition_found k i name appends end matched GoesOn = Waits-no_unit_found k i (Defining name appends end matched) GoesOn
-Waits-definition_found k i name appends end matched (Holds unit) = Waits-no_unit_found k i (Defining name appends end matched) (Holds unit)
-Waits-definition_found k i name appends end matched (Asks purpose asked) = Waits-no_unit_found k i (Defining name appends end matched) (Asks purpose asked)
-Waits-definition_found k i name appends end matched (Motion columns remark) = Waits-no_unit_found k i (Defining name appends end matched) (Motion columns remark)
-Waits-definition_found k i name appends end matched (Measures width) = Waits-no_unit_found k i (Defining name appends end matched) (Measures width)
-Waits-definition_found k i name appends end matched (Tells remark) = Waits-no_unit_found k i (Defining name appends end matched) (Tells remark)
-Waits-definition_found k i name appends end matched (Decides decision freed) = Waits-no_unit_found k i (Defining name appends end matched) (Decides decision freed)
+Waits-definition_found k i name appends end matched found =
+    of-unit_or Waits (definition_line k i name appends end matched) (no_unit_found k i (Defining name appends end matched) found) (unit_in found)
+    (λ unit. Waits-definition_unit k i name appends end (front_of (end_mark end) matched) unit (line_from (end_mark end) matched unit))
+    (Waits-no_unit_found k i (Defining name appends end matched) found)
 
 -- what was found where this is read
 Waits-found_in : (k : Known) (i : PageInput) (reading : LineState) (found : Found) → Waits (found_in k i reading found)
@@ -271,12 +222,12 @@ Waits-found_in k i LineStart found = Waits-beginning_found k i LineStart found
 Waits-found_in k i Branch found = Waits-beginning_found k i Branch found
 Waits-found_in k i Braced found = Waits-beginning_found k i Braced found
 Waits-found_in k i (InText line) found = Waits-text_found k i line found
-Waits-found_in k i (InArguments breaks request) found = Waits-arguments_found k i breaks request found
+Waits-found_in k i (InArguments breaks request) found = Waits-collected k i (InArguments breaks request) found (Waits-unit_found k i breaks request)
 Waits-found_in k i (Deciding keeps) found = Waits-condition_found k i keeps found
-Waits-found_in k i (StringName appends) found = Waits-string_name_found k i appends found
-Waits-found_in k i (StringText name appends is_front) found = Waits-string_text_found k i name appends is_front found
-Waits-found_in k i (Telling aborts is_front) found = Waits-message_found k i aborts is_front found
-Waits-found_in k i (Calling name) found = Waits-call_found k i name found
+Waits-found_in k i (StringName appends) found = Waits-collected k i (StringName appends) found (Waits-string_name_unit i appends)
+Waits-found_in k i (StringText name appends is_front) found = Waits-collected k i (StringText name appends is_front) found (Waits-string_unit i name appends is_front)
+Waits-found_in k i (Telling aborts is_front) found = Waits-collected k i (Telling aborts is_front) found (Waits-message_unit i aborts is_front)
+Waits-found_in k i (Calling name) found = Waits-collected k i (Calling name) found (Waits-call_unit i name)
 Waits-found_in k i (Defining name appends end matched) found = Waits-definition_found k i name appends end matched found
 Waits-found_in k i (Control breaks) found = tt
 Waits-found_in k i (Name breaks first) found = tt
@@ -284,7 +235,7 @@ Waits-found_in k i (Skipping opened closed behind) found = tt
 Waits-found_in k i Dropped found = tt
 Waits-found_in k i (Told aborts) found = tt
 Waits-found_in k i Exiting found = tt
-Waits-found_in k i TitleFront found = Waits-title_front_found k i found
+Waits-found_in k i TitleFront found = Waits-collected k i TitleFront found (Waits-title_front_unit k i)
 Waits-found_in k i (InTitle delimiter) found = Waits-title_found k i delimiter found
 
 -- a byte that isn't dropped

@@ -13,15 +13,15 @@ use Rattle.roff_escape.specs.declared.open_escape.CopyUnit.{CopyUnit}
 use Rattle.roff_escape.specs.declared.open_escape.CopyUnit.TheVariants.{Byte, Kept}
 use Rattle.roff_escape.specs.declared.open_escape.Found.{Found}
 use Rattle.roff_escape.specs.declared.open_escape.Found.TheVariants.{GoesOn, Unit as GivesUnit, Holds, Escape, Asks, Motion, Measures, Tells, Decides}
-use Rattle.roff_ahead.specs.Input.Calls.{arguments_given}
-use Rattle.roff_run.specs.declared.line_state.LineState.TheVariants.{Title as InTitle, TitleFront}
+use Rattle.roff_input.specs.Input.Calls.{arguments_given}
+use Rattle.roff_run.specs.declared.line_state.LineState.TheVariants.{Title as InTitle}
 use Rattle.roff_run.specs.declared.request.Request.TheVariants.{Title as TitleRequest}
 use Rattle.roff_run.specs.Reading.Items.{PageInput}
-use Rattle.roff_run.specs.Reading.Titles.{behind_part, character_put, escape_in_title, title_character, title_ended, title_found, title_front_found, title_front_unit, title_name}
+use Rattle.roff_run.specs.Reading.Titles.{behind_part, character_put, escape_in_title, title_character, title_ended, title_found, title_front_unit, title_name}
 use Rattle.roff_run.specs.Registers.{Known}
 use Rattle.roff_run.specs.TitleTexts.{TitlePart, Left, Centre, Right}
 use Rattle.roff_run.proofs.WaitingRequests.{waits-request_effect}
-use Rattle.roff_run.proofs.WaitingText.{Waits, Waits-if, Waits-asking, Waits-no_unit_found}
+use Rattle.roff_run.proofs.WaitingText.{Waits, Waits-if, Waits-asking}
 
 -- the end of its line
 pub Waits-title_ended : (k : Known) (i : PageInput) → Waits (title_ended k i)
@@ -74,21 +74,10 @@ Waits-title_found k i delimiter (Measures width) = tt
 Waits-title_found k i delimiter (Tells remark) = tt
 Waits-title_found k i delimiter (Decides decision freed) = tt
 
--- what was found in front of the parts
-Waits-title_front_unit : (k : Known) (i : PageInput) (unit : CopyUnit) → Waits (title_front_unit k i unit)
+-- a unit in front of the parts
+pub Waits-title_front_unit : (k : Known) (i : PageInput) (unit : CopyUnit) → Waits (title_front_unit k i unit)
 Waits-title_front_unit k i (Byte b) = Waits-if (b == newline) _ _ (Waits-title_ended k i) (Waits-if (b == blank) _ _ tt tt)
 Waits-title_front_unit k i (Kept b) = tt
-
-pub Waits-title_front_found : (k : Known) (i : PageInput) (found : Found) → Waits (title_front_found k i found)
-Waits-title_front_found k i (GivesUnit unit) = Waits-title_front_unit k i unit
-Waits-title_front_found k i (Escape b) = Waits-title_front_unit k i (Kept b)
-Waits-title_front_found k i GoesOn = Waits-no_unit_found k i TitleFront GoesOn
-Waits-title_front_found k i (Holds unit) = Waits-no_unit_found k i TitleFront (Holds unit)
-Waits-title_front_found k i (Asks purpose name) = Waits-no_unit_found k i TitleFront (Asks purpose name)
-Waits-title_front_found k i (Motion columns remark) = Waits-no_unit_found k i TitleFront (Motion columns remark)
-Waits-title_front_found k i (Measures width) = Waits-no_unit_found k i TitleFront (Measures width)
-Waits-title_front_found k i (Tells remark) = Waits-no_unit_found k i TitleFront (Tells remark)
-Waits-title_front_found k i (Decides decision freed) = Waits-no_unit_found k i TitleFront (Decides decision freed)
 
 -- a delimiter
 pub Waits-behind_part : (i : PageInput) (delimiter : ℕ) (part : TitlePart) → Waits (behind_part i delimiter part)

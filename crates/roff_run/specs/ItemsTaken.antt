@@ -2,7 +2,7 @@
 use Rattle.std.specs.Prelude.{◌≡◌, ℕ, ◌<◌, false, List, [], ◌∷◌, Some, None}
 use Rattle.roff_num.specs.declared.limits.Limits.{Limits}
 use Rattle.roff_escape.specs.Waiting.{is_ended_by}
-use Rattle.roff_ahead.specs.Input.{Ahead, ByteAhead, item_taken, counting}
+use Rattle.roff_input.specs.Input.{Ahead, ByteAhead, item_taken, counting}
 use Rattle.roff_source.specs.Tape.{Gives, OneByte, front}
 use Rattle.roff_run.specs.Reading.Ends.{due}
 use Rattle.roff_run.specs.Requests.{PageEvent}

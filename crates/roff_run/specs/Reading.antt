@@ -13,6 +13,7 @@ pub mod Calls
 pub mod Returns
 pub mod Messages
 pub mod Titles
+pub mod Collecting
 pub mod ControlLines
 pub mod Found
 pub mod Ends
@@ -22,13 +23,13 @@ use Rattle.roff_lines.specs.Words.{is_empty}
 use Rattle.roff_source.specs.Bytes.{tab, blank, is_dropped}
 use Rattle.roff_escape.specs.OpenEscapes.{byte_read, reading_ended}
 use Rattle.roff_run.specs.declared.line_state.LineState.{LineState}
-use Rattle.roff_run.specs.declared.line_state.LineState.TheVariants.{Control, Name, Arguments as InArguments, StringName, Skipping, Dropped, Told, Exiting, Calling, Title as InTitle}
+use Rattle.roff_run.specs.declared.line_state.LineState.TheVariants.{Control, Name, Skipping, Dropped, Told, Exiting, Title as InTitle}
 use Rattle.roff_run.specs.Reading.Branches.{skipping_taking}
 use Rattle.roff_run.specs.Reading.ControlLines.{dropped_taking, ends_name, name_ended_taking, name_whole_taking}
 use Rattle.roff_run.specs.Reading.Items.{PageInput, Taking, going_on}
 use Rattle.roff_run.specs.Reading.Found.{place_in, read_in}
 use Rattle.roff_run.specs.Reading.Titles.{behind_part}
-use Rattle.roff_run.specs.Reading.Units.{settling}
+use Rattle.roff_run.specs.Reading.Units.{interrupted}
 use Rattle.roff_run.specs.Registers.{Known}
 
 -- a byte of a title, which is a delimiter or not
@@ -51,13 +52,6 @@ undropped_taking k (Told aborts) i b = going_on i (Told aborts)
 undropped_taking k Exiting i b = going_on i Exiting
 undropped_taking k (InTitle delimiter) i b = title_read k i delimiter b (is_empty i.escapes && b == delimiter)
 undropped_taking k reading i b = read_in k reading i (byte_read (place_in k reading) i.escapes b)
-
--- what isn't a byte of the line: no quote follows the quote before it
-abbrev pub interrupted : LineState → PageInput → PageInput
-interrupted (InArguments breaks request) i = settling i
-interrupted (StringName appends) i = settling i
-interrupted (Calling name) i = settling i
-interrupted (_) i = i
 
 -- what a byte does where this is being read
 abbrev pub taking : Known → LineState → PageInput → ℕ → Taking

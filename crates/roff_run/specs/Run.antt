@@ -9,16 +9,17 @@ use Rattle.roff_escape.specs.declared.open_escape.Waiting.TheVariants.{Takes, De
 use Rattle.roff_num.specs.ShortNames.{name_bytes}
 use Rattle.roff_num.specs.declared.num.Num.{Num}
 use Rattle.roff_num.specs.declared.short_name.ShortName.{ShortName}
-use Rattle.roff_ahead.specs.Input.{Ahead, ByteAhead, FreeAhead, EndAhead, DoAhead, cost, item_taken, counting, leaving, outermost_back, putting_all_back, ReturnAhead}
-use Rattle.roff_ahead.specs.Input.Calls.{springing}
-use Rattle.roff_ahead.specs.Input.Names.{body_named}
+use Rattle.roff_input.specs.Input.{Ahead, ByteAhead, FreeAhead, EndAhead, DoAhead, cost, item_taken, counting, leaving, outermost_back, putting_all_back, ReturnAhead}
+use Rattle.roff_input.specs.Input.Calls.{springing}
+use Rattle.roff_input.specs.Input.Names.{body_named}
 use Rattle.roff_source.specs.Tape.{Tape, Answer, OneByte, OneNote, Ended, Failed, Stopped, Gives, Ends, front, behind_front}
-use Rattle.roff_ahead.specs.Shown.{Sighted, SeesByte, SeesNothing, SeesNote, SeesEnding, seen_ahead}
+use Rattle.roff_input.specs.Shown.{Sighted, SeesByte, SeesNothing, SeesNote, SeesEnding, seen_ahead}
 use Rattle.roff_arguments.specs.Arguments.{no_arguments}
 use Rattle.roff_escape.specs.OpenEscape.{OpenEscape}
 use Rattle.roff_run.specs.Messages.{told_line}
 use Rattle.roff_run.specs.Output.{layout_of, written}
-use Rattle.roff_run.specs.Reading.{taking, escape_ended, interrupted}
+use Rattle.roff_run.specs.Reading.{taking, escape_ended}
+use Rattle.roff_run.specs.Reading.Units.{interrupted}
 use Rattle.roff_run.specs.Reading.Calls.{last_called}
 use Rattle.roff_run.specs.Reading.Ends.{end_taking, due, is_unfinished}
 use Rattle.roff_run.specs.Reading.Items.{Taking, going_on, meaning_events}

@@ -6,7 +6,7 @@ use Rattle.roff_escape.specs.ConditionFronts.{TakesOn}
 use Rattle.roff_escape.specs.OpenEscape.{OpenEscape, texts_held}
 use Rattle.roff_escape.specs.OpenEscapes.{byte_read}
 use Rattle.roff_escape.specs.Waiting.{is_ended_by}
-use Rattle.roff_ahead.specs.Input.Names.{adding}
+use Rattle.roff_input.specs.Input.Names.{adding}
 use Rattle.roff_escape.specs.declared.open_escape.CopyUnit.TheVariants.{Byte}
 use Rattle.roff_escape.specs.declared.open_escape.Found.TheVariants.{GoesOn}
 use Rattle.roff_escape.specs.declared.open_escape.Surroundings.{Surroundings}

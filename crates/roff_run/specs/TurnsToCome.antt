@@ -1,8 +1,8 @@
 -- How many turns of a run are still to come at the most: each takes something, or ends what is half read.
 use Rattle.std.specs.Prelude.{ℕ, ◌+◌, ◌-◌, ◌*◌, List, [], ◌∷◌, max, Option, Some, None}
 use Rattle.roff_escape.specs.OpenEscape.{OpenEscape, Condition}
-use Rattle.roff_ahead.specs.Input.{Ahead, ByteAhead, FreeAhead, EndAhead, ReturnAhead, DoAhead}
-use Rattle.roff_ahead.specs.Unread.{Unread}
+use Rattle.roff_input.specs.Input.{Ahead, ByteAhead, FreeAhead, EndAhead, ReturnAhead, DoAhead}
+use Rattle.roff_input.specs.Unread.{Unread}
 use Rattle.roff_escape.specs.declared.open_escape.ConditionPart.TheVariants.{Decided}
 use Rattle.roff_run.specs.Reading.Items.{PageInput}
 use Rattle.roff_lines.specs.declared.event.Event.TheVariants.{Interrupt as Interrupted, Resume}

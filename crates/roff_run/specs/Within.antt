@@ -6,8 +6,8 @@ use Rattle.roff_run.specs.Environments.{Environments, environments}
 use Rattle.roff_run.specs.Layouts.{layout_of}
 use Rattle.roff_run.specs.Run.{State, output}
 use Rattle.roff_run.specs.TitleTexts.{title_length}
-use Rattle.roff_ahead.specs.Input.{pushed, depth, result_count}
-use Rattle.roff_ahead.specs.Input.Names.{names_added, stored}
+use Rattle.roff_input.specs.Input.{pushed, depth, result_count}
+use Rattle.roff_input.specs.Input.Names.{names_added, stored}
 
 -- the pending line of each environment is within the limit on lines, and so few of them were left as may be
 pub record EnvironmentsWithin (l : Limits) (es : Environments) : Type 0 where

@@ -1,8 +1,8 @@
 //! The requests: a row for each.
 
-ghost use Rattle.std.specs.Prelude.{◌≡◌, slice_get};
+ghost use Rattle.std.specs.Prelude.{◌≡◌, ◌&&◌, slice_get};
 ghost use Rattle.roff_run.specs.RequestRows.{coded_row};
-ghost use Rattle.roff_run.specs.Requests.{requests};
+ghost use Rattle.roff_run.specs.Requests.{requests, row_of};
 
 use LineReading::{
     ByArguments, ByCondition, ByElse, ByLastLine, ByLines, ByMessage, ByString, ByTitle,
@@ -311,4 +311,12 @@ impl Request {
             LeftOut(name) => Row { name, line: ByArguments, breaks: false },
         }
     }
+}
+
+/// Whether a request breaks, called by a dot or not.
+#[inline(always)]
+pub fn breaks_by(by_dot: bool, request: Request) -> bool
+    ensures { result ≡ (by_dot && (row_of request).breaks) }
+{
+    by_dot && request.row().breaks
 }

@@ -1,8 +1,11 @@
 //! What an item of the input means for the page: a step.
 
-ghost use Rattle.std.specs.Prelude.{◌≡◌, []};
+ghost use Rattle.std.specs.Prelude.{◌≡◌, [], List, Option};
 ghost use Rattle.roff_run.specs.Events.Lines.{line_events};
-ghost use Rattle.roff_run.specs.Events.Steps.{events_of};
+ghost use Rattle.roff_run.specs.Events.Steps.{events_of, messages_of};
+ghost use Rattle.roff_run.specs.PageEvents.{PageEvent as PageEventOf};
+ghost use Rattle.roff_run.specs.Requests.Effects.{behind_break};
+ghost use Rattle.roff_run.specs.declared.message.Message.{Message as MessageOf};
 
 use crate::event::LineEvents;
 
@@ -45,4 +48,12 @@ impl Step {
             Step::Meaning => LineEvents::Nothing,
         }
     }
+}
+
+/// A break and nothing else, or nothing.
+pub fn broken(breaks: bool) -> Step
+    ensures says { (kept : Option MessageOf) → messages_of kept result ≡ [] }
+    ensures means { (kept : List PageEventOf) → events_of kept result ≡ behind_break breaks [] }
+{
+    if breaks { Step::Break } else { Step::Nothing }
 }

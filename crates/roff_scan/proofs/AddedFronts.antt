@@ -7,11 +7,11 @@ use Rattle.std.proofs.lemmas.List.{append-nil, get_or-set_same, length-append, l
 use Rattle.std.proofs.lemmas.List.Sums.{sum_by-set}
 use Rattle.roff_num.specs.declared.limit.Limit.{Limit}
 use Rattle.roff_source.specs.Bytes.{is_text_byte}
-use Rattle.roff_ahead.specs.Input.{Input, is_none_ahead}
-use Rattle.roff_ahead.specs.Input.Names.{adding, calling_on, stored}
+use Rattle.roff_input.specs.Input.{Input, is_none_ahead}
+use Rattle.roff_input.specs.Input.Names.{adding, calling_on, stored}
 use Rattle.roff_source.specs.Tape.{Tape}
-use Rattle.roff_ahead.specs.declared.looked.Looked.TheVariants.{Nothing}
-use Rattle.roff_ahead.specs.Unread.{Unread, IsWithin, changing, input_refusal, unless_passed}
+use Rattle.roff_input.specs.declared.looked.Looked.TheVariants.{Nothing}
+use Rattle.roff_input.specs.Unread.{Unread, IsWithin, changing, input_refusal, unless_passed}
 use Rattle.roff_scan.specs.Unread.Calls.{IsFront, NoNewline, OfSource, PassesFront, PassesSource, front_bytes}
 use Rattle.roff_scan.specs.Unread.Runs.{TakesRun, room_for}
 use Rattle.roff_scan.specs.declared.run_kind.RunKind.TheVariants.{Definition}

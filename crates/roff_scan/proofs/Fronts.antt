@@ -2,14 +2,14 @@
 use Rattle.std.proofs.Common.{◌≡◌, count_by, ℕ, ◌+◌, ◌-◌, ◌==◌, ◌≤◌, Bool, true, false, if◌then◌else◌, List, [], ◌∷◌, ◌++◌, length, map, take, drop, refl, sym, ap, subst, ◌∙◌, arith}
 use Rattle.std.proofs.lemmas.List.{length-take-le, take-take}
 use Rattle.roff_source.specs.Bytes.{newline}
-use Rattle.roff_ahead.specs.Input.{Ahead, ByteAhead, Input, counting, is_none_ahead, leading, lines_taken, returns_ahead}
+use Rattle.roff_input.specs.Input.{Ahead, ByteAhead, Input, counting, is_none_ahead, leading, lines_taken, returns_ahead}
 use Rattle.roff_source.specs.Tape.{Tape, OneByte, Took}
-use Rattle.roff_ahead.specs.Looking.{is_nothing}
-use Rattle.roff_ahead.specs.declared.looked.Looked.{Looked}
-use Rattle.roff_ahead.specs.declared.looked.Looked.TheVariants.{Nothing, Byte, Closed}
-use Rattle.roff_ahead.specs.Unread.{Unread, IsWithin}
+use Rattle.roff_input.specs.Looking.{is_nothing}
+use Rattle.roff_input.specs.declared.looked.Looked.{Looked}
+use Rattle.roff_input.specs.declared.looked.Looked.TheVariants.{Nothing, Byte, Closed}
+use Rattle.roff_input.specs.Unread.{Unread, IsWithin}
 use Rattle.roff_scan.specs.Unread.Calls.{IsFront, NoNewline, PassesFront, OfTexts, PassesSource, front_bytes, next_bytes}
-use Rattle.roff_ahead.proofs.Counts.{returns_ahead-bytes}
+use Rattle.roff_input.proofs.Counts.{returns_ahead-bytes}
 use Rattle.roff_scan.proofs.PassingAhead.{IsWithin-behind, behind_bytes, bytes_taken-is}
 use Rattle.roff_ahead.proofs.Leading.{Begins, begins, leading-parted}
 use Rattle.roff_scan.proofs.Passing.{counted, lines_taken-last}

@@ -6,9 +6,9 @@ use Rattle.roff_arguments.specs.Arguments.{Arguments, with_byte, with_byte_at, w
 use Rattle.roff_arguments.specs.ArgumentList.{listed}
 use Rattle.roff_source.specs.Bytes.{blank, quote}
 use Rattle.roff_arguments.specs.Calls.Kept.{first_call}
-use Rattle.roff_ahead.specs.Input.{Input, ReturnAhead, depth, pushed, returns_ahead}
-use Rattle.roff_ahead.specs.Input.Calls.{argument_live, called_text, calling_body, springing}
-use Rattle.roff_ahead.specs.Unread.{Unread, IsWithin, changing}
+use Rattle.roff_input.specs.Input.{Input, ReturnAhead, depth, pushed, returns_ahead}
+use Rattle.roff_input.specs.Input.Calls.{argument_live, called_text, calling_body, springing}
+use Rattle.roff_input.specs.Unread.{Unread, IsWithin, changing}
 use Rattle.roff_scan.specs.Unread.Kept.{NoneBegun}
 use Rattle.roff_arguments.specs.declared.arguments.ArgumentList.{ArgumentList}
 use Rattle.roff_arguments.specs.declared.arguments.Place.{Place}
@@ -16,7 +16,7 @@ use Rattle.roff_arguments.specs.declared.arguments.Place.TheVariants.{Between, I
 use Rattle.roff_escape.specs.declared.open_escape.CopyUnit.{CopyUnit}
 use Rattle.roff_escape.specs.declared.open_escape.CopyUnit.TheVariants.{Byte, Kept}
 use Rattle.roff_scan.proofs.Changing.{OthersWithin, put_past_stack, put_past_depth, put_within, IsWithin-put}
-use Rattle.roff_ahead.proofs.Counts.{bytes_ahead-bytes, ends_ahead-bytes, returns_ahead-bytes}
+use Rattle.roff_input.proofs.Counts.{bytes_ahead-bytes, ends_ahead-bytes, returns_ahead-bytes}
 use Rattle.roff_arguments.proofs.KeptArguments.{held-finished, held-only_kept, total_length-reverse}
 
 -- where an argument is read, the reading doesn't stand between arguments

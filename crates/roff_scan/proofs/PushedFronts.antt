@@ -2,14 +2,14 @@
 use Rattle.std.proofs.Common.{◌≡◌, ℕ, ◌+◌, ◌≤◌, List, ◌++◌, length, map, sym, ap, subst, ◌∙◌, arith}
 use Rattle.roff_escape.specs.ConditionFronts.{HalvesTaken}
 use Rattle.roff_escape.specs.OpenEscape.{OpenEscape}
-use Rattle.roff_ahead.specs.Input.{Ahead, ByteAhead, Input, bytes_ahead, ends_ahead}
+use Rattle.roff_input.specs.Input.{Ahead, ByteAhead, Input, bytes_ahead, ends_ahead}
 use Rattle.roff_source.specs.Tape.{Tape}
-use Rattle.roff_ahead.specs.Unread.{Unread, IsWithin}
+use Rattle.roff_input.specs.Unread.{Unread, IsWithin}
 use Rattle.roff_scan.specs.Unread.Calls.{OfTexts, TakesPushed}
 use Rattle.roff_scan.specs.Unread.Runs.{TakesRun, with_stage_of}
 use Rattle.roff_scan.specs.declared.run_kind.RunKind.TheVariants.{Condition}
 use Rattle.roff_scan.proofs.RunKinds.{any_byte, no_bound}
-use Rattle.roff_ahead.proofs.Counts.{bytes_ahead-bytes, ends_ahead-bytes}
+use Rattle.roff_input.proofs.Counts.{bytes_ahead-bytes, ends_ahead-bytes}
 use Rattle.roff_scan.proofs.PassingAhead.{behind_bytes, bytes_taken-is}
 use Rattle.roff_ahead.proofs.GivenFronts.{HalvesTaken-held}
 

@@ -13,9 +13,9 @@ use Rattle.roff_arguments.specs.Arguments.{HeldFewer, bytes_held, held, only_kep
 use Rattle.roff_arguments.specs.Arguments.{Arguments as LineArguments}
 use Rattle.roff_arguments.proofs.HeldBytes.{held-bytes_held}
 use Rattle.roff_ahead.proofs.GivenFronts.{HalvesTaken-held}
-use Rattle.roff_ahead.specs.Input.{Input}
+use Rattle.roff_input.specs.Input.{Input}
 use Rattle.roff_scan.specs.RunKinds.{goes_by_bytes, has_newlines, is_held, is_of, most_whole}
-use Rattle.roff_ahead.specs.Unread.{Unread}
+use Rattle.roff_input.specs.Unread.{Unread}
 use Rattle.roff_scan.specs.Unread.Calls.{NoNewline}
 use Rattle.roff_scan.specs.Unread.Kept.{NoneBegun}
 use Rattle.roff_scan.specs.Unread.Runs.{HalvesBehind, arguments_behind, room_for, texts_behind}

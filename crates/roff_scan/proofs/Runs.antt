@@ -6,17 +6,17 @@ use Rattle.std.proofs.lemmas.List.{length-take-le, take-take}
 use Rattle.roff_arguments.specs.Arguments.{HeldFewer, held}
 use Rattle.roff_arguments.specs.Arguments.{Arguments as LineArguments}
 use Rattle.roff_escape.specs.OpenEscape.{OpenEscape, texts_held}
-use Rattle.roff_ahead.specs.Input.{Input, is_none_ahead, pushed}
+use Rattle.roff_input.specs.Input.{Input, is_none_ahead, pushed}
 use Rattle.roff_source.specs.Tape.{Tape}
 use Rattle.roff_scan.specs.RunKinds.{goes_by_bytes, has_newlines, is_held, is_of, most_whole}
-use Rattle.roff_ahead.specs.Unread.{Unread, IsWithin, asks_to_take}
+use Rattle.roff_input.specs.Unread.{Unread, IsWithin, asks_to_take}
 use Rattle.roff_scan.specs.Unread.Calls.{IsFront, NoNewline, PassesFront, front_bytes, next_bytes}
 use Rattle.roff_scan.specs.Unread.Runs.{HalvesBehind, TakesRun, arguments_behind, room_for, texts_behind}
 use Rattle.roff_scan.specs.declared.run_kind.RunKind.{RunKind}
 use Rattle.roff_scan.specs.declared.run_kind.RunKind.TheVariants.{Text, Blanks, Arguments, CallArguments, Name, Condition, Definition, Ignored, Dropped}
-use Rattle.roff_ahead.specs.Looking.{is_nothing}
-use Rattle.roff_ahead.specs.declared.looked.Looked.{Looked}
-use Rattle.roff_ahead.specs.declared.looked.Looked.TheVariants.{Nothing, Byte, Closed}
+use Rattle.roff_input.specs.Looking.{is_nothing}
+use Rattle.roff_input.specs.declared.looked.Looked.{Looked}
+use Rattle.roff_input.specs.declared.looked.Looked.TheVariants.{Nothing, Byte, Closed}
 use Rattle.roff_scan.proofs.Fronts.{passes_none}
 use Rattle.roff_scan.proofs.AddedFronts.{adding-none}
 use Rattle.roff_scan.proofs.Staged.{passes-staged, stage-behind, staged}

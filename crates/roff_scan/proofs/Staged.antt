@@ -2,9 +2,9 @@
 use Rattle.std.proofs.Common.{◌≡◌, ℕ, List, [], ◌∷◌, ◌++◌, map, refl, sym, ap, ◌∙◌}
 use Rattle.roff_arguments.specs.Arguments.{Arguments as LineArguments}
 use Rattle.roff_escape.specs.OpenEscape.{OpenEscape}
-use Rattle.roff_ahead.specs.Input.{Ahead, ByteAhead, Input, bytes_taken, counting, item_taken, lines_taken}
+use Rattle.roff_input.specs.Input.{Ahead, ByteAhead, Input, bytes_taken, counting, item_taken, lines_taken}
 use Rattle.roff_source.specs.Tape.{Tape}
-use Rattle.roff_ahead.specs.Unread.{Unread}
+use Rattle.roff_input.specs.Unread.{Unread}
 use Rattle.roff_scan.specs.Unread.Calls.{OfSource, OfTexts, PassesFront}
 use Rattle.roff_scan.specs.Unread.Runs.{with_stage_of}
 

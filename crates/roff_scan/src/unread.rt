@@ -1,7 +1,7 @@
 //! The unread input: what stands ahead of the source, and what is counted.
 
 ghost use Rattle.std.specs.Prelude.{◌≡◌, IfOk};
-ghost use Rattle.roff_ahead.specs.Input.{is_none_ahead, pushed, depth};
+ghost use Rattle.roff_input.specs.Input.{is_none_ahead, pushed, depth};
 
 mod arguments;
 mod calls;
@@ -15,9 +15,10 @@ mod runs;
 mod skipped;
 mod taken;
 
-use roff_ahead::{InputAhead, Looked};
+use roff_ahead::InputAhead;
 use roff_arguments::{ArgumentTexts, Calls};
 use roff_escape::OpenEscapes;
+use roff_input::Looked;
 use roff_num::Limits;
 use std::alloc::{AllocError, Global};
 use std::marker::Model;
@@ -45,7 +46,7 @@ pub struct Unread<E> {
 }
 
 impl<E> Model for Unread<E> {
-    ghost use Rattle.roff_ahead.specs.Unread.{Unread};
+    ghost use Rattle.roff_input.specs.Unread.{Unread};
 
     ghost Value = { Unread E };
 
@@ -57,7 +58,7 @@ impl<E> Model for Unread<E> {
 }
 
 impl<E: Copy> Unread<E> {
-    ghost use Rattle.roff_ahead.specs.Unread.{initial_unread, IsWithin};
+    ghost use Rattle.roff_input.specs.Unread.{initial_unread, IsWithin};
 
     /// The input before anything is read. So many names stand for something then: they are to be
     /// set before anything is taken, and the limit on names doesn't count them.

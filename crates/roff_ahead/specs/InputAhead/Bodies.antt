@@ -1,6 +1,6 @@
 -- How bodies that are read where they lie stand for their bytes.
 use Rattle.std.specs.Prelude.{ℕ, List, [], ◌∷◌, ◌++◌, map}
-use Rattle.roff_ahead.specs.Input.{Ahead, ByteAhead, FreeAhead, EndAhead, ReturnAhead, DoAhead}
+use Rattle.roff_input.specs.Input.{Ahead, ByteAhead, FreeAhead, EndAhead, ReturnAhead, DoAhead}
 use Rattle.roff_ahead.specs.declared.input_ahead.EventOrBody.{EventOrBody}
 use Rattle.roff_ahead.specs.declared.input_ahead.EventOrBody.TheVariants.{Event, Body}
 use Rattle.roff_store.specs.Texts.{Texts, lease_bytes, lease_of}

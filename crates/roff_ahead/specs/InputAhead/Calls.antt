@@ -5,8 +5,8 @@ use Rattle.roff_source.specs.Bytes.{is_passed}
 use Rattle.roff_escape.specs.ConditionFronts.{HalvesTaken, TakesOn}
 use Rattle.roff_ahead.specs.InputAhead.Kept.{AheadAndTexts, IsSound, kept_by}
 use Rattle.roff_escape.specs.EscapeTexts.{KeptEscapes}
-use Rattle.roff_ahead.specs.Input.{Ahead, ByteAhead}
-use Rattle.roff_ahead.specs.Shown.{Shown, shown_ahead}
+use Rattle.roff_input.specs.Input.{Ahead, ByteAhead}
+use Rattle.roff_input.specs.Shown.{Shown, shown_ahead}
 use Rattle.roff_ahead.specs.declared.input_ahead.InputAhead.TheInside.{Inside}
 
 -- the front item was taken and shown

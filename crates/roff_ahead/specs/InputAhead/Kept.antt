@@ -1,6 +1,6 @@
 -- What frames keep.
 use Rattle.std.specs.Prelude.{◌≡◌, ◌≢◌, ℕ, ◌<◌, ◌≤◌, ◌^◌, Bool, true, false, List, [], ◌∷◌, length, All, AllPairs, sum_by}
-use Rattle.roff_ahead.specs.Input.{Ahead, ByteAhead, FreeAhead, EndAhead, ReturnAhead, DoAhead, bytes_ahead, ends_ahead, events_ahead, frees_ahead, most_frees}
+use Rattle.roff_input.specs.Input.{Ahead, ByteAhead, FreeAhead, EndAhead, ReturnAhead, DoAhead, bytes_ahead, ends_ahead, events_ahead, frees_ahead, most_frees}
 use Rattle.roff_ahead.specs.InputAhead.Bodies.{leases_in, with_bodies}
 use Rattle.roff_ahead.specs.PushedTexts.Held.{most_used}
 use Rattle.roff_ahead.specs.declared.input_ahead.EventOrBody.{EventOrBody}

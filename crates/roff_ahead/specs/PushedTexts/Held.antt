@@ -1,6 +1,6 @@
 -- What slots hold.
 use Rattle.std.specs.Prelude.{◌≡◌, ℕ, ◌+◌, ◌*◌, ◌≤◌, List, length, reverse, vec_capacity}
-use Rattle.roff_ahead.specs.Input.{Ahead, bytes_ahead, ends_ahead, events_ahead, frees_ahead, most_frees}
+use Rattle.roff_input.specs.Input.{Ahead, bytes_ahead, ends_ahead, events_ahead, frees_ahead, most_frees}
 use Rattle.roff_ahead.specs.PushedTexts.Standing.{standing, IsStacked}
 use Rattle.roff_ahead.specs.declared.pushed_texts.PushedTexts.TheInside.{Inside}
 

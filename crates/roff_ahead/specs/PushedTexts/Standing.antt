@@ -1,6 +1,6 @@
 -- How slots and a stack of bytes stand for what is ahead of the source.
 use Rattle.std.specs.Prelude.{◌≡◌, ℕ, ◌≤◌, Bool, false, nat_lt, List, [], ◌∷◌, ◌++◌, map, length, reverse, take, drop, replicate}
-use Rattle.roff_ahead.specs.Input.{Ahead, ByteAhead, FreeAhead, EndAhead, ReturnAhead, DoAhead}
+use Rattle.roff_input.specs.Input.{Ahead, ByteAhead, FreeAhead, EndAhead, ReturnAhead, DoAhead}
 use Rattle.roff_ahead.specs.declared.pushed_texts.PushedItem.{PushedItem}
 use Rattle.roff_ahead.specs.declared.pushed_texts.PushedItem.TheVariants.{Byte as FrontByte, Free as FrontFree, End as FrontEnd, Return as FrontReturn, Do as FrontDo}
 use Rattle.roff_ahead.specs.declared.pushed_texts.Mark.{Mark}

@@ -1,7 +1,7 @@
 //! Bytes that stand in front, of a pushed text, or of a body as they lie together.
 
 ghost use Rattle.std.specs.Prelude.{◌≡◌, ◌+◌, ◌≤◌, drop, length, IfSome, take, Some};
-ghost use Rattle.roff_ahead.specs.Input.{first, DoAhead, bytes_ahead, leading};
+ghost use Rattle.roff_input.specs.Input.{first, DoAhead, bytes_ahead, leading};
 ghost use Rattle.roff_ahead.specs.declared.input_ahead.EventOrBody.TheVariants.{Body};
 
 use super::{EventOrBody, InputAhead};

@@ -3,10 +3,10 @@
 ghost use Rattle.std.specs.Prelude.{true, false, ◌≡◌, ◌+◌, ◌<◌, ◌≤◌, ◌∷◌, ◌++◌, map, length, None, ℕ};
 ghost use Rattle.std.specs.Prelude.{List};
 ghost use Rattle.std.specs.List.{last_or};
-ghost use Rattle.roff_ahead.specs.Input.{ByteAhead, FreeAhead, EndAhead, ReturnAhead, DoAhead};
-ghost use Rattle.roff_ahead.specs.Input.{bytes_ahead, ends_ahead, events_ahead, frees_ahead};
-ghost use Rattle.roff_ahead.specs.Input.{most_events, most_frees};
-ghost use Rattle.roff_ahead.specs.Input.Calls.{called_text, lacks_newline};
+ghost use Rattle.roff_input.specs.Input.{ByteAhead, FreeAhead, EndAhead, ReturnAhead, DoAhead};
+ghost use Rattle.roff_input.specs.Input.{bytes_ahead, ends_ahead, events_ahead, frees_ahead};
+ghost use Rattle.roff_input.specs.Input.{most_events, most_frees};
+ghost use Rattle.roff_input.specs.Input.Calls.{called_text, lacks_newline};
 ghost use Rattle.roff_ahead.specs.InputAhead.Bodies.{with_bodies};
 ghost use Rattle.roff_ahead.specs.InputAhead.Calls.{PutsBytes};
 ghost use Rattle.roff_ahead.specs.InputAhead.Kept.{is_end_next, IsSound};

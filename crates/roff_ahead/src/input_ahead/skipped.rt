@@ -1,7 +1,7 @@
 //! What is taken at once and read no further: bytes that are passed over, newlines, and ends.
 
 ghost use Rattle.std.specs.Prelude.{false, true, ◌≡◌, ◌≤◌, ◌∷◌, length, take, take_while};
-ghost use Rattle.roff_ahead.specs.Input.{ByteAhead, EndAhead, ReturnAhead};
+ghost use Rattle.roff_input.specs.Input.{ByteAhead, EndAhead, ReturnAhead};
 ghost use Rattle.roff_source.specs.Bytes.{is_passed, newline};
 
 use super::{EventOrBody, InputAhead};

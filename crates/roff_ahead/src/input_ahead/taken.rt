@@ -1,16 +1,16 @@
 //! Items that are taken from the front one at a time, and what is seen there.
 
 ghost use Rattle.std.specs.Prelude.{false, ◌≡◌, [], ◌∷◌, option_map, IfSome, None, Some};
-ghost use Rattle.roff_ahead.specs.Input.{is_none_ahead, front_cost, outermost_back, ByteAhead};
+ghost use Rattle.roff_input.specs.Input.{is_none_ahead, front_cost, outermost_back, ByteAhead};
 ghost use Rattle.roff_escape.specs.Waiting.{is_ended_by};
 
 use super::{EventOrBody, InputAhead};
-use crate::item::{Item, Sight};
 use crate::pushed_texts::PushedItem;
 use roff_escape::OpenEscapes;
+use roff_input::{Item, Sight};
 
 impl<E: Copy> InputAhead<E> {
-    ghost use Rattle.roff_ahead.specs.Shown.{shown, sighted, seen_ahead};
+    ghost use Rattle.roff_input.specs.Shown.{shown, sighted, seen_ahead};
     ghost use Rattle.roff_ahead.specs.InputAhead.Calls.{TakesFront};
 
     /// What the front item costs, if there is one.

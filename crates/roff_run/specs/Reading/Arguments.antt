@@ -2,14 +2,12 @@
 use Rattle.std.specs.Prelude.{Bool, List, [], ◌∷◌, if◌then◌else◌, ◌==◌}
 use Rattle.roff_arguments.specs.Arguments.{no_arguments}
 use Rattle.roff_source.specs.Bytes.{newline}
-use Rattle.roff_ahead.specs.Input.Names.{calling}
-use Rattle.roff_ahead.specs.Input.Calls.{arguments_given}
-use Rattle.roff_ahead.specs.Input.Names.{calling}
-use Rattle.roff_ahead.specs.Input.Calls.{arguments_given}
+use Rattle.roff_input.specs.Input.Names.{calling}
+use Rattle.roff_input.specs.Input.Calls.{arguments_given}
+use Rattle.roff_input.specs.Input.Names.{calling}
+use Rattle.roff_input.specs.Input.Calls.{arguments_given}
 use Rattle.roff_escape.specs.declared.open_escape.CopyUnit.{CopyUnit}
 use Rattle.roff_escape.specs.declared.open_escape.CopyUnit.TheVariants.{Byte, Kept}
-use Rattle.roff_escape.specs.declared.open_escape.Found.{Found}
-use Rattle.roff_escape.specs.declared.open_escape.Found.TheVariants.{Unit, Escape}
 use Rattle.roff_store.specs.TextCalls.{Call}
 use Rattle.roff_run.specs.declared.line_state.LineState.{LineState}
 use Rattle.roff_run.specs.declared.line_state.LineState.TheVariants.{LineStart, Arguments as InArguments, Exiting}
@@ -18,7 +16,7 @@ use Rattle.roff_run.specs.declared.request.LineReading.{LineReading}
 use Rattle.roff_run.specs.declared.request.LineReading.TheVariants.{ByLastLine, ByLines}
 use Rattle.roff_run.specs.Reading.Definitions.{lines_begun}
 use Rattle.roff_run.specs.Reading.Items.{PageInput, Taking, going_on}
-use Rattle.roff_run.specs.Reading.Units.{holding, settling, no_unit_found}
+use Rattle.roff_run.specs.Reading.Units.{holding}
 use Rattle.roff_run.specs.Registers.{Known}
 use Rattle.roff_run.specs.Requests.{Effect, row_of, request_effect}
 
@@ -56,9 +54,3 @@ unit_found k i breaks request (Byte b) =
     if b == newline then arguments_ended k i breaks request (row_of request).line
     else going_on (holding (Byte b) i) (InArguments breaks request)
 unit_found k i breaks request (Kept b) = going_on (holding (Kept b) i) (InArguments breaks request)
-
--- what was found behind a request's name: an escape's beginning is no quote
-abbrev pub arguments_found : Known → PageInput → Bool → Request → Found → Taking
-arguments_found k i breaks request (Unit unit) = unit_found k i breaks request unit
-arguments_found k i breaks request (Escape b) = unit_found k i breaks request (Kept b)
-arguments_found k i breaks request found = no_unit_found k (settling i) (InArguments breaks request) found

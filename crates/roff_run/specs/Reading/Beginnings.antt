@@ -2,7 +2,7 @@
 use Rattle.std.specs.Prelude.{ℕ, true, false, List, [], ◌∷◌, Some, None, Option, if◌then◌else◌, ◌==◌}
 use Rattle.roff_lines.specs.declared.event.Event.TheVariants.{Resume}
 use Rattle.roff_source.specs.Bytes.{newline, blank, apostrophe, dot}
-use Rattle.roff_ahead.specs.Input.{holding_text}
+use Rattle.roff_input.specs.Input.{holding_text}
 use Rattle.roff_escape.specs.declared.escapes.NameUse.{NameUse}
 use Rattle.roff_escape.specs.declared.escapes.NameUse.TheVariants.{Character, Font, LeftOut as NameLeftOut}
 use Rattle.roff_escape.specs.declared.open_escape.CopyUnit.TheVariants.{Byte, Kept}

@@ -2,8 +2,8 @@
 use Rattle.std.specs.Prelude.{ℕ, ◌+◌, Bool, true, false, ◌&&◌, not, nat_le, min, Some, None, Option, if◌then◌else◌, ◌==◌}
 use Rattle.roff_source.specs.Bytes.{newline, backslash}
 use Rattle.roff_escape.specs.OpenEscapes.{byte_read}
-use Rattle.roff_ahead.specs.Input.{choosing}
-use Rattle.roff_ahead.specs.Input.Calls.{with_result}
+use Rattle.roff_input.specs.Input.{choosing}
+use Rattle.roff_input.specs.Input.Calls.{with_result}
 use Rattle.roff_escape.specs.declared.open_escape.Decision.{Decision}
 use Rattle.roff_escape.specs.declared.open_escape.Decision.TheVariants.{Is, OnPages}
 use Rattle.roff_escape.specs.declared.open_escape.Found.{Found}

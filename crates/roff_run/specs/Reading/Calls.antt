@@ -1,24 +1,21 @@
 -- Lines that call bodies: strings and macros (manual, sections 7.2 and 7.3).
 use Rattle.std.specs.Prelude.{Option, Some, None, nat_le, length, if◌then◌else◌, ◌==◌}
 use Rattle.roff_source.specs.Bytes.{newline, quote}
-use Rattle.roff_ahead.specs.Input.Names.{body_named}
-use Rattle.roff_ahead.specs.Input.Calls.{calling_body}
-use Rattle.roff_ahead.specs.Input.Names.{body_named}
-use Rattle.roff_ahead.specs.Input.Calls.{calling_body}
+use Rattle.roff_input.specs.Input.Names.{body_named}
+use Rattle.roff_input.specs.Input.Calls.{calling_body}
+use Rattle.roff_input.specs.Input.Names.{body_named}
+use Rattle.roff_input.specs.Input.Calls.{calling_body}
 use Rattle.roff_escape.specs.declared.open_escape.CopyUnit.{CopyUnit}
 use Rattle.roff_escape.specs.declared.open_escape.CopyUnit.TheVariants.{Byte, Kept}
-use Rattle.roff_escape.specs.declared.open_escape.Found.{Found}
-use Rattle.roff_escape.specs.declared.open_escape.Found.TheVariants.{Unit, Escape}
 use Rattle.roff_run.specs.Reading.Items.{PageInput, Taking, going_on}
-use Rattle.roff_run.specs.Reading.Units.{holding, settling, no_unit_found}
+use Rattle.roff_run.specs.Reading.Units.{holding, settling}
 use Rattle.roff_num.specs.ShortNames.{name_bytes}
 use Rattle.roff_run.specs.declared.line_state.LineState.TheVariants.{LineStart, Calling}
 use Rattle.roff_num.specs.declared.short_name.ShortName.{ShortName}
 use Rattle.roff_run.specs.declared.request.Called.{Called}
 use Rattle.roff_run.specs.declared.request.Called.TheVariants.{Request as ARequest, Body as ABody, Nothing as Unknown}
-use Rattle.roff_run.specs.Registers.{Known}
 use Rattle.roff_run.specs.Requests.{called_by}
-use Rattle.roff_ahead.specs.Input.{without_arguments}
+use Rattle.roff_input.specs.Input.{without_arguments}
 
 -- the arguments of a call are held up to the ninth
 abbrev pub holding_call : CopyUnit → PageInput → PageInput
@@ -31,12 +28,6 @@ call_unit i name (Byte b) =
     else if b == quote then going_on (holding_call (Byte b) i) (Calling name)
     else going_on (holding_call (Byte b) (settling i)) (Calling name)
 call_unit i name (Kept b) = going_on (holding_call (Kept b) (settling i)) (Calling name)
-
--- what was found there
-abbrev pub call_found : Known → PageInput → ShortName → Found → Taking
-call_found k i name (Unit unit) = call_unit i name unit
-call_found k i name (Escape b) = call_unit i name (Kept b)
-call_found k i name found = no_unit_found k (settling i) (Calling name) found
 
 -- what a name stands for is read as the body of a call without arguments, if it is one
 abbrev pub called_last : Called → PageInput → PageInput

@@ -2,8 +2,8 @@
 use Rattle.std.specs.Prelude.{ℕ, Bool, true, ◌||◌, if◌then◌else◌, ◌==◌, not, IsTrue}
 use Rattle.roff_source.specs.Bytes.{tab, newline, blank, backslash, is_dropped}
 use Rattle.roff_escape.specs.OpenEscapes.{byte_read}
-use Rattle.roff_ahead.specs.Input.{choosing}
-use Rattle.roff_ahead.specs.Input.Calls.{last_result, without_last}
+use Rattle.roff_input.specs.Input.{choosing}
+use Rattle.roff_input.specs.Input.Calls.{last_result, without_last}
 use Rattle.roff_escape.specs.declared.open_escape.Surroundings.TheVariants.{Arguments as AboveArguments, Copy as AboveCopy}
 use Rattle.roff_run.specs.declared.line_state.LineState.TheVariants.{LineStart, Arguments as InArguments, Deciding, StringName, Dropped, Telling, Calling, TitleFront}
 use Rattle.roff_num.specs.declared.short_name.ShortName.{ShortName}
@@ -12,13 +12,9 @@ use Rattle.roff_run.specs.declared.request.LineReading.{LineReading}
 use Rattle.roff_run.specs.declared.request.LineReading.TheVariants.{ByArguments, ByCondition, ByElse, ByLastLine, ByMessage, ByString, ByLines, ByTitle}
 use Rattle.roff_run.specs.declared.request.Called.{Called}
 use Rattle.roff_run.specs.declared.request.Called.TheVariants.{Request as ARequest, Body as ABody, Nothing as Unknown}
-use Rattle.roff_run.specs.Reading.Arguments.{arguments_found}
 use Rattle.roff_run.specs.Reading.Branches.{branch_of, branch_taking, condition_begun, reads_else}
-use Rattle.roff_run.specs.Reading.Calls.{call_found}
+use Rattle.roff_run.specs.Reading.Collecting.{collected}
 use Rattle.roff_run.specs.Reading.Items.{PageInput, Taking, going_on, read_by}
-use Rattle.roff_run.specs.Reading.Messages.{message_found}
-use Rattle.roff_run.specs.Reading.Strings.{string_name_found}
-use Rattle.roff_run.specs.Reading.Titles.{title_front_found}
 use Rattle.roff_run.specs.Registers.{Known}
 use Rattle.roff_run.specs.Requests.{called_by, row_of}
 
@@ -33,23 +29,23 @@ ends_name b = b == blank || (b == tab || (b == newline || b == backslash))
 -- the first byte behind a request's name, by how its line is read
 abbrev pub line_taking : Known → PageInput → Bool → Request → LineReading → ℕ → Taking
 line_taking k i breaks request ByArguments b =
-    read_by (λ j. arguments_found k j breaks request) i (byte_read AboveArguments i.escapes b)
+    read_by (λ j. collected k j (InArguments breaks request)) i (byte_read AboveArguments i.escapes b)
 line_taking k i breaks request (ByCondition keeps) b = condition_begun k i keeps b
 line_taking k i breaks request (ByString appends) b =
-    read_by (λ j. string_name_found k j appends) i (byte_read AboveArguments i.escapes b)
+    read_by (λ j. collected k j (StringName appends)) i (byte_read AboveArguments i.escapes b)
 line_taking k i breaks request ByLastLine b =
-    read_by (λ j. arguments_found k j breaks request) i (byte_read AboveArguments i.escapes b)
+    read_by (λ j. collected k j (InArguments breaks request)) i (byte_read AboveArguments i.escapes b)
 line_taking k i breaks request (ByMessage aborts) b =
-    read_by (λ j. message_found k j aborts true) i (byte_read AboveCopy i.escapes b)
+    read_by (λ j. collected k j (Telling aborts true)) i (byte_read AboveCopy i.escapes b)
 line_taking k i breaks request (ByLines lines) b =
-    read_by (λ j. arguments_found k j breaks request) i (byte_read AboveArguments i.escapes b)
-line_taking k i breaks request ByTitle b = read_by (λ j. title_front_found k j) i (byte_read AboveArguments i.escapes b)
+    read_by (λ j. collected k j (InArguments breaks request)) i (byte_read AboveArguments i.escapes b)
+line_taking k i breaks request ByTitle b = read_by (λ j. collected k j TitleFront) i (byte_read AboveArguments i.escapes b)
 line_taking k i breaks request ByElse b = branch_taking k (without_last i) (reads_else (last_result i)) b
 
 -- a byte behind a name that stands for this: a request is read on, a body is called, and any other line is dropped
 abbrev pub called_taking : Known → PageInput → Bool → Called → ℕ → Taking
 called_taking k i breaks (ARequest request) b = line_taking k i breaks request (row_of request).line b
-called_taking k i breaks (ABody name) b = read_by (λ j. call_found k j name) i (byte_read AboveArguments i.escapes b)
+called_taking k i breaks (ABody name) b = read_by (λ j. collected k j (Calling name)) i (byte_read AboveArguments i.escapes b)
 called_taking k i breaks Unknown b = dropped_taking i b
 
 -- a byte behind a name that it doesn't belong to

@@ -1,11 +1,9 @@
 -- The lines of a macro's definition, and the one that ends it (manual, section 7.1).
 use Rattle.std.specs.Prelude.{ℕ, Bool, true, List, ◌++◌, Some, None, Option}
 use Rattle.roff_escape.specs.OpenEscape.{unit_bytes}
-use Rattle.roff_ahead.specs.Input.{beginning_line}
+use Rattle.roff_input.specs.Input.{beginning_line}
 use Rattle.roff_escape.specs.declared.open_escape.CopyUnit.{CopyUnit}
-use Rattle.roff_escape.specs.declared.open_escape.CopyUnit.TheVariants.{Kept}
 use Rattle.roff_escape.specs.declared.open_escape.Found.{Found}
-use Rattle.roff_escape.specs.declared.open_escape.Found.TheVariants.{Unit, Escape}
 use Rattle.roff_run.specs.Definitions.{end_mark, front_of, line_from, matched_behind}
 use Rattle.roff_run.specs.declared.definition.DefinitionLine.{DefinitionLine}
 use Rattle.roff_run.specs.declared.definition.DefinitionLine.TheVariants.{MayBeLast, IsLast, IsText}
@@ -15,7 +13,7 @@ use Rattle.roff_run.specs.Reading.ControlLines.{dropped_taking, name_ended_takin
 use Rattle.roff_run.specs.Reading.Definitions.{definition_grown}
 use Rattle.roff_run.specs.Reading.Items.{PageInput, Taking, going_on}
 use Rattle.roff_run.specs.Reading.Strings.{string_entered}
-use Rattle.roff_run.specs.Reading.Units.{no_unit_found}
+use Rattle.roff_run.specs.Reading.Units.{no_unit_found, unit_in, unit_or}
 use Rattle.roff_run.specs.Registers.{Known}
 
 -- the line that ends a definition: the name behind its dot is called with the rest of the line, of which this is the first
@@ -37,8 +35,7 @@ abbrev pub definition_line : Known → PageInput → Option ShortName → Bool �
 definition_line k i name appends end matched unit =
     definition_unit k i name appends end (front_of (end_mark end) matched) unit (line_from (end_mark end) matched unit)
 
--- what was found of a definition's text
+-- what was found of it
 abbrev pub definition_found : Known → PageInput → Option ShortName → Bool → Option ShortName → Option ℕ → Found → Taking
-definition_found k i name appends end matched (Unit unit) = definition_line k i name appends end matched unit
-definition_found k i name appends end matched (Escape b) = definition_line k i name appends end matched (Kept b)
-definition_found k i name appends end matched found = no_unit_found k i (Defining name appends end matched) found
+definition_found k i name appends end matched found =
+    unit_or (definition_line k i name appends end matched) (no_unit_found k i (Defining name appends end matched) found) (unit_in found)

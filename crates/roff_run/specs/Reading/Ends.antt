@@ -2,7 +2,7 @@
 use Rattle.std.specs.Prelude.{Bool, true, false, is_some, List, [], ◌∷◌, Some, None, Option}
 use Rattle.roff_lines.specs.declared.event.Event.TheVariants.{Resume}
 use Rattle.roff_source.specs.Bytes.{newline}
-use Rattle.roff_ahead.specs.Input.Calls.{arguments_given}
+use Rattle.roff_input.specs.Input.Calls.{arguments_given}
 use Rattle.roff_run.specs.Reading.{undropped_taking}
 use Rattle.roff_run.specs.Reading.Definitions.{definition_cut}
 use Rattle.roff_run.specs.Reading.Items.{PageInput, Taking, meaning_events}

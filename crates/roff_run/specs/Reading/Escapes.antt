@@ -1,10 +1,10 @@
 -- What is read in the place of an escape: registers, strings, arguments and widths (manual, sections 7, 8 and 11).
 use Rattle.std.specs.Prelude.{ℕ, get_or, ◌-◌, ◌&&◌, nat_le, List, [], ◌∷◌, decimal, Some, None, Option, if◌then◌else◌}
-use Rattle.roff_ahead.specs.Input.{pushing}
-use Rattle.roff_ahead.specs.Input.Names.{body_named}
-use Rattle.roff_ahead.specs.Input.Calls.{arguments_live}
-use Rattle.roff_ahead.specs.Input.Names.{body_named}
-use Rattle.roff_ahead.specs.Input.Calls.{arguments_live}
+use Rattle.roff_input.specs.Input.{pushing}
+use Rattle.roff_input.specs.Input.Names.{body_named}
+use Rattle.roff_input.specs.Input.Calls.{arguments_live}
+use Rattle.roff_input.specs.Input.Names.{body_named}
+use Rattle.roff_input.specs.Input.Calls.{arguments_live}
 use Rattle.roff_escape.specs.declared.escapes.NameUse.{NameUse}
 use Rattle.roff_escape.specs.declared.escapes.NameUse.TheVariants.{Register, Text as OfText, Argument as OfArgument}
 use Rattle.roff_num.specs.declared.direction.Direction.{Direction}

@@ -4,16 +4,13 @@ use Rattle.roff_escape.specs.OpenEscapes.{Reads}
 use Rattle.roff_escape.specs.declared.open_escape.Found.{Found}
 use Rattle.roff_escape.specs.declared.open_escape.Surroundings.{Surroundings}
 use Rattle.roff_escape.specs.declared.open_escape.Surroundings.TheVariants.{Text as AboveText, Arguments as AboveArguments, Copy as AboveCopy}
-use Rattle.roff_run.specs.Reading.Arguments.{arguments_found}
 use Rattle.roff_run.specs.Reading.Beginnings.{at_start, beginning_found}
 use Rattle.roff_run.specs.Reading.Branches.{condition_found}
-use Rattle.roff_run.specs.Reading.Calls.{call_found}
+use Rattle.roff_run.specs.Reading.Collecting.{collected}
 use Rattle.roff_run.specs.Reading.DefinedLines.{definition_found}
 use Rattle.roff_run.specs.Reading.Items.{PageInput, Taking, going_on, read_by}
-use Rattle.roff_run.specs.Reading.Messages.{message_found}
-use Rattle.roff_run.specs.Reading.Strings.{string_name_found, string_text_found}
 use Rattle.roff_run.specs.Reading.TextLines.{on_line, text_found}
-use Rattle.roff_run.specs.Reading.Titles.{title_found, title_front_found}
+use Rattle.roff_run.specs.Reading.Titles.{title_found}
 use Rattle.roff_run.specs.Registers.{Known}
 use Rattle.roff_run.specs.declared.line_state.LineState.{LineState}
 use Rattle.roff_run.specs.declared.line_state.LineState.TheVariants.{StringName, StringText, LineStart, Branch, Braced, Text as InText, Control, Name, Arguments as InArguments, Deciding, Skipping, Dropped, Telling, Told, Exiting, Calling, Defining, TitleFront, Title as InTitle}
@@ -44,22 +41,22 @@ place_in k (Telling aborts is_front) = AboveCopy
 place_in k (Defining name appends end matched) = AboveCopy
 place_in k (_) = AboveText (pos 0)
 
--- what does that which was found there
+-- what does that which was found there: most lines collect units
 abbrev pub found_in : Known → PageInput → LineState → Found → Taking
 found_in k i LineStart found = beginning_found k i LineStart found
 found_in k i Branch found = beginning_found k i Branch found
 found_in k i Braced found = beginning_found k i Braced found
 found_in k i (InText line) found = text_found k i line found
-found_in k i (InArguments breaks request) found = arguments_found k i breaks request found
 found_in k i (Deciding keeps) found = condition_found k i keeps found
-found_in k i (StringName appends) found = string_name_found k i appends found
-found_in k i (StringText name appends is_front) found = string_text_found k i name appends is_front found
-found_in k i (Telling aborts is_front) found = message_found k i aborts is_front found
-found_in k i (Calling name) found = call_found k i name found
 found_in k i (Defining name appends end matched) found = definition_found k i name appends end matched found
-found_in k i TitleFront found = title_front_found k i found
 found_in k i (InTitle delimiter) found = title_found k i delimiter found
-found_in k i reading found = going_on i reading
+found_in k i (Control breaks) found = going_on i (Control breaks)
+found_in k i (Name breaks first) found = going_on i (Name breaks first)
+found_in k i (Skipping opened closed behind) found = going_on i (Skipping opened closed behind)
+found_in k i Dropped found = going_on i Dropped
+found_in k i (Told aborts) found = going_on i (Told aborts)
+found_in k i Exiting found = going_on i Exiting
+found_in k i reading found = collected k i reading found
 
 -- what something reads there does, with what is half read then
 abbrev pub read_in : Known → LineState → PageInput → Reads → Taking

@@ -1,13 +1,13 @@
 -- What one item of the input does: what is read behind it, and what it means (manual, section 1.1).
 use Rattle.std.specs.Prelude.{List, [], ◌∷◌, ◌++◌}
 use Rattle.roff_escape.specs.OpenEscapes.{Reads}
-use Rattle.roff_ahead.specs.Input.{Input}
+use Rattle.roff_input.specs.Input.{Input}
 use Rattle.roff_escape.specs.declared.open_escape.Found.{Found}
 use Rattle.roff_escape.specs.declared.open_escape.Remark.{Remark}
 use Rattle.roff_run.specs.Messages.{remark_message}
 use Rattle.roff_run.specs.declared.line_state.LineState.{LineState}
 use Rattle.roff_run.specs.Requests.{PageEvent, Effect, doing, saying}
-use Rattle.roff_ahead.specs.Unread.{Unread}
+use Rattle.roff_input.specs.Unread.{Unread}
 
 -- the input, as a run of the formatter has it
 abbrev pub PageInput : Type 0

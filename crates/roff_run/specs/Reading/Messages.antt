@@ -1,15 +1,11 @@
 -- The texts of messages (manual, section 20).
 use Rattle.std.specs.Prelude.{ℕ, Bool, true, false, ◌&&◌, List, reverse, if◌then◌else◌, ◌==◌}
 use Rattle.roff_source.specs.Bytes.{newline, blank}
-use Rattle.roff_ahead.specs.Input.{holding_plain}
+use Rattle.roff_input.specs.Input.{holding_plain}
 use Rattle.roff_escape.specs.declared.open_escape.CopyUnit.{CopyUnit}
 use Rattle.roff_escape.specs.declared.open_escape.CopyUnit.TheVariants.{Byte, Kept}
-use Rattle.roff_escape.specs.declared.open_escape.Found.{Found}
-use Rattle.roff_escape.specs.declared.open_escape.Found.TheVariants.{Unit, Escape}
 use Rattle.roff_run.specs.declared.line_state.LineState.TheVariants.{Telling, Told}
 use Rattle.roff_run.specs.Reading.Items.{PageInput, Taking, going_on}
-use Rattle.roff_run.specs.Reading.Units.{no_unit_found}
-use Rattle.roff_run.specs.Registers.{Known}
 
 -- a unit of a message's text: in front of it blanks are dropped; a newline ends it
 abbrev pub message_unit : PageInput → Bool → Bool → CopyUnit → Taking
@@ -18,12 +14,6 @@ message_unit i aborts is_front (Byte b) =
     else if is_front && b == blank then going_on i (Telling aborts true)
     else going_on (holding_plain (Byte b) i) (Telling aborts false)
 message_unit i aborts is_front (Kept b) = going_on (holding_plain (Kept b) i) (Telling aborts false)
-
--- what was found of it
-abbrev pub message_found : Known → PageInput → Bool → Bool → Found → Taking
-message_found k i aborts is_front (Unit unit) = message_unit i aborts is_front unit
-message_found k i aborts is_front (Escape b) = message_unit i aborts is_front (Kept b)
-message_found k i aborts is_front found = no_unit_found k i (Telling aborts is_front) found
 
 -- the text of a message, as it was read
 abbrev pub message_text_read : PageInput → List ℕ

@@ -3,22 +3,19 @@ use Rattle.std.specs.Prelude.{Bool, true, false, ◌&&◌, reverse, Some, None, 
 use Rattle.roff_arguments.specs.Arguments.{no_arguments}
 use Rattle.roff_source.specs.Bytes.{newline, blank, quote}
 use Rattle.roff_escape.specs.OpenEscape.{unit_bytes}
-use Rattle.roff_ahead.specs.Input.Names.{texts_of, calling, adding, entering}
-use Rattle.roff_ahead.specs.Input.Calls.{arguments_given}
-use Rattle.roff_ahead.specs.Input.Names.{texts_of, calling, adding, entering}
-use Rattle.roff_ahead.specs.Input.Calls.{arguments_given}
+use Rattle.roff_input.specs.Input.Names.{texts_of, calling, adding, entering}
+use Rattle.roff_input.specs.Input.Calls.{arguments_given}
+use Rattle.roff_input.specs.Input.Names.{texts_of, calling, adding, entering}
+use Rattle.roff_input.specs.Input.Calls.{arguments_given}
 use Rattle.roff_escape.specs.declared.open_escape.CopyUnit.{CopyUnit}
 use Rattle.roff_escape.specs.declared.open_escape.CopyUnit.TheVariants.{Byte, Kept}
-use Rattle.roff_escape.specs.declared.open_escape.Found.{Found}
-use Rattle.roff_escape.specs.declared.open_escape.Found.TheVariants.{Unit, Escape}
 use Rattle.roff_store.specs.TextCalls.{Open, Set}
 use Rattle.roff_store.specs.Texts.{Body, has_body}
 use Rattle.roff_run.specs.Reading.Items.{PageInput, Taking, going_on}
-use Rattle.roff_run.specs.Reading.Units.{holding, settling, no_unit_found}
+use Rattle.roff_run.specs.Reading.Units.{holding, settling}
 use Rattle.roff_num.specs.ShortNames.{name_at, name_bytes}
 use Rattle.roff_run.specs.declared.line_state.LineState.TheVariants.{LineStart, StringName, StringText}
 use Rattle.roff_num.specs.declared.short_name.ShortName.{ShortName}
-use Rattle.roff_run.specs.Registers.{Known}
 
 -- the name of a string, if the argument that gives it is whole
 abbrev pub name_read : PageInput → Option (Option ShortName)
@@ -76,15 +73,3 @@ string_name_unit i appends (Byte b) =
     else if b == quote then string_name_or_text i appends (Byte b) (name_read i)
     else string_name_or_text (settling i) appends (Byte b) (name_read (settling i))
 string_name_unit i appends (Kept b) = string_name_or_text (settling i) appends (Kept b) (name_read (settling i))
-
--- what was found where the name is read
-abbrev pub string_name_found : Known → PageInput → Bool → Found → Taking
-string_name_found k i appends (Unit unit) = string_name_unit i appends unit
-string_name_found k i appends (Escape b) = string_name_unit i appends (Kept b)
-string_name_found k i appends found = no_unit_found k (settling i) (StringName appends) found
-
--- what was found of the text
-abbrev pub string_text_found : Known → PageInput → Option ShortName → Bool → Bool → Found → Taking
-string_text_found k i name appends is_front (Unit unit) = string_unit i name appends is_front unit
-string_text_found k i name appends is_front (Escape b) = string_unit i name appends is_front (Kept b)
-string_text_found k i name appends is_front found = no_unit_found k i (StringText name appends is_front) found

@@ -6,7 +6,7 @@ use Rattle.roff_lines.specs.declared.glyph.Glyph.TheVariants.{Printed, Blanks}
 use Rattle.roff_source.specs.Bytes.{tab, newline, blank, backslash, is_silent}
 use Rattle.roff_escape.specs.Characters.{character}
 use Rattle.roff_escape.specs.Escapes.{escape_of}
-use Rattle.roff_ahead.specs.Input.{holding_text}
+use Rattle.roff_input.specs.Input.{holding_text}
 use Rattle.roff_escape.specs.declared.escapes.Escape.{Escape as Kind}
 use Rattle.roff_escape.specs.declared.escapes.Escape.TheVariants.{Prints, Blank, NoWidth, Tab as GivesTab, Interrupts, Brace, LeftOut as IsLeftOut, Text as BeginsText}
 use Rattle.roff_escape.specs.declared.escapes.NameUse.{NameUse}

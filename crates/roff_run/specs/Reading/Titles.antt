@@ -8,7 +8,7 @@ use Rattle.roff_sinks.specs.Titles.{page_mark}
 use Rattle.roff_source.specs.Bytes.{tab, newline, blank, backslash, is_silent}
 use Rattle.roff_escape.specs.Characters.{character}
 use Rattle.roff_escape.specs.Escapes.{escape_of}
-use Rattle.roff_ahead.specs.Input.{holding_text}
+use Rattle.roff_input.specs.Input.{holding_text}
 use Rattle.roff_escape.specs.declared.escapes.Escape.{Escape as Kind}
 use Rattle.roff_escape.specs.declared.escapes.Escape.TheVariants.{Prints, Blank, LeftOut as IsLeftOut, Text as BeginsText}
 use Rattle.roff_escape.specs.declared.escapes.NameUse.{NameUse}
@@ -26,7 +26,6 @@ use Rattle.roff_run.specs.declared.request.Request.TheVariants.{Title as TitleRe
 use Rattle.roff_run.specs.Reading.Arguments.{line_ended}
 use Rattle.roff_run.specs.Reading.Escapes.{measuring, asking}
 use Rattle.roff_run.specs.Reading.Items.{PageInput, Taking, going_on, telling}
-use Rattle.roff_run.specs.Reading.Units.{no_unit_found}
 use Rattle.roff_run.specs.Registers.{Change, Known, TitleBegins, TitleGets, PartEnds}
 use Rattle.roff_run.specs.TitleTexts.{TitlePart, Left, Centre, Right}
 
@@ -139,9 +138,3 @@ title_front_unit k i (Byte b) =
     else if b == blank then going_on i TitleFront
     else title_opened i b []
 title_front_unit k i (Kept b) = title_opened i backslash (bytes_for k b)
-
--- what was found there
-abbrev pub title_front_found : Known → PageInput → Found → Taking
-title_front_found k i (Unit unit) = title_front_unit k i unit
-title_front_found k i (Escape b) = title_front_unit k i (Kept b)
-title_front_found k i found = no_unit_found k i TitleFront found

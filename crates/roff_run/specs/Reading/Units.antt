@@ -1,10 +1,13 @@
--- The units of a control line that are held, and what was found there that is none (manual, section 7.3).
-use Rattle.roff_arguments.specs.Arguments.{with_unit, settled, only_kept}
-use Rattle.roff_ahead.specs.Input.{holding_text}
+-- The units of the lines that collect them, and what was found there that is none (manual, section 7.3).
+use Rattle.std.specs.Prelude.{Some, None, Option}
+use Rattle.roff_arguments.specs.Arguments.{Arguments, with_unit, settled, only_kept}
+use Rattle.roff_input.specs.Input.{holding_text}
 use Rattle.roff_escape.specs.declared.open_escape.CopyUnit.{CopyUnit}
+use Rattle.roff_escape.specs.declared.open_escape.CopyUnit.TheVariants.{Kept}
 use Rattle.roff_escape.specs.declared.open_escape.Found.{Found}
-use Rattle.roff_escape.specs.declared.open_escape.Found.TheVariants.{Holds, Asks, Measures, Tells}
+use Rattle.roff_escape.specs.declared.open_escape.Found.TheVariants.{Unit, Holds, Escape, Asks, Measures, Tells}
 use Rattle.roff_run.specs.declared.line_state.LineState.{LineState}
+use Rattle.roff_run.specs.declared.line_state.LineState.TheVariants.{Arguments as InArguments, StringName, Calling}
 use Rattle.roff_run.specs.Reading.Escapes.{measuring, asking}
 use Rattle.roff_run.specs.Reading.Items.{PageInput, Taking, going_on, telling}
 use Rattle.roff_run.specs.Registers.{Known}
@@ -17,11 +20,33 @@ holding unit i = record i { arguments = only_kept (with_unit i.arguments unit) }
 abbrev pub settling : PageInput → PageInput
 settling i = record i { arguments = only_kept (settled i.arguments) }
 
--- what was found behind the name of a request that is no unit of an argument; a motion is none there, as it is copied, and
--- a condition decides elsewhere
+-- the arguments where this is read and no unit comes: no quote follows the quote before
+abbrev pub settled_for : LineState → Arguments → Arguments
+settled_for (InArguments breaks request) a = only_kept (settled a)
+settled_for (StringName appends) a = only_kept (settled a)
+settled_for (Calling name) a = only_kept (settled a)
+settled_for (_) a = a
+
+-- the input there
+abbrev pub interrupted : LineState → PageInput → PageInput
+interrupted reading i = record i { arguments = settled_for reading i.arguments }
+
+-- what was found where a line collects units, or a condition is read, that is no unit; a motion is none there, as it is
+-- copied, and a condition decides elsewhere
 abbrev pub no_unit_found : Known → PageInput → LineState → Found → Taking
 no_unit_found k i reading (Holds unit) = going_on (holding_text unit i) reading
 no_unit_found k i reading (Asks purpose name) = asking k i reading purpose name
 no_unit_found k i reading (Measures width) = measuring i reading width
 no_unit_found k i reading (Tells remark) = telling i reading remark
 no_unit_found k i reading (_) = going_on i reading
+
+-- the unit that was found, if one was: of an escape that is no name's, its backslash and byte
+abbrev pub unit_in : Found → Option CopyUnit
+unit_in (Unit unit) = Some unit
+unit_in (Escape b) = Some (Kept b)
+unit_in (_) = None
+
+-- what a unit does, or else what is none
+abbrev pub unit_or : (CopyUnit → Taking) → Taking → Option CopyUnit → Taking
+unit_or does none (Some unit) = does unit
+unit_or does none None = none

@@ -5,8 +5,8 @@ use Rattle.roff_num.specs.LimitValues.{value_of}
 use Rattle.roff_num.specs.declared.limit.Limit.{Limit}
 use Rattle.roff_num.specs.declared.limit.Limit.TheVariants.{Names, Stack, Depth, Line, Conditions, Store, Diversions, Environments as EnvironmentsLimit, Output, Traps}
 use Rattle.roff_num.specs.declared.limits.Limits.{Limits}
-use Rattle.roff_ahead.specs.Input.Names.{names_added, stored}
-use Rattle.roff_ahead.specs.Input.{pushed, depth, result_count}
+use Rattle.roff_input.specs.Input.Names.{names_added, stored}
+use Rattle.roff_input.specs.Input.{pushed, depth, result_count}
 use Rattle.roff_run.specs.Environments.{environments}
 use Rattle.roff_pages.specs.Happenings.{Happening, Does}
 use Rattle.roff_pages.specs.Layout.{Layout}

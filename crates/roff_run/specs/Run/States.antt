@@ -8,11 +8,11 @@ use Rattle.roff_num.specs.LimitValues.{value_of}
 use Rattle.roff_num.specs.declared.limit.Limit.{Limit}
 use Rattle.roff_num.specs.declared.limits.Limits.{Limits}
 use Rattle.roff_num.specs.declared.short_name.ShortName.{ShortName}
-use Rattle.roff_ahead.specs.Input.{initial_input}
-use Rattle.roff_ahead.specs.Input.Calls.{arguments_live}
+use Rattle.roff_input.specs.Input.{initial_input}
+use Rattle.roff_input.specs.Input.Calls.{arguments_live}
 use Rattle.roff_source.specs.Tape.{Tape}
-use Rattle.roff_ahead.specs.declared.looked.Looked.TheVariants.{Nothing as NothingLooked}
-use Rattle.roff_ahead.specs.Unread.{Unread}
+use Rattle.roff_input.specs.declared.looked.Looked.TheVariants.{Nothing as NothingLooked}
+use Rattle.roff_input.specs.Unread.{Unread}
 use Rattle.roff_run.specs.Messages.{message_line, message_lines}
 use Rattle.roff_run.specs.Environments.{environments, interrupted_line}
 use Rattle.roff_run.specs.Output.{layout_of, text_of}

@@ -1,17 +1,11 @@
 //! A text line, and which of its bytes are told as they are.
 
-ghost use Rattle.std.specs.Prelude.{◌≡◌, ℕ, ◌∷◌, [], true};
-ghost use Rattle.roff_lines.specs.declared.event.Event.TheVariants.{Gap, Print, WordEnd};
-ghost use Rattle.roff_lines.specs.declared.glyph.Glyph.TheVariants.{Printed};
-ghost use Rattle.roff_run.specs.Reading.Items.{PageInput, meaning_events};
+ghost use Rattle.std.specs.Prelude.{◌≡◌, ℕ, true};
 ghost use Rattle.roff_run.specs.Reading.TextLines.{fresh_line};
-ghost use Rattle.roff_run.specs.Reading.{taking};
 ghost use Rattle.roff_run.specs.Reading.Beginnings.{line_begun_as};
-ghost use Rattle.roff_run.specs.Requests.{Text};
 ghost use Rattle.roff_run.specs.Stages.{blanks_counted, counts_blanks};
 ghost use Rattle.roff_run.specs.Telling.{Prints};
 ghost use Rattle.roff_source.specs.Bytes.{is_text_byte};
-ghost use Rattle.roff_run.specs.Registers.{Known};
 ghost use Rattle.roff_run.specs.declared.line_state.LineState.TheVariants.{Text as InText};
 
 use super::{LineState, TextLine};
@@ -40,24 +34,6 @@ impl TextLine {
             Some(line) => line,
             None => TextLine::new(),
         }
-    }
-
-    /// Whether a byte is a glyph behind another on the line, and does nothing else. Most are.
-    pub fn goes_on_with(self, byte: u8) -> bool
-        ensures { result ≡ true → (k : Known) (i : PageInput) → i.escapes ≡ []
-            → taking k (InText self) i byte
-            ≡ meaning_events i (InText self) (Text (Print (Printed byte)) ∷ []) }
-    {
-        self.has_glyph && self.leading == 0 && byte > b' ' && byte != 127 && byte != b'\\'
-    }
-
-    /// Whether a byte is a gap behind a glyph on the line, and does nothing else.
-    pub fn goes_on_with_gap(self, byte: u8) -> bool
-        ensures { result ≡ true → (k : Known) (i : PageInput) → i.escapes ≡ []
-            → taking k (InText self) i byte
-            ≡ meaning_events i (InText self) (Text WordEnd ∷ Text (Gap 1) ∷ []) }
-    {
-        self.has_glyph && byte == b' '
     }
 
     /// Whether bytes of plain text are told, each as a glyph or a gap, and the line stays as it is.

@@ -3,12 +3,12 @@ use Rattle.std.specs.Prelude.{◌≡◌, ℕ, ◌+◌, ◌≤◌, ◌==◌, fals
 use Rattle.std.specs.List.{AllByRecursion}
 use Rattle.roff_source.specs.Bytes.{newline}
 use Rattle.roff_escape.specs.ConditionFronts.{HalvesTaken}
-use Rattle.roff_ahead.specs.Input.{Ahead, ByteAhead, EndAhead, ReturnAhead, bytes_taken, item_taken, leading, lines_taken}
+use Rattle.roff_input.specs.Input.{Ahead, ByteAhead, EndAhead, ReturnAhead, bytes_taken, item_taken, leading, lines_taken}
 use Rattle.roff_source.specs.Tape.{Tape, Answer, OneByte, items_then}
-use Rattle.roff_ahead.specs.declared.looked.Looked.{Looked}
-use Rattle.roff_ahead.specs.declared.looked.Looked.TheVariants.{Nothing, Byte, Closed}
-use Rattle.roff_ahead.specs.Unread.{Unread, Asked, Stays, asks_to_take, asks_to_look, taking, looking}
-use Rattle.roff_ahead.specs.Shown.{Shown, Sighted}
+use Rattle.roff_input.specs.declared.looked.Looked.{Looked}
+use Rattle.roff_input.specs.declared.looked.Looked.TheVariants.{Nothing, Byte, Closed}
+use Rattle.roff_input.specs.Unread.{Unread, Asked, Stays, asks_to_take, asks_to_look, taking, looking}
+use Rattle.roff_input.specs.Shown.{Shown, Sighted}
 
 -- the front item was taken and shown, by the source's answer if it was asked
 pub record Takes {E : Type 0} (old new : Tape → Type 0) (before after : Unread E) (item : Shown E) : Type 0 where

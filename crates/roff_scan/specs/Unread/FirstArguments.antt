@@ -5,7 +5,7 @@ use Rattle.roff_arguments.specs.declared.arguments.Place.{Place}
 use Rattle.roff_arguments.specs.declared.arguments.Place.TheVariants.{Between}
 use Rattle.roff_source.specs.Bytes.{blank, quote}
 use Rattle.roff_source.specs.Tape.{Tape}
-use Rattle.roff_ahead.specs.Unread.{Unread}
+use Rattle.roff_input.specs.Unread.{Unread}
 use Rattle.roff_scan.specs.Unread.Runs.{TakesRun}
 use Rattle.roff_scan.specs.declared.run_kind.RunKind.TheVariants.{CallArguments}
 

@@ -9,10 +9,10 @@ use Rattle.roff_escape.specs.OpenEscape.{OpenEscape}
 use Rattle.roff_arguments.specs.Arguments.{HeldFewer, bytes_held}
 use Rattle.roff_arguments.specs.Arguments.{Arguments as LineArguments}
 use Rattle.roff_arguments.specs.ArgumentTexts.Kept.{KeptArguments}
-use Rattle.roff_ahead.specs.Input.{Input}
-use Rattle.roff_ahead.specs.Input.Names.{adding, stored}
+use Rattle.roff_input.specs.Input.{Input}
+use Rattle.roff_input.specs.Input.Names.{adding, stored}
 use Rattle.roff_scan.specs.RunKinds.{goes_by_bytes, is_of, most_whole}
-use Rattle.roff_ahead.specs.Unread.{Unread, asks_to_take}
+use Rattle.roff_input.specs.Unread.{Unread, asks_to_take}
 use Rattle.roff_scan.specs.Unread.Calls.{PassesFront}
 use Rattle.roff_scan.specs.declared.run_kind.RunKind.{RunKind}
 use Rattle.roff_scan.specs.declared.run_kind.RunKind.TheVariants.{Arguments, CallArguments, Name, Condition, Definition}

@@ -3,8 +3,8 @@
 ghost use Rattle.roff_arguments.specs.Arguments.{is_behind_quote, with_unit, settled, finished};
 ghost use Rattle.roff_arguments.specs.ArgumentList.{listed};
 ghost use Rattle.std.specs.Prelude.{reverse, ◌≡◌};
-ghost use Rattle.roff_ahead.specs.Input.{holding_plain, with_arguments, without_arguments};
-ghost use Rattle.roff_ahead.specs.Input.{beginning_line};
+ghost use Rattle.roff_input.specs.Input.{holding_plain, with_arguments, without_arguments};
+ghost use Rattle.roff_input.specs.Input.{beginning_line};
 
 use super::Unread;
 use roff_arguments::{ArgumentList, bytes_of};
@@ -12,7 +12,7 @@ use roff_escape::CopyUnit;
 use roff_num::Limit;
 
 impl<E: Copy> Unread<E> {
-    ghost use Rattle.roff_ahead.specs.Unread.{changing};
+    ghost use Rattle.roff_input.specs.Unread.{changing};
 
     /// A line is read of which nothing was read.
     pub fn begin_line(&mut self)

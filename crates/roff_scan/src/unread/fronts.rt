@@ -1,17 +1,19 @@
 //! Bytes that stand in front, as they lie together.
 
-ghost use Rattle.std.specs.Prelude.{true, false, ◌≡◌, ◌≤◌, length, take};
-ghost use Rattle.roff_ahead.specs.declared.looked.Looked.TheVariants.{Nothing};
+ghost use Rattle.std.specs.Prelude.{true, false, ◌≡◌, ◌≤◌, ◌-◌, length, take};
+ghost use Rattle.roff_input.specs.declared.looked.Looked.TheVariants.{Nothing};
 ghost use Rattle.roff_scan.specs.Unread.Calls.{next_bytes};
-ghost use Rattle.roff_ahead.specs.Input.{is_none_ahead};
+ghost use Rattle.roff_input.specs.Input.{is_none_ahead};
 
 use super::Unread;
-use roff_ahead::{InputAhead, Looked};
+use roff_ahead::InputAhead;
+use roff_input::Looked;
 use roff_source::{ByteSource, at_most, newlines_among};
 
 impl<E: Copy> Unread<E> {
     ghost use Rattle.roff_scan.specs.Unread.Calls.{front_bytes, IsFront, NoNewline, PassesFront};
     ghost use Rattle.roff_scan.specs.Unread.Calls.{PassesSource};
+    ghost use Rattle.roff_input.specs.Unread.{asks_to_take};
 
     /// Bytes that stand in front, as they lie together: of a body ahead, or where nothing is ahead
     /// and no byte was looked at, those of the source that stand ready; no more than the limit on
@@ -21,6 +23,8 @@ impl<E: Copy> Unread<E> {
         ensures bytes { result.now
             ≡ front_bytes (length result.now) (S.ready source.now) self.now }
         ensures front { IsFront (length result.now) (S.ready source.now) self.now }
+        ensures whole { asks_to_take self.now ≡ true → result.now
+            ≡ take (self.now.limits.bytes - self.now.input.charge) (S.ready source.now) }
     {
         let most = (self.limits.bytes - self.charge) as usize;
         front_of(&self.input_ahead, self.looked, source, most)

@@ -2,15 +2,15 @@
 
 ghost use Rattle.roff_escape.specs.OpenEscapes.{byte_read, reading_ended};
 ghost use Rattle.roff_escape.specs.Waiting.{decides, is_ended_by, waiting_of};
-ghost use Rattle.std.specs.Prelude.{not, ◌≡◌, ◌==◌, length};
-ghost use Rattle.roff_ahead.specs.Input.{choosing, holding_text};
+ghost use Rattle.std.specs.Prelude.{true, false, not, ◌≡◌, ◌==◌, length};
+ghost use Rattle.roff_input.specs.Input.{choosing, holding_text};
 
 use super::Unread;
 use roff_escape::{CopyUnit, Found, Surroundings, Waiting};
 use roff_num::Limit;
 
 impl<E: Copy> Unread<E> {
-    ghost use Rattle.roff_ahead.specs.Unread.{changing, reading, EndsDecided};
+    ghost use Rattle.roff_input.specs.Unread.{changing, reading, EndsDecided};
     ghost use Rattle.roff_scan.specs.Unread.Calls.{TakesPushed};
 
     /// Whether something is half read.
@@ -71,6 +71,17 @@ impl<E: Copy> Unread<E> {
         self.escapes.end_decided()
     }
 
+    /// Ends the expression of the condition on top, if it is read and is a number: it decides next.
+    /// Whether it did; else nothing happens.
+    #[inline(always)]
+    pub fn decide_expression(&mut self) -> bool
+        ensures ended { result ≡ true → (base : Surroundings) → (Found.GoesOn, self.new)
+            ≡ reading (reading_ended base self.old.input.escapes) self.old }
+        ensures kept { result ≡ false → self.new ≡ self.old }
+    {
+        self.escapes.decide_expression()
+    }
+
     /// Holds one unit more of the text that is being read.
     ///
     /// # Errors
@@ -99,15 +110,6 @@ impl<E: Copy> Unread<E> {
         let given = self.input_ahead.give_front(&mut self.escapes, allowed);
         self.charge += given as u32;
         given
-    }
-
-    /// Whether a text is half read of which some is held, and a blank belongs to it: of two texts that
-    /// are compared.
-    #[inline(always)]
-    pub(super) fn is_comparing(&self) -> bool {
-        self.escapes.held() > 0
-            && self.escapes.bytes_more(CopyUnit::Byte(b' ')) > 0
-            && self.escapes.waits_for(b' ')
     }
 
     /// Begins to read a condition; nothing else is half read then.

@@ -1,17 +1,17 @@
 //! Texts, bodies and events that are put in front.
 
 ghost use Rattle.std.specs.Prelude.{true, false, ◌≡◌, ◌+◌, ◌<◌, ◌≤◌, length};
-ghost use Rattle.roff_ahead.specs.Input.{leaving, outermost_back, events_ahead, frees_ahead};
-ghost use Rattle.roff_ahead.specs.Input.{most_events, most_frees, depth, pushing, putting_back, freeing};
-ghost use Rattle.roff_ahead.specs.Input.Names.{body_named};
+ghost use Rattle.roff_input.specs.Input.{leaving, outermost_back, events_ahead, frees_ahead};
+ghost use Rattle.roff_input.specs.Input.{most_events, most_frees, depth, pushing, putting_back, freeing};
+ghost use Rattle.roff_input.specs.Input.Names.{body_named};
 
 use super::Unread;
 use super::results::drop_results;
 use roff_num::{Limit, Name};
 
 impl<E: Copy> Unread<E> {
-    ghost use Rattle.roff_ahead.specs.Looking.{closing};
-    ghost use Rattle.roff_ahead.specs.Unread.{changing};
+    ghost use Rattle.roff_input.specs.Looking.{closing};
+    ghost use Rattle.roff_input.specs.Unread.{changing};
 
     /// Whether as many pushed texts haven't ended as may be.
     pub(super) fn is_deep(&self) -> bool

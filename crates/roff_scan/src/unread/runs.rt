@@ -6,7 +6,7 @@ ghost use Rattle.std.specs.List.{AllByRecursion};
 ghost use Rattle.roff_arguments.specs.Arguments.{held};
 ghost use Rattle.roff_escape.specs.OpenEscape.{texts_held};
 ghost use Rattle.roff_source.specs.Bytes.{blank, is_text_byte};
-ghost use Rattle.roff_ahead.specs.Input.{is_none_ahead, pushed};
+ghost use Rattle.roff_input.specs.Input.{is_none_ahead, pushed};
 ghost use Rattle.roff_scan.specs.RunKinds.{is_held};
 ghost use Rattle.roff_scan.specs.Unread.Runs.{TakesPart};
 ghost use Rattle.roff_scan.specs.declared.run_kind.RunKind.TheVariants.{Arguments, Blanks};
@@ -104,11 +104,6 @@ impl<E: Copy> Unread<E> {
         ensures notes { S.notes source.new ≤ S.notes source.old }
         ensures failures { S.failures source.new ≡ S.failures source.old }
     {
-        // the invariant is known where a field is named
-        let _ = &self.limits;
-        if self.is_comparing() {
-            return 0;
-        }
         let pushed = self.take_pushed();
         if pushed > 0 {
             return pushed;

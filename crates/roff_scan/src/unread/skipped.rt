@@ -2,7 +2,7 @@
 
 ghost use Rattle.std.specs.Prelude.{true, false, ◌≡◌, ◌≤◌, ◌<◌, [], ◌∷◌};
 ghost use Rattle.roff_source.specs.Bytes.{newline};
-ghost use Rattle.roff_ahead.specs.Input.{is_none_ahead};
+ghost use Rattle.roff_input.specs.Input.{is_none_ahead};
 
 use super::Unread;
 use super::calls::end_call;

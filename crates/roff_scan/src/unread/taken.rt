@@ -4,20 +4,21 @@ ghost use Rattle.std.specs.Prelude.{true, false, ◌≡◌, ◌<◌, ◌≤◌, 
 ghost use Rattle.roff_escape.specs.Waiting.{is_ended_by};
 ghost use Rattle.roff_source.specs.Tape.{Answer, OneByte, Gives, Failed};
 ghost use Rattle.roff_num.specs.Faults.{Rises};
-ghost use Rattle.roff_ahead.specs.Input.{is_none_ahead, counting};
+ghost use Rattle.roff_input.specs.Input.{is_none_ahead, counting};
 
 use super::Unread;
 use super::calls::end_call;
-use roff_ahead::{Item, Looked, Sight};
+use roff_input::{Item, Looked, Sight};
 use roff_num::Limit;
 use roff_source::{ByteSource, Taken};
 
 impl<E: Copy> Unread<E> {
-    ghost use Rattle.roff_ahead.specs.Shown.{shown, ShowsByte, ShowsNote, ShowsEnding};
-    ghost use Rattle.roff_ahead.specs.Looking.{is_closed};
-    ghost use Rattle.roff_ahead.specs.declared.looked.Looked.TheVariants.{Nothing};
-    ghost use Rattle.roff_ahead.specs.Unread.{taking, taking_answer};
-    ghost use Rattle.roff_ahead.specs.Shown.{sighted, SeesByte, SeesNote, SeesEnding};
+    ghost use Rattle.roff_input.specs.Shown.{shown, ShowsByte, ShowsNote, ShowsEnding};
+    ghost use Rattle.roff_input.specs.Looking.{is_closed};
+    ghost use Rattle.roff_input.specs.declared.looked.Looked.TheVariants.{Nothing};
+    ghost use Rattle.roff_input.specs.Unread.{taking, taking_answer};
+    ghost use Rattle.roff_input.specs.Shown.{sighted, SeesByte, SeesNote, SeesEnding};
+    ghost use Rattle.roff_input.specs.Shown.{byte_seen, seen_ahead};
     ghost use Rattle.roff_scan.specs.Unread.Calls.{Takes, Looks};
 
     /// Takes the item in front. The source is asked where nothing is ahead and no byte was looked
@@ -222,11 +223,13 @@ impl<E: Copy> Unread<E> {
         }
     }
 
-    /// The same where it is a byte ahead: the source isn't asked. Else nothing is told.
+    /// The byte that is seen ahead of the source, which isn't asked, behind any ends of texts. Nothing
+    /// where none stands ahead, or something else is seen in front of it.
     #[inline(always)]
     pub fn look_ahead<S: ByteSource>(&self, source: &S) -> Option<u8>
-        ensures { IfSome result (λ b.
+        ensures looks { IfSome result (λ b.
             Looks (S.gives source.now) (S.gives source.now) self.now self.now (SeesByte b)) }
+        ensures sees { result ≡ byte_seen (seen_ahead self.now.input.ahead) }
     {
         match self.input_ahead.seen() {
             Some(Sight::Byte(byte)) => Some(byte),

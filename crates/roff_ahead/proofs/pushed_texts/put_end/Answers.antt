@@ -1,6 +1,6 @@
 use Rattle.std.proofs.Common.{◌≡◌, ◌<◌, ◌+◌, ◌^◌, ℕ, List, arith, sym, ◌∙◌, ◌∷◌, ◌++◌, [], length, refl}
 use Rattle.std.specs.Prelude.{reverse}
-use Rattle.roff_ahead.specs.Input.{ends_ahead}
+use Rattle.roff_input.specs.Input.{ends_ahead}
 use Rattle.roff_ahead.specs.PushedTexts.Standing.{standing, items_of}
 use Rattle.roff_ahead.specs.declared.pushed_texts.MarkAt.{MarkAt}
 use Rattle.roff_ahead.specs.declared.pushed_texts.Mark.TheVariants.{Ends}

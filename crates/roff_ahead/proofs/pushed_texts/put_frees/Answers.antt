@@ -1,6 +1,6 @@
 use Rattle.std.proofs.Common.{◌≡◌, ◌+◌, ℕ, List, [], ◌∷◌, ◌++◌, length, length-append, map, sym, ap, refl, ◌∙◌, arith, append_assoc}
 use Rattle.std.proofs.lemmas.List.{map-append}
-use Rattle.roff_ahead.specs.Input.{Ahead, FreeAhead}
+use Rattle.roff_input.specs.Input.{Ahead, FreeAhead}
 use Rattle.roff_ahead.proofs.pushed_texts.put_frees.Goals as goal
 
 -- the last of the bytes left is in front

@@ -1,6 +1,6 @@
 use Rattle.std.proofs.Common.{◌≡◌, ◌≤◌, ◌+◌, ◌++◌, length, map}
 use Rattle.std.specs.Prelude.{reverse, vec_len, vec_capacity}
-use Rattle.roff_ahead.specs.Input.{FreeAhead}
+use Rattle.roff_input.specs.Input.{FreeAhead}
 use Rattle.roff_ahead.specs.PushedTexts.Standing.{standing, IsStacked}
 use Rattle.roff_ahead.proofs.pushed_texts.put_frees.Given as goal
 

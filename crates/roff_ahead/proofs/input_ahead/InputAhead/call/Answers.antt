@@ -2,8 +2,8 @@ use Rattle.std.proofs.Common.{◌≡◌, ◌≤◌, ℕ, List, true, false, ◌�
 use Rattle.roff_source.specs.Bytes.{newline}
 use Rattle.roff_ahead.specs.InputAhead.Calls.{PutsBytes}
 use Rattle.roff_ahead.specs.InputAhead.Kept.{AheadAndTexts}
-use Rattle.roff_ahead.specs.Input.{Ahead, ByteAhead, ReturnAhead}
-use Rattle.roff_ahead.specs.Input.Calls.{called_text, lacks_newline}
+use Rattle.roff_input.specs.Input.{Ahead, ByteAhead, ReturnAhead}
+use Rattle.roff_input.specs.Input.Calls.{called_text, lacks_newline}
 use Rattle.roff_ahead.specs.declared.input_ahead.InputAhead.TheInside.{Inside}
 use Rattle.roff_ahead.proofs.Bodies.{bytes-with_bodies, ends-with_bodies}
 use Rattle.roff_ahead.proofs.Framing.{IsSound-byte, IsSound-returning, called-in-front, called-len, called-whole}

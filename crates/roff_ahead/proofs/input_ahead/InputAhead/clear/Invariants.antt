@@ -1,5 +1,5 @@
 use Rattle.std.proofs.Common.{◌≡◌, length}
-use Rattle.roff_ahead.specs.Input.{outermost_back}
+use Rattle.roff_input.specs.Input.{outermost_back}
 use Rattle.roff_ahead.proofs.input_ahead.InputAhead.clear.Given as goal
 
 abbrev pub invariant-loop-self : goal.invariant-loop-self

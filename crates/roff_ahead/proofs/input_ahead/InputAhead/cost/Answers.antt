@@ -1,5 +1,5 @@
 use Rattle.std.proofs.Common.{sym, ap, ◌∙◌}
-use Rattle.roff_ahead.specs.Input.{DoAhead, front_cost}
+use Rattle.roff_input.specs.Input.{DoAhead, front_cost}
 use Rattle.roff_ahead.specs.InputAhead.Kept.{AheadAndTexts}
 use Rattle.roff_ahead.proofs.Framing.{cost-with_bodies, cost_of_first}
 use Rattle.roff_ahead.proofs.input_ahead.InputAhead.cost.Goals as goal

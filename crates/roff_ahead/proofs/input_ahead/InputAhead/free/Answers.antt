@@ -1,5 +1,5 @@
 use Rattle.std.proofs.Common.{arith, ap, ◌++◌, map}
-use Rattle.roff_ahead.specs.Input.{FreeAhead}
+use Rattle.roff_input.specs.Input.{FreeAhead}
 use Rattle.roff_ahead.specs.InputAhead.Kept.{AheadAndTexts}
 use Rattle.roff_ahead.proofs.Bodies.{frees-with_bodies, with_bodies-frees}
 use Rattle.roff_ahead.proofs.Framing.{IsSound-freeing}

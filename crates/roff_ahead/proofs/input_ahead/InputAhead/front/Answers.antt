@@ -1,6 +1,6 @@
 use Rattle.std.proofs.Common.{drop, length, take, ap, ◌∙◌}
 use Rattle.roff_ahead.specs.InputAhead.Kept.{AheadAndTexts}
-use Rattle.roff_ahead.specs.Input.{leading}
+use Rattle.roff_input.specs.Input.{leading}
 use Rattle.roff_ahead.proofs.BodyTaken.{gives, with_body-first}
 use Rattle.roff_ahead.proofs.Leading.{leading-body}
 use Rattle.roff_ahead.proofs.Leased.{some-giving}

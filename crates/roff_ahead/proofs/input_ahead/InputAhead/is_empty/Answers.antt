@@ -1,5 +1,5 @@
 use Rattle.std.proofs.Common.{sym, ap, ◌∙◌}
-use Rattle.roff_ahead.specs.Input.{is_none_ahead}
+use Rattle.roff_input.specs.Input.{is_none_ahead}
 use Rattle.roff_ahead.specs.InputAhead.Kept.{AheadAndTexts}
 use Rattle.roff_ahead.proofs.Bodies.{none-with_bodies}
 use Rattle.roff_ahead.proofs.input_ahead.InputAhead.is_empty.Goals as goal

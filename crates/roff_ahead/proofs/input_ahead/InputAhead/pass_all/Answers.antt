@@ -1,7 +1,7 @@
 use Rattle.std.proofs.Common.{◌≡◌, ◌-◌, ◌+◌, drop, length, arith, ap, ◌∙◌}
 use Rattle.std.proofs.lemmas.List.{drop-drop}
 use Rattle.roff_ahead.specs.InputAhead.Kept.{AheadAndTexts}
-use Rattle.roff_ahead.specs.Input.{leading}
+use Rattle.roff_input.specs.Input.{leading}
 use Rattle.roff_ahead.proofs.Leading.{leading-fewer}
 use Rattle.roff_ahead.proofs.input_ahead.InputAhead.pass_all.Goals as goal
 

@@ -1,5 +1,5 @@
 use Rattle.std.proofs.Common.{arith, ap, ◌∷◌, ◌++◌, map}
-use Rattle.roff_ahead.specs.Input.{ByteAhead, EndAhead}
+use Rattle.roff_input.specs.Input.{ByteAhead, EndAhead}
 use Rattle.roff_ahead.specs.InputAhead.Kept.{AheadAndTexts}
 use Rattle.roff_ahead.proofs.Bodies.{bytes-with_bodies, ends-with_bodies, with_bodies-bytes}
 use Rattle.roff_ahead.proofs.Framing.{IsSound-pushing}

@@ -1,7 +1,7 @@
 use Rattle.std.proofs.Common.{◌≤◌, [], ◌∷◌, ◌++◌, length, map, arith, refl, ap, ◌∙◌}
 use Rattle.roff_ahead.specs.InputAhead.Calls.{PutsBytes}
 use Rattle.roff_ahead.specs.InputAhead.Kept.{AheadAndTexts}
-use Rattle.roff_ahead.specs.Input.{ByteAhead, EndAhead}
+use Rattle.roff_input.specs.Input.{ByteAhead, EndAhead}
 use Rattle.roff_ahead.specs.declared.input_ahead.InputAhead.TheInside.{Inside}
 use Rattle.roff_ahead.proofs.Bodies.{ends-with_bodies}
 use Rattle.roff_ahead.proofs.Framing.{IsSound-pushing}

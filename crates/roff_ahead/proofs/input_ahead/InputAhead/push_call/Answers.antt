@@ -1,7 +1,7 @@
 use Rattle.std.proofs.Common.{◌≡◌, ◌-◌, ℕ, List, ◌∷◌, ◌++◌, length, map, arith, refl, sym, ap, ◌∙◌}
 use Rattle.roff_source.specs.Bytes.{newline}
 use Rattle.roff_ahead.specs.InputAhead.Kept.{AheadAndTexts}
-use Rattle.roff_ahead.specs.Input.{Ahead, ByteAhead, ReturnAhead}
+use Rattle.roff_input.specs.Input.{Ahead, ByteAhead, ReturnAhead}
 use Rattle.roff_ahead.proofs.Bodies.{bytes-with_bodies, ends-with_bodies}
 use Rattle.roff_ahead.proofs.Framing.{IsSound-byte, IsSound-returning, called-in-front, called-len, called-whole}
 use Rattle.roff_ahead.proofs.input_ahead.InputAhead.push_call.Goals as goal

@@ -1,5 +1,5 @@
 use Rattle.std.proofs.Common.{Some, None, ◌∙◌}
-use Rattle.roff_ahead.specs.Input.{ByteAhead, FreeAhead, DoAhead}
+use Rattle.roff_input.specs.Input.{ByteAhead, FreeAhead, DoAhead}
 use Rattle.roff_ahead.proofs.Leased.{some-giving}
 use Rattle.roff_ahead.proofs.Seeing.{first-gives, front-seen, no-end-first, no-return-first, sees}
 use Rattle.roff_ahead.proofs.input_ahead.InputAhead.seen.Goals as goal

@@ -1,7 +1,7 @@
 use Rattle.std.proofs.Common.{sym, ap, ◌∙◌, arith}
 use Rattle.std.specs.Prelude.{reverse}
 use Rattle.roff_ahead.proofs.Counts.{bytes_ahead-standing}
-use Rattle.roff_ahead.specs.Input.{bytes_ahead}
+use Rattle.roff_input.specs.Input.{bytes_ahead}
 use Rattle.roff_ahead.specs.PushedTexts.Held.{Held}
 use Rattle.roff_ahead.proofs.pushed_texts.PushedTexts.byte_count.Goals as goal
 

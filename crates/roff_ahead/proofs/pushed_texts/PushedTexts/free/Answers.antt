@@ -2,7 +2,8 @@ use Rattle.std.proofs.Common.{arith}
 use Rattle.std.specs.Prelude.{reverse}
 use Rattle.std.proofs.lemmas.List.{length-reverse}
 use Rattle.roff_ahead.specs.PushedTexts.Held.{held_by}
-use Rattle.roff_ahead.proofs.Counts.{length-pushed_texts, ends_ahead-frees}
+use Rattle.roff_ahead.proofs.Counts.{length-pushed_texts}
+use Rattle.roff_input.proofs.Counts.{ends_ahead-frees}
 use Rattle.roff_ahead.proofs.Pushing.{HasRoom-freed}
 use Rattle.roff_ahead.proofs.pushed_texts.PushedTexts.free.Goals as goal
 

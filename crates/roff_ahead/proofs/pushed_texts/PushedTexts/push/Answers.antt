@@ -1,9 +1,10 @@
 use Rattle.std.proofs.Common.{◌<◌, ◌+◌, arith, ap, ◌∷◌, ◌++◌, length, map}
 use Rattle.std.specs.Prelude.{reverse}
 use Rattle.std.proofs.lemmas.List.{length-reverse}
-use Rattle.roff_ahead.specs.Input.{ByteAhead, EndAhead}
+use Rattle.roff_input.specs.Input.{ByteAhead, EndAhead}
 use Rattle.roff_ahead.specs.PushedTexts.Held.{Held, held_by}
-use Rattle.roff_ahead.proofs.Counts.{length-pushed_texts, bytes_ahead-standing, ends_ahead-bytes}
+use Rattle.roff_ahead.proofs.Counts.{length-pushed_texts, bytes_ahead-standing}
+use Rattle.roff_input.proofs.Counts.{ends_ahead-bytes}
 use Rattle.roff_ahead.proofs.Pushing.{standing-pushed, IsStacked-pushed, HasRoom-pushed}
 use Rattle.roff_ahead.proofs.pushed_texts.PushedTexts.push.Goals as goal
 

@@ -1,6 +1,6 @@
 use Rattle.std.proofs.Common.{◌<◌, ◌∷◌, length, arith, ap}
 use Rattle.std.specs.Prelude.{reverse}
-use Rattle.roff_ahead.specs.Input.{ByteAhead}
+use Rattle.roff_input.specs.Input.{ByteAhead}
 use Rattle.roff_ahead.specs.PushedTexts.Held.{Held, held_by}
 use Rattle.roff_ahead.proofs.Counts.{bytes_ahead-standing}
 use Rattle.roff_ahead.proofs.Pushing.{standing-one, IsStacked-one, HasRoom-byte}

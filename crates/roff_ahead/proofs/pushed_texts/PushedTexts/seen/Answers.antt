@@ -1,7 +1,7 @@
 use Rattle.std.proofs.Common.{◌≡◌, ◌≤◌, ℕ, List, [], ◌∷◌, ◌++◌, length, refl, arith}
 use Rattle.std.specs.Prelude.{reverse}
 use Rattle.roff_ahead.specs.PushedTexts.Standing.{standing, IsStacked}
-use Rattle.roff_ahead.specs.Input.{first_but_ends}
+use Rattle.roff_input.specs.Input.{first_but_ends}
 use Rattle.roff_ahead.specs.declared.pushed_texts.MarkAt.{MarkAt}
 use Rattle.roff_ahead.specs.declared.pushed_texts.Mark.TheVariants.{Ends, Return}
 use Rattle.roff_ahead.proofs.Standing.{standing_mark, reverse_front}

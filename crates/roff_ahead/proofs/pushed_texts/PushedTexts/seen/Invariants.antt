@@ -1,7 +1,7 @@
 use Rattle.std.proofs.Common.{◌≡◌, length}
 use Rattle.std.specs.Prelude.{reverse}
 use Rattle.roff_ahead.specs.PushedTexts.Standing.{standing, IsStacked}
-use Rattle.roff_ahead.specs.Input.{first_but_ends}
+use Rattle.roff_input.specs.Input.{first_but_ends}
 use Rattle.roff_ahead.proofs.pushed_texts.PushedTexts.seen.Given as goal
 
 abbrev pub invariant-loop-slot : goal.invariant-loop-slot

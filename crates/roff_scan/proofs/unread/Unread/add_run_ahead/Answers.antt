@@ -1,6 +1,6 @@
 use Rattle.std.proofs.Common.{◌≡◌, ◌+◌, ◌≤◌, length, take, ap, ◌∙◌, arith}
 use Rattle.std.proofs.lemmas.List.{length-take-le}
-use Rattle.roff_ahead.specs.Input.Names.{stored}
+use Rattle.roff_input.specs.Input.Names.{stored}
 use Rattle.roff_source.specs.Bytes.{is_text_byte}
 use Rattle.roff_scan.specs.Unread.Calls.{next_bytes}
 use Rattle.roff_scan.specs.Unread.Kept.{kept_by}

@@ -1,7 +1,7 @@
 use Rattle.std.proofs.Common.{◌≡◌, Ok, Err, sym, subst}
 use Rattle.roff_num.specs.declared.limit.Limit.TheVariants.{Stack}
-use Rattle.roff_ahead.specs.Input.{with_arguments}
-use Rattle.roff_ahead.specs.Unread.{Unread, changing}
+use Rattle.roff_input.specs.Input.{with_arguments}
+use Rattle.roff_input.specs.Unread.{Unread, changing}
 use Rattle.roff_arguments.specs.Arguments.{with_unit}
 use Rattle.roff_scan.specs.Unread.Kept.{kept_by}
 use Rattle.roff_scan.proofs.Changing.{hold_past_stack, hold_within, IsWithin-holding}

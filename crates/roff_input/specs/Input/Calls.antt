@@ -2,7 +2,7 @@
 use Rattle.std.specs.Prelude.{ℕ, Bool, false, List, [], ◌∷◌, ◌++◌, drop, length, map, Option, Some, None, if◌then◌else◌, ◌==◌, not, get_or, reverse}
 use Rattle.roff_arguments.specs.Arguments.{no_arguments, only_kept, finished}
 use Rattle.roff_source.specs.Bytes.{newline}
-use Rattle.roff_ahead.specs.Input.{Input, ByteAhead, ReturnAhead}
+use Rattle.roff_input.specs.Input.{Input, ByteAhead, ReturnAhead}
 
 -- whether a body has bytes, and no newline at its end
 abbrev pub lacks_newline : List ℕ → Bool

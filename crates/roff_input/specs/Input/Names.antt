@@ -2,7 +2,7 @@
 use Rattle.std.specs.Prelude.{ℕ, ◌-◌, Bool, List, [], length, Option, Some, None}
 use Rattle.roff_store.specs.TextCalls.{Call, Enter, PushOpen, DropOpen, made}
 use Rattle.roff_store.specs.Texts.{Texts, body_of, newest, used}
-use Rattle.roff_ahead.specs.Input.{Input}
+use Rattle.roff_input.specs.Input.{Input}
 
 -- the texts of an input, as a store without limits has them
 abbrev pub texts_of : {E : Type 0} → Input E → Texts

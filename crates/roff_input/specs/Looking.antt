@@ -1,8 +1,8 @@
 -- What was looked at of the source, and whether anything more is taken of it.
 use Rattle.std.specs.Prelude.{ℕ, Bool, true, false, [], ◌∷◌, Option, Some, None}
 use Rattle.roff_source.specs.Tape.{Tape, Answer, Gives, Ends, OneByte, Ended, items_then}
-pub use Rattle.roff_ahead.specs.declared.looked.Looked.{Looked}
-pub use Rattle.roff_ahead.specs.declared.looked.Looked.TheVariants.{Nothing, Byte, Closed}
+pub use Rattle.roff_input.specs.declared.looked.Looked.{Looked}
+pub use Rattle.roff_input.specs.declared.looked.Looked.TheVariants.{Nothing, Byte, Closed}
 
 -- whether the source's next byte is the next one: none was looked at, and more is taken
 abbrev pub is_nothing : Looked → Bool

@@ -1,6 +1,6 @@
 -- How many events stand ahead that were put back.
 use Rattle.std.specs.Prelude.{ℕ, ◌-◌, ◌≤◌, List, [], ◌∷◌}
-use Rattle.roff_ahead.specs.Input.{Ahead, ByteAhead, FreeAhead, EndAhead, ReturnAhead, DoAhead}
+use Rattle.roff_input.specs.Input.{Ahead, ByteAhead, FreeAhead, EndAhead, ReturnAhead, DoAhead}
 
 -- So many events at most stand before the next end, none behind a byte, and five at most behind each end. An event is put back
 -- where a byte, an end or an event was taken, with those that were to be performed behind it.

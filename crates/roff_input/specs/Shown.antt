@@ -2,13 +2,13 @@
 use Rattle.std.specs.Prelude.{ℕ, ◌+◌, List, [], ◌∷◌, Option, Some, None}
 use Rattle.roff_num.specs.declared.limit.Limit.{Limit}
 use Rattle.roff_num.specs.declared.limits.Limits.{Limits}
-use Rattle.roff_ahead.specs.Input.{Ahead, ByteAhead, FreeAhead, EndAhead, ReturnAhead, DoAhead}
+use Rattle.roff_input.specs.Input.{Ahead, ByteAhead, FreeAhead, EndAhead, ReturnAhead, DoAhead}
 use Rattle.roff_store.specs.Texts.{Texts}
 use Rattle.roff_source.specs.Tape.{Ending, Ended, Failed, Stopped}
-use Rattle.roff_ahead.specs.declared.item.Item.{Item}
-use Rattle.roff_ahead.specs.declared.item.Item.TheVariants.{Byte, End, Return, Do, Note, SourceEnd, Fault, Stop, Refused}
-use Rattle.roff_ahead.specs.declared.item.Sight.{Sight}
-use Rattle.roff_ahead.specs.declared.item.Sight.TheVariants.{Byte as SightOfByte, Nothing as SightOfNothing, Note as SightOfNote, SourceEnd as SightOfEnd, Fault as SightOfFault, Stop as SightOfStop}
+use Rattle.roff_input.specs.declared.item.Item.{Item}
+use Rattle.roff_input.specs.declared.item.Item.TheVariants.{Byte, End, Return, Do, Note, SourceEnd, Fault, Stop, Refused}
+use Rattle.roff_input.specs.declared.item.Sight.{Sight}
+use Rattle.roff_input.specs.declared.item.Sight.TheVariants.{Byte as SightOfByte, Nothing as SightOfNothing, Note as SightOfNote, SourceEnd as SightOfEnd, Fault as SightOfFault, Stop as SightOfStop}
 
 -- no name stands for anything; there is room for so many that the limit doesn't count
 abbrev pub no_texts : Limits → ℕ → Texts
@@ -84,3 +84,8 @@ seen_ahead (FreeAhead b ∷ items) = Some (SeesByte b)
 seen_ahead (EndAhead ∷ items) = seen_ahead items
 seen_ahead (ReturnAhead back ∷ items) = seen_ahead items
 seen_ahead (DoAhead event ∷ items) = Some SeesNothing
+
+-- the byte that is seen, if one is
+abbrev pub byte_seen : Option Sighted → Option ℕ
+byte_seen (Some (SeesByte b)) = Some b
+byte_seen (_) = None

@@ -1,7 +1,7 @@
 //! What was looked at of the source.
 
 ghost use Rattle.std.specs.Prelude.{◌≡◌};
-ghost use Rattle.roff_ahead.specs.Looking.{closing, is_closed, is_nothing};
+ghost use Rattle.roff_input.specs.Looking.{closing, is_closed, is_nothing};
 
 /// What was looked at of the source, and whether anything more is taken of it.
 #[derive(Clone, Copy, Debug, PartialEq, Eq)]

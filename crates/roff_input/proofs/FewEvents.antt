@@ -1,8 +1,8 @@
 -- Events that were put back are few, so there is room for more of them.
 use Rattle.std.proofs.Common.{◌≡◌, ◌<◌, ◌≤◌, ◌+◌, ◌-◌, ◌*◌, ℕ, List, [], ◌∷◌, ◌++◌, length, map, Some, None, refl, sym, ◌∙◌, arith}
-use Rattle.roff_ahead.specs.Input.{Ahead, ByteAhead, FreeAhead, EndAhead, ReturnAhead, DoAhead, ends_ahead, events_ahead}
-use Rattle.roff_ahead.specs.Input.Few.{AreFewFrom, AreFew}
-use Rattle.roff_ahead.specs.Shown.{SeesByte, SeesNothing, seen_ahead}
+use Rattle.roff_input.specs.Input.{Ahead, ByteAhead, FreeAhead, EndAhead, ReturnAhead, DoAhead, ends_ahead, events_ahead}
+use Rattle.roff_input.specs.Input.Few.{AreFewFrom, AreFew}
+use Rattle.roff_input.specs.Shown.{SeesByte, SeesNothing, seen_ahead}
 
 module _ {E : Type 0} where
   -- where there is room for more, they are few too

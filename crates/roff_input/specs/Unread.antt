@@ -7,16 +7,16 @@ use Rattle.roff_num.specs.declared.limit.Limit.{Limit}
 use Rattle.roff_num.specs.declared.limit.Limit.TheVariants.{Bytes, Stack, Depth, Diversions, Conditions, Store, Names}
 use Rattle.roff_num.specs.declared.limits.Limits.{Limits}
 use Rattle.roff_escape.specs.OpenEscapes.{Reads, reading_ended}
-use Rattle.roff_ahead.specs.Input.{with_escapes, Input, initial_input, is_none_ahead, Ahead, cost, counting, item_taken, pushed, depth, result_count}
-use Rattle.roff_ahead.specs.Input.Names.{stored, names_added}
+use Rattle.roff_input.specs.Input.{with_escapes, Input, initial_input, is_none_ahead, Ahead, cost, counting, item_taken, pushed, depth, result_count}
+use Rattle.roff_input.specs.Input.Names.{stored, names_added}
 use Rattle.roff_store.specs.Texts.{Texts}
 use Rattle.roff_source.specs.Tape.{Tape, Answer, Answers, Gives, Ends, OneByte, OneNote, items_then}
 use Rattle.roff_escape.specs.declared.open_escape.Decision.TheVariants.{Is}
 use Rattle.roff_escape.specs.declared.open_escape.Found.{Found}
 use Rattle.roff_escape.specs.declared.open_escape.Found.TheVariants.{Decides}
 use Rattle.roff_escape.specs.declared.open_escape.Surroundings.{Surroundings}
-use Rattle.roff_ahead.specs.Looking.{Looked, Nothing, Byte, answer_behind, is_nothing}
-use Rattle.roff_ahead.specs.Shown.{no_texts, Shown, shown_ahead, Sighted, seen_ahead, ShowsByte, ShowsNote, ShowsEnding, ShowsRefusal, SeesByte, SeesNote, SeesEnding}
+use Rattle.roff_input.specs.Looking.{Looked, Nothing, Byte, answer_behind, is_nothing}
+use Rattle.roff_input.specs.Shown.{no_texts, Shown, shown_ahead, Sighted, seen_ahead, ShowsByte, ShowsNote, ShowsEnding, ShowsRefusal, SeesByte, SeesNote, SeesEnding}
 
 -- the unread input
 pub record Unread (E : Type 0) : Type 0 where

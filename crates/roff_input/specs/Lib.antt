@@ -1,0 +1,4 @@
+pub mod Input
+pub mod Shown
+pub mod Looking
+pub mod Unread
