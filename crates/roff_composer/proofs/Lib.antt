@@ -2,3 +2,4 @@ pub mod EnvironmentRing
 pub mod GivenPages
 pub mod TitleTexts
 pub mod ToldBytes
+pub mod OddPages

@@ -3,9 +3,13 @@
 #![tactic(auto)]
 
 mod composer;
+mod conditions;
 mod environments;
+mod places;
 mod title_text;
 
 pub use composer::Composer;
+pub use conditions::is_so;
 pub use environments::{Environment, Environments, Left};
+pub use places::{at_start, on_line};
 pub use title_text::TitleText;

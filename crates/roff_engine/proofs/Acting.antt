@@ -3,11 +3,11 @@ use Rattle.std.proofs.Common.{◌≡◌, ℕ, ◌+◌, ◌*◌, ◌-◌, List, [
 use Rattle.std.specs.Prelude.{map}
 use Rattle.roff_num.specs.declared.limit.Limit.{Limit}
 use Rattle.roff_num.specs.declared.limits.Limits.{Limits}
-use Rattle.roff_ahead.specs.Input.{putting_all_back}
+use Rattle.roff_input.specs.Input.{putting_all_back}
 use Rattle.roff_source.specs.Tape.{Tape}
-use Rattle.roff_ahead.specs.Looking.{is_closed, looked_then}
-use Rattle.roff_ahead.specs.declared.looked.Looked.{Looked}
-use Rattle.roff_ahead.specs.declared.looked.Looked.TheVariants.{Nothing, Byte, Closed}
+use Rattle.roff_input.specs.Looking.{is_closed, looked_then}
+use Rattle.roff_input.specs.declared.looked.Looked.{Looked}
+use Rattle.roff_input.specs.declared.looked.Looked.TheVariants.{Nothing, Byte, Closed}
 use Rattle.roff_engine.specs.declared.interpreter.Interpreter.{Interpreter}
 use Rattle.roff_formatter.specs.declared.halt.Halt.{Halt}
 use Rattle.roff_formatter.specs.declared.halt.Halt.TheVariants.{Limit as Limited, Refused, Over, Output, Messages}
@@ -17,7 +17,7 @@ use Rattle.roff_formatter.specs.Formatter.Performing.{acting}
 use Rattle.roff_engine.specs.Interpreter.Performing.{CameBehind, TakingDone, DoesTaking, Opens, going, sinks}
 use Rattle.roff_run.specs.Springs.{AreFewBehind}
 use Rattle.roff_run.proofs.KeepingText.{StaysFew}
-use Rattle.roff_ahead.specs.Input.Few.{AreFewFrom}
+use Rattle.roff_input.specs.Input.Few.{AreFewFrom}
 use Rattle.roff_formatter.specs.Formatter.Sprung.{most_back, rest_left}
 use Rattle.roff_run.specs.TurnsToCome.{most_left}
 use Rattle.roff_engine.specs.Running.Room.{FewFor}

@@ -15,7 +15,7 @@ use Rattle.roff_escape.specs.OpenEscape.{OpenEscape, Backslash}
 use Rattle.roff_escape.specs.OpenEscapes.{byte_read}
 use Rattle.roff_escape.specs.declared.open_escape.CopyUnit.TheVariants.{Byte}
 use Rattle.roff_escape.specs.declared.open_escape.Found.TheVariants.{GoesOn, Unit as GivesUnit}
-use Rattle.roff_ahead.specs.Input.{Ahead, ByteAhead, bytes_taken, counting, item_taken, lines_taken}
+use Rattle.roff_input.specs.Input.{Ahead, ByteAhead, bytes_taken, counting, item_taken, lines_taken}
 use Rattle.roff_scan.specs.Unread.Calls.{NoNewline, OfSource, OfTexts, PassesFront, front_bytes}
 use Rattle.roff_scan.proofs.RunKinds.{no_newline_of}
 use Rattle.roff_fronts.proofs.RunsRead.{first_of_front}
@@ -25,7 +25,8 @@ use Rattle.roff_composer.specs.Composer.Standing.{StandFor}
 use Rattle.roff_composer.specs.declared.composer.Composer.{Composer as ComposerOf}
 use Rattle.roff_run.specs.Environments.{PageHistory, interrupted_line, text_of}
 use Rattle.roff_run.specs.PageEvents.{PageEvent}
-use Rattle.roff_run.specs.Reading.{interrupted, taking, undropped_taking}
+use Rattle.roff_run.specs.Reading.{taking, undropped_taking}
+use Rattle.roff_run.specs.Reading.Units.{interrupted}
 use Rattle.roff_run.specs.Reading.Beginnings.{at_start, beginning_text, going_on_told, line_begun, line_begun_as}
 use Rattle.roff_run.specs.Reading.Found.{read_in}
 use Rattle.roff_run.specs.Reading.Items.{PageInput, PageUnread, Taking, behind_events, going_on, meaning_events}

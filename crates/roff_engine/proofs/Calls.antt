@@ -2,18 +2,18 @@
 use Rattle.std.proofs.Common.{◌≡◌, ◌⊎◌, inl, inr, ℕ, ◌+◌, ◌≤◌, Bool, true, false, List, [], ◌∷◌, Option, Some, None, refl, sym, ap, subst, arith}
 use Rattle.std.specs.Prelude.{nat_lt, is_none, ◌&&◌}
 use Rattle.roff_escape.specs.Waiting.{is_ended_by}
-use Rattle.roff_ahead.specs.Input.{Ahead, ByteAhead, FreeAhead, EndAhead, ReturnAhead, DoAhead, cost, item_taken}
+use Rattle.roff_input.specs.Input.{Ahead, ByteAhead, FreeAhead, EndAhead, ReturnAhead, DoAhead, cost, item_taken}
 use Rattle.roff_source.specs.Tape.{Tape, Item, Answer, Ending, Ended, Failed, Stopped, OneByte, OneNote, Gives, Ends, items_then}
-use Rattle.roff_ahead.specs.Looking.{answer_behind, is_closed, is_nothing, looked_then}
-use Rattle.roff_ahead.specs.declared.looked.Looked.{Looked}
-use Rattle.roff_ahead.specs.declared.looked.Looked.TheVariants.{Nothing, Byte, Closed}
-use Rattle.roff_ahead.specs.Unread.{Asked, asks_to_take, asks_to_look, looking, looking_past, taking, taking_answer}
-use Rattle.roff_ahead.specs.Input.Few.{AreFew, AreFewFrom}
-use Rattle.roff_ahead.proofs.FewEvents.{few-more}
+use Rattle.roff_input.specs.Looking.{answer_behind, is_closed, is_nothing, looked_then}
+use Rattle.roff_input.specs.declared.looked.Looked.{Looked}
+use Rattle.roff_input.specs.declared.looked.Looked.TheVariants.{Nothing, Byte, Closed}
+use Rattle.roff_input.specs.Unread.{Asked, asks_to_take, asks_to_look, looking, looking_past, taking, taking_answer}
+use Rattle.roff_input.specs.Input.Few.{AreFew, AreFewFrom}
+use Rattle.roff_input.proofs.FewEvents.{few-more}
 use Rattle.roff_engine.specs.Running.Room.{FewFor, SeesOn}
 use Rattle.roff_formatter.proofs.EventsLeft.{most-length}
 use Rattle.roff_engine.proofs.Fronts.{few-nothing, few-sees}
-use Rattle.roff_ahead.specs.Shown.{Shown, ShowsByte, ShowsDo, ShowsEnding, ShowsRefusal, Sighted, SeesByte, SeesNothing, SeesEnding, shown_ahead, seen_ahead}
+use Rattle.roff_input.specs.Shown.{Shown, ShowsByte, ShowsDo, ShowsEnding, ShowsRefusal, Sighted, SeesByte, SeesNothing, SeesEnding, shown_ahead, seen_ahead}
 use Rattle.roff_engine.specs.Engine.Outcome.{IsLeftOf}
 use Rattle.roff_run.specs.Reading.Items.{PageInput}
 use Rattle.roff_run.specs.Reading.Items.{PageUnread}

@@ -2,7 +2,7 @@
 use Rattle.std.proofs.Common.{◌≡◌, ◌≤◌, ◌-◌, ◌==◌, if◌then◌else◌, ℕ, Bool, true, false, List, [], ◌++◌, Option, Some, None, Ok, Err, inl, inr, refl, sym, subst, ap, ◌∙◌, arith, append-nil}
 use Rattle.roff_num.specs.declared.limit.Limit.{Limit}
 use Rattle.roff_arguments.specs.Arguments.{no_arguments}
-use Rattle.roff_ahead.specs.Input.{leaving, outermost_back}
+use Rattle.roff_input.specs.Input.{leaving, outermost_back}
 use Rattle.roff_run.specs.Reading.Returns.{gone_back_to, line_of}
 use Rattle.roff_run.specs.TurnsToCome.{begun}
 use Rattle.roff_run.specs.declared.phase.Phase.{Phase}
@@ -31,9 +31,9 @@ use Rattle.roff_engine.proofs.Acting.{IsLeftOf-looked_then}
 use Rattle.roff_engine.proofs.Calls.{Leaves}
 use Rattle.roff_engine.proofs.Items.{lost, one_more}
 use Rattle.roff_engine.proofs.TurnsLeft.{lines_left_in-few}
-use Rattle.roff_ahead.specs.Looking.{closing, is_closed, looked_then}
-use Rattle.roff_ahead.specs.declared.looked.Looked.{Looked}
-use Rattle.roff_ahead.specs.declared.looked.Looked.TheVariants.{Nothing, Byte, Closed}
+use Rattle.roff_input.specs.Looking.{closing, is_closed, looked_then}
+use Rattle.roff_input.specs.declared.looked.Looked.{Looked}
+use Rattle.roff_input.specs.declared.looked.Looked.TheVariants.{Nothing, Byte, Closed}
 use Rattle.roff_engine.specs.Interpreter.Performing.{going}
 use Rattle.roff_run.proofs.Leads.{Leads-to}
 

@@ -6,9 +6,9 @@ use Rattle.roff_num.specs.declared.limit.Limit.{Limit}
 use Rattle.roff_num.specs.declared.limits.Limits.{Limits}
 use Rattle.roff_escape.specs.OpenEscapes.{reading_ended}
 use Rattle.roff_source.specs.Tape.{Tape, behind_front}
-use Rattle.roff_ahead.specs.Looking.{is_closed, looked_then}
-use Rattle.roff_ahead.specs.declared.looked.Looked.{Looked}
-use Rattle.roff_ahead.specs.declared.looked.Looked.TheVariants.{Nothing}
+use Rattle.roff_input.specs.Looking.{is_closed, looked_then}
+use Rattle.roff_input.specs.declared.looked.Looked.{Looked}
+use Rattle.roff_input.specs.declared.looked.Looked.TheVariants.{Nothing}
 use Rattle.roff_escape.specs.OpenEscape.{OpenEscape}
 use Rattle.roff_escape.specs.declared.open_escape.Surroundings.TheVariants.{Arguments as AboveArguments, Copy as AboveCopy, Text as AboveText}
 use Rattle.roff_engine.specs.declared.running.Running.{Running as Coded}
@@ -27,8 +27,8 @@ use Rattle.roff_run.specs.declared.line_state.LineState.{LineState}
 use Rattle.roff_run.specs.declared.line_state.LineState.TheVariants.{LineStart, Branch, Braced, Text as InText, Control, Name, Arguments as InArguments, Deciding, StringName, StringText, Skipping, Dropped, Telling, Told, Exiting, Calling, Defining, TitleFront, Title as InTitle}
 use Rattle.roff_run.specs.declared.phase.Phase.TheVariants.{Closing}
 use Rattle.roff_run.specs.declared.status.Status.TheVariants.{Done}
-use Rattle.roff_ahead.specs.Input.{Ahead}
-use Rattle.roff_ahead.specs.Input.Few.{AreFewFrom}
+use Rattle.roff_input.specs.Input.{Ahead}
+use Rattle.roff_input.specs.Input.Few.{AreFewFrom}
 use Rattle.roff_run.specs.PageEvents.{PageEvent}
 use Rattle.roff_run.proofs.Keeping.{Keeps-escape_ended}
 use Rattle.roff_run.proofs.KeepingText.{StaysFew}

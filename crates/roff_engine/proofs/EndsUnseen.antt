@@ -1,9 +1,9 @@
 -- What is half read and ends before something that can't be seen leads to no condition where none was read, and no event is left.
 use Rattle.std.proofs.Common.{◌≡◌, ◌⊎◌, inl, inr, ℕ, ◌-◌, Bool, true, false, List, [], ◌∷◌, Option, Some, None, refl, sym, subst, arith}
 use Rattle.std.specs.Prelude.{◌+◌, ◌&&◌, ◌==◌, drop, if◌then◌else◌, nat_le}
-use Rattle.roff_ahead.specs.Input.{Ahead}
-use Rattle.roff_ahead.specs.Input.Few.{AreFewFrom}
-use Rattle.roff_ahead.proofs.FewEvents.{few-more}
+use Rattle.roff_input.specs.Input.{Ahead}
+use Rattle.roff_input.specs.Input.Few.{AreFewFrom}
+use Rattle.roff_input.proofs.FewEvents.{few-more}
 use Rattle.roff_source.specs.Bytes.{newline, backslash}
 use Rattle.roff_num.specs.declared.short_name.ShortName.{ShortName}
 use Rattle.roff_escape.specs.OpenEscape.{OpenEscape, Backslash, Comment, Name as NameHalf, Size, Delimited, Width, Condition}
@@ -34,7 +34,7 @@ use Rattle.roff_run.specs.declared.definition.DefinitionLine.TheVariants.{MayBeL
 use Rattle.roff_run.specs.declared.line_state.LineState.{LineState}
 use Rattle.roff_run.specs.declared.line_state.LineState.TheVariants.{LineStart, Branch, Braced, Text as InText, Control, Name, Arguments as InArguments, Deciding, StringName, StringText, Skipping, Dropped, Telling, Told, Exiting, Calling, Defining, TitleFront, Title as InTitle}
 use Rattle.roff_run.proofs.NoConditions.{NoCondition, Over, Over-beginning_found, Over-if, Over-text_found}
-use Rattle.roff_run.proofs.TitlesOver.{Over-title_found, Over-title_front_found}
+use Rattle.roff_run.proofs.TitlesOver.{Over-title_found}
 use Rattle.roff_run.proofs.UnseenEnds.{NoneSprings, quiet-unseen}
 
 -- a condition is read, or none is
@@ -118,7 +118,7 @@ over-escape k i Exiting over = tt
 over-escape k i (Calling name) over = tt
 over-escape k i (Defining name appends end matched) over =
     over-definition k i name appends end (front_of (end_mark end) matched) (line_from (end_mark end) matched (Kept 115)) (not_last-from (end_mark end) matched)
-over-escape k i TitleFront over = Over-title_front_found k i (Escape 115)
+over-escape k i TitleFront over = tt
 over-escape k i (InTitle delimiter) over = Over-title_found k i delimiter (Escape 115)
 
 over-nothing : (k : Known) (i : PageInput) (reading : LineState) → NoCondition reading → Over (found_in k i reading GoesOn)
@@ -139,7 +139,7 @@ over-nothing k i (Told aborts) over = tt
 over-nothing k i Exiting over = tt
 over-nothing k i (Calling name) over = tt
 over-nothing k i (Defining name appends end matched) over = tt
-over-nothing k i TitleFront over = Over-title_front_found k i GoesOn
+over-nothing k i TitleFront over = tt
 over-nothing k i (InTitle delimiter) over = Over-title_found k i delimiter GoesOn
 
 -- a size ends

@@ -3,8 +3,8 @@ use Rattle.std.proofs.Common.{◌≡◌, ℕ, ◌+◌, ◌-◌, List, [], ◌∷
 use Rattle.roff_num.specs.declared.limit.Limit.{Limit}
 use Rattle.roff_num.specs.declared.limit.Limit.TheVariants.{Names, Line, Stack, Depth, Store, Diversions, Conditions}
 use Rattle.roff_num.specs.declared.limits.Limits.{Limits}
-use Rattle.roff_ahead.specs.Input.{DoAhead, depth, result_count}
-use Rattle.roff_ahead.specs.Input.Names.{names_added, stored}
+use Rattle.roff_input.specs.Input.{DoAhead, depth, result_count}
+use Rattle.roff_input.specs.Input.Names.{names_added, stored}
 use Rattle.roff_engine.specs.declared.interpreter.Interpreter.{Interpreter}
 use Rattle.roff_formatter.specs.declared.halt.Halt.{Halt}
 use Rattle.roff_formatter.specs.declared.halt.Halt.TheVariants.{Limit as Limited, Refused, Over, Output, Messages}
@@ -17,15 +17,14 @@ use Rattle.roff_sinks.specs.Sinks.{Sunk}
 use Rattle.roff_composer.specs.declared.composer.Composer.{Composer as ComposerOf}
 use Rattle.roff_run.specs.Output.{PageHistory}
 use Rattle.roff_run.specs.Reading.Items.{PageUnread}
-use Rattle.roff_run.specs.Reading.{interrupted}
 use Rattle.roff_run.specs.Reading.Items.{PageInput, Taking, going_on}
-use Rattle.roff_run.specs.Reading.Units.{settling}
+use Rattle.roff_run.specs.Reading.Units.{interrupted, settling}
 use Rattle.roff_run.specs.Registers.{AllRegisters, Known}
 use Rattle.roff_run.specs.Run.{State, initial, ahead_taken, known_at, step, taken_as, unless_refused, grown}
 use Rattle.roff_run.specs.Run.Counts.{counts_in, first_passed}
 use Rattle.roff_run.specs.PageEvents.{PageEvent}
 use Rattle.roff_run.specs.declared.line_state.LineState.{LineState}
-use Rattle.roff_run.specs.declared.line_state.LineState.TheVariants.{LineStart, Branch, Braced, Text as InText, Control, Name, Arguments as InArguments, Deciding, StringName, StringText, Skipping, Dropped, Telling, Told, Exiting, Calling, Defining, TitleFront, Title as InTitle}
+use Rattle.roff_run.specs.declared.line_state.LineState.TheVariants.{Arguments as InArguments, StringName, Calling}
 use Rattle.roff_run.proofs.InputCounts.{pushed-settling}
 use Rattle.roff_run.proofs.Keeping.{Keeps-interrupted}
 use Rattle.roff_run.proofs.Leads.{Leads-to}
@@ -41,25 +40,10 @@ counts_in-settling rs i =
 
 -- nor where something that isn't a byte of the line has come
 counts_in-interrupted : (rs : AllRegisters) (reading : LineState) (i : PageInput) → counts_in rs (interrupted reading i) ≡ counts_in rs i
-counts_in-interrupted rs LineStart i = refl
-counts_in-interrupted rs Branch i = refl
-counts_in-interrupted rs Braced i = refl
-counts_in-interrupted rs (InText line) i = refl
-counts_in-interrupted rs (Control breaks) i = refl
-counts_in-interrupted rs (Name breaks byte) i = refl
 counts_in-interrupted rs (InArguments breaks request) i = counts_in-settling rs i
 counts_in-interrupted rs (StringName appends) i = counts_in-settling rs i
 counts_in-interrupted rs (Calling name) i = counts_in-settling rs i
-counts_in-interrupted rs (Deciding keeping) i = refl
-counts_in-interrupted rs (StringText name appends is_front) i = refl
-counts_in-interrupted rs (Defining name appends end matched) i = refl
-counts_in-interrupted rs (Telling aborts is_front) i = refl
-counts_in-interrupted rs (Told aborts) i = refl
-counts_in-interrupted rs Exiting i = refl
-counts_in-interrupted rs (Skipping opened closed behind) i = refl
-counts_in-interrupted rs Dropped i = refl
-counts_in-interrupted rs TitleFront i = refl
-counts_in-interrupted rs (InTitle delimiter) i = refl
+counts_in-interrupted rs (_) i = refl
 
 -- so no limit refuses what it didn't refuse before
 within-interrupted : (l : Limits) (rs : AllRegisters) (reading : LineState) (i : PageInput)

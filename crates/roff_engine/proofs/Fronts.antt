@@ -1,9 +1,9 @@
 -- Few events stand in front of a run, and none where a condition that decided is next.
 use Rattle.std.proofs.Common.{◌≡◌, ◌-◌, ◌≤◌, Bool, true, false, List, [], ◌∷◌, ◌++◌, length, refl, sym, ap, subst, append-nil, ◌∙◌, arith}
 use Rattle.std.specs.Prelude.{map}
-use Rattle.roff_ahead.specs.Input.{Ahead, putting_all_back}
-use Rattle.roff_ahead.specs.Input.Few.{AreFewFrom}
-use Rattle.roff_ahead.proofs.FewEvents.{few-behind, few-more}
+use Rattle.roff_input.specs.Input.{Ahead, putting_all_back}
+use Rattle.roff_input.specs.Input.Few.{AreFewFrom}
+use Rattle.roff_input.proofs.FewEvents.{few-behind, few-more}
 use Rattle.roff_escape.specs.OpenEscape.{OpenEscape}
 use Rattle.roff_formatter.specs.Formatter.Sprung.{most_back}
 use Rattle.roff_engine.specs.Running.Room.{FewFor, SeesOn, decides_next}
@@ -11,7 +11,8 @@ use Rattle.roff_engine.specs.Running.Turning.{input_ends}
 use Rattle.roff_formatter.proofs.EventsLeft.{calm-none}
 use Rattle.roff_engine.proofs.Room.{back_few}
 use Rattle.roff_run.specs.PageEvents.{PageEvent}
-use Rattle.roff_run.specs.Reading.{escape_ended, interrupted}
+use Rattle.roff_run.specs.Reading.{escape_ended}
+use Rattle.roff_run.specs.Reading.Units.{interrupted}
 use Rattle.roff_run.specs.Reading.Ends.{end_taking, is_unfinished}
 use Rattle.roff_run.specs.Reading.Items.{PageInput, Taking}
 use Rattle.roff_run.specs.Registers.{Known}

@@ -3,16 +3,16 @@ use Rattle.std.proofs.Common.{◌∙◌, ◌≡◌, ◌≤◌, ℕ, List, length
 use Rattle.std.specs.Prelude.{false, is_some, map, nat_lt}
 use Rattle.std.proofs.lemmas.Bool.{le-ltb}
 use Rattle.std.proofs.lemmas.Bool.Decides.{nat_tests}
-use Rattle.roff_ahead.specs.Input.{putting_all_back}
+use Rattle.roff_input.specs.Input.{putting_all_back}
 use Rattle.roff_engine.specs.Running.Room.{FewFor}
-use Rattle.roff_ahead.proofs.FewEvents.{few-called}
-use Rattle.roff_ahead.specs.Input.Calls.{called_text}
-use Rattle.roff_ahead.specs.Input.Names.{body_named}
+use Rattle.roff_input.proofs.FewEvents.{few-called}
+use Rattle.roff_input.specs.Input.Calls.{called_text}
+use Rattle.roff_input.specs.Input.Names.{body_named}
 use Rattle.roff_num.specs.ShortNames.{name_bytes}
 use Rattle.roff_num.specs.declared.limit.Limit.{Limit}
 use Rattle.roff_num.specs.declared.limits.Limits.{Limits}
 use Rattle.roff_num.specs.declared.short_name.ShortName.{ShortName}
-use Rattle.roff_ahead.specs.Unread.{input_refusal, unless_passed}
+use Rattle.roff_input.specs.Unread.{input_refusal, unless_passed}
 use Rattle.roff_source.specs.Tape.{Tape}
 use Rattle.roff_reader.proofs.TakesAs.{few_names, short_title}
 use Rattle.roff_reader.specs.Reader.Springs.{Springs, SpringsBody, SpringsNothing, sprung_input}

@@ -14,9 +14,9 @@ use Rattle.roff_run.specs.Run.{Leads, initial}
 use Rattle.roff_run.specs.declared.start.Start.{Start}
 use Rattle.roff_engine.specs.declared.interpreter.Interpreter.{Interpreter}
 use Rattle.roff_engine.specs.declared.running.Running.{Running as Coded}
-use Rattle.roff_ahead.specs.Input.{Ahead, ByteAhead}
-use Rattle.roff_ahead.specs.Input.Few.{AreFew, AreFewFrom}
-use Rattle.roff_ahead.proofs.FewEvents.{few-more}
+use Rattle.roff_input.specs.Input.{Ahead, ByteAhead}
+use Rattle.roff_input.specs.Input.Few.{AreFew, AreFewFrom}
+use Rattle.roff_input.proofs.FewEvents.{few-more}
 use Rattle.roff_engine.specs.Engine.Outcome.{Beginning, Seen}
 use Rattle.roff_engine.specs.Running.Turning.{GoesPast, GoesPastIf, HasCome, IsAt, state_at}
 use Rattle.roff_engine.proofs.Waiting.{items_then-append}

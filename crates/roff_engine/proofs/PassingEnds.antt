@@ -10,11 +10,11 @@ use Rattle.roff_arguments.specs.declared.arguments.Place.{Place}
 use Rattle.roff_escape.specs.declared.open_escape.Waiting.{Waiting}
 use Rattle.roff_escape.specs.declared.open_escape.Waiting.TheVariants.{Takes as TakesAny}
 use Rattle.roff_run.specs.Reading.Waiting.{line_waits, waiting_above, waiting_in}
-use Rattle.roff_ahead.specs.Input.{Ahead, EndAhead, ReturnAhead, is_none_ahead, item_taken}
+use Rattle.roff_input.specs.Input.{Ahead, EndAhead, ReturnAhead, is_none_ahead, item_taken}
 use Rattle.roff_source.specs.Tape.{Tape}
 use Rattle.roff_scan.proofs.Asking.{takes_ahead}
-use Rattle.roff_ahead.specs.Unread.{IsWithin, taking_first}
-use Rattle.roff_ahead.specs.Shown.{ShowsEnd, ShowsRefusal}
+use Rattle.roff_input.specs.Unread.{IsWithin, taking_first}
+use Rattle.roff_input.specs.Shown.{ShowsEnd, ShowsRefusal}
 use Rattle.roff_scan.specs.Unread.Calls.{PassesEnd, PassesReturn, Takes}
 use Rattle.roff_run.specs.Reading.Items.{PageUnread}
 use Rattle.roff_run.specs.Reading.Returns.{behind_return}
@@ -35,7 +35,7 @@ use Rattle.roff_engine.specs.declared.running.Running.{Running as Coded}
 use Rattle.roff_engine.specs.Engine.Outcome.{Beginning, Seen}
 use Rattle.roff_engine.specs.Running.Turning.{GoesFurther, IsAt, state_at, turns_left}
 use Rattle.roff_engine.proofs.Passing.{IsAt-leads}
-use Rattle.roff_ahead.specs.Input.Few.{AreFew}
+use Rattle.roff_input.specs.Input.Few.{AreFew}
 use Rattle.roff_engine.proofs.Fronts.{few-undecided}
 use Rattle.roff_engine.proofs.Waiting.{takes-next}
 use Rattle.roff_engine.proofs.TurnsLeft.{turns_of_run-fewer}

@@ -2,7 +2,7 @@
 use Rattle.std.proofs.Common.{◌≡◌, ◌≤◌, ℕ, ◌<◌, Bool, true, false, [], ◌∷◌, ◌++◌, None, refl, sym, ap, subst, ◌∙◌, arith}
 use Rattle.roff_source.specs.Bytes.{newline}
 use Rattle.roff_source.specs.Tape.{Tape, items_then}
-use Rattle.roff_ahead.specs.Unread.{IsWithin}
+use Rattle.roff_input.specs.Unread.{IsWithin}
 use Rattle.roff_scan.specs.Unread.Calls.{OfSource, OfTexts, PassesFront}
 use Rattle.roff_reader.specs.Reader.State.{ReaderState}
 use Rattle.roff_run.specs.Reading.Items.{PageUnread}

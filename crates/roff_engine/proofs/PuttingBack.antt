@@ -2,7 +2,7 @@
 use Rattle.std.proofs.Common.{◌∙◌, ◌≡◌, ◌≤◌, ◌<◌, ◌+◌, ℕ, Bool, true, false, List, [], ◌∷◌, ◌++◌, length, Some, None, ap, arith, refl, subst, sym}
 use Rattle.std.specs.Prelude.{drop, map, slice_get, ◌-◌}
 use Rattle.std.proofs.lemmas.List.{length-map}
-use Rattle.roff_ahead.specs.Input.{Ahead, DoAhead, events_ahead, most_events, putting_all_back, putting_back}
+use Rattle.roff_input.specs.Input.{Ahead, DoAhead, events_ahead, most_events, putting_all_back, putting_back}
 use Rattle.roff_reader.specs.Reader.State.{ReaderState}
 use Rattle.roff_run.specs.PageEvents.{PageEvent}
 use Rattle.roff_run.specs.declared.event.PageEvent.TheVariants.{Text, Interrupt, Environment, Back, InputTrap, Page, Title}

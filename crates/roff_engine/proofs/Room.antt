@@ -4,10 +4,10 @@ use Rattle.std.specs.Prelude.{map, nat_lt}
 use Rattle.std.proofs.lemmas.Bool.Decides.{nat_tests}
 use Rattle.std.proofs.lemmas.List.{length-map}
 use Rattle.roff_num.specs.declared.limits.Limits.{Limits}
-use Rattle.roff_ahead.specs.Input.{DoAhead, ends_ahead, pushed, putting_all_back}
-use Rattle.roff_ahead.specs.Input.Few.{AreFew, AreFewFrom}
-use Rattle.roff_ahead.specs.Input.Names.{names_added, stored}
-use Rattle.roff_ahead.proofs.FewEvents.{events-few, few-back, few-more}
+use Rattle.roff_input.specs.Input.{DoAhead, ends_ahead, pushed, putting_all_back}
+use Rattle.roff_input.specs.Input.Few.{AreFew, AreFewFrom}
+use Rattle.roff_input.specs.Input.Names.{names_added, stored}
+use Rattle.roff_input.proofs.FewEvents.{events-few, few-back, few-more}
 use Rattle.roff_run.specs.PageEvents.{PageEvent}
 use Rattle.roff_run.specs.Reading.Items.{PageInput, PageUnread}
 use Rattle.roff_run.specs.Registers.{AllRegisters}

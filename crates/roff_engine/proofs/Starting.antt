@@ -29,9 +29,9 @@ use Rattle.roff_run.specs.Run.{State, initial, stopped_by, unless_refused, with_
 use Rattle.roff_run.specs.Starts.{given_change, history_given, pages_given}
 use Rattle.roff_run.specs.declared.start.Start.{Start}
 use Rattle.roff_run.specs.declared.status.Status.{Status}
-use Rattle.roff_ahead.specs.Looking.{is_closed, looked_then}
-use Rattle.roff_ahead.specs.declared.looked.Looked.{Looked}
-use Rattle.roff_ahead.specs.declared.looked.Looked.TheVariants.{Nothing}
+use Rattle.roff_input.specs.Looking.{is_closed, looked_then}
+use Rattle.roff_input.specs.declared.looked.Looked.{Looked}
+use Rattle.roff_input.specs.declared.looked.Looked.TheVariants.{Nothing}
 use Rattle.roff_source.specs.Tape.{Tape}
 
 -- what asking for a change answers, by whether more names than may would have a register behind it

@@ -3,11 +3,11 @@ use Rattle.std.proofs.Common.{◌≡◌, ℕ, ◌+◌, Bool, true, false, List, 
 use Rattle.std.specs.Prelude.{if◌then◌else◌, nat_lt}
 use Rattle.roff_num.specs.declared.limit.Limit.TheVariants.{Bytes}
 use Rattle.roff_source.specs.Tape.{Tape, Answer, Gives, Ends, OneByte, OneNote}
-use Rattle.roff_ahead.specs.Input.{Ahead, cost, counting, item_taken}
-use Rattle.roff_ahead.specs.Looking.{answer_behind}
-use Rattle.roff_ahead.specs.Shown.{Shown, ShowsByte, ShowsRefusal, shown_ahead}
-use Rattle.roff_ahead.specs.Unread.{taking_answer, taking_first}
-use Rattle.roff_ahead.specs.declared.looked.Looked.TheVariants.{Nothing, Byte}
+use Rattle.roff_input.specs.Input.{Ahead, cost, counting, item_taken}
+use Rattle.roff_input.specs.Looking.{answer_behind}
+use Rattle.roff_input.specs.Shown.{Shown, ShowsByte, ShowsRefusal, shown_ahead}
+use Rattle.roff_input.specs.Unread.{taking_answer, taking_first}
+use Rattle.roff_input.specs.declared.looked.Looked.TheVariants.{Nothing, Byte}
 use Rattle.roff_scan.specs.Unread.Calls.{Takes}
 use Rattle.roff_run.specs.PageEvents.{PageEvent}
 use Rattle.roff_run.specs.Reading.Items.{PageUnread}

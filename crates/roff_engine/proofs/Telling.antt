@@ -5,10 +5,10 @@ use Rattle.std.specs.List.{AllByRecursion}
 use Rattle.roff_lines.specs.Telling.{QuietlyTold}
 use Rattle.roff_num.specs.declared.limits.Limits.{Limits}
 use Rattle.roff_source.specs.Bytes.{is_text_byte}
-use Rattle.roff_ahead.specs.Input.{Ahead, bytes_taken, lines_taken}
+use Rattle.roff_input.specs.Input.{Ahead, bytes_taken, lines_taken}
 use Rattle.roff_source.specs.Tape.{Tape, OneByte, items_then}
-use Rattle.roff_ahead.specs.Looking.{is_closed, looked_then}
-use Rattle.roff_ahead.specs.declared.looked.Looked.{Looked}
+use Rattle.roff_input.specs.Looking.{is_closed, looked_then}
+use Rattle.roff_input.specs.declared.looked.Looked.{Looked}
 use Rattle.roff_scan.specs.Unread.Calls.{OfSource, OfTexts, PassesFront, front_bytes}
 use Rattle.roff_run.specs.Environments.{text_of}
 use Rattle.roff_composer.specs.Composer.Standing.{StandFor}

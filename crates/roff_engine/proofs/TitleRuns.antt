@@ -19,10 +19,10 @@ use Rattle.roff_escape.specs.Waiting.{is_ended_by}
 use Rattle.roff_escape.specs.declared.open_escape.CopyUnit.TheVariants.{Byte}
 use Rattle.roff_escape.specs.declared.open_escape.Found.TheVariants.{GoesOn, Unit as GivesUnit}
 use Rattle.roff_escape.specs.declared.open_escape.Surroundings.TheVariants.{Text as AboveText}
-use Rattle.roff_ahead.specs.Input.{Ahead, ByteAhead, bytes_taken, lines_taken}
-use Rattle.roff_ahead.specs.Looking.{is_closed, looked_then}
+use Rattle.roff_input.specs.Input.{Ahead, ByteAhead, bytes_taken, lines_taken}
+use Rattle.roff_input.specs.Looking.{is_closed, looked_then}
 use Rattle.roff_scan.specs.Unread.Calls.{OfSource, OfTexts, PassesFront}
-use Rattle.roff_ahead.specs.declared.looked.Looked.{Looked}
+use Rattle.roff_input.specs.declared.looked.Looked.{Looked}
 use Rattle.roff_run.proofs.InputCounts.{NoMore-item_taken, first_passed-few_names, first_passed-no_more}
 use Rattle.roff_run.proofs.ItemsTaken.{FromAhead, FromSource, IsOpenFor, Origin, ahead_at, byte_ahead_is_taken, bytes_of_the_source_are_taken, tape_at}
 use Rattle.roff_run.proofs.Leads.{Leads-refl, Leads-trans}
@@ -30,7 +30,8 @@ use Rattle.roff_run.proofs.PlainRuns.{behind_byte, behind_bytes, counted, counte
 use Rattle.roff_run.proofs.TextBytes.{heard-text, is_other, kept-text}
 use Rattle.roff_run.specs.Environments.{PageHistory}
 use Rattle.roff_run.specs.PageEvents.{PageEvent}
-use Rattle.roff_run.specs.Reading.{interrupted, taking, title_read, undropped_taking}
+use Rattle.roff_run.specs.Reading.{taking, title_read, undropped_taking}
+use Rattle.roff_run.specs.Reading.Units.{interrupted}
 use Rattle.roff_run.specs.Reading.Ends.{due}
 use Rattle.roff_run.specs.Reading.Found.{read_in}
 use Rattle.roff_run.specs.Reading.Items.{PageInput, PageUnread, Taking, going_on}

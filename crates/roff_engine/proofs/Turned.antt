@@ -2,14 +2,15 @@
 use Rattle.std.proofs.Common.{◌≡◌, ℕ, ◌+◌, ◌≤◌, List, [], ◌∷◌, length, None, refl, sym, ap, subst, ◌∙◌, arith}
 use Rattle.std.specs.Prelude.{map}
 use Rattle.roff_num.specs.declared.limits.Limits.{Limits}
-use Rattle.roff_ahead.specs.Input.{Ahead}
+use Rattle.roff_input.specs.Input.{Ahead}
 use Rattle.roff_source.specs.Tape.{Tape, OneByte, items_then}
-use Rattle.roff_ahead.specs.Looking.{is_closed, looked_then}
-use Rattle.roff_ahead.specs.declared.looked.Looked.{Looked}
-use Rattle.roff_ahead.specs.declared.looked.Looked.TheVariants.{Nothing}
-use Rattle.roff_ahead.specs.Unread.{Stays, input_refusal}
+use Rattle.roff_input.specs.Looking.{is_closed, looked_then}
+use Rattle.roff_input.specs.declared.looked.Looked.{Looked}
+use Rattle.roff_input.specs.declared.looked.Looked.TheVariants.{Nothing}
+use Rattle.roff_input.specs.Unread.{Stays, input_refusal}
 use Rattle.roff_scan.specs.Unread.Calls.{OfSource, OfTexts, PassesFront, PassesSource, PassesTexts}
-use Rattle.roff_reader.specs.Reader.State.{MeaningKept, ReaderState}
+use Rattle.roff_meaning.specs.Meaning.{MeaningKept}
+use Rattle.roff_reader.specs.Reader.State.{ReaderState}
 use Rattle.roff_reader.specs.Reader.Taken.{IsReady}
 use Rattle.roff_run.specs.Reading.Items.{PageUnread}
 use Rattle.roff_run.specs.Reading.Items.{PageInput}
@@ -35,7 +36,7 @@ use Rattle.roff_sinks.specs.Sinks.{Sunk}
 use Rattle.roff_engine.proofs.Fronts.{few-none}
 use Rattle.roff_engine.proofs.Passing.{IsAt-leads, goes_past_fewer, none-read}
 use Rattle.roff_engine.specs.Running.Room.{FewFor}
-use Rattle.roff_ahead.specs.Input.Few.{AreFew, AreFewFrom}
+use Rattle.roff_input.specs.Input.Few.{AreFew, AreFewFrom}
 use Rattle.roff_engine.proofs.TurnsLeft.{turns_of_run-fewer, turns_of_run-no_more}
 
 -- the code where this is read

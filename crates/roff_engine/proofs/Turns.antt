@@ -3,11 +3,11 @@ use Rattle.std.proofs.Common.{◌≡◌, inl, ℕ, ◌-◌, ◌+◌, ◌<◌, �
 use Rattle.std.specs.Prelude.{IsOkUnless}
 use Rattle.roff_num.specs.declared.limit.Limit.{Limit}
 use Rattle.roff_num.specs.declared.limits.Limits.{Limits}
-use Rattle.roff_ahead.specs.Input.{DoAhead}
+use Rattle.roff_input.specs.Input.{DoAhead}
 use Rattle.roff_source.specs.Tape.{Tape, Item, Ending, Ended, Failed, Stopped, items_then}
 use Rattle.roff_num.specs.Faults.{Rises}
-use Rattle.roff_ahead.specs.Unread.{asks_to_take, taking}
-use Rattle.roff_ahead.specs.Shown.{Shown, ShowsByte, ShowsEnd, ShowsReturn, ShowsDo, ShowsNote, ShowsEnding, ShowsRefusal}
+use Rattle.roff_input.specs.Unread.{asks_to_take, taking}
+use Rattle.roff_input.specs.Shown.{Shown, ShowsByte, ShowsEnd, ShowsReturn, ShowsDo, ShowsNote, ShowsEnding, ShowsRefusal}
 use Rattle.roff_scan.specs.Unread.Calls.{Takes}
 use Rattle.roff_escape.specs.OpenEscape.{OpenEscape}
 use Rattle.roff_run.specs.PageEvents.{PageEvent}
@@ -17,11 +17,11 @@ use Rattle.roff_run.specs.declared.status.Status.TheVariants.{Device, Limit as L
 use Rattle.roff_run.specs.Messages.{message_line}
 use Rattle.roff_run.specs.Output.{PageHistory}
 use Rattle.roff_run.specs.Reading.Items.{PageUnread}
-use Rattle.roff_run.specs.Reading.{interrupted, taking as byte_taking}
+use Rattle.roff_run.specs.Reading.{taking as byte_taking}
+use Rattle.roff_run.specs.Reading.Units.{interrupted}
 use Rattle.roff_run.specs.Reading.Ends.{is_unfinished}
 use Rattle.roff_run.specs.Reading.Items.{PageInput}
 use Rattle.roff_run.specs.declared.line_state.LineState.{LineState}
-use Rattle.roff_run.specs.declared.line_state.LineState.TheVariants.{Arguments as InArguments}
 use Rattle.roff_run.specs.Run.{State, ahead_taken, byte_taken, ending_input, escape_ends, in_front_taken, input_ended, known, made}
 use Rattle.roff_run.specs.TurnsToCome.{begun, turns_to_come, turns_within}
 use Rattle.roff_formatter.specs.declared.halt.Halt.TheVariants.{Refused}
@@ -29,7 +29,7 @@ use Rattle.roff_engine.specs.declared.running.Running.{Running as Coded}
 use Rattle.roff_engine.specs.Engine.Outcome.{Beginning, Seen, OutcomeOf, seen}
 use Rattle.roff_engine.specs.Running.Turning.{DoesItem, Continues, Halts, IsAt, MayEnd, MayGoOn, StepDoes, TookFrom, TurnsBy, input_ends, state_at, turns_at, turns_of_run, turns_with}
 use Rattle.roff_sinks.specs.Sinks.{Sunk, Puts}
-use Rattle.roff_ahead.specs.Input.Few.{AreFew}
+use Rattle.roff_input.specs.Input.Few.{AreFew}
 use Rattle.roff_engine.specs.Running.Room.{FewFor, SeesOn}
 use Rattle.roff_engine.proofs.Fronts.{few-ends, few-interrupted, few-taken}
 use Rattle.roff_run.proofs.CalmConditions.{Calm-taking}
@@ -125,8 +125,7 @@ module _ {gave gives : Tape → Type 0} {old : Coded} {left : PageUnread} {taken
 
 -- as many turns are to come where a quote is settled
 turns-interrupted : (bytes : ℕ) (reading : LineState) (i : PageInput) → turns_within bytes (interrupted reading i) ≡ turns_within bytes i
-turns-interrupted bytes (InArguments breaks request) i = refl
-turns-interrupted bytes (_) i = refl
+turns-interrupted bytes reading i = refl
 
 -- what ends at the input's end, by what is half read
 ending_input-made : (l : Limits) (half : List OpenEscape) (s : State)

@@ -7,12 +7,12 @@ use Rattle.roff_num.specs.declared.limits.Limits.{Limits}
 use Rattle.roff_escape.specs.Waiting.{decides as decides_by, is_ended_by}
 use Rattle.roff_escape.specs.declared.open_escape.Waiting.{Waiting}
 use Rattle.roff_escape.specs.declared.open_escape.Waiting.TheVariants.{Takes as TakesAny, Decides, Waits}
-use Rattle.roff_ahead.specs.Input.{Ahead, ByteAhead, FreeAhead, EndAhead, ReturnAhead, DoAhead}
+use Rattle.roff_input.specs.Input.{Ahead, ByteAhead, FreeAhead, EndAhead, ReturnAhead, DoAhead}
 use Rattle.roff_source.specs.Tape.{Tape, Item, Answer, Gives, Ends, OneByte, OneNote, items_then}
-use Rattle.roff_ahead.specs.Unread.{asks_to_take, taking}
-use Rattle.roff_ahead.specs.declared.looked.Looked.{Looked}
-use Rattle.roff_ahead.specs.declared.looked.Looked.TheVariants.{Nothing, Byte, Closed}
-use Rattle.roff_ahead.specs.Shown.{Shown, ShowsByte, ShowsDo, ShowsEnd, ShowsRefusal, ShowsReturn, seen_ahead}
+use Rattle.roff_input.specs.Unread.{asks_to_take, taking}
+use Rattle.roff_input.specs.declared.looked.Looked.{Looked}
+use Rattle.roff_input.specs.declared.looked.Looked.TheVariants.{Nothing, Byte, Closed}
+use Rattle.roff_input.specs.Shown.{Shown, ShowsByte, ShowsDo, ShowsEnd, ShowsRefusal, ShowsReturn, seen_ahead}
 use Rattle.roff_scan.specs.Unread.Calls.{Takes}
 use Rattle.roff_run.specs.PageEvents.{PageEvent}
 use Rattle.roff_run.specs.declared.status.Status.{Status}

@@ -12,8 +12,8 @@ use Rattle.roff_escape.specs.declared.open_escape.Waiting.{Waiting}
 use Rattle.roff_escape.specs.declared.open_escape.Waiting.TheVariants.{Takes as TakesAny, Decides, Waits}
 use Rattle.roff_source.specs.Tape.{Tape, Item, Ending, Ended, Failed, Stopped, items_then}
 use Rattle.roff_num.specs.Faults.{Rises}
-use Rattle.roff_ahead.specs.Unread.{asks_to_look, looking, looking_past}
-use Rattle.roff_ahead.specs.Shown.{Sighted, SeesByte, SeesNothing, SeesNote, SeesEnding, seen_ahead}
+use Rattle.roff_input.specs.Unread.{asks_to_look, looking, looking_past}
+use Rattle.roff_input.specs.Shown.{Sighted, SeesByte, SeesNothing, SeesNote, SeesEnding, seen_ahead}
 use Rattle.roff_scan.specs.Unread.Calls.{Looks}
 use Rattle.roff_run.specs.declared.message.Message.TheVariants.{ReadFailed}
 use Rattle.roff_run.specs.declared.status.Status.{Status}
@@ -31,7 +31,7 @@ use Rattle.roff_engine.specs.declared.running.Running.{Running as Coded}
 use Rattle.roff_engine.specs.Engine.Outcome.{Beginning, Seen, seen}
 use Rattle.roff_engine.specs.Running.Turning.{DoesItem, IsAt, StepDoes, TurnsBy, state_at, turns_with}
 use Rattle.roff_sinks.specs.Sinks.{Sunk, Puts}
-use Rattle.roff_ahead.proofs.FewEvents.{few-behind}
+use Rattle.roff_input.proofs.FewEvents.{few-behind}
 use Rattle.roff_engine.specs.Running.Room.{FewFor, SeesOn, decides_next}
 use Rattle.roff_engine.proofs.EndsUnseen.{few-unseen}
 use Rattle.roff_engine.proofs.Fronts.{few-appended, few-seen_ended}

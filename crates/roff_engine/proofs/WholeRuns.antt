@@ -6,7 +6,7 @@ use Rattle.roff_num.specs.declared.limits.Limits.{Limits}
 use Rattle.std.specs.Io.KnownBytes.{Appends}
 use Rattle.roff_source.specs.BlockRead.{SomeTape}
 use Rattle.roff_source.specs.Tape.{Tape, items_then}
-use Rattle.roff_ahead.specs.Looking.{is_closed, looked_then}
+use Rattle.roff_input.specs.Looking.{is_closed, looked_then}
 use Rattle.roff_run.specs.declared.status.Status.{Status}
 use Rattle.roff_composer.specs.Composer.Standing.{StandFor}
 use Rattle.roff_run.specs.Output.{PageHistory}

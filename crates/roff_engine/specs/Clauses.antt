@@ -6,7 +6,8 @@ pub use Rattle.roff_run.specs.Starts.{pages_given}
 pub use Rattle.roff_run.specs.Messages.{message_line, message_lines, text_told, told_line}
 pub use Rattle.roff_run.specs.Events.Lines.{closing_events}
 pub use Rattle.roff_reader.specs.Reader.State.{fresh_reader}
-pub use Rattle.roff_run.specs.Reading.{escape_ended, interrupted, taking}
+pub use Rattle.roff_run.specs.Reading.{escape_ended, taking}
+pub use Rattle.roff_run.specs.Reading.Units.{interrupted}
 pub use Rattle.roff_run.specs.Reading.Returns.{behind_return}
 pub use Rattle.roff_run.specs.Reading.Ends.{due, end_taking}
 pub use Rattle.roff_run.specs.Reading.Waiting.{waiting_in}

@@ -6,8 +6,8 @@ ghost use Rattle.roff_run.specs.Run.{initial};
 
 use crate::interpreter::Interpreter;
 use crate::running::Running;
+use roff_names::first_unread;
 use roff_num::Limits;
-use roff_reader::first_unread;
 use roff_run::{Phase, Start, Status};
 use roff_scan::ByteSource;
 use roff_sinks::ByteSink;

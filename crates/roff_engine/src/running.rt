@@ -2,7 +2,7 @@
 
 ghost use Rattle.std.specs.Prelude.{◌≡◌, ℕ, [], None, IsOkUnless};
 ghost use Rattle.roff_run.specs.Run.{ahead_taken, byte_taken, in_front_taken, item_read, step};
-ghost use Rattle.roff_ahead.specs.Input.{DoAhead};
+ghost use Rattle.roff_input.specs.Input.{DoAhead};
 ghost use Rattle.roff_engine.specs.Clauses.{Puts, seen, due, Device};
 
 mod ending;

@@ -15,11 +15,11 @@ use Rattle.roff_run.specs.Stages.{Adds, Growing, Here, Ignores, Onward, Stage, T
 use Rattle.roff_run.specs.declared.line_state.LineState.{LineState}
 
 -- where this is read
-abbrev stage_with : LineState → List OpenEscape → Arguments → List (List ℕ) → Stage
+abbrev pub stage_with : LineState → List OpenEscape → Arguments → List (List ℕ) → Stage
 stage_with reading half a texts = record { reading = reading; escapes = half; arguments = a; texts = texts }
 
 -- texts in the making grow by what is put behind the newest
-grows-added : (bytes : List ℕ) (texts : List (List ℕ)) → TextsGrow texts (texts_added bytes (newest texts) texts)
+pub grows-added : (bytes : List ℕ) (texts : List (List ℕ)) → TextsGrow texts (texts_added bytes (newest texts) texts)
 grows-added bytes texts = record { count = length-texts_added bytes (newest texts) texts; bytes = stored-texts_added bytes texts }
 
 -- bytes that are added lead from stage to stage

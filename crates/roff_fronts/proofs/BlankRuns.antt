@@ -7,26 +7,31 @@ use Rattle.roff_lines.specs.declared.event.Event.TheVariants.{Break, Gap, WordEn
 use Rattle.roff_arguments.specs.Arguments.{Arguments}
 use Rattle.roff_source.specs.Bytes.{blank}
 use Rattle.roff_escape.specs.OpenEscape.{OpenEscape}
+use Rattle.roff_escape.specs.OpenEscapes.{byte_read}
 use Rattle.roff_escape.specs.Waiting.{is_ended_by}
 use Rattle.roff_source.specs.Tape.{Tape}
-use Rattle.roff_ahead.specs.Unread.{IsWithin}
+use Rattle.roff_input.specs.Unread.{IsWithin}
 use Rattle.roff_scan.specs.Unread.Runs.{TakesRun}
 use Rattle.roff_scan.specs.declared.run_kind.RunKind.TheVariants.{Blanks}
 use Rattle.roff_store.specs.Named.{Named}
 use Rattle.roff_store.specs.Texts.{Entry}
+use Rattle.roff_fronts.proofs.AddedRuns.{turned-same}
 use Rattle.roff_fronts.proofs.RunsRead.{reads-taken, turned-behind}
 use Rattle.roff_reader.proofs.TextTaken.{plain-found}
 use Rattle.roff_reader.specs.Reader.State.{ReaderState}
 use Rattle.roff_run.specs.Reading.Items.{PageUnread}
 use Rattle.roff_run.specs.Reading.{taking}
+use Rattle.roff_run.specs.Reading.Beginnings.{at_start}
+use Rattle.roff_run.specs.Reading.Ends.{due}
+use Rattle.roff_run.specs.Reading.Found.{read_in}
 use Rattle.roff_run.specs.Reading.Items.{PageInput, going_on, meaning_events}
 use Rattle.roff_run.specs.Reading.TextLines.{most_leading}
 use Rattle.roff_run.specs.Registers.{Known}
 use Rattle.roff_run.specs.declared.event.PageEvent.TheVariants.{Text}
-use Rattle.roff_run.specs.Stages.{Here, Onward, Stage, Turned, blanks_counted, counts_blanks, input_at, stage_of}
+use Rattle.roff_run.specs.Stages.{Here, Ignores, Onward, Stage, Turned, blanks_counted, counts_blanks, input_at, stage_of}
 use Rattle.roff_fronts.specs.Stages.{ReadsPast}
 use Rattle.roff_run.specs.declared.line_state.LineState.{LineState}
-use Rattle.roff_run.specs.declared.line_state.LineState.TheVariants.{Text as InText}
+use Rattle.roff_run.specs.declared.line_state.LineState.TheVariants.{Branch, Text as InText}
 use Rattle.roff_run.specs.declared.line_state.TextLine.{TextLine}
 
 -- a line with so many leading blanks
@@ -107,3 +112,21 @@ reads-blanks gave gives ready line behind count old new before after none_half i
     reads-taken Blanks gave gives ready count old new before after took
     (turned-behind i.names (stage_of old.reading i) bytes new.reading after.input i.escapes i.arguments i.open_texts took.half_read took.arguments took.texts there)
     (ap (λ (r : ReaderState). r.registers) came) (ap (λ (r : ReaderState). r.meaning) came) within
+
+-- a blank where a branch begins is passed over
+passes-blank : (b : ℕ) → (b == blank) ≡ true → Ignores Branch b
+passes-blank b is = λ k i none_half.
+    subst (λ (c : ℕ). taking k Branch i c ≡ going_on i Branch) (sym (eqb-true b blank is))
+    (ap (λ (half : List OpenEscape). read_in k Branch i (byte_read (at_start k) half 32)) none_half
+    ∙ ap (λ (half : List OpenEscape). going_on (record i { escapes = half }) Branch) (sym none_half))
+
+-- such blanks were read past
+pub reads-branch_blanks : (gave gives : Tape → Type 0) (ready : List ℕ) (count : ℕ) (r : ReaderState) (before after : PageUnread)
+    → before.input.escapes ≡ [] → r.reading ≡ Branch → TakesRun Blanks gave gives ready count before after → IsWithin after → ReadsPast gave gives r r before after
+reads-branch_blanks gave gives ready count r before after none_half is took within =
+    let i : PageInput = before.input in
+    let ignores : (b : ℕ) → (b == blank) ≡ true → Ignores r.reading b = λ b plain. subst (λ (reading : LineState). Ignores reading b) (sym is) (passes-blank b plain) in
+    reads-taken Blanks gave gives ready count r r before after took
+    (turned-behind i.names (stage_of r.reading i) took.bytes r.reading after.input i.escapes i.arguments i.open_texts took.half_read took.arguments took.texts
+    (turned-same (λ b. b == blank) i.names r.reading i.escapes i.arguments i.open_texts took.bytes none_half (ap (λ (reading : LineState). due reading) is) ignores took.are_of))
+    refl refl within

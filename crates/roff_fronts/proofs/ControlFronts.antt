@@ -8,7 +8,7 @@ use Rattle.roff_source.specs.Bytes.{backslash, is_dropped}
 use Rattle.roff_escape.specs.OpenEscape.{OpenEscape, texts_held}
 use Rattle.roff_escape.specs.OpenEscapes.{byte_read}
 use Rattle.roff_source.specs.Tape.{Tape}
-use Rattle.roff_ahead.specs.Unread.{IsWithin}
+use Rattle.roff_input.specs.Unread.{IsWithin}
 use Rattle.roff_scan.specs.Unread.Calls.{PassesFront, front_bytes, next_bytes}
 use Rattle.roff_store.specs.Named.{Named}
 use Rattle.roff_store.specs.Texts.{Entry}
@@ -16,7 +16,7 @@ use Rattle.roff_run.proofs.NameBytes.{turns-first}
 use Rattle.roff_fronts.proofs.RunsRead.{reads-run}
 use Rattle.roff_run.proofs.ItemsTaken.{not-first, not-second}
 use Rattle.roff_run.specs.Reading.ControlLines.{BelongsToName}
-use Rattle.roff_reader.specs.NamesRead.{LeadsTo, half_begun, input_begun, is_deciding}
+use Rattle.roff_names.specs.NamesRead.{LeadsTo, half_begun, input_begun, is_deciding}
 use Rattle.roff_fronts.specs.ControlFronts.{BeginsControl, StandsReady, control_byte}
 use Rattle.roff_reader.specs.Reader.State.{ReaderState}
 use Rattle.roff_run.specs.Reading.Items.{PageUnread}

@@ -9,4 +9,6 @@ pub mod NameFronts
 pub mod ConditionRuns
 pub mod TakenRuns
 pub mod ControlFronts
+mod FrontsRead
 pub mod LineEnds
+pub mod StringFronts

@@ -3,7 +3,7 @@ use Rattle.std.proofs.Common.{◌≡◌, ℕ, List, [], ◌∷◌, None, refl, s
 use Rattle.roff_arguments.specs.Arguments.{Arguments}
 use Rattle.roff_source.specs.Bytes.{newline}
 use Rattle.roff_source.specs.Tape.{Tape}
-use Rattle.roff_ahead.specs.Unread.{IsWithin}
+use Rattle.roff_input.specs.Unread.{IsWithin}
 use Rattle.roff_scan.specs.Unread.Calls.{PassesFront}
 use Rattle.roff_store.specs.Named.{Named}
 use Rattle.roff_store.specs.Texts.{Entry}

@@ -17,7 +17,7 @@ use Rattle.roff_pages.specs.Layout.{Layout}
 use Rattle.roff_pages.specs.Queries.{takes_text}
 use Rattle.roff_escape.specs.OpenEscape.{OpenEscape}
 use Rattle.roff_escape.specs.Waiting.{is_ended_by}
-use Rattle.roff_ahead.specs.Input.{Ahead, ByteAhead}
+use Rattle.roff_input.specs.Input.{Ahead, ByteAhead}
 use Rattle.roff_source.specs.Tape.{Tape}
 use Rattle.roff_run.proofs.InputCounts.{NoMore-item_taken, first_passed-no_more}
 use Rattle.roff_run.proofs.ItemsTaken.{FromAhead, FromSource, IsOpenFor, Origin, ahead_at, byte_ahead_is_taken, bytes_of_the_source_are_taken, tape_at}

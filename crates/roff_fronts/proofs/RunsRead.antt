@@ -6,7 +6,7 @@ use Rattle.roff_escape.specs.OpenEscape.{OpenEscape}
 use Rattle.roff_source.specs.Tape.{Tape}
 use Rattle.roff_store.specs.Named.{Named}
 use Rattle.roff_store.specs.Texts.{Entry}
-use Rattle.roff_ahead.specs.Unread.{IsWithin}
+use Rattle.roff_input.specs.Unread.{IsWithin}
 use Rattle.roff_scan.specs.Unread.Calls.{OfSource, OfTexts, PassesFront, front_bytes, next_bytes}
 use Rattle.roff_run.proofs.ItemsTaken.{FromAhead, FromSource, Origin}
 use Rattle.roff_run.proofs.PlainRuns.{counted, counted-source}

@@ -14,7 +14,7 @@ use Rattle.roff_escape.specs.Waiting.{is_ended_by}
 use Rattle.roff_escape.specs.declared.open_escape.CopyUnit.TheVariants.{Byte}
 use Rattle.roff_store.specs.Named.{Named}
 use Rattle.roff_store.specs.Texts.{Entry}
-use Rattle.roff_ahead.specs.Unread.{IsWithin}
+use Rattle.roff_input.specs.Unread.{IsWithin}
 use Rattle.roff_scan.specs.Unread.FirstArguments.{MayStand, TakesFirst, Unended}
 use Rattle.roff_scan.specs.declared.run_kind.RunKind.TheVariants.{CallArguments}
 use Rattle.roff_reader.proofs.TextTaken.{plain-found}

@@ -5,7 +5,7 @@ use Rattle.roff_source.specs.Bytes.{is_passed, is_text_byte}
 use Rattle.roff_source.specs.Tape.{Tape}
 use Rattle.roff_store.specs.Texts.{newest}
 use Rattle.roff_scan.proofs.AddedFronts.{adding-texts, texts_added}
-use Rattle.roff_ahead.specs.Unread.{IsWithin}
+use Rattle.roff_input.specs.Unread.{IsWithin}
 use Rattle.roff_scan.specs.Unread.Runs.{TakesRun}
 use Rattle.roff_scan.specs.declared.run_kind.RunKind.{RunKind}
 use Rattle.roff_scan.specs.declared.run_kind.RunKind.TheVariants.{Text, Blanks, Arguments, CallArguments, Name, Condition, Definition, Ignored, Dropped}

@@ -6,7 +6,7 @@ use Rattle.roff_num.specs.declared.limit.Limit.{Limit}
 use Rattle.roff_num.specs.declared.limits.Limits.{Limits}
 use Rattle.roff_scan.proofs.PassingAhead.{bytes_taken-is}
 use Rattle.roff_escape.specs.Waiting.{is_ended_by}
-use Rattle.roff_ahead.specs.Input.{Ahead, ByteAhead, bytes_taken}
+use Rattle.roff_input.specs.Input.{Ahead, ByteAhead, bytes_taken}
 use Rattle.roff_source.specs.Tape.{Tape}
 use Rattle.roff_store.specs.Named.{Named}
 use Rattle.roff_store.specs.Texts.{Entry}

@@ -1,3 +1,4 @@
 pub mod Runs
 pub mod Stages
 pub mod ControlFronts
+pub mod StringFronts

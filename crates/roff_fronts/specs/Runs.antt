@@ -1,5 +1,5 @@
 -- Runs: bytes that do alike where something is read.
-use Rattle.std.specs.Prelude.{◌≡◌, ℕ, true, false, List, [], None, Some}
+use Rattle.std.specs.Prelude.{◌≡◌, ℕ, Bool, true, false, List, [], None, Some}
 use Rattle.roff_source.specs.Bytes.{is_argument_byte, is_passed, is_text_byte}
 use Rattle.roff_escape.specs.OpenEscape.{OpenEscape}
 use Rattle.roff_run.specs.Reading.{Passes}
@@ -7,6 +7,7 @@ use Rattle.roff_run.specs.Reading.Ends.{due}
 use Rattle.roff_run.specs.Stages.{Adds, EndsLine, Holds, HoldsIfFewer, Ignores, ReadsHalves, TakesHalf, counts_blanks}
 use Rattle.roff_run.specs.Telling.{Prints}
 use Rattle.roff_run.specs.declared.line_state.LineState.{LineState}
+use Rattle.roff_run.specs.declared.line_state.LineState.TheVariants.{StringName, StringText, Title}
 use Rattle.roff_reader.specs.Reader.State.{ReaderState}
 use Rattle.roff_scan.specs.declared.run_kind.RunKind.{RunKind}
 use Rattle.roff_scan.specs.declared.run_kind.RunKind.TheVariants.{Text, Blanks, Arguments, CallArguments, Name, Condition, Definition, Ignored, Dropped}
@@ -40,3 +41,11 @@ pub record IsRun (kind : RunKind) (reading : LineState) (half : List OpenEscape)
 abbrev pub KeepsReader : RunKind → ReaderState → ReaderState → Type 0
 KeepsReader Blanks old new = Unit {0}
 KeepsReader (_) old new = new ≡ old
+
+-- where this is read, bytes in front may be taken together that are no run: those of a string's name, of the beginning of its text, or
+-- of a title
+abbrev pub reads_apart : LineState → Bool
+reads_apart (StringName appends) = true
+reads_apart (StringText name appends is_front) = true
+reads_apart (Title delimiter) = true
+reads_apart (_) = false

@@ -1,7 +1,7 @@
 -- Bytes that the reader takes at once, by the stages to which they lead.
 use Rattle.std.specs.Prelude.{◌≡◌, ℕ, List}
 use Rattle.roff_source.specs.Tape.{Tape}
-use Rattle.roff_ahead.specs.Unread.{IsWithin}
+use Rattle.roff_input.specs.Unread.{IsWithin}
 use Rattle.roff_scan.specs.Unread.Calls.{PassesFront}
 use Rattle.roff_reader.specs.Reader.State.{ReaderState}
 use Rattle.roff_run.specs.Reading.Items.{PageUnread}

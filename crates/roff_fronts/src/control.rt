@@ -1,15 +1,20 @@
 //! The front of a control line, read at once where it stands ready.
 
-ghost use Rattle.std.specs.Prelude.{◌≡◌, ◌≤◌, ◌∷◌, [], None, Some, true, false, IfSome};
+ghost use Rattle.std.specs.Prelude.{◌≡◌, ◌≤◌, ◌-◌, ◌∷◌, [], None, Some, true, false, IfSome, take};
+ghost use Rattle.roff_input.specs.Unread.{asks_to_take};
+ghost use Rattle.roff_store.specs.Named.{Named};
+ghost use Rattle.roff_store.specs.Texts.{Entry};
 ghost use Rattle.roff_run.specs.Reading.ControlLines.{BelongsToName};
 ghost use Rattle.roff_reader.specs.Clauses.{due};
 ghost use Rattle.roff_fronts.specs.ControlFronts.{BeginsControl, Fronts, StandsReady, control_byte};
 ghost use Rattle.roff_fronts.specs.ControlFronts.{TakesAtBeginning, is_read};
+ghost use Rattle.roff_fronts.specs.ControlFronts.{is_front_read, prints_in_name, reads_front};
 ghost use Rattle.roff_fronts.specs.Stages.{ReadsPast};
 ghost use Rattle.roff_scan.specs.Unread.Calls.{IsFront, NoNewline, PassesFront, front_bytes};
 
+use roff_names::{begin_deciding, behind_called, called_by};
 use roff_num::ShortName;
-use roff_reader::{Reader, begin_deciding, behind_called, called_by};
+use roff_reader::Reader;
 use roff_run::{LineState, PageEvent};
 use roff_scan::{ByteSource, Unread};
 
@@ -66,6 +71,9 @@ pub fn read_control_front<S: ByteSource>(
         reader.old reader.new unread.old unread.new }
     ensures unchanged { is_read result ≡ false
         → (reader.new ≡ reader.old) × (unread.new ≡ unread.old) × (source.new ≡ source.old) }
+    ensures whole { asks_to_take unread.old ≡ true → reads_front unread.old.input.names
+        (take (unread.old.limits.bytes - unread.old.input.charge) (S.ready source.old)) ≡ true
+        → is_read result ≡ true }
     ensures notes { S.notes source.new ≤ S.notes source.old }
     ensures failures { S.failures source.new ≡ S.failures source.old }
 {
@@ -92,6 +100,8 @@ fn read_control<S: ByteSource>(
         reader.old reader.new unread.old unread.new }
     ensures unchanged { is_read result ≡ false
         → (reader.new ≡ reader.old) × (unread.new ≡ unread.old) × (source.new ≡ source.old) }
+    ensures whole { is_front_read unread.old.input.names front.first front.second ≡ true
+        → is_read result ≡ true }
     ensures notes { S.notes source.new ≤ S.notes source.old }
     ensures failures { S.failures source.new ≡ S.failures source.old }
 {
@@ -123,7 +133,11 @@ fn read_control<S: ByteSource>(
 /// Takes so many bytes that stand in front. A function of its own, as what it does in place is then
 /// put into place too.
 #[inline(never)]
-fn take_front<S: ByteSource>(unread: &mut Unread<PageEvent>, source: &mut S, count: usize)
+pub(super) fn take_front<S: ByteSource>(
+    unread: &mut Unread<PageEvent>,
+    source: &mut S,
+    count: usize,
+)
     requires front { IsFront count (S.ready source.old) unread.old }
     requires plain { NoNewline (front_bytes count (S.ready source.old) unread.old) }
     ensures passes { PassesFront (S.gives source.old) (S.gives source.new)
@@ -155,7 +169,8 @@ fn behind_front(reading: LineState, ends: bool) -> ControlRead
 /// The first three bytes of a control line, if these bytes begin with such.
 #[inline(always)]
 fn control_front(bytes: &[u8]) -> Option<ControlFront>
-    ensures { IfSome result (λ front. Fronts bytes.now front) }
+    ensures fronts { IfSome result (λ front. Fronts bytes.now front) }
+    ensures none { result ≡ None → (names : Named Entry) → reads_front names bytes.now ≡ false }
 {
     match bytes {
         [b'.', first, second, rest @ ..] => Some(ControlFront {
@@ -183,7 +198,8 @@ fn is_newline_next(bytes: &[u8]) -> bool {
 /// Whether a byte belongs to a name behind a dot or apostrophe. Of a byte that prints nothing it may
 /// say no, though it does.
 fn belongs_to_name(byte: u8) -> bool
-    ensures { result ≡ true → BelongsToName byte }
+    ensures belongs { result ≡ true → BelongsToName byte }
+    ensures prints { result ≡ prints_in_name byte }
 {
     byte > b' ' && byte != 127 && byte != b'\\'
 }

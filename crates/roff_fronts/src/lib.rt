@@ -8,5 +8,5 @@ mod strings;
 
 pub use control::{ControlRead, begins_control_line, read_control_front};
 pub use roff_scan::RunKind;
-pub use runs::{run_half_read, run_kind, take_run};
-pub use strings::{begins_apart, take_string_name};
+pub use runs::{run_half_read, run_kind, take_branch_blanks, take_run};
+pub use strings::{begins_apart, take_string_front, take_string_name};

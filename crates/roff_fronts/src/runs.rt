@@ -148,6 +148,29 @@ fn take_blanks<S: ByteSource>(reader: &mut Reader, unread: &mut Unread<PageEvent
     }
 }
 
+/// Takes blanks together that stand in front where a branch begins, and nothing is half read.
+#[inline(always)]
+pub fn take_branch_blanks<S: ByteSource>(
+    reader: &Reader,
+    unread: &mut Unread<PageEvent>,
+    source: &mut S,
+)
+    requires none_half { unread.old.input.escapes ≡ [] }
+    ensures none_half { unread.new.input.escapes ≡ [] }
+    ensures past { ReadsPast (S.gives source.old) (S.gives source.new)
+        reader.now reader.now unread.old unread.new }
+    ensures notes { S.notes source.new ≤ S.notes source.old }
+    ensures failures { S.failures source.new ≡ S.failures source.old }
+{
+    match reader.reading() {
+        LineState::Branch => {
+            let _ = unread.take_run(RunKind::Blanks, source);
+            unread.stays_within();
+        }
+        _ => unread.stays_within(),
+    }
+}
+
 /// Takes bytes of a condition that stand in front, unless it decides before any is taken.
 #[inline(always)]
 fn take_condition<S: ByteSource>(reader: &Reader, unread: &mut Unread<PageEvent>, source: &mut S)

@@ -1,21 +1,18 @@
 -- What the code does where a definition begins and ends, as the definition does it.
-use Rattle.std.proofs.Common.{◌≡◌, ℕ, ◌≤◌, Bool, true, List, length, Option, Some, None, Result, refl, subst, ◌∙◌, arith}
-use Rattle.std.specs.Prelude.{is_some}
+use Rattle.std.proofs.Common.{◌≡◌, ℕ, ◌≤◌, Bool, length, Option, Some, None, Result, refl, subst, ◌∙◌, arith}
 use Rattle.std.specs.Option.{option_flatten}
 use Rattle.std.proofs.lemmas.List.{length-take}
 use Rattle.roff_composer.specs.declared.composer.Composer.{Composer as ComposerOf}
 use Rattle.roff_num.specs.declared.limit.Limit.{Limit}
 use Rattle.roff_arguments.proofs.KeptArguments.{held-finished, held-only_kept}
 use Rattle.roff_arguments.specs.Arguments.{finished}
-use Rattle.roff_ahead.specs.Input.{with_arguments}
-use Rattle.roff_ahead.specs.Input.Names.{adding}
-use Rattle.roff_ahead.specs.Unread.{changing}
+use Rattle.roff_input.specs.Input.{with_arguments}
 use Rattle.roff_run.specs.Definitions.{end_mark, front_of}
 use Rattle.roff_reader.specs.Reader.State.{ReaderState}
-use Rattle.roff_reader.specs.Reader.Taken.{InputCameTo, TakesAs}
+use Rattle.roff_reader.specs.Reader.Taken.{TakesAs}
 use Rattle.roff_run.specs.Reading.Items.{PageUnread}
 use Rattle.roff_run.specs.Reading.Arguments.{arguments_ended, line_ended}
-use Rattle.roff_run.specs.Reading.Definitions.{definition_begun, definition_grown}
+use Rattle.roff_run.specs.Reading.Definitions.{definition_begun}
 use Rattle.roff_run.specs.Reading.Items.{PageInput, Taking}
 use Rattle.roff_run.specs.Registers.{Known}
 use Rattle.roff_num.specs.ShortNames.{name_or_none}
@@ -26,7 +23,6 @@ use Rattle.roff_run.specs.declared.request.LineReading.TheVariants.{ByArguments,
 use Rattle.roff_run.specs.declared.request.LinesFor.{LinesFor}
 use Rattle.roff_run.specs.declared.request.Request.{Request}
 use Rattle.roff_run.proofs.InputCounts.{NoMore}
-use Rattle.roff_reader.proofs.Strings.{InputCameTo-changing}
 use Rattle.roff_reader.proofs.TakesAs.{TakesAs-less}
 
 -- the line of any request but one by which lines are defined ends as the request is obeyed
@@ -66,12 +62,6 @@ TakesAs-behind_line name appends end es old new before mid behind result finishe
     subst (λ (u : PageUnread). TakesAs (λ k. definition_begun u.input name appends end) es old new u behind result) finishes takes in
     TakesAs-less i (λ k. definition_begun before.input name appends end) es old new before behind result (NoMore-finished before.input) refl refl
     (subst (λ (t : Taking). TakesAs (λ k. t) es old new (line_finished before) behind result) (definition_begun-finished before.input name appends end) there)
-
--- the text of a definition grows, if a name gets it
-pub InputCameTo-defined : (name : Option ShortName) (bytes : List ℕ) (before behind : PageUnread) (result : Result (Unit {0}) Limit) → is_some name ≡ true
-    → (result, behind) ≡ changing (adding bytes before.input) before → InputCameTo (definition_grown name bytes before.input) before behind result
-InputCameTo-defined None bytes before behind result is changes = absurd (cc)
-InputCameTo-defined (Some name) bytes before behind result is changes = InputCameTo-changing (adding bytes before.input) before behind result changes
 
 -- what stands in front of a line that may be the last one is a part of its mark
 mark_few : (end : Option ShortName) → length (end_mark end) ≤ 3

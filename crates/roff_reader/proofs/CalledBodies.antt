@@ -4,19 +4,16 @@ use Rattle.std.specs.Prelude.{◌&&◌, get_or, if◌then◌else◌, nat_le}
 use Rattle.std.proofs.lemmas.Bool.{le-leb, leb-true, lt-leb}
 use Rattle.roff_composer.specs.declared.composer.Composer.{Composer as ComposerOf}
 use Rattle.roff_num.specs.declared.limit.Limit.{Limit}
-use Rattle.roff_ahead.specs.Unread.{changing}
+use Rattle.roff_input.specs.Unread.{changing}
 use Rattle.roff_escape.specs.declared.open_escape.CopyUnit.{CopyUnit}
 use Rattle.roff_escape.specs.declared.open_escape.CopyUnit.TheVariants.{Byte, Kept}
-use Rattle.roff_escape.specs.declared.open_escape.Found.{Found}
-use Rattle.roff_escape.specs.declared.open_escape.Found.TheVariants.{GoesOn, Unit as OneUnit, Holds, Escape, Asks, Motion, Measures, Tells, Decides}
 use Rattle.roff_reader.specs.Reader.State.{ReaderState}
 use Rattle.roff_reader.specs.Reader.Taken.{TakesAs}
 use Rattle.roff_run.specs.Reading.Items.{PageUnread}
-use Rattle.roff_run.specs.Reading.Calls.{call_found, call_unit, holding_call}
+use Rattle.roff_run.specs.Reading.Calls.{call_unit, holding_call}
 use Rattle.roff_run.specs.Reading.Escapes.{argument_named}
 use Rattle.roff_run.specs.Reading.Items.{PageInput, going_on}
-use Rattle.roff_run.specs.Reading.Units.{holding, no_unit_found, settling}
-use Rattle.roff_run.specs.Registers.{Known}
+use Rattle.roff_run.specs.Reading.Units.{holding, settling}
 use Rattle.roff_run.specs.declared.step.Step.{Step}
 use Rattle.roff_run.specs.declared.step.Step.TheVariants.{Nothing}
 use Rattle.roff_run.specs.declared.line_state.LineState.TheVariants.{Calling}
@@ -24,19 +21,6 @@ use Rattle.roff_num.specs.declared.short_name.ShortName.{ShortName}
 use Rattle.roff_reader.proofs.Strings.{other}
 use Rattle.roff_reader.proofs.TakesAs.{TakesAs-as, TakesAs-settled}
 use Rattle.roff_reader.proofs.LinesTaken.{TakesAs-changed, TakesAs-meant, TakesAs-not_changed}
-
--- behind the name of a body anything but a unit is no byte of an argument
-pub call_found-no_unit : (k : Known) (i : PageInput) (name : ShortName) (found : Found) → ((unit : CopyUnit) → found ≡ OneUnit unit → ⊥)
-    → ((b : ℕ) → found ≡ Escape b → ⊥) → no_unit_found k (settling i) (Calling name) found ≡ call_found k i name found
-call_found-no_unit k i name (OneUnit unit) no_unit no_escape = absurd (no_unit unit refl)
-call_found-no_unit k i name (Escape b) no_unit no_escape = absurd (no_escape b refl)
-call_found-no_unit k i name GoesOn no_unit no_escape = refl
-call_found-no_unit k i name (Holds unit) no_unit no_escape = refl
-call_found-no_unit k i name (Asks purpose text) no_unit no_escape = refl
-call_found-no_unit k i name (Motion columns remark) no_unit no_escape = refl
-call_found-no_unit k i name (Measures width) no_unit no_escape = refl
-call_found-no_unit k i name (Tells remark) no_unit no_escape = refl
-call_found-no_unit k i name (Decides decision freed) no_unit no_escape = refl
 
 -- another unit than a newline or a quote is held where no quote follows the quote before
 pub call_unit-other : (i : PageInput) (name : ShortName) (unit : CopyUnit) → (unit ≡ Byte 10 → ⊥) → (unit ≡ Byte 34 → ⊥)
@@ -119,4 +103,4 @@ module _ (unit : CopyUnit) (name : ShortName) (es : ComposerOf) (old new : Reade
   TakesAs-call_other settles no_newline no_quote takes =
       TakesAs-as (λ k. going_on (holding_call unit (settling u.input)) (Calling name)) (λ k. call_unit u.input name unit) es old new u behind result
       (λ k. call_unit-other u.input name unit no_newline no_quote)
-      (TakesAs-settled (λ k i. going_on (holding_call unit i) (Calling name)) es old new u mid behind result settles takes)
+      (TakesAs-settled (Calling name) (λ k i. going_on (holding_call unit i) (Calling name)) es old new u mid behind result settles takes)

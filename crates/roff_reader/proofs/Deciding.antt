@@ -1,6 +1,5 @@
 -- A condition that decides, as the definition takes it: its result is kept, if it is to be, and its branch comes.
-use Rattle.std.proofs.Common.{◌≡◌, ℕ, ◌-◌, ◌≤◌, Bool, true, false, not, List, length, Option, Some, None, Result, Ok, Err, refl, sym, subst, ap, ◌∙◌, arith}
-use mathlib.Core.Bool.{beq}
+use Rattle.std.proofs.Common.{◌≡◌, ℕ, ◌-◌, ◌≤◌, Bool, true, false, List, length, Option, Some, None, Result, Ok, Err, refl, sym, subst, ap, ◌∙◌, arith}
 use Rattle.std.specs.Prelude.{nat_lt, nat_le, ◌&&◌, if◌then◌else◌, ◌==◌}
 use Rattle.std.proofs.lemmas.Bool.{lt-ltb, ltb-true}
 use Rattle.roff_composer.specs.Composer.Standing.{StandFor}
@@ -12,10 +11,10 @@ use Rattle.roff_source.specs.Bytes.{tab, newline, blank, apostrophe, dot, backsl
 use Rattle.roff_escape.specs.Characters.{character}
 use Rattle.roff_escape.specs.Escapes.{escape_of}
 use Rattle.roff_escape.specs.OpenEscapes.{byte_read}
-use Rattle.roff_ahead.specs.Input.{pushed, depth, result_count}
-use Rattle.roff_ahead.specs.Input.Calls.{with_result}
-use Rattle.roff_ahead.specs.Input.Names.{names_added, stored}
-use Rattle.roff_ahead.specs.Unread.{changing, input_refusal}
+use Rattle.roff_input.specs.Input.{pushed, depth, result_count}
+use Rattle.roff_input.specs.Input.Calls.{with_result}
+use Rattle.roff_input.specs.Input.Names.{names_added, stored}
+use Rattle.roff_input.specs.Unread.{changing, input_refusal}
 use Rattle.roff_escape.specs.declared.escapes.Escape.{Escape as Kind}
 use Rattle.roff_escape.specs.declared.escapes.Escape.TheVariants.{Prints, Blank, NoWidth, Tab as GivesTab, Interrupts, Brace, Nothing, Comment as BeginsComment, Size as BeginsSize, Name as BeginsName, Text as BeginsText, Width as BeginsWidth, LeftOut as IsLeftOut}
 use Rattle.roff_escape.specs.declared.escapes.NameUse.TheVariants.{Register, Text, Argument, Character, Font, LeftOut as NameLeftOut}
@@ -44,7 +43,8 @@ use Rattle.roff_run.specs.declared.step.Step.TheVariants.{Nothing}
 use Rattle.roff_run.specs.declared.line_state.LineState.TheVariants.{Branch, Deciding}
 use Rattle.roff_run.specs.declared.line_state.TextLine.{TextLine}
 use Rattle.roff_run.proofs.InputCounts.{first_passed-few_names}
-use Rattle.roff_reader.proofs.TakesAs.{TakesAs-asked, few_names_in, short_title_in, passed_none, passed_one}
+use Rattle.roff_reader.proofs.TakesAs.{TakesAs-asked, few_names_in, short_title_in}
+use Rattle.roff_names.proofs.InputsChanged.{passed_none, passed_one}
 
 -- a taking behind which a result is kept too
 abbrev with_kept : Bool → Taking → Taking
@@ -242,13 +242,6 @@ TakesAs-kept so freed es old new before mid behind m done begins keeps = record 
         events = took.events;
       });
 }
-
--- whether a page is odd, where a condition asks for odd pages or for even ones
-pub odd_as_asked : (is_odd asks_odd : Bool) → beq is_odd asks_odd ≡ (if asks_odd then is_odd else not is_odd)
-odd_as_asked true true = refl
-odd_as_asked true false = refl
-odd_as_asked false true = refl
-odd_as_asked false false = refl
 
 -- what a condition decides by what is known of the run, that it decides
 pub TakesAs-decides : (keeps so : Bool) (decision : Decision) (freed : Option ℕ) (es : ComposerOf) (old new : ReaderState) (before behind : PageUnread) (result : Result Step Limit)

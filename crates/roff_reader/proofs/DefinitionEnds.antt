@@ -4,8 +4,8 @@ use Rattle.std.specs.Prelude.{◌||◌, ◌&&◌, if◌then◌else◌}
 use Rattle.std.proofs.lemmas.Bool.{cases_Bool, eqb-true}
 use Rattle.roff_source.specs.Bytes.{blank, newline, tab}
 use Rattle.roff_escape.specs.OpenEscapes.{byte_read}
-use Rattle.roff_ahead.specs.Input.{beginning_line}
-use Rattle.roff_ahead.specs.Input.Calls.{last_result, without_last}
+use Rattle.roff_input.specs.Input.{beginning_line}
+use Rattle.roff_input.specs.Input.Calls.{last_result, without_last}
 use Rattle.roff_escape.specs.declared.open_escape.Surroundings.TheVariants.{Arguments as AboveArguments}
 use Rattle.roff_store.specs.Named.{Named}
 use Rattle.roff_store.specs.TextCalls.{Call}

@@ -6,25 +6,23 @@ use Rattle.roff_num.specs.declared.limit.Limit.{Limit}
 use Rattle.roff_num.specs.declared.limit.Limit.TheVariants.{Conditions, Depth, Diversions, Names, Stack, Store}
 use Rattle.roff_num.specs.declared.limits.Limits.{Limits}
 use Rattle.roff_escape.specs.OpenEscape.{unit_bytes}
-use Rattle.roff_ahead.specs.Input.{beginning_line, depth, pushed, result_count}
-use Rattle.roff_ahead.specs.Input.Names.{calling_on, dropping}
-use Rattle.roff_ahead.specs.Unread.{input_refusal}
+use Rattle.roff_input.specs.Input.{beginning_line, depth, pushed, result_count}
+use Rattle.roff_input.specs.Input.Names.{calling_on, dropping}
+use Rattle.roff_input.specs.Unread.{input_refusal}
 use Rattle.roff_escape.specs.declared.open_escape.CopyUnit.{CopyUnit}
-use Rattle.roff_escape.specs.declared.open_escape.Found.{Found}
-use Rattle.roff_escape.specs.declared.open_escape.Found.TheVariants.{GoesOn, Unit as OneUnit, Holds, Escape, Asks, Motion, Measures, Tells, Decides}
 use Rattle.roff_store.specs.TextCalls.{Call, Enter}
 use Rattle.roff_store.specs.Texts.{bytes_in, newest}
 use Rattle.roff_run.specs.Definitions.{end_mark, ends_mark, front_of, line_from, matched_behind}
 use Rattle.roff_run.specs.Events.Steps.{events_of, messages_of}
 use Rattle.roff_run.specs.Output.{PageHistory}
 use Rattle.roff_reader.specs.Reader.State.{ReaderState}
-use Rattle.roff_reader.specs.Reader.Taken.{InputCameTo, Takes, TakesAs}
+use Rattle.roff_names.specs.Inputs.{InputCameTo}
+use Rattle.roff_reader.specs.Reader.Taken.{Takes, TakesAs}
 use Rattle.roff_run.specs.Reading.Items.{PageUnread}
-use Rattle.roff_run.specs.Reading.DefinedLines.{behind_definition, definition_found, definition_line, definition_unit}
+use Rattle.roff_run.specs.Reading.DefinedLines.{behind_definition, definition_line, definition_unit}
 use Rattle.roff_run.specs.Reading.Definitions.{definition_cut, definition_dropped, definition_grown}
 use Rattle.roff_run.specs.Reading.Items.{PageInput, Taking, going_on}
 use Rattle.roff_run.specs.Reading.Strings.{string_entered}
-use Rattle.roff_run.specs.Reading.Units.{no_unit_found}
 use Rattle.roff_num.specs.ShortNames.{name_bytes}
 use Rattle.roff_run.specs.Registers.{AllRegisters, Known, changed_by_all}
 use Rattle.roff_run.specs.Run.{known_at}
@@ -39,20 +37,6 @@ use Rattle.roff_reader.proofs.DefinitionEnds.{LeavesTexts, LeavesTexts-behind_de
 use Rattle.roff_run.proofs.InputCounts.{NoMore, first_passed-few_names, first_passed-no_more, not_above}
 use Rattle.roff_reader.proofs.Strings.{refused_none}
 use Rattle.roff_reader.proofs.TakesAs.{Takes-elsewhere, few_names, short_title}
-
--- what is no unit of a definition's text
-pub definition_found-no_unit : (k : Known) (i : PageInput) (name : Option ShortName) (appends : Bool) (end : Option ShortName) (matched : Option ℕ) (found : Found)
-    → ((unit : CopyUnit) → found ≡ OneUnit unit → ⊥) → ((b : ℕ) → found ≡ Escape b → ⊥)
-    → no_unit_found k i (Defining name appends end matched) found ≡ definition_found k i name appends end matched found
-definition_found-no_unit k i name appends end matched (OneUnit unit) no_unit no_escape = absurd (no_unit unit refl)
-definition_found-no_unit k i name appends end matched (Escape b) no_unit no_escape = absurd (no_escape b refl)
-definition_found-no_unit k i name appends end matched GoesOn no_unit no_escape = refl
-definition_found-no_unit k i name appends end matched (Holds unit) no_unit no_escape = refl
-definition_found-no_unit k i name appends end matched (Asks purpose text) no_unit no_escape = refl
-definition_found-no_unit k i name appends end matched (Motion columns remark) no_unit no_escape = refl
-definition_found-no_unit k i name appends end matched (Measures width) no_unit no_escape = refl
-definition_found-no_unit k i name appends end matched (Tells remark) no_unit no_escape = refl
-definition_found-no_unit k i name appends end matched (Decides decision freed) no_unit no_escape = refl
 
 -- what is known behind a call on texts in the making is what was known before
 known-calling_on : (call : ℕ → Call) (id : Option ℕ) (h : PageHistory) (rs : AllRegisters) (i : PageInput) → known_at h rs (calling_on call id i) ≡ known_at h rs i

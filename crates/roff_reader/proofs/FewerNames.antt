@@ -2,7 +2,7 @@
 use Rattle.std.proofs.Common.{◌≡◌, ℕ, ◌+◌, ◌≤◌, true, false, List, [], ◌∷◌, length, Option, Some, None, refl, ap, arith}
 use Rattle.std.specs.Prelude.{bytes_eq, if◌then◌else◌}
 use Rattle.std.proofs.lemmas.List.Sums.{sum_by-cons}
-use Rattle.roff_ahead.specs.Input.Names.{calling}
+use Rattle.roff_input.specs.Input.Names.{calling}
 use Rattle.roff_store.specs.Named.{Named, entry_of, with_entry, without_entry}
 use Rattle.roff_store.specs.TextCalls.{Remove, Rename, moved_to}
 use Rattle.roff_store.specs.Texts.{Entry, bytes_in, bytes_of}

@@ -1,4 +1,3 @@
-pub mod Acting
 pub mod StringRefusals
 pub mod Strings
 pub mod DefinitionEnds
@@ -8,10 +7,7 @@ pub mod LinesTaken
 pub mod Placed
 pub mod Obeying
 pub mod Deciding
-pub mod RemovedRegisters
-pub mod RemovedNames
 pub mod FewerNames
-pub mod FirstNames
 pub mod TextTaken
 pub mod CalledBodies
 pub mod CalledArguments

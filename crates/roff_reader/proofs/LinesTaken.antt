@@ -10,25 +10,25 @@ use Rattle.roff_composer.specs.Composer.Standing.{StandFor}
 use Rattle.roff_composer.specs.declared.composer.Composer.{Composer as ComposerOf}
 use Rattle.roff_num.specs.declared.limit.Limit.{Limit}
 use Rattle.roff_source.specs.Bytes.{blank, is_dropped, newline}
-use Rattle.roff_ahead.specs.Unread.{EndsDecided, changing, input_refusal}
-use Rattle.roff_escape.specs.declared.open_escape.CopyUnit.{CopyUnit}
+use Rattle.roff_input.specs.Unread.{EndsDecided, changing, input_refusal, reading}
+use Rattle.roff_escape.specs.OpenEscapes.{reading_ended}
 use Rattle.roff_escape.specs.declared.open_escape.Found.{Found}
-use Rattle.roff_escape.specs.declared.open_escape.Found.TheVariants.{GoesOn, Unit as OneUnit, Holds, Escape, Asks, Motion, Measures, Tells, Decides}
+use Rattle.roff_escape.specs.declared.open_escape.Found.TheVariants.{Decides, GoesOn}
 use Rattle.roff_run.specs.Output.{PageHistory}
 use Rattle.roff_reader.specs.Reader.State.{ReaderState}
 use Rattle.roff_reader.specs.Reader.Taken.{IsReady, TakesAs, Took}
 use Rattle.roff_run.specs.Reading.Items.{PageUnread, PageInput, Taking, behind_events, going_on}
-use Rattle.roff_run.specs.Reading.{escape_ended, interrupted, undropped_taking, taking}
+use Rattle.roff_run.specs.Reading.{escape_ended, undropped_taking, taking}
 use Rattle.roff_run.specs.Reading.Branches.{branch_of}
 use Rattle.roff_run.specs.Reading.Found.{found_in, place_in}
 use Rattle.roff_escape.specs.declared.open_escape.Decision.TheVariants.{Is}
+use Rattle.roff_escape.specs.declared.open_escape.Surroundings.{Surroundings}
 use Rattle.roff_escape.specs.declared.open_escape.Surroundings.TheVariants.{Arguments as AboveArguments}
-use Rattle.roff_run.specs.Reading.Arguments.{arguments_found}
 use Rattle.roff_run.specs.Reading.Beginnings.{beginning_text, escape_begun, first_escape, first_taking, going_on_told, line_begun, line_begun_as}
 use Rattle.roff_run.specs.Reading.Ends.{end_taking, last_line_ended}
-use Rattle.roff_run.specs.Reading.Messages.{message_found}
 use Rattle.roff_run.specs.Reading.Strings.{string_line_ended}
-use Rattle.roff_run.specs.Reading.Units.{no_unit_found, settling}
+use Rattle.roff_run.specs.Reading.Units.{interrupted}
+use Rattle.roff_run.specs.Reading.Collecting.{collected}
 use Rattle.roff_run.specs.Registers.{Known}
 use Rattle.roff_run.specs.Registers.Capped.{Capped}
 use Rattle.roff_run.specs.PageEvents.{PageEvent}
@@ -42,10 +42,10 @@ use Rattle.roff_run.specs.declared.line_state.LineState.TheVariants.{StringName,
 use Rattle.roff_num.specs.declared.short_name.ShortName.{ShortName}
 use Rattle.roff_run.specs.declared.line_state.TextLine.{TextLine}
 use Rattle.roff_run.specs.declared.line_state.TextStep.{TextStep}
-use Rattle.roff_run.specs.declared.request.Request.{Request}
 use Rattle.roff_run.specs.TextLine.Stepping.{step_at}
 use Rattle.roff_run.proofs.InputCounts.{NoMore, first_passed-few_names, first_passed-no_more}
-use Rattle.roff_reader.proofs.TakesAs.{TakesAs-where, TakesAs-as, passed_none, passed_one, few_names, short_title, keeps-meaning, TakesAs-asked, TakesAs-ended_at}
+use Rattle.roff_reader.proofs.TakesAs.{TakesAs-where, TakesAs-as, few_names, short_title, keeps-meaning, TakesAs-asked, TakesAs-ended_at}
+use Rattle.roff_names.proofs.InputsChanged.{passed_none, passed_one}
 
 -- This is read on, and some messages and events are meant.
 pub TakesAs-said : (t : Known → Taking) (behind : LineState) (messages : List Message) (events : List PageEvent) (es : ComposerOf) (old new : ReaderState) (u : PageUnread) (m : Step)
@@ -321,31 +321,15 @@ TakesAs-no_last_line t es old new before behind limit goes_on refused =
     subst (λ (taking : Taking). TakesAs (λ k. taking) es old new before behind (Err limit)) goes_on refused in
     record { takes = λ l h stands ready. first.takes l h stands ready }
 
--- behind a request's name anything but a unit is no byte of an argument
-pub arguments_found-no_unit : (k : Known) (i : PageInput) (breaks : Bool) (request : Request) (found : Found) → ((unit : CopyUnit) → found ≡ OneUnit unit → ⊥)
-    → ((b : ℕ) → found ≡ Escape b → ⊥) → no_unit_found k (settling i) (InArguments breaks request) found ≡ arguments_found k i breaks request found
-arguments_found-no_unit k i breaks request (OneUnit unit) no_unit no_escape = absurd (no_unit unit refl)
-arguments_found-no_unit k i breaks request (Escape b) no_unit no_escape = absurd (no_escape b refl)
-arguments_found-no_unit k i breaks request GoesOn no_unit no_escape = refl
-arguments_found-no_unit k i breaks request (Holds unit) no_unit no_escape = refl
-arguments_found-no_unit k i breaks request (Asks purpose name) no_unit no_escape = refl
-arguments_found-no_unit k i breaks request (Motion columns remark) no_unit no_escape = refl
-arguments_found-no_unit k i breaks request (Measures width) no_unit no_escape = refl
-arguments_found-no_unit k i breaks request (Tells remark) no_unit no_escape = refl
-arguments_found-no_unit k i breaks request (Decides decision freed) no_unit no_escape = refl
-
--- of a message's text anything but a unit is none
-pub message_found-no_unit : (k : Known) (i : PageInput) (aborts is_front : Bool) (found : Found) → ((unit : CopyUnit) → found ≡ OneUnit unit → ⊥)
-    → ((b : ℕ) → found ≡ Escape b → ⊥) → no_unit_found k i (Telling aborts is_front) found ≡ message_found k i aborts is_front found
-message_found-no_unit k i aborts is_front (OneUnit unit) no_unit no_escape = absurd (no_unit unit refl)
-message_found-no_unit k i aborts is_front (Escape b) no_unit no_escape = absurd (no_escape b refl)
-message_found-no_unit k i aborts is_front GoesOn no_unit no_escape = refl
-message_found-no_unit k i aborts is_front (Holds unit) no_unit no_escape = refl
-message_found-no_unit k i aborts is_front (Asks purpose name) no_unit no_escape = refl
-message_found-no_unit k i aborts is_front (Motion columns remark) no_unit no_escape = refl
-message_found-no_unit k i aborts is_front (Measures width) no_unit no_escape = refl
-message_found-no_unit k i aborts is_front (Tells remark) no_unit no_escape = refl
-message_found-no_unit k i aborts is_front (Decides decision freed) no_unit no_escape = refl
+-- what was found where a line collects units
+pub TakesAs-collected : (place : LineState) (found : Found) (es : ComposerOf) (old new : ReaderState) (before behind : PageUnread) (result : Result Step Limit)
+    → ((k : Known) (i : PageInput) → collected k i place found ≡ found_in k i place found) → old.reading ≡ place
+    → TakesAs (λ k. collected k before.input old.reading found) es old new before behind result
+    → TakesAs (λ k. found_in k before.input old.reading found) es old new before behind result
+TakesAs-collected place found es old new before behind result collects is takes =
+    let i : PageInput = before.input in
+    TakesAs-as (λ k. collected k i old.reading found) (λ k. found_in k i old.reading found) es old new before behind result
+    (λ k. subst (λ (r : LineState). collected k i r found ≡ found_in k i r found) (sym is) (collects k i)) takes
 
 -- a condition that is read and asks nothing more decides
 pub TakesAs-decided : (so : Bool) (es : ComposerOf) (old new : ReaderState) (before behind : PageUnread) → old.reading ≡ Deciding false
@@ -357,3 +341,14 @@ TakesAs-decided so es old new before behind deciding ends came =
     (λ l h rs i stands. ap (place_in (known_at h rs i)) (sym deciding)) old new before behind behind found (Ok Nothing) (ends AboveArguments)
     (TakesAs-where (λ k r. found_in k behind.input r found) (Deciding false) es old new behind behind (Ok Nothing) deciding
     (TakesAs-meant (λ k. found_in k behind.input (Deciding false) found) (branch_of so) es old new behind Nothing (λ k. refl) came refl))
+
+-- the expression of a condition ended that is a number: it decides next
+pub TakesAs-expression_ended : (keeps : Bool) (es : ComposerOf) (old : ReaderState) (before behind : PageUnread) → old.reading ≡ Deciding keeps
+    → ((base : Surroundings) → (GoesOn, behind) ≡ reading (reading_ended base before.input.escapes) before)
+    → TakesAs (λ k. escape_ended k old.reading before.input) es old old before behind (Ok Nothing)
+TakesAs-expression_ended keeps es old before behind deciding ends =
+    TakesAs-ended_at (λ k i f. found_in k i old.reading f) (λ k. place_in k old.reading) AboveArguments es
+    (λ l h rs i stands. ap (place_in (known_at h rs i)) (sym deciding)) old old before behind behind GoesOn (Ok Nothing) (ends AboveArguments)
+    (TakesAs-where (λ k r. found_in k behind.input r GoesOn) (Deciding keeps) es old old behind behind (Ok Nothing) deciding
+    (TakesAs-meant (λ k. found_in k behind.input (Deciding keeps) GoesOn) (Deciding keeps) es old old behind Nothing (λ k. refl)
+    (ap (λ (r : LineState). record old { reading = r }) deciding) refl))

@@ -1,27 +1,24 @@
 -- A request that is obeyed, and how it changes registers, as the definition takes its line's end.
-use Rattle.std.proofs.Common.{◌≡◌, ℕ, ◌≤◌, Bool, true, false, List, [], ◌∷◌, length, fold, Some, None, Ok, Err, refl, sym, subst, ap, ◌∙◌, arith}
-use Rattle.std.proofs.lemmas.Bool.{le-ltb, ltb-false}
+use Rattle.std.proofs.Common.{◌≡◌, ℕ, Bool, true, false, List, length, Some, None, Ok, Err, refl, sym, subst, ap, ◌∙◌}
 use Rattle.std.specs.Prelude.{nat_lt, if◌then◌else◌}
 use Rattle.roff_composer.specs.declared.composer.Composer.{Composer as ComposerOf}
 use Rattle.roff_num.specs.declared.limit.Limit.{Limit}
 use Rattle.roff_num.specs.declared.limit.Limit.TheVariants.{Names}
 use Rattle.roff_arguments.specs.Arguments.{finished, no_arguments, only_kept}
-use Rattle.roff_ahead.specs.Input.{with_arguments, without_arguments}
-use Rattle.roff_ahead.specs.Input.Calls.{arguments_given}
-use Rattle.roff_ahead.specs.Unread.{input_refusal}
-use Rattle.roff_store.proofs.Calls.{length-without_entry_le}
-use Rattle.roff_store.specs.Named.{without_entry}
-use Rattle.roff_store.specs.Registers.{Registers}
+use Rattle.roff_input.specs.Input.{with_arguments, without_arguments}
+use Rattle.roff_input.specs.Input.Calls.{arguments_given}
+use Rattle.roff_input.specs.Unread.{input_refusal}
 use Rattle.roff_store.specs.TextCalls.{Call}
 use Rattle.roff_run.specs.Events.Steps.{events_of, messages_of}
-use Rattle.roff_reader.specs.Reader.Acting.{Acts, CameToEffect, texts_read}
-use Rattle.roff_reader.specs.Reader.State.{MeaningKept, ReaderState}
-use Rattle.roff_reader.specs.Reader.Taken.{ChangedTo, Refused, TakesAs, behind_changes}
+use Rattle.roff_obeying.specs.Acting.{Acts, CameToEffect, Kept, Refused, behind_changes, kept, texts_read}
+use Rattle.roff_meaning.specs.Meaning.{MeaningKept}
+use Rattle.roff_reader.specs.Reader.State.{ReaderState}
+use Rattle.roff_reader.specs.Reader.Taken.{TakesAs}
 use Rattle.roff_run.specs.Reading.Items.{PageUnread}
 use Rattle.roff_run.specs.Reading.Arguments.{calling_all, line_ended, reading_behind}
 use Rattle.roff_run.specs.Reading.Items.{PageInput}
-use Rattle.roff_run.specs.Registers.{AllRegisters, Change, Remove, changed_by, changed_by_all, is_page, is_read_only}
-use Rattle.roff_run.specs.Registers.Capped.{Capped, is_past_cap, with_change}
+use Rattle.roff_run.specs.Registers.{AllRegisters, Change, changed_by, changed_by_all, is_page, is_read_only}
+use Rattle.roff_run.specs.Registers.Capped.{Capped, is_past_cap}
 use Rattle.roff_requests.specs.Registers.Coded.{change_of}
 use Rattle.roff_requests.specs.Request.Coded.{calls_of, changes_of}
 use Rattle.roff_requests.specs.declared.registers.Change.{Change as CodedChange}
@@ -35,22 +32,12 @@ use Rattle.roff_run.specs.declared.step.Step.{Step}
 use Rattle.roff_run.specs.declared.request.Request.{Request}
 use Rattle.roff_reader.proofs.FewerNames.{NoMore-calls}
 use Rattle.roff_run.proofs.InputCounts.{behind_title, NoMore, NoMore-released, NoMore-trans, first_passed-few_names, input_refusal-no_more, one_of}
-use Rattle.roff_reader.proofs.RemovedNames.{calling_all-arguments}
+use Rattle.roff_names.proofs.RemovedNames.{calling_all-arguments}
 use Rattle.roff_reader.proofs.TakesAs.{few_names, short_title}
 
--- where names go, no more have a register
-length-without : (names : List (List ℕ)) (named : Registers) → length (fold (λ named name. without_entry name named) named names) ≤ length named
-length-without [] named = omega arith
-length-without (name ∷ names) named =
-    let one = length-without_entry_le name named in let others = length-without names (without_entry name named) in omega arith
-
--- so a removal passes no limit
-pub Changed-removed : (names : List (List ℕ)) (old new : Capped) → new ≡ with_change (Remove names) old → ChangedTo (Remove names ∷ []) old new
-Changed-removed names old new goes = record {
-  registers = goes;
-  within = λ few.
-      ap is_past_cap goes ∙ le-ltb old.cap _ (let fewer = length-without names old.all.named in omega (arith, ltb-false old.cap (length old.all.named) few));
-}
+-- what a reader keeps beside what it reads
+abbrev pub kept_of : ReaderState → Kept
+kept_of r = kept r.registers r.meaning
 
 -- the input of a line that has ended
 abbrev line_finished : PageUnread → PageUnread
@@ -104,8 +91,8 @@ NoMore-effect e as_given asked i is =
     subst (λ (calls : List Call). NoMore (calling_all calls i) i) (sym is) (NoMore-calls as_given asked i)
 
 -- a request acted, and its arguments were released
-pub TakesAs-acted : (es : ComposerOf) (old acted new : ReaderState) (before mid act behind : PageUnread) (breaks : Bool) (request : Request) (m : Step)
-    → mid ≡ line_finished before → Acts breaks request es old acted mid act (Ok m) → behind ≡ released act
+pub TakesAs-acted : (es : ComposerOf) (old : ReaderState) (acted : Kept) (new : ReaderState) (before mid act behind : PageUnread) (breaks : Bool) (request : Request) (m : Step)
+    → mid ≡ line_finished before → Acts breaks request es (kept_of old) acted mid act (Ok m) → behind ≡ released act
     → new.registers ≡ acted.registers → new.meaning ≡ acted.meaning → new.reading ≡ reading_behind (row_of request).line
     → TakesAs (λ k. line_ended k before.input breaks request) es old new before behind (Ok m)
 TakesAs-acted es old acted new before mid act behind breaks request m finishes acting releases registers_stay meaning_stays begins = record {
@@ -113,8 +100,8 @@ TakesAs-acted es old acted new before mid act behind breaks request m finishes a
       let i : PageInput = before.input in
       let rs : AllRegisters = old.registers.all in
       let e : Effect = request_effect (known_at h rs i) breaks request (arguments_given i) in
-      let did : CameToEffect e old acted (line_finished before) act m =
-      subst (λ (u : PageUnread). CameToEffect (request_effect (known_at h rs u.input) breaks request (texts_read u)) old acted u act m) finishes (acting.acts l h stands) in
+      let did : CameToEffect e (kept_of old) acted (line_finished before) act m =
+      subst (λ (u : PageUnread). CameToEffect (request_effect (known_at h rs u.input) breaks request (texts_read u)) (kept_of old) acted u act m) finishes (acting.acts l h stands) in
       let few : is_past_cap old.registers ≡ false =
       ap (λ (n : ℕ). nat_lt n (length rs.named)) ready.cap ∙ few_names old.registers before ready in
       let few_now : nat_lt before.limits.names (length (changed_by_all e.changes rs).named) ≡ false =
@@ -141,8 +128,8 @@ TakesAs-acted es old acted new before mid act behind breaks request m finishes a
 }
 
 -- or more names than may would have a register
-pub TakesAs-not_acted : (es : ComposerOf) (old acted new : ReaderState) (before mid act behind : PageUnread) (breaks : Bool) (request : Request) (limit : Limit)
-    → mid ≡ line_finished before → Acts breaks request es old acted mid act (Err limit)
+pub TakesAs-not_acted : (es : ComposerOf) (old : ReaderState) (acted : Kept) (new : ReaderState) (before mid act behind : PageUnread) (breaks : Bool) (request : Request) (limit : Limit)
+    → mid ≡ line_finished before → Acts breaks request es (kept_of old) acted mid act (Err limit)
     → TakesAs (λ k. line_ended k before.input breaks request) es old new before behind (Err limit)
 TakesAs-not_acted es old acted new before mid act behind breaks request limit finishes acting = record {
   takes = λ l h stands ready.

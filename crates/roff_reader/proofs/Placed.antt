@@ -1,9 +1,11 @@
 -- What is read where something may be half read above it, and where nothing is.
 use Rattle.std.proofs.Common.{◌≡◌, ℕ, Bool, Option, refl}
 use Rattle.roff_escape.specs.OpenEscapes.{byte_read}
+use Rattle.roff_escape.specs.declared.open_escape.CopyUnit.{CopyUnit}
 use Rattle.roff_escape.specs.declared.open_escape.Found.{Found}
 use Rattle.roff_run.specs.Reading.{undropped_taking}
 use Rattle.roff_run.specs.Reading.Found.{found_in, place_in, read_in}
+use Rattle.roff_run.specs.Reading.Collecting.{unit_taking}
 use Rattle.roff_run.specs.Reading.Items.{PageInput, going_on}
 use Rattle.roff_run.specs.Registers.{Known}
 use Rattle.roff_run.specs.declared.line_state.LineState.{LineState}
@@ -77,3 +79,20 @@ found-elsewhere k i (Told aborts) found begun branch braced text arguments decid
 found-elsewhere k i Exiting found begun branch braced text arguments decides names strings calls defines tells opens titled = refl
 found-elsewhere k i TitleFront found begun branch braced text arguments decides names strings calls defines tells opens titled = absurd (opens refl)
 found-elsewhere k i (InTitle delimiter) found begun branch braced text arguments decides names strings calls defines tells opens titled = absurd (titled delimiter refl)
+
+-- and a unit does nothing where no line collects units
+pub unit_taking-elsewhere : (k : Known) (i : PageInput) (r : LineState) (unit : CopyUnit)
+    → ((breaks : Bool) (request : Request) → r ≡ InArguments breaks request → ⊥)
+    → ((appends : Bool) → r ≡ StringName appends → ⊥)
+    → ((name : Option ShortName) (appends : Bool) (is_front : Bool) → r ≡ StringText name appends is_front → ⊥)
+    → ((aborts : Bool) (is_front : Bool) → r ≡ Telling aborts is_front → ⊥)
+    → ((name : ShortName) → r ≡ Calling name → ⊥)
+    → (r ≡ TitleFront → ⊥)
+    → unit_taking k i r unit ≡ going_on i r
+unit_taking-elsewhere k i (InArguments breaks request) unit arguments names strings tells calls opens = absurd (arguments breaks request refl)
+unit_taking-elsewhere k i (StringName appends) unit arguments names strings tells calls opens = absurd (names appends refl)
+unit_taking-elsewhere k i (StringText name appends is_front) unit arguments names strings tells calls opens = absurd (strings name appends is_front refl)
+unit_taking-elsewhere k i (Telling aborts is_front) unit arguments names strings tells calls opens = absurd (tells aborts is_front refl)
+unit_taking-elsewhere k i (Calling name) unit arguments names strings tells calls opens = absurd (calls name refl)
+unit_taking-elsewhere k i TitleFront unit arguments names strings tells calls opens = absurd (opens refl)
+unit_taking-elsewhere k i (_) unit arguments names strings tells calls opens = refl

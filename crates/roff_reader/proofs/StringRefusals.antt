@@ -10,10 +10,10 @@ use Rattle.roff_num.specs.declared.limit.Limit.TheVariants.{Stack, Depth, Divers
 use Rattle.roff_num.specs.declared.limits.Limits.{Limits}
 use Rattle.roff_arguments.specs.Arguments.{Arguments, held, no_arguments, settled_at, with_byte_at, with_unit, with_whole}
 use Rattle.roff_escape.specs.OpenEscape.{texts_held, unit_bytes}
-use Rattle.roff_ahead.specs.Input.{bytes_ahead, depth, pushed, result_count}
+use Rattle.roff_input.specs.Input.{bytes_ahead, depth, pushed, result_count}
 use Rattle.roff_arguments.specs.Arguments.{live_bytes}
-use Rattle.roff_ahead.specs.Input.Names.{adding, calling, calling_on, names_added, stored}
-use Rattle.roff_ahead.specs.Unread.{input_refusal}
+use Rattle.roff_input.specs.Input.Names.{adding, calling, calling_on, names_added, stored}
+use Rattle.roff_input.specs.Unread.{input_refusal}
 use Rattle.roff_arguments.specs.declared.arguments.Place.{Place}
 use Rattle.roff_arguments.specs.declared.arguments.Place.TheVariants.{Between, InPlain, InQuotes, BehindQuote}
 use Rattle.roff_escape.specs.declared.open_escape.CopyUnit.{CopyUnit}
@@ -21,9 +21,10 @@ use Rattle.roff_escape.specs.declared.open_escape.CopyUnit.TheVariants.{Byte, Ke
 use Rattle.roff_arguments.proofs.KeptArguments.{held-only_kept}
 use Rattle.roff_store.specs.TextCalls.{Open, PushOpen}
 use Rattle.roff_store.specs.Texts.{newest}
-use Rattle.roff_reader.specs.FirstUnits.{first_text}
+use Rattle.roff_names.specs.FirstUnits.{first_text}
 use Rattle.roff_reader.specs.Reader.State.{ReaderState}
-use Rattle.roff_reader.specs.Reader.Taken.{InputCameTo, TakesAs}
+use Rattle.roff_names.specs.Inputs.{InputCameTo}
+use Rattle.roff_reader.specs.Reader.Taken.{TakesAs}
 use Rattle.roff_run.specs.Reading.Items.{PageUnread}
 use Rattle.roff_num.specs.ShortNames.{name_at}
 use Rattle.roff_run.specs.Reading.Items.{PageInput, going_on}

@@ -1,76 +1,29 @@
 -- What the code does where a string's name and text are read, as the definition does it.
-use Rattle.std.proofs.Common.{◌≡◌, ℕ, Bool, true, false, [], Option, Some, None, Result, Ok, Err, inl, inr, refl, sym, subst, ap, ◌∙◌, ◌==◌}
-use Rattle.std.specs.Prelude.{is_some, option_map, ◌&&◌}
+use Rattle.std.proofs.Common.{◌≡◌, ℕ, Bool, true, false, Option, None, Result, Ok, Err, inl, inr, refl, sym, subst, ap, ◌∙◌, ◌==◌}
 use Rattle.std.proofs.lemmas.Bool.{cases_Bool, eqb-true}
 use Rattle.roff_composer.specs.declared.composer.Composer.{Composer as ComposerOf}
 use Rattle.roff_num.specs.declared.limit.Limit.{Limit}
-use Rattle.roff_escape.specs.OpenEscape.{unit_bytes}
-use Rattle.roff_ahead.specs.Input.{holding_plain}
-use Rattle.roff_ahead.specs.Input.Names.{adding, calling, texts_of}
-use Rattle.roff_store.specs.Named.{entry_of}
-use Rattle.roff_store.specs.TextCalls.{Set}
-use Rattle.roff_store.specs.Texts.{Entry, Body as BodyOfName, Request as RequestOfName, has_body, is_body, kind_given, kind_of}
-use Rattle.roff_store.specs.declared.text.Kind.{Kind}
-use Rattle.roff_store.specs.declared.text.Kind.TheVariants.{Body as BodyGiven, Request as RequestGiven}
-use Rattle.roff_ahead.specs.Unread.{changing, input_refusal}
+use Rattle.roff_input.specs.Input.{holding_plain}
+use Rattle.roff_input.specs.Unread.{input_refusal}
 use Rattle.roff_escape.specs.declared.open_escape.CopyUnit.{CopyUnit}
 use Rattle.roff_escape.specs.declared.open_escape.CopyUnit.TheVariants.{Byte, Kept}
-use Rattle.roff_escape.specs.declared.open_escape.Found.{Found}
-use Rattle.roff_escape.specs.declared.open_escape.Found.TheVariants.{GoesOn, Unit as OneUnit, Holds, Escape, Asks, Motion, Measures, Tells, Decides}
 use Rattle.roff_run.specs.Events.Steps.{events_of, messages_of}
 use Rattle.roff_reader.specs.Reader.State.{ReaderState}
-use Rattle.roff_reader.specs.Reader.Taken.{InputCameTo, IsInputNow, IsReady, TakesAs}
+use Rattle.roff_names.specs.Inputs.{InputCameTo}
+use Rattle.roff_reader.specs.Reader.Taken.{IsReady, TakesAs}
 use Rattle.roff_run.specs.Reading.Items.{PageUnread}
 use Rattle.roff_run.specs.Reading.Items.{PageInput, Taking, going_on}
 use Rattle.roff_run.specs.Reading.Messages.{message_unit}
-use Rattle.roff_run.specs.Reading.Strings.{name_read, string_emptied, string_grown, string_name_found, string_name_or_text, string_name_unit, string_text_found, string_unit}
-use Rattle.roff_run.specs.Reading.Units.{no_unit_found, settling}
-use Rattle.roff_num.specs.ShortNames.{name_bytes}
-use Rattle.roff_run.specs.Registers.{Known}
+use Rattle.roff_run.specs.Reading.Strings.{name_read, string_grown, string_name_or_text, string_name_unit, string_unit}
+use Rattle.roff_run.specs.Reading.Units.{settling}
 use Rattle.roff_run.specs.Registers.Capped.{Capped}
 use Rattle.roff_run.specs.declared.step.Step.{Step}
 use Rattle.roff_run.specs.declared.step.Step.TheVariants.{Nothing}
 use Rattle.roff_run.specs.declared.line_state.LineState.{LineState}
-use Rattle.roff_run.specs.declared.line_state.LineState.TheVariants.{StringName, StringText, Telling}
+use Rattle.roff_run.specs.declared.line_state.LineState.TheVariants.{StringText, Telling}
 use Rattle.roff_num.specs.declared.short_name.ShortName.{ShortName}
 use Rattle.roff_run.proofs.InputCounts.{first_passed-few_names}
-use Rattle.roff_reader.proofs.TakesAs.{Takes-elsewhere, few_names, short_title, passed_none, passed_one}
-
--- what is no unit there
-pub string_name_found-no_unit : (k : Known) (i : PageInput) (appends : Bool) (found : Found) → ((unit : CopyUnit) → found ≡ OneUnit unit → ⊥) → ((b : ℕ) → found ≡ Escape b → ⊥)
-    → no_unit_found k (settling i) (StringName appends) found ≡ string_name_found k i appends found
-string_name_found-no_unit k i appends (OneUnit unit) no_unit no_escape = absurd (no_unit unit refl)
-string_name_found-no_unit k i appends (Escape b) no_unit no_escape = absurd (no_escape b refl)
-string_name_found-no_unit k i appends GoesOn no_unit no_escape = refl
-string_name_found-no_unit k i appends (Holds unit) no_unit no_escape = refl
-string_name_found-no_unit k i appends (Asks purpose text) no_unit no_escape = refl
-string_name_found-no_unit k i appends (Motion columns remark) no_unit no_escape = refl
-string_name_found-no_unit k i appends (Measures width) no_unit no_escape = refl
-string_name_found-no_unit k i appends (Tells remark) no_unit no_escape = refl
-string_name_found-no_unit k i appends (Decides decision freed) no_unit no_escape = refl
-
--- what is no unit there
-pub string_text_found-no_unit : (k : Known) (i : PageInput) (name : Option ShortName) (appends is_front : Bool) (found : Found) → ((unit : CopyUnit) → found ≡ OneUnit unit → ⊥) → ((b : ℕ) → found ≡ Escape b → ⊥)
-    → no_unit_found k i (StringText name appends is_front) found ≡ string_text_found k i name appends is_front found
-string_text_found-no_unit k i name appends is_front (OneUnit unit) no_unit no_escape = absurd (no_unit unit refl)
-string_text_found-no_unit k i name appends is_front (Escape b) no_unit no_escape = absurd (no_escape b refl)
-string_text_found-no_unit k i name appends is_front GoesOn no_unit no_escape = refl
-string_text_found-no_unit k i name appends is_front (Holds unit) no_unit no_escape = refl
-string_text_found-no_unit k i name appends is_front (Asks purpose text) no_unit no_escape = refl
-string_text_found-no_unit k i name appends is_front (Motion columns remark) no_unit no_escape = refl
-string_text_found-no_unit k i name appends is_front (Measures width) no_unit no_escape = refl
-string_text_found-no_unit k i name appends is_front (Tells remark) no_unit no_escape = refl
-string_text_found-no_unit k i name appends is_front (Decides decision freed) no_unit no_escape = refl
-
--- what a change of the input answers says what is the input now
-IsInputNow-changing : (i : PageInput) (before behind : PageUnread) (result : Result (Unit {0}) Limit) → (result, behind) ≡ changing i before
-    → IsInputNow i before behind result
-IsInputNow-changing i before behind (Ok done) changes = passed_none (input_refusal before.limits i) i before behind done changes
-IsInputNow-changing i before behind (Err limit) changes = passed_one (input_refusal before.limits i) i before behind limit changes
-
-pub InputCameTo-changing : (i : PageInput) (before behind : PageUnread) (result : Result (Unit {0}) Limit) → (result, behind) ≡ changing i before
-    → InputCameTo i before behind result
-InputCameTo-changing i before behind result changes = record { becomes = λ within. IsInputNow-changing i before behind result changes }
+use Rattle.roff_reader.proofs.TakesAs.{Takes-elsewhere, few_names, short_title}
 
 -- no limit refuses the input of a reader that is ready
 pub refused_none : (r : Capped) (u : PageUnread) → IsReady r u → input_refusal u.limits u.input ≡ None
@@ -131,46 +84,6 @@ message_unit-held i aborts true (Byte b) no_newline no_blank =
     let newline : (b == 10) ≡ false = other b 10 (λ is. no_newline (ap (λ (c : ℕ). Byte c) is)) in
     let blank : (b == 32) ≡ false = other b 32 (λ is. no_blank (ap (λ (c : ℕ). Byte c) is) refl) in
     rw (newline, blank) refl
-
--- a string with a name grows by what is added
-pub InputCameTo-grown : (name : Option ShortName) (unit : CopyUnit) (before behind : PageUnread) (result : Result (Unit {0}) Limit) → is_some name ≡ true
-    → (result, behind) ≡ changing (adding (unit_bytes unit) before.input) before → InputCameTo (string_grown name unit before.input) before behind result
-InputCameTo-grown None unit before behind result is changes = absurd (cc)
-InputCameTo-grown (Some name) unit before behind result is changes = InputCameTo-changing (adding (unit_bytes unit) before.input) before behind result changes
-
--- a name that stands for nothing, or for a request, has no body
-is_body-kind : (entry : Option Entry) (kind : Option Kind) → option_map kind_given kind ≡ option_map kind_of entry → ((count : ℕ) → kind ≡ Some (BodyGiven count) → ⊥)
-    → is_body entry ≡ false
-is_body-kind None kind same no_body = refl
-is_body-kind (Some (RequestOfName number)) kind same no_body = refl
-is_body-kind (Some (BodyOfName bytes)) None same no_body = cc
-is_body-kind (Some (BodyOfName bytes)) (Some (BodyGiven count)) same no_body = absurd (no_body count refl)
-is_body-kind (Some (BodyOfName bytes)) (Some (RequestGiven number)) same no_body = cc
-
-no_second : (appends has : Bool) → has ≡ false → (appends && has) ≡ false
-no_second true has none = none
-no_second false has none = refl
-
--- a string that isn't appended to, or has no body to append to, is empty
-emptied : (name : ShortName) (appends : Bool) (before behind : PageUnread) (result : Result (Unit {0}) Limit)
-    → (appends && has_body (name_bytes name) (texts_of before.input)) ≡ false
-    → (result, behind) ≡ changing (calling (Set (name_bytes name) (BodyOfName [])) before.input) before
-    → InputCameTo (string_emptied (Some name) appends before.input) before behind result
-emptied name appends before behind result none changes =
-    rw none (InputCameTo-changing (calling (Set (name_bytes name) (BodyOfName [])) before.input) before behind result changes)
-
-pub InputCameTo-fresh : (name : ShortName) (appends : Bool) (before behind : PageUnread) (result : Result (Unit {0}) Limit) → appends ≡ false
-    → (result, behind) ≡ changing (calling (Set (name_bytes name) (BodyOfName [])) before.input) before
-    → InputCameTo (string_emptied (Some name) appends before.input) before behind result
-InputCameTo-fresh name appends before behind result fresh changes = emptied name appends before behind result (rw fresh refl) changes
-
-pub InputCameTo-new : (name : ShortName) (appends : Bool) (kind : Option Kind) (before behind : PageUnread) (result : Result (Unit {0}) Limit)
-    → option_map kind_given kind ≡ option_map kind_of (entry_of (name_bytes name) before.input.names) → ((count : ℕ) → kind ≡ Some (BodyGiven count) → ⊥)
-    → (result, behind) ≡ changing (calling (Set (name_bytes name) (BodyOfName [])) before.input) before
-    → InputCameTo (string_emptied (Some name) appends before.input) before behind result
-InputCameTo-new name appends kind before behind result same no_body changes =
-    emptied name appends before behind result
-    (no_second appends _ (is_body-kind (entry_of (name_bytes name) before.input.names) kind same no_body)) changes
 
 -- what is taken once the input became another
 pub TakesAs-elsewhere : (t : PageInput → Taking) (i : PageInput) (es : ComposerOf) (old new : ReaderState) (before mid behind : PageUnread) (done : Unit {0})

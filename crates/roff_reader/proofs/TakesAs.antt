@@ -10,9 +10,9 @@ use Rattle.roff_num.specs.declared.limit.Limit.TheVariants.{Line, Names}
 use Rattle.roff_num.specs.Ranges.{is_in_range}
 use Rattle.roff_escape.specs.OpenEscape.{OpenEscape, texts_held}
 use Rattle.roff_escape.specs.OpenEscapes.{Reads, byte_read, reading_ended}
-use Rattle.roff_ahead.specs.Input.{choosing, pushing, with_escapes}
-use Rattle.roff_ahead.specs.Input.Calls.{without_last}
-use Rattle.roff_ahead.specs.Unread.{changing, input_refusal, reading, unless_passed}
+use Rattle.roff_input.specs.Input.{choosing, pushing, with_escapes}
+use Rattle.roff_input.specs.Input.Calls.{without_last}
+use Rattle.roff_input.specs.Unread.{changing, input_refusal, reading}
 use Rattle.roff_escape.specs.declared.open_escape.Found.{Found}
 use Rattle.roff_escape.specs.declared.open_escape.Surroundings.{Surroundings}
 use Rattle.roff_escape.proofs.TextsHeld.{texts_held-byte_read, texts_held-reading_ended}
@@ -25,11 +25,10 @@ use Rattle.roff_run.specs.Output.{PageHistory}
 use Rattle.roff_reader.specs.Reader.State.{ReaderState}
 use Rattle.roff_reader.specs.Reader.Taken.{IsReady, Takes, TakesAs, Took}
 use Rattle.roff_run.specs.Reading.Items.{PageUnread}
-use Rattle.roff_run.specs.Reading.{interrupted}
 use Rattle.roff_run.specs.Reading.ControlLines.{line_taking}
 use Rattle.roff_run.specs.Reading.Escapes.{interpolating}
 use Rattle.roff_run.specs.Reading.Items.{PageInput, Taking, going_on}
-use Rattle.roff_run.specs.Reading.Units.{settling}
+use Rattle.roff_run.specs.Reading.Units.{interrupted}
 use Rattle.roff_run.specs.Registers.{AllRegisters, Known, changed_by_all, is_page, is_read_only, known_stepped, page_stepped, step_changes, step_messages, text_of_register}
 use Rattle.roff_run.specs.Registers.Capped.{Capped}
 use Rattle.roff_run.specs.Requests.Effects.{page_numbered}
@@ -38,13 +37,14 @@ use Rattle.roff_run.specs.Run.{known_at}
 use Rattle.roff_run.specs.Run.Counts.{counts_in, first_passed}
 use Rattle.roff_run.specs.declared.step.Step.{Step}
 use Rattle.roff_run.specs.declared.step.Step.TheVariants.{Nothing}
-use Rattle.roff_reader.specs.Reader.State.{MeaningKept}
+use Rattle.roff_meaning.specs.Meaning.{MeaningKept}
 use Rattle.roff_run.specs.declared.line_state.LineState.{LineState}
 use Rattle.roff_run.specs.declared.request.LineReading.{LineReading}
 use Rattle.roff_run.specs.declared.request.Request.{Request}
-use Rattle.roff_reader.specs.NamesRead.{half_begun}
+use Rattle.roff_names.specs.NamesRead.{half_begun}
+use Rattle.roff_names.proofs.InputsChanged.{passed_none, passed_one}
 use Rattle.roff_run.specs.TitleTexts.{TitleText, title_length}
-use Rattle.roff_run.proofs.InputCounts.{behind_title, NoMore, NoMore-interrupted, NoMore-same, NoMore-settling, first_passed-few_names, first_passed-no_more, one_of}
+use Rattle.roff_run.proofs.InputCounts.{behind_title, NoMore, NoMore-interrupted, NoMore-same, first_passed-few_names, first_passed-no_more, one_of}
 
 -- what is taken where other units are half read, and something else was read of the line
 pub Takes-elsewhere : (t : Taking) (old : Capped) (new : ReaderState) (before behind : PageUnread) (i : PageInput) (result : Result Step Limit)
@@ -126,17 +126,17 @@ TakesAs-as s t es old new before behind result same takes = record {
       (takes.takes l h stands ready);
 }
 
--- what is taken once no quote follows the quote before
-pub TakesAs-settled : (t : Known → PageInput → Taking) (es : ComposerOf) (old new : ReaderState) (before mid behind : PageUnread) (result : Result Step Limit)
-    → mid ≡ record before { input = settling before.input } → TakesAs (λ k. t k mid.input) es old new mid behind result
-    → TakesAs (λ k. t k (settling before.input)) es old new before behind result
-TakesAs-settled t es old new before mid behind result settles takes =
-    let i : PageInput = settling before.input in
+-- what is taken once no quote follows the quote before, where this is read
+pub TakesAs-settled : (reading : LineState) (t : Known → PageInput → Taking) (es : ComposerOf) (old new : ReaderState) (before mid behind : PageUnread) (result : Result Step Limit)
+    → mid ≡ record before { input = interrupted reading before.input } → TakesAs (λ k. t k mid.input) es old new mid behind result
+    → TakesAs (λ k. t k (interrupted reading before.input)) es old new before behind result
+TakesAs-settled reading t es old new before mid behind result settles takes =
+    let i : PageInput = interrupted reading before.input in
     let moved : TakesAs (λ k. t k i) es old new (record before { input = i }) behind result =
     subst (λ (u : PageUnread). TakesAs (λ k. t k u.input) es old new u behind result) settles takes in
     record {
       takes = λ l h stands ready.
-          let within = first_passed-no_more before.limits old.registers.all i before.input (NoMore-settling before.input) ready.within in
+          let within = first_passed-no_more before.limits old.registers.all i before.input (NoMore-interrupted reading before.input) ready.within in
           Takes-elsewhere (t (known_at h old.registers.all before.input) i) old.registers new before behind i result
           (moved.takes l h stands (record { cap = ready.cap; line = ready.line; within = within }));
     }
@@ -168,19 +168,6 @@ pub TakesAs-line : (line : LineReading) (breaks : Bool) (request : Request) (b :
     → TakesAs (λ k. line_taking k before.input breaks request (row_of request).line b) es old new before behind result
 TakesAs-line line breaks request b es old new before behind result is takes =
     subst (λ (l : LineReading). TakesAs (λ k. line_taking k before.input breaks request l b) es old new before behind result) (sym is) takes
-
--- an input that changed
-pub passed_none : (refusal : Option Limit) (i : PageInput) (u behind : PageUnread) (done : Unit {0}) → (Ok done, behind) ≡ unless_passed refusal i u
-    → (behind ≡ record u { input = i }) × (refusal ≡ None)
-passed_none None i u behind done is = (ap (λ (answer : Result (Unit {0}) Limit × PageUnread). answer.1) is, refl)
-passed_none (Some limit) i u behind done is =
-    let differs = ap (λ (answer : Result (Unit {0}) Limit × PageUnread). answer.0) is in cc
-
-pub passed_one : (refusal : Option Limit) (i : PageInput) (u behind : PageUnread) (limit : Limit) → (Err limit, behind) ≡ unless_passed refusal i u → refusal ≡ Some limit
-passed_one None i u behind limit is =
-    let differs = ap (λ (answer : Result (Unit {0}) Limit × PageUnread). answer.0) is in cc
-passed_one (Some other) i u behind limit is =
-    let same = ap (λ (answer : Result (Unit {0}) Limit × PageUnread). answer.0) is in cc
 
 -- a step makes no name a register
 length-stepped : (name : List ℕ) (r : Register) (named : Registers) (has in_range : Bool) → is_some (entry_of name named) ≡ has

@@ -5,17 +5,12 @@ use Rattle.std.proofs.lemmas.Bool.{le-ltb}
 use Rattle.roff_lines.specs.Words.{is_empty}
 use Rattle.roff_num.specs.declared.limit.Limit.{Limit}
 use Rattle.roff_escape.specs.OpenEscape.{OpenEscape}
-use Rattle.roff_escape.specs.declared.open_escape.Found.{Found}
-use Rattle.roff_escape.specs.declared.open_escape.Found.TheVariants.{GoesOn, Unit as OneUnit, Holds, Escape, Asks, Motion, Measures, Tells, Decides}
-use Rattle.roff_escape.specs.declared.open_escape.CopyUnit.{CopyUnit}
 use Rattle.roff_run.specs.Reading.{title_read}
 use Rattle.roff_run.specs.Reading.Items.{PageInput, PageUnread, Taking}
-use Rattle.roff_run.specs.Reading.Titles.{bytes_for, empty_title_ended, title_ended, title_front_found}
-use Rattle.roff_run.specs.Reading.Units.{no_unit_found}
+use Rattle.roff_run.specs.Reading.Titles.{bytes_for, empty_title_ended, title_ended}
 use Rattle.roff_run.specs.Registers.{Known, TitleBegins}
 use Rattle.roff_run.specs.Registers.Capped.{Capped, title_after, with_change}
 use Rattle.roff_run.specs.Run.{known_at}
-use Rattle.roff_run.specs.declared.line_state.LineState.TheVariants.{TitleFront}
 use Rattle.roff_run.specs.declared.step.Step.{Step}
 use Rattle.roff_run.proofs.InputCounts.{first_passed-few_names}
 use Rattle.roff_composer.specs.declared.composer.Composer.{Composer as ComposerOf}
@@ -74,19 +69,6 @@ TakesAs-empty es old mid new u behind result begun ended =
           (subst (λ (r : Capped). Takes (title_ended (known_at h r.all u.input) u.input) r new u behind result) is
           (ended.takes l h stands (subst (λ (r : Capped). IsReady r u) (sym is) at_mid)));
     }
-
--- in front of the parts anything but a unit is read as behind a request's name
-pub title_front_found-no_unit : (k : Known) (i : PageInput) (found : Found) → ((unit : CopyUnit) → found ≡ OneUnit unit → ⊥) → ((b : ℕ) → found ≡ Escape b → ⊥)
-    → no_unit_found k i TitleFront found ≡ title_front_found k i found
-title_front_found-no_unit k i (OneUnit unit) no_unit no_escape = absurd (no_unit unit refl)
-title_front_found-no_unit k i (Escape b) no_unit no_escape = absurd (no_escape b refl)
-title_front_found-no_unit k i GoesOn no_unit no_escape = refl
-title_front_found-no_unit k i (Holds unit) no_unit no_escape = refl
-title_front_found-no_unit k i (Asks purpose name) no_unit no_escape = refl
-title_front_found-no_unit k i (Motion columns remark) no_unit no_escape = refl
-title_front_found-no_unit k i (Measures width) no_unit no_escape = refl
-title_front_found-no_unit k i (Tells remark) no_unit no_escape = refl
-title_front_found-no_unit k i (Decides decision freed) no_unit no_escape = refl
 
 -- where nothing is half read a byte of a title is a delimiter if it is that byte
 pub title_read-alone : (k : Known) (i : PageInput) (delimiter b : ℕ) (is_delimiter : Bool) → i.escapes ≡ [] → (b == delimiter) ≡ is_delimiter

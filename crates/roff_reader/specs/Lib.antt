@@ -1,4 +1,2 @@
 pub mod Reader
 pub mod Clauses
-pub mod NamesRead
-pub mod FirstUnits

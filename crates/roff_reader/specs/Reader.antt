@@ -1,6 +1,5 @@
 -- What the code reads, as the definition reads it.
 pub mod State
-pub mod Acting
 pub mod Taken
 pub mod Springs
 pub mod Titles

@@ -10,7 +10,7 @@ ghost use Rattle.roff_run.specs.Events.Lines.{closing_events};
 ghost use Rattle.roff_run.specs.Events.Steps.{events_of, messages_of};
 ghost use Rattle.roff_run.specs.declared.step.Step.TheVariants.{Nothing};
 ghost use Rattle.roff_reader.specs.Clauses.{LineStart, TakesAs, fresh_reader};
-ghost use Rattle.roff_reader.specs.Clauses.{Known, interrupted, first_unread, is_left, is_unfinished, taking, due};
+ghost use Rattle.roff_reader.specs.Clauses.{Known, interrupted, is_left, is_unfinished, taking, due};
 ghost use Rattle.roff_run.specs.Registers.Capped.{admitted, after};
 ghost use Rattle.roff_run.specs.Starts.{given_change};
 ghost use Rattle.roff_run.specs.declared.phase.Phase.{Phase};
@@ -27,9 +27,7 @@ mod escapes;
 mod found;
 mod half_read;
 mod messages;
-mod numbering;
 mod obeying;
-mod places;
 mod registers;
 mod string_names;
 mod strings;
@@ -37,15 +35,14 @@ mod text_lines;
 mod titles;
 mod waiting;
 
-use crate::meaning::Meaning;
 pub use calls::CALL_ARGUMENTS;
-pub use control_lines::{begin_deciding, behind_called, called_by};
 use roff_composer::Composer;
-use roff_num::{Limit, Limits, Name, Num};
-use roff_requests::{RequestEvents, RunRegisters};
-use roff_run::{Due, LineEvents, LineState, Message, PageEvent, Request, Step};
+use roff_meaning::{Meaning, RequestEvents};
+use roff_num::{Limit, Num};
+use roff_obeying::report;
+use roff_requests::RunRegisters;
+use roff_run::{Due, LineEvents, LineState, Message, PageEvent, Step};
 use roff_scan::{Unread, is_dropped};
-use roff_store::Entry;
 use std::alloc::{AllocError, Global};
 use std::marker::Model;
 
@@ -263,9 +260,7 @@ impl Reader {
         ensures none { events_of self.new.meaning.events result ≡ [] }
         ensures others { self.new ≡ record self.old { meaning = self.new.meaning } }
     {
-        self.meaning
-            .keep_line(Some(message), false, LineEvents::Nothing);
-        Step::Meaning
+        report(&mut self.meaning, message)
     }
 
     /// A message is reported, if there is one.
@@ -323,22 +318,4 @@ fn is_read_alone(byte: u8, unread: &Unread<PageEvent>) -> bool
         return false;
     }
     !unread.has_open_escape()
-}
-
-/// The unread input before anything is read: the requests have their names.
-///
-/// # Errors
-///
-/// [`AllocError`] if the memory for the limits can't be had.
-pub fn first_unread(alloc: Global, limits: Limits) -> Result<Unread<PageEvent>, AllocError>
-    ensures { IfOk result (λ u. u ≡ first_unread limits) }
-{
-    let mut unread = Unread::new(alloc, limits, Request::COUNT as u32)?;
-    for number in 0..Request::COUNT {
-        if let Some(request) = Request::numbered(number as usize) {
-            let name = Name::new(&request.row().name).unwrap();
-            let _ = unread.set(&name, Entry::Request(number));
-        }
-    }
-    Ok(unread)
 }

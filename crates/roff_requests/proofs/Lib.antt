@@ -1,7 +1,6 @@
 pub mod TabStops
 pub mod RegisterTables
 pub mod Numbering
-pub mod EventsAt
 pub mod Heights
 pub mod LoneDigits
 pub mod PageLengths

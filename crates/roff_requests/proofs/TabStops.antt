@@ -5,7 +5,7 @@ use Rattle.std.proofs.Math.Seq.{append_snoc}
 use Rattle.std.proofs.lemmas.List.{append-nil, drop_all, map-append}
 use Rattle.roff_num.specs.Steps.{followed}
 use Rattle.roff_num.specs.declared.num.NumFault.{NumFault}
-use Rattle.roff_requests.specs.Events.{stop_at, stops_set}
+use Rattle.roff_meaning.specs.Events.{stop_at, stops_set}
 use Rattle.roff_run.specs.Numbers.{at_least_zero, rounded_in_range}
 use Rattle.roff_lines.specs.declared.event.Event.TheVariants.{Set}
 use Rattle.roff_lines.specs.declared.settings.Param.TheVariants.{NoStops}

@@ -1,3 +1,2 @@
-pub mod Events
 pub mod Request
 pub mod Registers

@@ -6,7 +6,7 @@ ghost use Rattle.std.specs.Option.{option_to_list};
 ghost use Rattle.roff_num.specs.Ranges.{is_in_range};
 ghost use Rattle.roff_num.specs.RegisterText.{register_text};
 ghost use Rattle.roff_store.specs.Registers.{next_value};
-ghost use Rattle.roff_run.specs.Registers.{is_page, number_in_range};
+ghost use Rattle.roff_run.specs.Registers.{is_page, number_in_range, page_name};
 ghost use Rattle.roff_run.specs.declared.message.Message.TheVariants.{BadNumber};
 
 mod read_only;
@@ -341,6 +341,13 @@ impl RunRegisters {
         }
         named.set_format(name, format)
     }
+}
+
+/// The name of the page number's register.
+pub fn page_name() -> Name
+    ensures { result ≡ page_name }
+{
+    Name::new(b"%").unwrap()
 }
 
 /// Whether a name is the page number's.

@@ -21,7 +21,7 @@ mod traps;
 use Request::{LeftOut, WithoutEffect};
 pub(crate) use effects::PageFacts;
 pub use effects::{Changes, RequestFacts, Response};
-pub use numbering::{Numbers, name_given, numbers_given, register_named};
+pub use numbering::{Numbers, numbers_given, register_named};
 use roff_lines::Param;
 use roff_run::Request;
 pub use tabs::tab_stops;

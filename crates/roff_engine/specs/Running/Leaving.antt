@@ -1,11 +1,11 @@
 -- How a run of the code leaves its input (manual, section 20).
 use Rattle.std.specs.Prelude.{◌≡◌}
-use Rattle.roff_ahead.specs.Input.{leaving, outermost_back}
+use Rattle.roff_input.specs.Input.{leaving, outermost_back}
 use Rattle.roff_run.specs.Reading.Returns.{gone_back_to}
 use Rattle.roff_run.specs.declared.line_state.LineState.TheVariants.{LineStart}
 use Rattle.roff_run.specs.declared.phase.Phase.{Phase}
 use Rattle.roff_run.specs.declared.phase.Phase.TheVariants.{Reading, LastMacro, Closing}
-use Rattle.roff_ahead.specs.Looking.{closing}
+use Rattle.roff_input.specs.Looking.{closing}
 use Rattle.roff_engine.specs.declared.running.Running.{Running as Coded}
 
 -- what stands ahead of the source was dropped, and what is read is what all ends of bodies lead back to

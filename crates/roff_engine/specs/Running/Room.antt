@@ -1,8 +1,8 @@
 -- Room for events that are put back: few stand in front of a run, and none where a condition decided, until that is read.
 use Rattle.std.specs.Prelude.{◌≡◌, ◌-◌, Bool, true, false, List, ◌∷◌, Some}
-use Rattle.roff_ahead.specs.Input.{Ahead}
-use Rattle.roff_ahead.specs.Input.Few.{AreFewFrom}
-use Rattle.roff_ahead.specs.Shown.{SeesNothing, seen_ahead}
+use Rattle.roff_input.specs.Input.{Ahead}
+use Rattle.roff_input.specs.Input.Few.{AreFewFrom}
+use Rattle.roff_input.specs.Shown.{SeesNothing, seen_ahead}
 use Rattle.roff_escape.specs.Conditions.{is_decided}
 use Rattle.roff_escape.specs.OpenEscape.{OpenEscape, Size, Condition}
 use Rattle.roff_formatter.specs.Formatter.Sprung.{most_back}

@@ -1,7 +1,7 @@
 -- How far a run of the code has come where events were performed, of which one may have sprung a macro.
 use Rattle.std.specs.Prelude.{◌≡◌, ◌≤◌, ℕ, ◌+◌, List, [], length, map, Option, OnOk, Result}
 use Rattle.roff_engine.specs.Running.Room.{FewFor}
-use Rattle.roff_ahead.specs.Input.{events_ahead, most_events, putting_all_back}
+use Rattle.roff_input.specs.Input.{events_ahead, most_events, putting_all_back}
 use Rattle.roff_run.specs.Reading.Items.{PageInput, PageUnread}
 use Rattle.roff_composer.specs.Composer.Standing.{StandFor}
 use Rattle.roff_reader.specs.Reader.Taken.{IsReady}

@@ -7,8 +7,8 @@ use Rattle.roff_composer.specs.declared.composer.Composer.{Composer as ComposerO
 use Rattle.roff_run.specs.declared.start.Start.{Start}
 use Rattle.roff_source.specs.Tape.{Tape, Item, items_then}
 use Rattle.roff_source.specs.declared.source.ByteSource as byte_source
-use Rattle.roff_ahead.specs.Looking.{is_closed, looked_then}
-use Rattle.roff_ahead.specs.declared.looked.Looked.TheVariants.{Nothing}
+use Rattle.roff_input.specs.Looking.{is_closed, looked_then}
+use Rattle.roff_input.specs.declared.looked.Looked.TheVariants.{Nothing}
 use Rattle.roff_composer.specs.Composer.Standing.{StandFor}
 use Rattle.roff_engine.specs.declared.interpreter.Interpreter.{Interpreter}
 use Rattle.roff_engine.specs.declared.running.Running.{Running as Coded}

@@ -5,7 +5,9 @@ ghost use Rattle.roff_fronts.specs.Runs.{IsRun};
 ghost use Rattle.roff_scan.specs.declared.run_kind.RunKind.TheVariants.{Text as TextRun};
 
 use super::Running;
-use roff_fronts::{RunKind, run_half_read, take_run, take_string_name};
+use roff_fronts::{
+    RunKind, run_half_read, take_branch_blanks, take_run, take_string_front, take_string_name,
+};
 use roff_scan::ByteSource;
 
 impl Running {
@@ -18,6 +20,17 @@ impl Running {
         ensures { GoesPastOver S.ByteSource source.old source.new self.old self.new }
     {
         take_run(&mut self.interpreter.reader, kind, &mut self.unread, source);
+    }
+
+    /// Takes blanks together that stand in front where a branch begins, and nothing is half read.
+    #[inline(always)]
+    pub(super) fn take_branch_blanks<S: ByteSource>(&mut self, source: &mut S)
+        requires none_half { self.old.unread.input.escapes ≡ [] }
+        ensures none_half { self.new.unread.input.escapes ≡ [] }
+        ensures others { self.new ≡ record self.old { unread = self.new.unread } }
+        ensures past { GoesPastOver S.ByteSource source.old source.new self.old self.new }
+    {
+        take_branch_blanks(&self.interpreter.reader, &mut self.unread, source);
     }
 
     /// Takes bytes of a title's part together that stand in front, where a title is read.
@@ -36,6 +49,14 @@ impl Running {
         ensures { GoesPastOver S.ByteSource source.old source.new self.old self.new }
     {
         take_string_name(&self.interpreter.reader, &mut self.unread, source);
+    }
+
+    /// Takes bytes of a string's text together that stand in front, where it begins.
+    #[inline(always)]
+    pub(super) fn take_string_front<S: ByteSource>(&mut self, source: &mut S)
+        ensures { GoesPastOver S.ByteSource source.old source.new self.old self.new }
+    {
+        take_string_front(&mut self.interpreter.reader, &mut self.unread, source);
     }
 
     /// Takes bytes of plain text together that stand in front, and tells them, and then reads the

@@ -2,7 +2,7 @@
 
 ghost use Rattle.std.specs.Prelude.{◌≡◌, ℕ};
 ghost use Rattle.roff_run.specs.Run.{awaited, byte_taken, in_front_taken, item_read};
-ghost use Rattle.roff_ahead.specs.Shown.{SeesByte, seen_ahead};
+ghost use Rattle.roff_input.specs.Shown.{SeesByte, seen_ahead};
 ghost use Rattle.roff_scan.specs.Unread.Calls.{Looks};
 ghost use Rattle.roff_engine.specs.Clauses.{seen};
 

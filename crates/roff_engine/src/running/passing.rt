@@ -7,7 +7,7 @@ ghost use Rattle.roff_scan.specs.declared.run_kind.RunKind.TheVariants.{Dropped 
 ghost use Rattle.roff_run.specs.Reading.Returns.{behind_return};
 ghost use Rattle.roff_run.specs.Stages.{EndsLine};
 ghost use Rattle.roff_escape.specs.declared.open_escape.Waiting.TheVariants.{Takes};
-ghost use Rattle.roff_ahead.specs.Unread.{IsWithin};
+ghost use Rattle.roff_input.specs.Unread.{IsWithin};
 ghost use Rattle.roff_scan.specs.Unread.Calls.{PassesEnd, PassesReturn};
 ghost use Rattle.roff_engine.specs.Clauses.{due, waiting_in};
 
@@ -37,6 +37,19 @@ impl Running {
     /// takes the end of a call. Returns whether a line begins behind them.
     #[inline(never)]
     fn pass_control_line<S: ByteSource>(&mut self, source: &mut S) -> bool
+        requires begins { BeginsControl self.old.interpreter.reader.reading }
+        requires none_due { due self.old.interpreter.reader.reading ≡ None }
+        requires takes { TakesAtBeginning self.old.interpreter.reader.reading }
+        requires none_half { self.old.unread.input.escapes ≡ [] }
+        ensures { GoesFurtherOver result S.ByteSource source.old source.new self.old self.new }
+    {
+        self.take_branch_blanks(source);
+        self.pass_control_front(source)
+    }
+
+    /// The same behind blanks where a branch begins.
+    #[inline(always)]
+    fn pass_control_front<S: ByteSource>(&mut self, source: &mut S) -> bool
         requires begins { BeginsControl self.old.interpreter.reader.reading }
         requires none_due { due self.old.interpreter.reader.reading ≡ None }
         requires takes { TakesAtBeginning self.old.interpreter.reader.reading }
@@ -100,12 +113,13 @@ impl Running {
         }
     }
 
-    /// The same of bytes of a string's name, or of a title's part.
+    /// The same of bytes of a string's name, of the beginning of its text, or of a title's part.
     #[inline(never)]
     fn pass_apart<S: ByteSource>(&mut self, source: &mut S) -> bool
         ensures { GoesFurtherOver result S.ByteSource source.old source.new self.old self.new }
     {
         self.take_string_name(source);
+        self.take_string_front(source);
         self.take_title_front(source);
         self.pass_end()
     }

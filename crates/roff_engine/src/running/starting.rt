@@ -5,7 +5,7 @@ ghost use Rattle.roff_engine.specs.Clauses.{Outcome, Sunk, Tape, pages_given, se
 ghost use Rattle.roff_run.specs.Output.{PageHistory, written};
 ghost use Rattle.roff_run.specs.Run.{initial, stopped_by, with_registers};
 ghost use Rattle.roff_run.specs.declared.start.Start.{Start as StartOf};
-ghost use Rattle.roff_ahead.specs.declared.looked.Looked.TheVariants.{Nothing};
+ghost use Rattle.roff_input.specs.declared.looked.Looked.TheVariants.{Nothing};
 
 use super::Running;
 use roff_formatter::Halt;

@@ -1,12 +1,12 @@
 -- How the reader reads a macro that sprang.
 use Rattle.std.specs.Prelude.{◌≡◌, Result, Ok, Err}
-use Rattle.roff_ahead.specs.Input.Calls.{springing}
-use Rattle.roff_ahead.specs.Input.Names.{body_named}
+use Rattle.roff_input.specs.Input.Calls.{springing}
+use Rattle.roff_input.specs.Input.Names.{body_named}
 use Rattle.roff_num.specs.ShortNames.{name_bytes}
 use Rattle.roff_num.specs.declared.limit.Limit.{Limit}
 use Rattle.roff_num.specs.declared.short_name.ShortName.{ShortName}
 use Rattle.roff_reader.specs.Reader.State.{ReaderState}
-use Rattle.roff_ahead.specs.Unread.{changing}
+use Rattle.roff_input.specs.Unread.{changing}
 use Rattle.roff_run.specs.Reading.Items.{PageInput, PageUnread}
 use Rattle.roff_run.specs.Reading.Returns.{back_of, in_sprung}
 use Rattle.roff_run.specs.declared.line_state.LineState.{LineState}

@@ -1,39 +1,19 @@
 -- What the code takes, as the definition takes it.
-use Rattle.std.specs.Prelude.{◌≡◌, true, false, List, None, Some, Result, Ok, Err}
+use Rattle.std.specs.Prelude.{◌≡◌, None, Some, Result, Ok, Err}
 use Rattle.roff_num.specs.declared.limit.Limit.{Limit}
-use Rattle.roff_num.specs.declared.limit.Limit.TheVariants.{Names}
 use Rattle.roff_num.specs.declared.limits.Limits.{Limits}
-use Rattle.roff_ahead.specs.Unread.{input_refusal}
 use Rattle.roff_run.specs.Environments.{PageHistory}
 use Rattle.roff_run.specs.Events.Steps.{events_of, messages_of}
 use Rattle.roff_composer.specs.Composer.Standing.{StandFor}
 use Rattle.roff_composer.specs.declared.composer.Composer.{Composer as ComposerOf}
-use Rattle.roff_run.specs.Registers.{Change, Known, changed_by_all}
-use Rattle.roff_run.specs.Registers.Capped.{Capped, is_past_cap}
+use Rattle.roff_run.specs.Registers.{Known, changed_by_all}
+use Rattle.roff_run.specs.Registers.Capped.{Capped}
 use Rattle.roff_run.specs.Run.{known_at}
 use Rattle.roff_run.specs.Run.Counts.{counts_in, first_passed}
+use Rattle.roff_obeying.specs.Acting.{behind_changes}
 use Rattle.roff_reader.specs.Reader.State.{ReaderState}
 use Rattle.roff_run.specs.declared.step.Step.{Step}
-use Rattle.roff_run.specs.Reading.Items.{PageInput, Taking, PageUnread}
-
--- registers behind some changes
-abbrev pub behind_changes : List Change → Capped → Capped
-behind_changes changes r = record r { all = changed_by_all changes r.all }
-
--- the registers changed so, and no more names have one than may, if none did before
-pub record ChangedTo (changes : List Change) (old new : Capped) : Type 0 where
-  pub registers : new ≡ behind_changes changes old
-  pub within : is_past_cap old ≡ false → is_past_cap new ≡ false
-
--- more names than may would have one
-pub record Refused (changes : List Change) (old : Capped) (limit : Limit) : Type 0 where
-  pub limit_is : limit ≡ Names
-  pub past : is_past_cap (behind_changes changes old) ≡ true
-
--- registers changed so, unless more names than may would have one
-abbrev pub Changed : List Change → Capped → Capped → Result (Unit {0}) Limit → Type 0
-Changed changes old new (Ok done) = ChangedTo changes old new
-Changed changes old new (Err limit) = Refused changes old limit
+use Rattle.roff_run.specs.Reading.Items.{Taking, PageUnread}
 
 -- the code came to the input, to what is read and to the registers of a taking, no count is above its limit, and
 -- nothing else changed
@@ -54,15 +34,6 @@ abbrev pub Takes : Taking → Capped → ReaderState → PageUnread → PageUnre
 Takes t old new before behind (Ok step) = Took t old new before behind step
 Takes t old new before behind (Err limit) =
     first_passed before.limits (counts_in (changed_by_all t.effect.changes old.all) t.input) ≡ Some limit
-
--- the input is this one now, and no count is above its limit; or a limit refuses it
-abbrev pub IsInputNow : PageInput → PageUnread → PageUnread → Result (Unit {0}) Limit → Type 0
-IsInputNow i before behind (Ok done) = (behind ≡ record before { input = i }) × (input_refusal before.limits i ≡ None)
-IsInputNow i before behind (Err limit) = input_refusal before.limits i ≡ Some limit
-
--- so it became, if no count was above its limit before
-pub record InputCameTo (i : PageInput) (before behind : PageUnread) (result : Result (Unit {0}) Limit) : Type 0 where
-  pub becomes : input_refusal before.limits before.input ≡ None → IsInputNow i before behind result
 
 -- the registers have the limit of the unread input, and no count is above its limit
 pub record IsReady (r : Capped) (u : PageUnread) : Type 0 where

@@ -1,44 +1,16 @@
 //! The arguments of requests, and the names that they give.
 
-ghost use Rattle.std.specs.Prelude.{◌≡◌};
-ghost use Rattle.roff_reader.specs.Clauses.{ComposerOf, TakesAs, arguments_found, going_on};
-ghost use Rattle.roff_reader.specs.Clauses.{holding, listed};
+ghost use Rattle.roff_reader.specs.Clauses.{ComposerOf, TakesAs, going_on};
+ghost use Rattle.roff_reader.specs.Clauses.{holding};
 ghost use Rattle.roff_reader.specs.Clauses.{row_of, no_unit_found, unit_found, arguments_ended};
-ghost use Rattle.roff_reader.specs.Clauses.{name_at as name_given_at};
 
 use super::Reader;
 use roff_composer::Composer;
-use roff_num::{Limit, ShortName};
+use roff_num::Limit;
 use roff_run::{LineReading, LineState, PageEvent, Request, Step};
-use roff_scan::{ArgumentList, CopyUnit, Found, Unread};
+use roff_scan::{CopyUnit, Found, Unread};
 
 impl Reader {
-    /// Something behind a request's name.
-    #[inline(never)]
-    pub(super) fn read_arguments(
-        &mut self,
-        breaks: bool,
-        request: Request,
-        found: Found,
-        composer: &Composer,
-        unread: &mut Unread<PageEvent>,
-    ) -> Result<Step, Limit>
-        ensures { TakesAs (λ k. arguments_found k unread.old.input breaks request found)
-            composer.now self.old self.new unread.old unread.new result }
-    {
-        match found {
-            Found::Unit(unit) => self.read_unit(breaks, request, unit, composer, unread),
-            Found::Escape(byte) => {
-                self.read_unit(breaks, request, CopyUnit::Kept(byte), composer, unread)
-            }
-            _ => {
-                unread.settle();
-                let reading = LineState::Arguments { breaks, request };
-                self.read_in_arguments(reading, found, composer, unread)
-            }
-        }
-    }
-
     /// A unit behind a request's name: a newline ends the line, and all else is held.
     #[inline(always)]
     pub(super) fn read_unit(
@@ -115,18 +87,4 @@ impl Reader {
             _ => Ok(self.read_on(reading)),
         }
     }
-}
-
-/// The name that the first of these arguments gives, if there is one.
-pub(super) fn first_name(arguments: ArgumentList<'_>) -> Option<Option<ShortName>>
-    ensures { result ≡ name_given_at 0 (listed arguments.entry) }
-{
-    short_name_at(0, arguments)
-}
-
-/// The name that the argument at an index gives, if the argument is there.
-pub(super) fn short_name_at(index: usize, arguments: ArgumentList<'_>) -> Option<Option<ShortName>>
-    ensures { result ≡ name_given_at index (listed arguments.entry) }
-{
-    arguments.get(index).map(ShortName::of)
 }

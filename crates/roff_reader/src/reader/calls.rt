@@ -1,42 +1,20 @@
 //! Lines that call bodies.
 
-ghost use Rattle.roff_reader.specs.Clauses.{ComposerOf, LineStart, TakesAs, call_found, call_unit};
+ghost use Rattle.roff_reader.specs.Clauses.{ComposerOf, LineStart, TakesAs, call_unit};
 ghost use Rattle.roff_reader.specs.Clauses.{called_by, called_last, going_on, last_called};
 ghost use Rattle.roff_reader.specs.Reader.Springs.{Springs};
 ghost use Rattle.roff_run.specs.declared.request.Called.TheVariants as Called;
 
 use super::Reader;
-use super::control_lines::{called_by, whole_name};
-use roff_composer::Composer;
+use roff_names::{called_by, whole_name};
 use roff_num::{Limit, ShortName};
 use roff_run::{Called, LineState, PageEvent, Step};
-use roff_scan::{CopyUnit, Found, Unread};
+use roff_scan::{CopyUnit, Unread};
 
 /// How many arguments a body gets that a line calls.
 pub const CALL_ARGUMENTS: usize = 9;
 
 impl Reader {
-    /// Something behind the name of a body that a line calls.
-    pub(super) fn read_call(
-        &mut self,
-        name: ShortName,
-        found: Found,
-        composer: &Composer,
-        unread: &mut Unread<PageEvent>,
-    ) -> Result<Step, Limit>
-        ensures { TakesAs (λ k. call_found k unread.old.input name found)
-            composer.now self.old self.new unread.old unread.new result }
-    {
-        match found {
-            Found::Unit(unit) => self.read_unit_of_call(name, unit, unread),
-            Found::Escape(byte) => self.read_unit_of_call(name, CopyUnit::Kept(byte), unread),
-            _ => {
-                unread.settle();
-                self.read_in_arguments(LineState::Calling { name }, found, composer, unread)
-            }
-        }
-    }
-
     /// A unit behind the name of a body that a line calls: a newline ends the line, and the body is
     /// read.
     pub(super) fn read_unit_of_call(

@@ -3,14 +3,10 @@
 ghost use Rattle.std.specs.Prelude.{◌≡◌, true, false, Ok};
 ghost use Rattle.roff_reader.specs.Clauses.{ComposerOf, escape_ended};
 ghost use Rattle.roff_run.specs.declared.step.Step.TheVariants.{Nothing};
-ghost use Rattle.roff_num.specs.declared.limits.Limits.{Limits};
-ghost use Rattle.roff_reader.specs.Clauses.{AllRegisters, PageHistory, PageInput, StandFor};
-ghost use Rattle.roff_reader.specs.Clauses.{known_at};
 ghost use Rattle.roff_reader.specs.Clauses.{TakesAs, condition_found, decided, is_so, condition_begun};
 
 use super::Reader;
-use super::places::at_start;
-use roff_composer::Composer;
+use roff_composer::{Composer, at_start, is_so};
 use roff_num::Limit;
 use roff_run::{LineState, PageEvent, Step};
 use roff_scan::{Decision, Found, Surroundings, Unread};
@@ -62,6 +58,27 @@ impl Reader {
         }
     }
 
+    /// Ends the expression of a condition, if it is read and is a number, or decides a condition that
+    /// asks nothing more. Whether there was one; else nothing happens.
+    #[inline(always)]
+    pub(super) fn ends_quietly(&mut self, unread: &mut Unread<PageEvent>) -> bool
+        ensures ends { result ≡ true → (es : ComposerOf)
+            → TakesAs (λ k. escape_ended k self.old.reading unread.old.input)
+            es self.old self.new unread.old unread.new (Ok Nothing) }
+        ensures unchanged { result ≡ false → (self.new ≡ self.old) × (unread.new ≡ unread.old) }
+    {
+        match self.reading {
+            LineState::Deciding { keeps } => {
+                let _ = keeps;
+                if unread.decide_expression() {
+                    return true;
+                }
+                self.decides(unread)
+            }
+            _ => false,
+        }
+    }
+
     /// Decides a condition that is read and asks nothing more, whose result isn't kept, and reads
     /// its branch or skips it. Whether there was one; else nothing happens.
     #[inline(always)]
@@ -103,16 +120,5 @@ impl Reader {
             }
             Some(byte) => Ok(self.read_on(LineState::behind_skipped(0, 0, false, byte))),
         }
-    }
-}
-
-/// Whether a condition is so that asks this.
-fn is_so(decision: Decision, composer: &Composer) -> bool
-    ensures { (l : Limits) (h : PageHistory) (rs : AllRegisters) (i : PageInput)
-        → StandFor l h composer.now → result ≡ is_so (known_at h rs i) decision }
-{
-    match decision {
-        Decision::Is(so) => so,
-        Decision::OnPages(odd) => composer.is_page_odd() == odd,
     }
 }

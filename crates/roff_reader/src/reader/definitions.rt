@@ -1,16 +1,15 @@
 //! Lines by which macros are defined, or that are ignored.
 
-ghost use Rattle.std.specs.Prelude.{◌≡◌, ◌≤◌, ◌++◌, true, length};
-ghost use Rattle.roff_reader.specs.Clauses.{ComposerOf, TakesAs, InputCameTo, arguments_given};
+ghost use Rattle.std.specs.Prelude.{◌≡◌, true};
+ghost use Rattle.roff_reader.specs.Clauses.{ComposerOf, TakesAs, arguments_given};
 ghost use Rattle.roff_reader.specs.Clauses.{string_entered, lines_begun, behind_definition};
-ghost use Rattle.roff_reader.specs.Clauses.{definition_begun, definition_found, definition_grown};
-ghost use Rattle.roff_reader.specs.Clauses.{definition_line, ends_mark, unit_bytes};
+ghost use Rattle.roff_reader.specs.Clauses.{definition_begun, definition_found};
+ghost use Rattle.roff_reader.specs.Clauses.{definition_line, ends_mark};
 
 use super::Reader;
-use super::arguments::short_name_at;
-use super::strings::{begin_string, enter_string};
-use arrayvec::ArrayVec;
+use super::found::unit_in;
 use roff_composer::Composer;
+use roff_names::{begin_string, enter_string, grow_definition, short_name_at};
 use roff_num::{Limit, ShortName};
 use roff_run::{DefinitionLine, EndMark, LineState, LinesFor, PageEvent, Step, matched_behind};
 use roff_scan::{CopyUnit, Found, Unread};
@@ -76,15 +75,11 @@ impl Reader {
         ensures { TakesAs (λ k. definition_found k unread.old.input name appends end matched found)
             composer.now self.old self.new unread.old unread.new result }
     {
-        match found {
-            Found::Unit(unit) => {
+        match unit_in(&found) {
+            Some(unit) => {
                 self.read_unit_of_definition(name, appends, end, matched, unit, composer, unread)
             }
-            Found::Escape(byte) => {
-                let unit = CopyUnit::Kept(byte);
-                self.read_unit_of_definition(name, appends, end, matched, unit, composer, unread)
-            }
-            _ => {
+            None => {
                 let reading = LineState::Defining {
                     name,
                     appends,
@@ -169,27 +164,4 @@ impl Reader {
             None => Ok(self.read_on(LineState::behind_dropped(byte))),
         }
     }
-}
-
-/// Puts what stood in front of a line and a unit behind the text of a definition, if it has a name.
-fn grow_definition(
-    name: Option<ShortName>,
-    front: &[u8],
-    unit: CopyUnit,
-    unread: &mut Unread<PageEvent>,
-) -> Result<(), Limit>
-    requires { length front.now ≤ 3 }
-    ensures { InputCameTo (definition_grown name (front.now ++ unit_bytes unit) unread.old.input)
-        unread.old unread.new result }
-{
-    if name.is_none() {
-        return Ok(());
-    }
-    let mut text: ArrayVec<u8, 5> = ArrayVec::new();
-    text.try_extend_from_slice(front).unwrap();
-    match unit {
-        CopyUnit::Byte(byte) => text.push(byte),
-        CopyUnit::Kept(byte) => text.try_extend_from_slice(&[b'\\', byte]).unwrap(),
-    }
-    unread.add(&text)
 }

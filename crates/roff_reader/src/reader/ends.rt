@@ -25,7 +25,7 @@ impl Reader {
         ensures { TakesAs (λ k. escape_ended k self.old.reading unread.old.input)
             composer.now self.old self.new unread.old unread.new result }
     {
-        if self.decides(unread) {
+        if self.ends_quietly(unread) {
             return Ok(Step::Nothing);
         }
         self.end_any(composer, unread)

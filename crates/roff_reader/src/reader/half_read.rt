@@ -2,14 +2,13 @@
 //! often such a byte gives nothing yet, or is held.
 
 ghost use Rattle.roff_escape.specs.OpenEscapes.{byte_read};
-ghost use Rattle.roff_reader.specs.Clauses.{TakesAs, arguments_found, condition_found};
-ghost use Rattle.roff_run.specs.Reading.Found.{place_in, read_in};
+ghost use Rattle.roff_reader.specs.Clauses.{TakesAs, condition_found};
+ghost use Rattle.roff_run.specs.Reading.Found.{found_in, place_in, read_in};
 ghost use Rattle.roff_run.specs.declared.line_state.LineState.TheVariants.{Arguments as InArguments};
 ghost use Rattle.roff_run.specs.declared.line_state.LineState.TheVariants.{Deciding, Text as InText};
 
 use super::Reader;
-use super::places::on_line;
-use roff_composer::Composer;
+use roff_composer::{Composer, on_line};
 use roff_num::Limit;
 use roff_run::{LineState, PageEvent, Request, Step, TextLine};
 use roff_scan::{Found, Surroundings, Unread};
@@ -82,7 +81,7 @@ impl Reader {
         composer: &Composer,
         unread: &mut Unread<PageEvent>,
     ) -> Result<Step, Limit>
-        ensures { TakesAs (λ k. arguments_found k unread.old.input breaks request found)
+        ensures { TakesAs (λ k. found_in k unread.old.input (InArguments breaks request) found)
             composer.now self.old self.new unread.old unread.new result }
     {
         match found {
@@ -93,6 +92,23 @@ impl Reader {
             }
             _ => self.read_arguments(breaks, request, found, composer, unread),
         }
+    }
+
+    /// The same of what comes more seldom.
+    #[inline(never)]
+    fn read_arguments(
+        &mut self,
+        breaks: bool,
+        request: Request,
+        found: Found,
+        composer: &Composer,
+        unread: &mut Unread<PageEvent>,
+    ) -> Result<Step, Limit>
+        ensures { TakesAs (λ k. found_in k unread.old.input (InArguments breaks request) found)
+            composer.now self.old self.new unread.old unread.new result }
+    {
+        self.reading = LineState::Arguments { breaks, request };
+        self.read_collected(found, composer, unread)
     }
 
     /// A byte of a text line that isn't dropped.

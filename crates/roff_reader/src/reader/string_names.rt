@@ -1,50 +1,23 @@
 //! The names of strings that are defined.
 
-ghost use Rattle.std.specs.Prelude.{◌≡◌, ◌≢◌, length, Some};
-ghost use Rattle.roff_reader.specs.FirstUnits.{first_text};
+ghost use Rattle.std.specs.Prelude.{◌≢◌, Some};
 ghost use Rattle.roff_arguments.specs.declared.arguments.Place.TheVariants.{BehindQuote};
 ghost use Rattle.roff_escape.specs.declared.open_escape.CopyUnit.TheVariants.{Byte};
-ghost use Rattle.roff_reader.specs.Clauses.{ComposerOf, TakesAs, InputCameTo, arguments_given};
+ghost use Rattle.roff_reader.specs.Clauses.{ComposerOf, TakesAs, arguments_given};
 ghost use Rattle.roff_reader.specs.Clauses.{name_read};
-ghost use Rattle.roff_reader.specs.Clauses.{string_emptied, string_line_ended, string_name_behind};
-ghost use Rattle.roff_reader.specs.Clauses.{string_name_found, string_name_or_text, string_name_unit};
+ghost use Rattle.roff_reader.specs.Clauses.{string_line_ended, string_name_behind};
+ghost use Rattle.roff_reader.specs.Clauses.{string_name_or_text, string_name_unit};
 ghost use Rattle.roff_reader.specs.Clauses.{name_at as name_given_at};
 
 use super::Reader;
-use super::arguments::first_name;
-use super::strings::begin_string;
-use roff_composer::Composer;
-use roff_num::{Limit, ShortName};
+use roff_names::{begin_string, empty_string, first_bytes, first_name};
+use roff_num::Limit;
 use roff_run::{LineState, PageEvent, Step};
-use roff_scan::{CopyUnit, Found, Unread};
-use roff_store::{Entry, Kind};
+use roff_scan::{CopyUnit, Unread};
 
 impl Reader {
-    /// Something of a string's name.
-    pub(super) fn read_string_name(
-        &mut self,
-        appends: bool,
-        found: Found,
-        composer: &Composer,
-        unread: &mut Unread<PageEvent>,
-    ) -> Result<Step, Limit>
-        ensures { TakesAs (λ k. string_name_found k unread.old.input appends found)
-            composer.now self.old self.new unread.old unread.new result }
-    {
-        match found {
-            Found::Unit(unit) => self.read_unit_of_string_name(appends, unit, unread),
-            Found::Escape(byte) => {
-                self.read_unit_of_string_name(appends, CopyUnit::Kept(byte), unread)
-            }
-            _ => {
-                unread.settle();
-                self.read_in_arguments(LineState::StringName { appends }, found, composer, unread)
-            }
-        }
-    }
-
     /// A unit of a string's name; one in quotes ends before all but a quote.
-    fn read_unit_of_string_name(
+    pub(super) fn read_unit_of_string_name(
         &mut self,
         appends: bool,
         unit: CopyUnit,
@@ -137,31 +110,5 @@ impl Reader {
             empty_string(name, appends, unread)?;
         }
         Ok(self.read_on(LineState::LineStart))
-    }
-}
-
-/// How many bytes the first unit adds to the text of a string, if it has a name: in front of the text a
-/// blank and a quote are dropped.
-fn first_bytes(name: Option<ShortName>, unit: CopyUnit) -> usize
-    ensures { result ≡ length (first_text name unit) }
-{
-    match (name, unit) {
-        (None, _) => 0,
-        (Some(_), CopyUnit::Byte(b' ')) => 0,
-        (Some(_), CopyUnit::Byte(b'"')) => 0,
-        (Some(_), CopyUnit::Byte(_)) => 1,
-        (Some(_), CopyUnit::Kept(_)) => 2,
-    }
-}
-
-/// A string without a text is empty; one that is appended to stays.
-fn empty_string(name: ShortName, appends: bool, unread: &mut Unread<PageEvent>) -> Result<(), Limit>
-    ensures { InputCameTo (string_emptied (Some name) appends unread.old.input)
-        unread.old unread.new result }
-{
-    let name = name.name();
-    match unread.get(&name) {
-        Some(Kind::Body(_)) if appends => Ok(()),
-        _ => unread.set(&name, Entry::Body(&[])),
     }
 }

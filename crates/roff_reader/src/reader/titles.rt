@@ -5,7 +5,7 @@ ghost use Rattle.std.specs.Option.{option_to_list};
 ghost use Rattle.roff_run.specs.Reading.Titles.{behind_part, bytes_for, empty_title_ended};
 ghost use Rattle.roff_run.specs.Reading.Titles.{part_taking, saying_taking, title_byte};
 ghost use Rattle.roff_run.specs.Reading.Titles.{title_character, title_escape, title_found};
-ghost use Rattle.roff_run.specs.Reading.Titles.{title_front_found, title_front_unit, title_motion};
+ghost use Rattle.roff_run.specs.Reading.Titles.{title_front_unit, title_motion};
 ghost use Rattle.roff_run.specs.Reading.Titles.{title_name, title_opened};
 ghost use Rattle.roff_source.specs.Bytes.{backslash};
 ghost use Rattle.roff_run.specs.Messages.{remark_messages};
@@ -30,28 +30,9 @@ use roff_scan::{
 use roff_sinks::PAGE_NUMBER;
 
 impl Reader {
-    /// Something in front of a title's parts.
-    pub(super) fn read_title_front(
-        &mut self,
-        found: Found,
-        composer: &Composer,
-        unread: &mut Unread<PageEvent>,
-    ) -> Result<Step, Limit>
-        ensures { TakesAs (λ k. title_front_found k unread.old.input found)
-            composer.now self.old self.new unread.old unread.new result }
-    {
-        match found {
-            Found::Unit(unit) => self.read_unit_in_front(unit, composer, unread),
-            Found::Escape(byte) => {
-                self.read_unit_in_front(CopyUnit::Kept(byte), composer, unread)
-            }
-            _ => self.read_in_arguments(LineState::TitleFront, found, composer, unread),
-        }
-    }
-
-    /// A unit there: the first one that is no blank is the delimiter; of an escape that is kept it is the
-    /// backslash, and its second byte is one of the left part.
-    fn read_unit_in_front(
+    /// A unit in front of the parts: the first one that is no blank is the delimiter; of an escape that
+    /// is kept it is the backslash, and its second byte is one of the left part.
+    pub(super) fn read_unit_in_front(
         &mut self,
         unit: CopyUnit,
         composer: &Composer,

@@ -13,7 +13,7 @@ use Rattle.roff_requests.specs.declared.requests.effects.Response.TheVariants.{A
 use Rattle.roff_requests.specs.declared.requests.effects.PageFacts.{PageFacts}
 use Rattle.roff_requests.specs.declared.requests.numbering.Numbers.{Numbers}
 use Rattle.roff_requests.specs.declared.requests.effects.RequestFacts.{RequestFacts}
-use Rattle.roff_requests.specs.Events.{stops_set}
+use Rattle.roff_meaning.specs.Events.{stops_set}
 use Rattle.roff_composer.specs.Environments.Standing.{StandBy}
 use Rattle.roff_lines.specs.Words.{is_empty}
 use Rattle.roff_num.specs.declared.limits.Limits.{Limits}
@@ -41,11 +41,6 @@ pub record GivesFirst (as_given : List (List ℕ)) (given : Given) : Type 0 wher
 abbrev pub register_named : List (List ℕ) → Option (List ℕ)
 register_named [] = None
 register_named (text ∷ others) = name_of (name_given text)
-
--- the name that an argument gives, if there is one that gives one
-abbrev pub name_in : Option (List ℕ) → Option (List ℕ)
-name_in None = None
-name_in (Some text) = name_of (name_given text)
 
 -- what the code knows of the pages
 pub record KnowsPages (L : Layout) (known : PageFacts) : Type 0 where

@@ -7,8 +7,9 @@ ghost use Rattle.roff_run.specs.Requests.Naming.{end_macro, rename};
 ghost use Rattle.roff_num.specs.ShortNames.{name_at, name_or_none};
 
 use crate::registers::Change;
-use crate::requests::{Changes, Response, name_given, register_named};
+use crate::requests::{Changes, Response, register_named};
 use roff_num::ShortName;
+use roff_run::name_given;
 
 /// `rn`: what a name stands for goes to another one.
 pub(super) fn rename(first: Option<&[u8]>, second: Option<&[u8]>) -> Response

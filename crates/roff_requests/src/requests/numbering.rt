@@ -2,7 +2,6 @@
 
 ghost use Rattle.std.specs.Prelude.{◌≡◌, ℕ, List, drop, slice_get};
 ghost use Rattle.std.specs.Option.{option_copied};
-ghost use Rattle.roff_num.specs.Names.{name_of};
 ghost use Rattle.roff_run.specs.Registers.{Known};
 ghost use Rattle.roff_requests.specs.Request.Coded.{GivesFirst, KnowsOf, response_of, register_named, set_by};
 ghost use Rattle.roff_num.specs.declared.num.Scale.TheVariants.{Units};
@@ -14,6 +13,7 @@ use crate::number::{value_beside, value_in};
 use crate::registers::{Change, is_page};
 use crate::requests::{Changes, Given, RequestFacts, Response};
 use roff_num::{Format, Name, Num, NumFault, Scale, read_format};
+use roff_run::name_given;
 
 /// A register's value and increment.
 #[derive(Clone, Copy, Debug, PartialEq, Eq)]
@@ -56,17 +56,6 @@ pub fn register_named(first: Option<&[u8]>) -> Option<Name>
     match first {
         Some(text) => name_given(text),
         None => None,
-    }
-}
-
-/// The name that an argument gives: its first two bytes. None if it has none.
-pub fn name_given(text: &[u8]) -> Option<Name>
-    ensures { result ≡ name_of (name_given text.now) }
-{
-    match text {
-        [] => None,
-        [only] => Name::new(&[*only]),
-        [first, second, ..] => Name::new(&[*first, *second]),
     }
 }
 

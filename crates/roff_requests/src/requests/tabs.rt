@@ -1,14 +1,14 @@
 //! Tab stops.
 
-ghost use Rattle.std.specs.Prelude.{◌≡◌, ◌/◌, ℕ, List};
+ghost use Rattle.std.specs.Prelude.{◌≡◌, ◌/◌};
 ghost use Rattle.roff_run.specs.Numbers.{at_least_zero};
 ghost use Rattle.roff_arguments.specs.ArgumentList.{listed};
 ghost use Rattle.roff_requests.specs.Request.Coded.{stops_response};
 ghost use Rattle.roff_run.specs.Requests.Tabs.{stop_place, tab_stops};
 
-use crate::events::Stops;
 use crate::number::{rounded_to_columns, value_beside, value_in};
 use roff_arguments::ArgumentList;
+use roff_meaning::Stops;
 use roff_num::{NumFault, Scale};
 
 /// Of more stops than this the others are ignored.

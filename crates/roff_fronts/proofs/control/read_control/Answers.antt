@@ -17,6 +17,6 @@ returns-in-Some-clause-past g c = λ so.
     let passed = c.take_front-in-Some in
     let begun = c.begin_deciding in
     reads-named _ _ c.args.reader.now c.go_on-in-Some.new.self c.in-Some.reading front.breaks front.first front.second _ c.args.unread.now passed.new.unread begun.new.unread
-    c.requires.none_due c.requires.begins c.requires.none_half (c.if-not-belongs_to_name.ensures refl) (c.if-not-belongs_to_name-2.ensures refl)
+    c.requires.none_due c.requires.begins c.requires.none_half (c.if-not-belongs_to_name.ensures.belongs refl) (c.if-not-belongs_to_name-2.ensures.belongs refl)
     (λ i. sym (ap (behind_called i front.breaks) c.called_by.ensures) ∙ c.in-Some.ensures.leads i)
     c.requires.ready passed.ensures.passes begun.ensures c.stays_within-in-Some.ensures c.go_on-in-Some.ensures

@@ -6,7 +6,7 @@ use Rattle.roff_engine.specs.Running.Turning.{HasCome}
 use Rattle.roff_engine.specs.declared.running.Running.{Running as Coded}
 use Rattle.roff_run.specs.Reading.Items.{PageUnread}
 use Rattle.roff_run.specs.Run.{initial}
-use Rattle.roff_ahead.specs.declared.looked.Looked.TheVariants.{Nothing}
+use Rattle.roff_input.specs.declared.looked.Looked.TheVariants.{Nothing}
 use Rattle.roff_engine.proofs.Passing.{come-past}
 use Rattle.roff_engine.proofs.WholeRuns.{HasRoom-fresh, due_done, due_done_end, ends_unread, fewer_to_come, goes_on, has_ended, initial-fresh, not_refused, started}
 use Rattle.roff_engine.proofs.engine.Engine.format.Goals as goal

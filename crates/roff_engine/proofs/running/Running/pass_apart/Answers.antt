@@ -6,5 +6,6 @@ pub returns : goal.returns
 returns g c = λ out err.
     let ends = c.pass_end.ensures in
     goes_further_both _ _ _ _ _ _ _ _ _ _ _ _ _ (c.take_string_name.ensures out err)
+    (goes_further_both _ _ _ _ _ _ _ _ _ _ _ _ _ (c.take_string_front.ensures out err)
     (goes_further_both _ _ _ _ _ _ _ _ _ _ _ _ _ (c.take_title_front.ensures out err)
-    (goes_further_passed _ _ _ ends.none_due ends.takes ends.passes ends.within ends.unchanged ends.others _ _ _))
+    (goes_further_passed _ _ _ ends.none_due ends.takes ends.passes ends.within ends.unchanged ends.others _ _ _)))

@@ -1,5 +1,5 @@
 use Rattle.std.proofs.Common.{[], ◌∷◌, arith, refl, sym, ◌∙◌}
-use Rattle.roff_ahead.specs.Input.{DoAhead}
+use Rattle.roff_input.specs.Input.{DoAhead}
 use Rattle.roff_run.specs.Run.{ahead_taken}
 use Rattle.roff_run.proofs.Keeping.{Keeps-interrupted}
 use Rattle.roff_engine.proofs.Acting.{taking_acts, halted_acts}

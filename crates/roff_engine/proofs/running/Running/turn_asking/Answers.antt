@@ -1,5 +1,5 @@
 use Rattle.std.proofs.Common.{refl, sym, ◌∙◌}
-use Rattle.roff_ahead.specs.Shown.{sighted}
+use Rattle.roff_input.specs.Shown.{sighted}
 use Rattle.roff_engine.proofs.Waiting.{ShowsFront, sees-look, waiting_ends, waiting_failed, waiting_in_front, waiting_note, waiting_stopped}
 use Rattle.roff_engine.proofs.running.Running.turn_asking.Goals as goal
 use Rattle.roff_engine.proofs.running.Running.turn_asking.Goals.{in-Byte, in-Nothing, in-SourceEnd}

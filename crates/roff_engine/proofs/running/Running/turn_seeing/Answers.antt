@@ -1,5 +1,5 @@
 use Rattle.std.proofs.Common.{Some, arith, refl, sym, ◌∙◌}
-use Rattle.roff_ahead.specs.Shown.{SeesByte}
+use Rattle.roff_input.specs.Shown.{SeesByte}
 use Rattle.roff_engine.proofs.Waiting.{sees-look, waiting_ends, waiting_in_front}
 use Rattle.roff_engine.proofs.running.Running.turn_seeing.Goals as goal
 

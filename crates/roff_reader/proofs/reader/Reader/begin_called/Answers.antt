@@ -1,6 +1,6 @@
 use Rattle.std.proofs.Common.{◌≡◌, Ok, ap, refl, rules, sym, ◌∙◌}
-use Rattle.roff_ahead.specs.Input.Calls.{last_result, without_last}
-use Rattle.roff_reader.specs.NamesRead.{input_begun, is_deciding}
+use Rattle.roff_input.specs.Input.Calls.{last_result, without_last}
+use Rattle.roff_names.specs.NamesRead.{input_begun, is_deciding}
 use Rattle.roff_run.specs.declared.step.Step.TheVariants.{Nothing}
 use Rattle.roff_run.specs.Reading.Branches.{branch_of, reads_else}
 use Rattle.roff_run.specs.Reading.ControlLines.{behind_called}

@@ -1,5 +1,5 @@
 use Rattle.std.proofs.Common.{◌≡◌, false, List, ℕ, Option, Some, None, ap, reverse, rules, subst, sym, ◌∙◌}
-use Rattle.roff_ahead.specs.Input.Calls.{arguments_given}
+use Rattle.roff_input.specs.Input.Calls.{arguments_given}
 use Rattle.roff_reader.specs.Reader.Taken.{TakesAs}
 use Rattle.roff_run.specs.Reading.Items.{PageUnread}
 use Rattle.roff_run.specs.Reading.Definitions.{definition_begun, definition_named}

@@ -1,5 +1,5 @@
 use Rattle.std.proofs.Common.{◌≡◌, ◌∙◌, None, ap, subst, sym}
-use Rattle.roff_ahead.specs.Unread.{input_refusal}
+use Rattle.roff_input.specs.Unread.{input_refusal}
 use Rattle.roff_run.specs.Reading.Items.{PageInput, PageUnread}
 use Rattle.roff_run.specs.declared.line_state.LineState.TheVariants.{LineStart}
 use Rattle.roff_run.proofs.InputCounts.{IsWithin-allowed}

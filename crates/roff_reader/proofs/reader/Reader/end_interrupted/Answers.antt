@@ -2,7 +2,8 @@ use Rattle.std.proofs.Common.{◌≡◌, List, ◌∷◌, [], Option, None, Some
 use Rattle.roff_lines.specs.declared.event.Event.TheVariants.{Resume}
 use Rattle.std.specs.Option.{option_to_list}
 use Rattle.roff_run.specs.Events.Steps.{messages_of}
-use Rattle.roff_reader.specs.Reader.State.{MeaningKept, ReaderState}
+use Rattle.roff_meaning.specs.Meaning.{MeaningKept}
+use Rattle.roff_reader.specs.Reader.State.{ReaderState}
 use Rattle.roff_run.specs.Reading.Ends.{interrupted_end}
 use Rattle.roff_run.specs.Reading.Items.{going_on, meaning_events}
 use Rattle.roff_run.specs.PageEvents.{PageEvent}

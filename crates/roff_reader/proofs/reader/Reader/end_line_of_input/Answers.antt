@@ -1,6 +1,6 @@
 use Rattle.std.proofs.Common.{◌≡◌, Ok, Err, refl, ap, rules, ◌∙◌}
 use Rattle.roff_source.specs.Bytes.{newline}
-use Rattle.roff_ahead.specs.Input.Calls.{arguments_given}
+use Rattle.roff_input.specs.Input.Calls.{arguments_given}
 use Rattle.roff_reader.specs.Reader.State.{ReaderState}
 use Rattle.roff_run.specs.Reading.{undropped_taking}
 use Rattle.roff_run.specs.Reading.Ends.{end_taking}

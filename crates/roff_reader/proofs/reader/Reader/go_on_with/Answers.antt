@@ -7,7 +7,8 @@ use Rattle.roff_run.specs.Reading.Items.{Taking, behind_events}
 use Rattle.roff_run.specs.Reading.TextLines.{text_taking}
 use Rattle.roff_run.specs.PageEvents.{PageEvent}
 use Rattle.roff_run.specs.declared.event.PageEvent.TheVariants.{Text}
-use Rattle.roff_reader.specs.Reader.State.{MeaningKept, ReaderState}
+use Rattle.roff_meaning.specs.Meaning.{MeaningKept}
+use Rattle.roff_reader.specs.Reader.State.{ReaderState}
 use Rattle.roff_run.specs.declared.step.Step.TheVariants.{Meaning}
 use Rattle.roff_reader.proofs.LinesTaken.{TakesAs-said}
 use Rattle.roff_reader.proofs.reader.Reader.go_on_with.Goals as goal

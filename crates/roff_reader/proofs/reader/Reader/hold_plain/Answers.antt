@@ -1,5 +1,5 @@
 use Rattle.std.proofs.Common.{◌≡◌, Err, false, rules}
-use Rattle.roff_ahead.specs.Input.{holding_plain}
+use Rattle.roff_input.specs.Input.{holding_plain}
 use Rattle.roff_run.specs.declared.line_state.LineState.{LineState}
 use Rattle.roff_run.specs.declared.line_state.LineState.TheVariants.{Telling}
 use Rattle.roff_reader.proofs.LinesTaken.{TakesAs-changed, TakesAs-not_changed}

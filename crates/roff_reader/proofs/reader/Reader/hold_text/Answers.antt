@@ -1,5 +1,5 @@
 use Rattle.std.proofs.Common.{◌≡◌, Err, rules}
-use Rattle.roff_ahead.specs.Input.{holding_text}
+use Rattle.roff_input.specs.Input.{holding_text}
 use Rattle.roff_reader.proofs.LinesTaken.{TakesAs-changed, TakesAs-not_changed}
 use Rattle.roff_reader.proofs.reader.Reader.hold_text.Goals as goal
 

@@ -1,5 +1,5 @@
 use Rattle.std.proofs.Common.{◌∙◌, ap}
-use Rattle.roff_reader.specs.Reader.State.{MeaningKept}
+use Rattle.roff_meaning.specs.Meaning.{MeaningKept}
 use Rattle.roff_reader.proofs.reader.Reader.keep_step.Goals as goal
 
 pub returns-clause-kept : goal.returns-clause-kept

@@ -1,6 +1,6 @@
 use Rattle.std.proofs.Common.{◌≡◌, ℕ, List, Err, Ok, rules, subst, decimal, ◌∙◌}
-use Rattle.roff_ahead.specs.Input.{pushing}
-use Rattle.roff_ahead.specs.Unread.{changing}
+use Rattle.roff_input.specs.Input.{pushing}
+use Rattle.roff_input.specs.Unread.{changing}
 use Rattle.roff_reader.proofs.LinesTaken.{TakesAs-changed, TakesAs-not_changed}
 use Rattle.roff_reader.proofs.reader.Reader.measure.Goals as goal
 

@@ -1,7 +1,7 @@
 use Rattle.std.proofs.Common.{◌≡◌, ◌-◌, ◌≤◌, ℕ, List, [], Ok, Err, ap, rules, arith, get_or, length, refl, subst, ◌∙◌}
 use Rattle.std.proofs.lemmas.Bool.{ltb-false, ltb-true}
-use Rattle.roff_ahead.specs.Input.{pushing}
-use Rattle.roff_ahead.specs.Input.Calls.{argument_live, arguments_live}
+use Rattle.roff_input.specs.Input.{pushing}
+use Rattle.roff_input.specs.Input.Calls.{argument_live, arguments_live}
 use Rattle.roff_reader.specs.Reader.Taken.{TakesAs}
 use Rattle.roff_run.specs.Reading.Escapes.{argument_named}
 use Rattle.roff_run.specs.Reading.Items.{going_on}

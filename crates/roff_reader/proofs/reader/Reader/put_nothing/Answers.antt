@@ -1,5 +1,5 @@
 use Rattle.std.proofs.Common.{◌≡◌, [], Err, refl, rules}
-use Rattle.roff_ahead.specs.Input.{pushing}
+use Rattle.roff_input.specs.Input.{pushing}
 use Rattle.roff_reader.proofs.LinesTaken.{TakesAs-changed, TakesAs-not_changed}
 use Rattle.roff_run.specs.declared.step.Step.TheVariants.{Nothing}
 use Rattle.roff_reader.proofs.reader.Reader.put_nothing.Goals as goal

@@ -10,5 +10,5 @@ returns-in-GoesOn c =
     let place : LineState = InArguments c.args.breaks c.args.request in
     let done = c.read_in_arguments in
     rw c.in-GoesOn.is
-    (TakesAs-settled (λ k i. no_unit_found k i place GoesOn) c.args.composer.now c.args.self.now done.new.self c.args.unread.now c.settle.new.self done.new.unread done.result
+    (TakesAs-settled place (λ k i. no_unit_found k i place GoesOn) c.args.composer.now c.args.self.now done.new.self c.args.unread.now c.settle.new.self done.new.unread done.result
     c.settle.ensures.change done.ensures)

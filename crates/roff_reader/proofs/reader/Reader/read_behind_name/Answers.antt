@@ -1,14 +1,13 @@
 use Rattle.std.proofs.Common.{sym, ap, ◌∙◌}
 use Rattle.roff_escape.specs.OpenEscapes.{byte_read}
 use Rattle.roff_escape.specs.declared.open_escape.Surroundings.TheVariants.{Arguments as AboveArguments}
-use Rattle.roff_escape.proofs.TextsHeld.{texts_held-byte_read}
-use Rattle.roff_run.specs.Reading.Calls.{call_found}
 use Rattle.roff_run.specs.Reading.ControlLines.{called_taking, line_taking, name_ended_taking}
-use Rattle.roff_run.specs.Reading.Found.{read_in}
+use Rattle.roff_run.specs.Reading.Collecting.{collected}
+use Rattle.roff_run.specs.Reading.Items.{read_by}
 use Rattle.roff_run.specs.Requests.{row_of}
 use Rattle.roff_run.specs.declared.line_state.LineState.TheVariants.{Calling}
 use Rattle.roff_run.specs.declared.request.Called.{Called}
-use Rattle.roff_reader.proofs.TakesAs.{TakesAs-as, TakesAs-read}
+use Rattle.roff_reader.proofs.TakesAs.{TakesAs-as}
 use Rattle.roff_reader.proofs.LinesTaken.{TakesAs-meant}
 use Rattle.roff_reader.proofs.reader.Reader.read_behind_name.Goals as goal
 
@@ -24,18 +23,12 @@ returns-in-Request c =
 
 pub returns-in-Body : goal.returns-in-Body
 returns-in-Body c =
-    let es = c.args.composer.now in
-    let old = c.args.self.now in
     let u = c.args.unread.now in
     let b = c.args.byte in
     let breaks = c.args.breaks in
-    let name = c.in-Body.name in
-    let read = c.read_byte-found in
-    let done = c.read_call in
-    TakesAs-as (λ k. read_in k (Calling name) u.input (byte_read AboveArguments u.input.escapes b)) (λ k. name_ended_taking k u.input breaks c.args.name b) es old done.new.self
-    u done.new.unread done.result (λ k. ap (λ (called : Called). called_taking k u.input breaks called b) c.in-Body.ensures)
-    (TakesAs-read (λ k i found. call_found k i name found) (byte_read AboveArguments u.input.escapes b) es old done.new.self u read.new.self done.new.unread
-    read.result done.result read.ensures.reading (texts_held-byte_read AboveArguments b u.input.escapes) done.ensures)
+    let done = c.read_from in
+    TakesAs-as (λ k. read_by (λ i. collected k i (Calling c.in-Body.name)) u.input (byte_read AboveArguments u.input.escapes b)) (λ k. name_ended_taking k u.input breaks c.args.name b) c.args.composer.now
+    c.args.self.now done.new.self u done.new.unread done.result (λ k. ap (λ (called : Called). called_taking k u.input breaks called b) c.in-Body.ensures) done.ensures
 
 pub returns-in-Nothing : goal.returns-in-Nothing
 returns-in-Nothing c =

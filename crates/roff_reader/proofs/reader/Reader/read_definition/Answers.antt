@@ -1,27 +1,29 @@
-use Rattle.roff_run.specs.Reading.DefinedLines.{definition_found}
-use Rattle.roff_run.specs.Reading.Units.{no_unit_found}
+use Rattle.std.proofs.Common.{◌≡◌, Some, None, ap, rules}
+use Rattle.roff_run.specs.Reading.DefinedLines.{definition_found, definition_line}
+use Rattle.roff_run.specs.Reading.Units.{no_unit_found, unit_in, unit_or}
 use Rattle.roff_run.specs.declared.line_state.LineState.{LineState}
 use Rattle.roff_run.specs.declared.line_state.LineState.TheVariants.{Defining}
-use Rattle.roff_reader.proofs.EndedDefinitions.{definition_found-no_unit}
 use Rattle.roff_reader.proofs.TakesAs.{TakesAs-as}
 use Rattle.roff_reader.proofs.reader.Reader.read_definition.Goals as goal
 
-pub returns-in-Unit : goal.returns-in-Unit
-returns-in-Unit c = rw c.in-Unit.is c.read_unit_of_definition.ensures
-
-pub returns-in-Escape : goal.returns-in-Escape
-returns-in-Escape c = rw c.in-Escape.is c.read_unit_of_definition-in-Escape.ensures
-
-pub returns-in_default : goal.returns-in_default
-returns-in_default c =
+pub returns-in-Some : goal.returns-in-Some
+returns-in-Some c =
     let u = c.args.unread.now in
-    let name = c.args.name in
-    let appends = c.args.appends in
-    let end = c.args.end in
-    let matched = c.args.matched in
+    let place : LineState = Defining c.args.name c.args.appends c.args.end c.args.matched in
     let found = c.args.found in
-    let place : LineState = Defining name appends end matched in
+    let done = c.read_unit_of_definition in
+    let is : Some c.in-Some.unit ≡ unit_in found = search rules in
+    TakesAs-as (λ k. definition_line k u.input c.args.name c.args.appends c.args.end c.args.matched c.in-Some.unit)
+    (λ k. definition_found k u.input c.args.name c.args.appends c.args.end c.args.matched found) c.args.composer.now c.args.self.now done.new.self u done.new.unread done.result
+    (λ k. ap (unit_or (definition_line k u.input c.args.name c.args.appends c.args.end c.args.matched) (no_unit_found k u.input place found)) is) done.ensures
+
+pub returns-in-None : goal.returns-in-None
+returns-in-None c =
+    let u = c.args.unread.now in
+    let place : LineState = Defining c.args.name c.args.appends c.args.end c.args.matched in
+    let found = c.args.found in
     let done = c.read_in_arguments in
-    TakesAs-as (λ k. no_unit_found k u.input place found) (λ k. definition_found k u.input name appends end matched found) c.args.composer.now c.args.self.now
+    let is : None ≡ unit_in found = search rules in
+    TakesAs-as (λ k. no_unit_found k u.input place found) (λ k. definition_found k u.input c.args.name c.args.appends c.args.end c.args.matched found) c.args.composer.now c.args.self.now
     done.new.self u done.new.unread done.result
-    (λ k. definition_found-no_unit k u.input name appends end matched found c.in_default.not-Unit c.in_default.not-Escape) done.ensures
+    (λ k. ap (unit_or (definition_line k u.input c.args.name c.args.appends c.args.end c.args.matched) (no_unit_found k u.input place found)) is) done.ensures

@@ -5,7 +5,7 @@ use Rattle.roff_run.specs.declared.line_state.LineState.{LineState}
 use Rattle.roff_run.specs.declared.line_state.LineState.TheVariants.{StringName, StringText, LineStart, Branch, Braced, Text as InText, Arguments as InArguments, Deciding, Telling, Calling, Defining, TitleFront, Title as InTitle}
 use Rattle.roff_reader.proofs.Placed.{found-elsewhere}
 use Rattle.roff_reader.proofs.TakesAs.{TakesAs-where}
-use Rattle.roff_reader.proofs.LinesTaken.{TakesAs-meant}
+use Rattle.roff_reader.proofs.LinesTaken.{TakesAs-collected, TakesAs-meant}
 use Rattle.roff_run.specs.declared.step.Step.TheVariants.{Nothing}
 use Rattle.roff_reader.proofs.reader.Reader.read_found.Goals as goal
 
@@ -44,10 +44,10 @@ returns-in-Text c =
 pub returns-in-Arguments : goal.returns-in-Arguments
 returns-in-Arguments c =
     let u = c.args.unread.now in
-    let done = c.read_arguments in
+    let done = c.read_collected in
     let place : LineState = InArguments c.in-Arguments.breaks c.in-Arguments.request in
     let is : c.args.self.now.reading ≡ place = search rules in
-    TakesAs-where (λ k r. found_in k u.input r c.args.found) place c.args.composer.now c.args.self.now done.new.self u done.new.unread done.result is done.ensures
+    TakesAs-collected place c.args.found c.args.composer.now c.args.self.now done.new.self u done.new.unread done.result (λ k i. refl) is done.ensures
 
 pub returns-in-Deciding : goal.returns-in-Deciding
 returns-in-Deciding c =
@@ -60,34 +60,34 @@ returns-in-Deciding c =
 pub returns-in-StringName : goal.returns-in-StringName
 returns-in-StringName c =
     let u = c.args.unread.now in
-    let done = c.read_string_name in
+    let done = c.read_collected-in-StringName in
     let place : LineState = StringName c.in-StringName.appends in
     let is : c.args.self.now.reading ≡ place = search rules in
-    TakesAs-where (λ k r. found_in k u.input r c.args.found) place c.args.composer.now c.args.self.now done.new.self u done.new.unread done.result is done.ensures
+    TakesAs-collected place c.args.found c.args.composer.now c.args.self.now done.new.self u done.new.unread done.result (λ k i. refl) is done.ensures
 
 pub returns-in-StringText : goal.returns-in-StringText
 returns-in-StringText c =
     let u = c.args.unread.now in
-    let done = c.read_string in
+    let done = c.read_collected-in-StringText in
     let place : LineState = StringText c.in-StringText.name c.in-StringText.appends c.in-StringText.is_front in
     let is : c.args.self.now.reading ≡ place = search rules in
-    TakesAs-where (λ k r. found_in k u.input r c.args.found) place c.args.composer.now c.args.self.now done.new.self u done.new.unread done.result is done.ensures
+    TakesAs-collected place c.args.found c.args.composer.now c.args.self.now done.new.self u done.new.unread done.result (λ k i. refl) is done.ensures
 
 pub returns-in-Telling : goal.returns-in-Telling
 returns-in-Telling c =
     let u = c.args.unread.now in
-    let done = c.read_message in
+    let done = c.read_collected-in-Telling in
     let place : LineState = Telling c.in-Telling.aborts c.in-Telling.is_front in
     let is : c.args.self.now.reading ≡ place = search rules in
-    TakesAs-where (λ k r. found_in k u.input r c.args.found) place c.args.composer.now c.args.self.now done.new.self u done.new.unread done.result is done.ensures
+    TakesAs-collected place c.args.found c.args.composer.now c.args.self.now done.new.self u done.new.unread done.result (λ k i. refl) is done.ensures
 
 pub returns-in-Calling : goal.returns-in-Calling
 returns-in-Calling c =
     let u = c.args.unread.now in
-    let done = c.read_call in
+    let done = c.read_collected-in-Calling in
     let place : LineState = Calling c.in-Calling.name in
     let is : c.args.self.now.reading ≡ place = search rules in
-    TakesAs-where (λ k r. found_in k u.input r c.args.found) place c.args.composer.now c.args.self.now done.new.self u done.new.unread done.result is done.ensures
+    TakesAs-collected place c.args.found c.args.composer.now c.args.self.now done.new.self u done.new.unread done.result (λ k i. refl) is done.ensures
 
 pub returns-in-Defining : goal.returns-in-Defining
 returns-in-Defining c =
@@ -100,10 +100,10 @@ returns-in-Defining c =
 pub returns-in-TitleFront : goal.returns-in-TitleFront
 returns-in-TitleFront c =
     let u = c.args.unread.now in
-    let done = c.read_title_front in
+    let done = c.read_collected-in-TitleFront in
     let place : LineState = TitleFront in
     let is : c.args.self.now.reading ≡ place = search rules in
-    TakesAs-where (λ k r. found_in k u.input r c.args.found) place c.args.composer.now c.args.self.now done.new.self u done.new.unread done.result is done.ensures
+    TakesAs-collected place c.args.found c.args.composer.now c.args.self.now done.new.self u done.new.unread done.result (λ k i. refl) is done.ensures
 
 pub returns-in-Title : goal.returns-in-Title
 returns-in-Title c =

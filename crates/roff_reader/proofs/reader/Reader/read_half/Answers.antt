@@ -1,6 +1,7 @@
 use Rattle.std.proofs.Common.{◌≡◌, Ok, true, rules}
 use Rattle.roff_source.specs.Bytes.{is_dropped}
-use Rattle.roff_run.specs.Reading.{interrupted, taking}
+use Rattle.roff_run.specs.Reading.{taking}
+use Rattle.roff_run.specs.Reading.Units.{interrupted}
 use Rattle.roff_run.specs.Reading.Items.{going_on}
 use Rattle.roff_run.specs.declared.step.Step.TheVariants.{Nothing}
 use Rattle.roff_reader.proofs.TakesAs.{TakesAs-as, TakesAs-interrupted}

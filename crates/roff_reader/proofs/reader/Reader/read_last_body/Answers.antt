@@ -1,7 +1,7 @@
 use Rattle.std.proofs.Common.{Ok, refl, rules}
-use Rattle.roff_ahead.specs.Input.{without_arguments}
-use Rattle.roff_ahead.specs.Input.Calls.{calling_body}
-use Rattle.roff_ahead.specs.Input.Names.{body_named}
+use Rattle.roff_input.specs.Input.{without_arguments}
+use Rattle.roff_input.specs.Input.Calls.{calling_body}
+use Rattle.roff_input.specs.Input.Names.{body_named}
 use Rattle.roff_num.specs.ShortNames.{name_bytes}
 use Rattle.roff_run.specs.Reading.Items.{going_on}
 use Rattle.roff_run.specs.declared.line_state.LineState.TheVariants.{LineStart}

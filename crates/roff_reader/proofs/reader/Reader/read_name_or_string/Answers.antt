@@ -1,9 +1,10 @@
 use Rattle.std.proofs.Common.{◌≡◌, ℕ, ◌+◌, ◌<◌, ◌≤◌, true, Some, None, Ok, Err, rules, sym, subst, ap}
-use Rattle.roff_ahead.specs.Input.Names.{stored}
+use Rattle.roff_input.specs.Input.Names.{stored}
 use Rattle.roff_num.specs.declared.limit.Limit.TheVariants.{Store}
 use Rattle.roff_run.specs.Reading.Strings.{name_read, string_begun, string_name_behind, string_name_or_text, string_unit}
 use Rattle.roff_run.specs.Reading.Units.{holding}
-use Rattle.roff_reader.proofs.Strings.{InputCameTo-changing, TakesAs-elsewhere}
+use Rattle.roff_names.proofs.InputsChanged.{InputCameTo-changing}
+use Rattle.roff_reader.proofs.Strings.{TakesAs-elsewhere}
 use Rattle.roff_reader.proofs.StringRefusals.{TakesAs-no_room, TakesAs-not_begun, TakesAs-not_held}
 use Rattle.roff_reader.proofs.TakesAs.{TakesAs-as}
 use Rattle.roff_reader.proofs.reader.Reader.read_name_or_string.Goals as goal

@@ -5,8 +5,8 @@ use Rattle.roff_run.specs.Reading.Items.{PageUnread}
 use Rattle.roff_run.specs.Reading.Calls.{call_unit, holding_call}
 use Rattle.roff_run.specs.Reading.Items.{going_on}
 use Rattle.roff_run.specs.declared.line_state.LineState.TheVariants.{Calling, LineStart}
-use Rattle.roff_ahead.specs.Input.Calls.{calling_body}
-use Rattle.roff_ahead.specs.Input.Names.{body_named}
+use Rattle.roff_input.specs.Input.Calls.{calling_body}
+use Rattle.roff_input.specs.Input.Names.{body_named}
 use Rattle.roff_escape.specs.declared.open_escape.CopyUnit.TheVariants.{Byte}
 use Rattle.roff_num.specs.ShortNames.{name_bytes}
 use Rattle.roff_reader.proofs.LinesTaken.{TakesAs-changed, TakesAs-not_changed}

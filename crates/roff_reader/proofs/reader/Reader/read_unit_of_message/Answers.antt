@@ -1,5 +1,5 @@
 use Rattle.std.proofs.Common.{◌≡◌, false, rules}
-use Rattle.roff_ahead.specs.Input.{holding_plain}
+use Rattle.roff_input.specs.Input.{holding_plain}
 use Rattle.roff_run.specs.Reading.Items.{going_on}
 use Rattle.roff_run.specs.Reading.Messages.{message_unit}
 use Rattle.roff_run.specs.declared.line_state.LineState.TheVariants.{Telling}

@@ -1,0 +1,21 @@
+-- Which fronts of control lines are read at once.
+use Rattle.std.proofs.Common.{◌≡◌, ◌==◌, ℕ, Bool, true, false, List, subst}
+use Rattle.std.specs.Prelude.{◌&&◌, ◌||◌}
+use Rattle.roff_source.specs.Bytes.{apostrophe, dot}
+use Rattle.roff_store.specs.Named.{Named}
+use Rattle.roff_store.specs.Texts.{Entry}
+use Rattle.roff_fronts.specs.ControlFronts.{Fronts, control_byte, is_front_read, reads_front}
+use Rattle.roff_fronts.specs.declared.control.ControlFront.{ControlFront}
+
+-- the second of two facts
+second-true : (first second : Bool) → first && second ≡ true → second ≡ true
+second-true true second so = so
+second-true false second so = absurd (cc)
+
+-- bytes that begin with a front that is read have one whose two bytes are read
+pub two-read : (names : Named Entry) (bytes : List ℕ) (front : ControlFront) → Fronts bytes front → reads_front names bytes ≡ true
+    → is_front_read names front.first front.second ≡ true
+two-read names bytes front fronts reads =
+    let mark : ℕ = control_byte front.breaks in
+    second-true (mark == dot || mark == apostrophe) (is_front_read names front.first front.second)
+    (subst (λ (all : List ℕ). reads_front names all ≡ true) fronts.1 reads)

@@ -1,0 +1,18 @@
+use Rattle.std.proofs.Common.{◌≡◌, true, false, List, ℕ, refl, subst, sym}
+use Rattle.roff_fronts.specs.ControlFronts.{reads_front}
+use Rattle.roff_fronts.proofs.FrontsRead.{two-read}
+use Rattle.roff_fronts.proofs.control.read_control_front.Goals as goal
+
+pub returns-in-Some-clause-whole : goal.returns-in-Some-clause-whole
+returns-in-Some-clause-whole g c = λ asks reads.
+    let names = c.args.unread.now.input.names in
+    c.read_control.ensures.whole
+    (two-read names c.front.result.now c.in-Some.front c.in-Some.ensures.fronts
+    (subst (λ (bytes : List ℕ). reads_front names bytes ≡ true) (sym (c.front.ensures.whole asks)) reads))
+
+pub returns-in-None-clause-whole : goal.returns-in-None-clause-whole
+returns-in-None-clause-whole g c = λ asks reads.
+    let names = c.args.unread.now.input.names in
+    let none : reads_front names c.front.result.now ≡ false = c.in-None.ensures.none refl names in
+    let some : reads_front names c.front.result.now ≡ true = subst (λ (bytes : List ℕ). reads_front names bytes ≡ true) (sym (c.front.ensures.whole asks)) reads in
+    absurd (cc (none, some))

@@ -1,0 +1,29 @@
+-- The events of a request, as the code puts them together.
+use Rattle.std.specs.Prelude.{ℕ, Bool, List, [], ◌∷◌, ◌++◌, map, Option}
+use Rattle.std.specs.Option.{option_to_list}
+use Rattle.roff_lines.specs.declared.event.Event.TheVariants.{Set}
+use Rattle.roff_lines.specs.declared.settings.Param.TheVariants.{NoStops, Stop}
+use Rattle.roff_run.specs.PageEvents.{PageEvent}
+use Rattle.roff_run.specs.declared.event.PageEvent.TheVariants.{Text}
+use Rattle.roff_meaning.specs.declared.events.RequestEvents.{RequestEvents}
+use Rattle.roff_meaning.specs.declared.events.RequestEvents.TheVariants.{Nothing, One, Two}
+use Rattle.roff_run.specs.Requests.Effects.{behind_break}
+pub mod Kept
+
+-- the event of a stop, by its column
+abbrev pub stop_at : ℕ → PageEvent
+stop_at column = Text (Set (Stop column))
+
+-- these stops are set in place of those in force
+abbrev pub stops_set : List ℕ → List PageEvent
+stops_set columns = Text (Set NoStops) ∷ map stop_at columns
+
+-- the events of a request behind its break, in order
+abbrev pub request_events : RequestEvents → List PageEvent
+request_events Nothing = []
+request_events (One event) = event ∷ []
+request_events (Two first second) = first ∷ second ∷ []
+
+-- one in front of a break, if there is one, those of the break, if there is one, and others behind it
+abbrev pub around_break : Option PageEvent → Bool → List PageEvent → List PageEvent
+around_break before breaks behind = option_to_list before ++ behind_break breaks behind

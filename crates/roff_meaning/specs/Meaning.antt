@@ -1,0 +1,25 @@
+-- What a meaning has that is kept.
+use Rattle.std.specs.Prelude.{Bool, List, [], ◌∷◌, Option, None, if◌then◌else◌}
+use Rattle.roff_lines.specs.declared.event.Event.TheVariants.{Resume}
+use Rattle.roff_run.specs.Events.Lines.{line_events}
+use Rattle.roff_run.specs.declared.event.LineEvents.{LineEvents}
+use Rattle.roff_run.specs.PageEvents.{PageEvent}
+use Rattle.roff_run.specs.declared.event.PageEvent.TheVariants.{Text}
+use Rattle.roff_run.specs.declared.message.Message.{Message}
+
+-- a message, if there is one, and events
+pub record MeaningKept : Type 0 where
+  pub message : Option Message
+  pub events : List PageEvent
+
+-- neither
+abbrev pub nothing_kept : MeaningKept
+nothing_kept = record { message = None; events = [] }
+
+-- behind the event that an interrupted line goes on, if it does
+abbrev pub resumed_if : Bool → List PageEvent → List PageEvent
+resumed_if resumes events = if resumes then Text Resume ∷ events else events
+
+-- the events of a request, or those of a text line, with which an interrupted one may go on
+abbrev pub kept_events : Bool → List PageEvent → Bool → LineEvents → List PageEvent
+kept_events is_request requested resumes line = if is_request then requested else resumed_if resumes (line_events line)

@@ -1,0 +1,5 @@
+pub mod InputsChanged
+pub mod GrownTexts
+pub mod GivenNames
+pub mod RemovedNames
+pub mod FirstNames

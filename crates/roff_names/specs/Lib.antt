@@ -1,0 +1,4 @@
+pub mod FirstUnits
+pub mod Inputs
+pub mod NamesGiven
+pub mod NamesRead

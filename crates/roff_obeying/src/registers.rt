@@ -1,0 +1,67 @@
+//! The registers that arguments name, and what is known of the run beside registers.
+
+ghost use Rattle.std.specs.Prelude.{◌≡◌, ℕ, List, IfSome, slice_get};
+ghost use Rattle.std.specs.Option.{option_copied};
+ghost use Rattle.roff_arguments.specs.ArgumentList.{listed};
+ghost use Rattle.roff_composer.specs.Composer.Standing.{StandFor};
+ghost use Rattle.roff_num.specs.declared.limits.Limits.{Limits};
+ghost use Rattle.roff_requests.specs.Registers.Coded.{AreOf};
+ghost use Rattle.roff_requests.specs.Request.Coded.{register_named};
+ghost use Rattle.roff_run.specs.Environments.{PageHistory};
+ghost use Rattle.roff_run.specs.Registers.{AllRegisters, Remove, changed_by, value_in_force};
+ghost use Rattle.roff_run.specs.Requests.Numbering.{names_given};
+ghost use Rattle.roff_run.specs.Run.{known_at};
+
+use roff_composer::Composer;
+use roff_num::Num;
+use roff_requests::{Facts, RunRegisters, register_named};
+use roff_run::{PageEvent, name_given};
+use roff_scan::{ArgumentList, Unread};
+
+/// The value in force of the register that a first argument names; 0 if it names none.
+pub(crate) fn in_force(
+    registers: &RunRegisters,
+    first: Option<&[u8]>,
+    composer: &Composer,
+    unread: &Unread<PageEvent>,
+) -> Num
+    ensures { (l : Limits) (h : PageHistory) (as_given : List (List ℕ))
+        → StandFor l h composer.now → option_copied first.entry ≡ slice_get as_given 0
+        → IfSome (register_named as_given) (λ name. result
+        ≡ value_in_force (known_at h registers.now.all unread.now.input) name) }
+{
+    match register_named(first) {
+        Some(name) => match registers.set_value(&name) {
+            Some(value) => value,
+            None => registers.value_in_force(&name, facts(composer, unread)),
+        },
+        None => Num(0),
+    }
+}
+
+/// Removes the registers that arguments name.
+pub(crate) fn remove_given(registers: &mut RunRegisters, arguments: ArgumentList<'_>)
+    ensures { registers.new ≡ record registers.old {
+      all = changed_by (Remove (names_given (listed arguments.entry))) registers.old.all;
+    } }
+{
+    for index in 0..arguments.len() {
+        if let Some(text) = arguments.get(index) {
+            if let Some(name) = name_given(text) {
+                registers.remove(&name);
+            }
+        }
+    }
+}
+
+/// What is known of the run beside its registers.
+pub fn facts<'a>(composer: &'a Composer, unread: &Unread<PageEvent>) -> Facts<'a>
+    ensures { (l : Limits) (h : PageHistory) (all : AllRegisters) → StandFor l h composer.now
+        → AreOf (known_at h all unread.now.input) result }
+{
+    Facts {
+        composer,
+        newlines: unread.newlines(),
+        arguments: unread.argument_count(),
+    }
+}
