@@ -1,8 +1,10 @@
 //! An expression that is being read, from the left, with a frame for each operand that holds
 //! another one.
 
-ghost use Rattle.std.specs.Prelude.{◌≡◌, ◌-◌, ◌<◌, ◌≤◌, ℕ, [], ◌∷◌, length, drop, reverse, nat_lt, ℤ, Option, IfOk, OnOk, FitsSigned, neg_ℤ, if◌then◌else◌};
-ghost use Rattle.roff_num.specs.Clauses.{w64, most_levels, sign_at, in_range, signed, followed, array_vec_len, Scale};
+ghost use Rattle.std.specs.Prelude.{◌≡◌, ◌-◌, ◌<◌, ◌≤◌, ℕ, [], ◌∷◌, length, drop, reverse, nat_lt};
+ghost use Rattle.std.specs.Prelude.{ℤ, Option, IfOk, OnOk, FitsSigned, neg_ℤ, if◌then◌else◌};
+ghost use Rattle.roff_num.specs.Clauses.{w64, most_levels, sign_at, in_range, signed, followed};
+ghost use Rattle.roff_num.specs.Clauses.{array_vec_len, Scale};
 ghost use Rattle.roff_num.specs.Reading.Frames.{combined};
 
 use crate::num::{NumFault, Scale};
@@ -65,7 +67,9 @@ pub(crate) struct Reading {
 }
 
 impl Reading {
-    ghost use Rattle.roff_num.specs.Reading.Frames.{come_to, entered, LeavesLess, left_behind, outcome_behind, outcome_now, outcome_opened, outcome_stepped, unheld, with_frame};
+    ghost use Rattle.roff_num.specs.Reading.Frames.{come_to, entered, LeavesLess, left_behind};
+    ghost use Rattle.roff_num.specs.Reading.Frames.{outcome_behind, outcome_now, outcome_opened};
+    ghost use Rattle.roff_num.specs.Reading.Frames.{outcome_stepped, unheld, with_frame};
 
     /// The operand is read next that begins at a place and that no other one holds.
     pub(crate) fn new(at: usize, pending: Option<(Operator, i32)>) -> Self

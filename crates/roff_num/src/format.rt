@@ -1,7 +1,11 @@
 //! The formats of registers: how a value is written.
 
 ghost use Rattle.std.specs.Prelude.{◌≡◌, ◌+◌, ◌^◌, ◌≤◌, ◌++◌, drop, length, min, replicate};
-ghost use Rattle.roff_num.specs.Clauses.{is_ascii_digit, list_all, str_to_ascii_uppercase, array_vec_len, format_of, is_field, letter_format, alphabetic_text, decimal_field, register_text, roman_text, size_text, digit_of, hundreds, ones, roman, tens, thousands, word};
+ghost use Rattle.roff_num.specs.Clauses.{is_ascii_digit, list_all, str_to_ascii_uppercase};
+ghost use Rattle.roff_num.specs.Clauses.{array_vec_len, format_of, is_field, letter_format};
+ghost use Rattle.roff_num.specs.Clauses.{alphabetic_text, decimal_field, register_text, roman_text};
+ghost use Rattle.roff_num.specs.Clauses.{size_text, digit_of, hundreds, ones, roman, tens};
+ghost use Rattle.roff_num.specs.Clauses.{thousands, word};
 
 use crate::num::Num;
 use arrayvec::ArrayVec;

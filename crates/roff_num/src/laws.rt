@@ -1,7 +1,12 @@
 //! Facts about the definitions alone, as contracts of functions that do nothing.
 
-ghost use Rattle.std.specs.Prelude.{◌≡◌, ℕ, ◌+◌, ◌<◌, ◌≤◌, ◌^◌, length, decimal, List, Some, None, [], codes, pos, negsuc};
-ghost use Rattle.roff_num.specs.Clauses.{AllDigits, digits_value, Format, Decimal, RomanLower, RomanUpper, AlphaLower, AlphaUpper, decimal_field, register_text, format_of, IsWritten, roman, roman_value, ComesBefore, IsOverLetters, place, word, value_at, IsLeftFold, Missing, Range, ZeroDivisor, Units};
+ghost use Rattle.std.specs.Prelude.{◌≡◌, ℕ, ◌+◌, ◌<◌, ◌≤◌, ◌^◌, length, decimal, List, Some, None};
+ghost use Rattle.std.specs.Prelude.{[], codes, pos, negsuc};
+ghost use Rattle.roff_num.specs.Clauses.{AllDigits, digits_value, Format, Decimal, RomanLower};
+ghost use Rattle.roff_num.specs.Clauses.{RomanUpper, AlphaLower, AlphaUpper, decimal_field};
+ghost use Rattle.roff_num.specs.Clauses.{register_text, format_of, IsWritten, roman, roman_value};
+ghost use Rattle.roff_num.specs.Clauses.{ComesBefore, IsOverLetters, place, word, value_at};
+ghost use Rattle.roff_num.specs.Clauses.{IsLeftFold, Missing, Range, ZeroDivisor, Units};
 
 /// What the definitions give for some values in letters.
 pub fn alphabetic_rows()

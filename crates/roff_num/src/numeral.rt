@@ -1,7 +1,10 @@
 //! Numerals: digits with at most one dot, and a scale letter.
 
-ghost use Rattle.std.specs.Prelude.{◌≡◌, ◌+◌, ◌*◌, ◌/◌, ◌-◌, ◌^◌, ◌<◌, ◌≤◌, ◌++◌, length, take, drop, min, pos, IfOk, IfSome};
-ghost use Rattle.roff_num.specs.Clauses.{AllDigits, digits_value, digits_value_after, decimals_at, digits_at, dot_at, letter_unit, numeral_at, scale_unit, size_of, unit_at, in_range, signed};
+ghost use Rattle.std.specs.Prelude.{◌≡◌, ◌+◌, ◌*◌, ◌/◌, ◌-◌, ◌^◌, ◌<◌, ◌≤◌, ◌++◌, length, take};
+ghost use Rattle.std.specs.Prelude.{drop, min, pos, IfOk, IfSome};
+ghost use Rattle.roff_num.specs.Clauses.{AllDigits, digits_value, digits_value_after, decimals_at};
+ghost use Rattle.roff_num.specs.Clauses.{digits_at, dot_at, letter_unit, numeral_at, scale_unit};
+ghost use Rattle.roff_num.specs.Clauses.{size_of, unit_at, in_range, signed};
 
 use crate::num::{NumFault, Scale};
 use crate::operator::begins_with;
@@ -82,7 +85,8 @@ fn value_of_whole(negative: bool, number: u64, unit: Ratio) -> Result<i32, NumFa
     in_range(if negative { -size } else { size })
 }
 
-/// The value of the numeral at a text's front, which may have decimals, and how many bytes it takes.
+/// The value of the numeral at a text's front, which may have decimals, and how many bytes it
+/// takes.
 #[inline(never)]
 fn read_with_decimals(text: &[u8], scale: Scale, negative: bool) -> Result<(i32, usize), NumFault>
     ensures value { result ≡ numeral_at scale negative text.now }

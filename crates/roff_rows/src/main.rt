@@ -5,10 +5,10 @@
 //! The folder, the current one at first, is this crate's `data`. The folders in its `rows`, and its
 //! `examples`, have for each row a document `NAME.roff`, and what the program makes of it: the
 //! output in `NAME.txt`, the messages in `NAME.messages` and the exit status in `NAME.status`. The
-//! command and its options are in `NAME.args`, a word on a line, and `fails` in `NAME.source` says that
-//! reading fails behind the document. A file that isn't there says what is usual: no output, no
-//! messages, status 0, the command `nroff` without options, and a source that ends. The document is
-//! standard input.
+//! command and its options are in `NAME.args`, a word on a line, and `fails` in `NAME.source` says
+//! that reading fails behind the document. A file that isn't there says what is usual: no output,
+//! no messages, status 0, the command `nroff` without options, and a source that ends. The document
+//! is standard input.
 #![tactic(auto)]
 
 mod row;

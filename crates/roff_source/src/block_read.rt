@@ -24,8 +24,8 @@ pub trait BlockRead {
     /// The tapes that it may give from here on: its bytes, and then its end or an error.
     ghost gives: { Self → Tape → Type 0 };
 
-    /// Reads once, into the front of `block`. Behind the reader's end and behind an error nothing is
-    /// said of what it may give: only whoever reads no more can say what was read.
+    /// Reads once, into the front of `block`. Behind the reader's end and behind an error nothing
+    /// is said of what it may give: only whoever reads no more can say what was read.
     fn read_block(&mut self, block: &mut [u8]) -> Given
         requires room { 0 < length block.old }
         ensures room { length block.new ≡ length block.old }

@@ -1,11 +1,11 @@
 //! Sources: what a run reads from.
 
-ghost use Rattle.std.specs.Prelude.{◌≡◌, ℕ, ◌<◌, ◌≤◌, List, [], length, map, nat_lt, take, None, vec_len};
-ghost use Rattle.std.specs.Prelude.{IfOk, IfSome};
+ghost use Rattle.std.specs.Prelude.{◌≡◌, ℕ, ◌<◌, ◌≤◌, List, [], length, map, nat_lt, take, None};
+ghost use Rattle.std.specs.Prelude.{vec_len, IfOk, IfSome};
 ghost use Rattle.roff_source.specs.BlockRead.{SomeTape};
 ghost use Rattle.roff_source.specs.ReadSource.Endings.{is_fault, reach_ending};
-ghost use Rattle.roff_source.specs.Tape.{Tape, Answers, Took, Failed, Gives, Ends, OneByte, OneNote};
-ghost use Rattle.roff_source.specs.Tape.{answer_of};
+ghost use Rattle.roff_source.specs.Tape.{Tape, Answers, Took, Failed, Gives, Ends, OneByte};
+ghost use Rattle.roff_source.specs.Tape.{OneNote, answer_of};
 ghost use Rattle.roff_num.specs.Faults.{Rises};
 
 use crate::block_read::{BlockRead, Given};

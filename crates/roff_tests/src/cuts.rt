@@ -1,8 +1,7 @@
 //! Documents whose source fails behind each of their bytes in turn: a line that the fault cuts does
 //! nothing, and a definition that it cuts isn't entered.
 
-use roff_num::Limit;
-use roff_tools::{Formatted, Limits, Room, Start, Status, format_in_memory};
+use roff_tools::{Formatted, Limit, Limits, Room, Start, Status, format_in_memory};
 use std::alloc::{AllocError, Global};
 use std::process::Abort;
 use std::test::Fail;

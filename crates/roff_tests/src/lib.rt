@@ -9,8 +9,6 @@ mod devices;
 #[cfg(test)]
 mod documents;
 #[cfg(test)]
-mod failing_once;
-#[cfg(test)]
 mod in_memory;
 #[cfg(test)]
 mod registers;

@@ -1,8 +1,7 @@
 //! What registers give, as documents tell it.
 
 use crate::documents::{Expected, check, check_told};
-use roff_num::Limit;
-use roff_tools::{Limits, Status};
+use roff_tools::{Limit, Limits, Status};
 use std::test::Fail;
 
 #[test]

@@ -1,5 +1,5 @@
-//! Documents whose output, or whose messages, find room for so many bytes and no more: just these are
-//! kept, and the run ends with the failure.
+//! Documents whose output, or whose messages, find room for so many bytes and no more: just these
+//! are kept, and the run ends with the failure.
 
 use roff_tools::{Job, Limits, MemSink, MemSource, Start, Status, run};
 use std::alloc::{AllocError, Global};

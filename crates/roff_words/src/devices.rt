@@ -110,8 +110,9 @@ fn reader_that_fails(rt: HostRuntime) {
     check(&rt, &machine, stdout, stderr, expected);
 }
 
-/// A command, what it is given before its input fails, and what is written on each writer. Nothing of
-/// a table is given by then but its first line, and a line that has no newline yet tells nothing.
+/// A command, what it is given before its input fails, and what is written on each writer. Nothing
+/// of a table is given by then but its first line, and a line that has no newline yet tells
+/// nothing.
 static CUT_TABLES: [(&str, &str, &str, &str); 6] = [
     (
         "tbl",

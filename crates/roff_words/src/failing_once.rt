@@ -1,6 +1,6 @@
-//! Devices of which one call fails and later ones wouldn't: nothing is tried again, and nothing is lost
-//! in front of the call that failed. And what is done behind a failure: the last flush, and nothing
-//! else.
+//! Devices of which one call fails and later ones wouldn't: nothing is tried again, and nothing is
+//! lost in front of the call that failed. And what is done behind a failure: the last flush, and
+//! nothing else.
 
 use super::machine::{check, machine};
 use roff_machine::{Expected, Given, Machine, Paper};
@@ -9,7 +9,8 @@ use std::cell::Cell;
 use std::io::ErrorKind;
 use std::test::Fail;
 
-/// A command, what standard input gives in front of its one error and behind it, and what is written.
+/// A command, what standard input gives in front of its one error and behind it, and what is
+/// written.
 static READERS: [(&str, &str, &str, &str, &str); 6] = [
     (
         "nroff",
@@ -136,7 +137,8 @@ const LINES: usize = 1_000;
 /// How many of them are written in the end: those of the flush.
 const LINES_WRITTEN: usize = 819;
 
-/// The buffer is written out as it is full: that write fails, and the last flush writes what it held.
+/// The buffer is written out as it is full: that write fails, and the last flush writes what it
+/// held.
 #[test]
 fn output_that_fails_once(rt: HostRuntime) -> Result<(), Fail> {
     let alloc = rt.alloc();
@@ -210,8 +212,8 @@ fn flushes_that_fail(rt: HostRuntime) {
     }
 }
 
-/// Output that is held back is lost where the writer takes nothing: that is found at the last flush,
-/// behind an abort and behind a limit too.
+/// Output that is held back is lost where the writer takes nothing: that is found at the last
+/// flush, behind an abort and behind a limit too.
 #[test]
 fn held_output_that_fails(rt: HostRuntime) {
     let alloc = rt.alloc();
@@ -272,7 +274,8 @@ fn files_are_opened_before_anything_is_read(rt: HostRuntime) {
     }
 }
 
-/// Registers that a limit refuses at the start: nothing is read, so a source that would fail doesn't.
+/// Registers that a limit refuses at the start: nothing is read, so a source that would fail
+/// doesn't.
 static REFUSED: [(&[&str], &str); 2] = [
     (
         &["roff", "nroff", "-ra1", "--names", "0"],
