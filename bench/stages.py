@@ -34,11 +34,14 @@ COMMANDS = {"tables": "both"}
 STAGES = {
     "turn": ["roff_tools::job", "roff_tools::program::run_over", "roff_engine::engine", "roff_engine::running"],
     "source": ["roff_source::source", "roff_devices", "roff_tools"],
-    "unread": ["roff_scan::unread", "roff_ahead"],
+    "unread": ["roff_scan::unread", "roff_ahead", "roff_input"],
     "reader": [
         "roff_reader",
         "roff_fronts",
         "roff_requests",
+        "roff_meaning",
+        "roff_names",
+        "roff_obeying",
         "roff_run",
         "roff_scan",
         "roff_arguments",
@@ -54,7 +57,7 @@ STAGES = {
         "roff_formatter::formatter::Formatter::perform_text",
     ],
     "pages": ["roff_pages"],
-    "writing": ["roff_sinks", "roff_lines::line_bytes", "roff_lines::stretch"],
+    "writing": ["roff_sinks", "roff_lines::stretch"],
     "store": ["roff_store"],
     "tables": ["tbl_layout", "tbl_table", "tbl_core", "tbl_run"],
 }
