@@ -5,7 +5,7 @@ use roff_devices::{Buffered, Inputs, Part};
 use roff_machine::{Given, Paper};
 use roff_sinks::{ByteSink, StdWrite, WriteSink};
 use roff_source::{BlockRead, ByteSource, ReadSource, StdRead, Taken};
-use std::alloc::Global;
+use std::alloc::{AllocError, Global};
 use std::cell::Cell;
 use std::io::ErrorKind;
 use std::test::Fail;
@@ -24,18 +24,31 @@ fn reader<'a>(before: &'a [u8], error: ErrorKind, behind: &'a [u8]) -> StdRead<G
     }
 }
 
+/// Whether a source gives these bytes next.
+fn gives<S: ByteSource>(source: &mut S, bytes: &[u8]) -> bool {
+    for byte in bytes {
+        if !matches!(source.next_byte(), Taken::Byte(given) if given == *byte) {
+            return false;
+        }
+    }
+    true
+}
+
+/// Whether nothing stands ready in a source, which fails.
+fn fails<S: ByteSource>(source: &mut S) -> bool {
+    source.ready_byte().is_none()
+        && source.buffered().is_empty()
+        && matches!(source.next_byte(), Taken::Fault)
+}
+
 /// What a source gives is what was read in front of the error; then a fault, for good.
 #[test]
 fn source(rt: HostRuntime) -> Result<(), Fail> {
     for error in &ERRORS {
         let mut source = ReadSource::new(rt.alloc(), reader(b"abc", *error, b"def"))?;
-        for byte in b"abc" {
-            assert!(rt; matches!(source.next_byte(), Taken::Byte(given) if given == *byte));
-        }
+        assert!(rt; gives(&mut source, b"abc"));
         for _ in 0..3 {
-            assert!(rt; source.ready_byte().is_none());
-            assert!(rt; source.buffered().is_empty());
-            assert!(rt; matches!(source.next_byte(), Taken::Fault));
+            assert!(rt; fails(&mut source));
         }
     }
     Ok(())
@@ -63,36 +76,46 @@ fn source_at_its_end(rt: HostRuntime) -> Result<(), Fail> {
 /// The parts of an input are read in order, and an error of one is passed on in its place.
 #[test]
 fn inputs(rt: HostRuntime) -> Result<(), Fail> {
-    let alloc = rt.alloc();
     for error in &ERRORS {
-        let mut parts = Vec::new(alloc);
+        let mut parts = Vec::new(rt.alloc());
         parts.push(Part::File(reader(b"ab", *error, b"cd")))?;
         parts.push(Part::Standard(reader(b"ef", *error, b"gh")))?;
-        let mut source = ReadSource::new(alloc, Inputs::new(parts))?;
-        for byte in b"ab" {
-            assert!(rt; matches!(source.next_byte(), Taken::Byte(given) if given == *byte));
-        }
+        let mut source = ReadSource::new(rt.alloc(), Inputs::new(parts))?;
+        assert!(rt; gives(&mut source, b"ab"));
         assert!(rt; matches!(source.next_byte(), Taken::Fault));
     }
     Ok(())
 }
 
+/// Files of these bytes.
+fn files<'a>(
+    alloc: Global,
+    texts: &[&'a [u8]],
+) -> Result<Inputs<StdRead<Given<'a>>, StdRead<Given<'a>>>, AllocError> {
+    let mut parts = Vec::new(alloc);
+    for bytes in texts {
+        let reader = Given::new(bytes);
+        parts.push(Part::File(StdRead { reader }))?;
+    }
+    Ok(Inputs::new(parts))
+}
+
+/// Whether one read gives these bytes, and no more.
+fn reads<R: BlockRead>(reader: &mut R, bytes: &[u8]) -> bool {
+    let mut block = [0; 8];
+    match reader.read_block(&mut block) {
+        roff_source::Given::Bytes(count) => count == bytes.len() && block.starts_with(bytes),
+        _ => false,
+    }
+}
+
 /// One read is one read of one part: that of the first which isn't at its end.
 #[test]
 fn input_behind_parts_that_ended(rt: HostRuntime) -> Result<(), Fail> {
-    let alloc = rt.alloc();
-    let mut parts = Vec::new(alloc);
-    for bytes in [b"".as_slice(), b"", b"ab", b"", b"cd"] {
-        let reader = Given::new(bytes);
-        parts.push(Part::<_, StdRead<Given<'_>>>::File(StdRead { reader }))?;
-    }
-    let mut inputs = Inputs::new(parts);
-    let mut block = [0; 8];
-    assert_eq!(rt; inputs.read_block(&mut block), roff_source::Given::Bytes(2));
-    assert_eq!(rt; &block[..2], b"ab".as_slice());
-    assert_eq!(rt; inputs.read_block(&mut block), roff_source::Given::Bytes(2));
-    assert_eq!(rt; &block[..2], b"cd".as_slice());
-    assert_eq!(rt; inputs.read_block(&mut block), roff_source::Given::Nothing);
+    let mut inputs = files(rt.alloc(), &[b"", b"", b"ab", b"", b"cd"])?;
+    assert!(rt; reads(&mut inputs, b"ab"));
+    assert!(rt; reads(&mut inputs, b"cd"));
+    assert!(rt; matches!(inputs.read_block(&mut [0; 8]), roff_source::Given::Nothing));
     Ok(())
 }
 
@@ -119,6 +142,12 @@ fn sink(rt: HostRuntime) {
     }
 }
 
+/// Whether a buffer that is finished fails, and wrote `abc` before.
+fn fails_behind_abc(buffered: Buffered<StdWrite<Paper>>) -> bool {
+    let (writer, flushed) = buffered.finish();
+    flushed.is_err() && writer.into_inner().kept.as_slice() == b"abc".as_slice()
+}
+
 /// What a buffer holds is written out at its end, up to the write that fails.
 #[test]
 fn buffer(rt: HostRuntime) {
@@ -129,8 +158,6 @@ fn buffer(rt: HostRuntime) {
         };
         let mut sink = WriteSink::new(buffered);
         assert!(rt; sink.put(b"abcdef").is_ok());
-        let (writer, flushed) = sink.into_inner().finish();
-        assert!(rt; flushed.is_err());
-        assert_eq!(rt; writer.into_inner().kept.as_slice(), b"abc".as_slice());
+        assert!(rt; fails_behind_abc(sink.into_inner()));
     }
 }

@@ -15,9 +15,9 @@
 #![tactic(auto)]
 
 use anyhow::Result;
-use roff_lines::Line;
+use roff_layout::{Line, Trap};
 use roff_num::{Limits, Num, ShortName};
-use roff_pages::{Block, PAGE_NUMBER, Pages, StdWrite, TitleLine, Trap, WriteSink};
+use roff_pages::{Block, PAGE_NUMBER, Pages, StdWrite, TitleLine, WriteSink};
 use std::alloc::{AllocError, Global};
 use std::env;
 use std::io::{self, Write};

@@ -2,9 +2,10 @@
 use Rattle.std.proofs.Common.{◌≡◌, ℕ, ◌+◌, ◌*◌, ◌≤◌, Bool, true, false, List, [], ◌∷◌, ◌++◌, length, arith}
 use Rattle.std.specs.Prelude.{if◌then◌else◌, ◌==◌}
 use Rattle.std.proofs.lemmas.List.Sums.{sum_by-append, sum_by-cons}
-use Rattle.roff_lines.specs.Glyphs.{byte_width, glyph_blank, text_width}
+use Rattle.roff_num.specs.Widths.{byte_width}
+use Rattle.roff_layout.specs.Glyphs.{glyph_blank, text_width}
 use Rattle.roff_lines.proofs.Widths.{byte_width_le, text_width_le}
-use Rattle.roff_sinks.specs.Titles.{page_mark, part_text}
+use Rattle.roff_layout.specs.Titles.{page_mark, part_text}
 
 -- of a part whose number has 100 bytes at most
 width_by_test : (is_mark : Bool) (number : List ℕ) (b : ℕ) (part rest : List ℕ) → length number ≤ 100 → text_width rest ≤ 101 * length part

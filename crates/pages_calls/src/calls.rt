@@ -2,9 +2,9 @@
 
 use crate::titles::is_fit;
 use crate::words::Words;
-use roff_lines::Line;
+use roff_layout::{Line, Trap};
 use roff_num::{Limit, Num, ShortName};
-use roff_pages::{ByteSink, PageFault, Pages, TitleLine, Trap};
+use roff_pages::{ByteSink, PageFault, Pages, TitleLine};
 use std::alloc::{AllocError, Global};
 
 /// Makes a call; what it answered.

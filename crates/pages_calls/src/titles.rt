@@ -1,9 +1,9 @@
 //! Titles that may be placed.
 
 ghost use Rattle.std.specs.Prelude.{◌≡◌, ◌+◌, ◌<◌, ◌≤◌, ◌*◌, ◌^◌, true, length};
-ghost use Rattle.roff_lines.specs.Glyphs.{text_width};
+ghost use Rattle.roff_layout.specs.Glyphs.{text_width};
 ghost use Rattle.roff_sinks.specs.TitleParts.{HasNoBlank};
-ghost use Rattle.roff_sinks.specs.Titles.{part_text};
+ghost use Rattle.roff_layout.specs.Titles.{part_text};
 
 use roff_pages::TitleLine;
 

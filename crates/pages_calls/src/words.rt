@@ -1,6 +1,6 @@
 //! The words of a line.
 
-use roff_lines::{GAP, UNPADDABLE};
+use roff_layout::{GAP, UNPADDABLE};
 use roff_num::ShortName;
 use roff_pages::PAGE_NUMBER;
 use std::alloc::{AllocError, Global};

@@ -22,7 +22,8 @@ pub struct Buffered<W> {
 }
 
 impl<W: BlockWrite + Drop> Buffered<W> {
-    ghost use Rattle.roff_devices.specs.Buffered.{Finishes, KeepsGiven, given_to, held_by, writer_of};
+    ghost use Rattle.roff_devices.specs.Buffered.{Finishes, KeepsGiven, given_to, held_by};
+    ghost use Rattle.roff_devices.specs.Buffered.{writer_of};
     ghost use Rattle.roff_sinks.specs.Sinks.{CountsFault, FailsOnce, Writes};
 
     /// A buffer in front of `writer`, that holds nothing back.

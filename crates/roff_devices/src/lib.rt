@@ -1,4 +1,5 @@
-//! Devices: the files that are read one after another as one input, and sources and sinks in memory.
+//! Devices: the files that are read one after another as one input, and sources and sinks in
+//! memory.
 #![tactic(auto)]
 
 mod buffered;

@@ -6,9 +6,10 @@ use Rattle.std.proofs.lemmas.List.Folds.{sum_by-replicate}
 use Rattle.std.proofs.lemmas.List.Sums.{sum_by-cons, sum_by-append}
 use Rattle.std.proofs.lemmas.Nat.{le-div}
 use Rattle.std.proofs.Math.Nat.{div-le_self, div-mul-le_self}
-use Rattle.roff_lines.specs.Glyphs.{gap_blank, further_blank, glyph_blank, byte_width, text_width, gaps_in}
-use Rattle.roff_lines.specs.Lines.{Finished}
-use Rattle.roff_lines.specs.Columns.{added_columns, spaces, spread, StandsInColumns}
+use Rattle.roff_num.specs.Widths.{byte_width}
+use Rattle.roff_layout.specs.Glyphs.{gap_blank, further_blank, glyph_blank, text_width, gaps_in}
+use Rattle.roff_layout.specs.Lines.{Finished}
+use Rattle.roff_layout.specs.Columns.{added_columns, spaces, spread, StandsInColumns}
 use Rattle.roff_lines.proofs.Widths.{gaps_in-cons}
 
 -- blanks are as wide as they are many

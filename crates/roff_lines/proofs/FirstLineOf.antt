@@ -7,11 +7,12 @@ use Rattle.std.proofs.lemmas.List.{append-nil, append_assoc, map-append, reverse
 use Rattle.std.proofs.lemmas.List.Elements.{All-head, All-tail}
 use Rattle.std.proofs.lemmas.List.Folds.{sum_by-replicate}
 use Rattle.std.proofs.lemmas.List.Sums.{sum_by-cons, sum_by-append}
-use Rattle.roff_lines.specs.declared.settings.Settings.{Settings}
-use Rattle.roff_lines.specs.Glyphs.{byte_width, gap_blank, further_blank, text_width}
-use Rattle.roff_lines.specs.Settings.{fills}
-use Rattle.roff_lines.specs.Fitting.{Word, word_text, gap_text, line_text, line_indent, fits}
-use Rattle.roff_lines.specs.Words.{is_empty}
+use Rattle.roff_layout.specs.declared.settings.Settings.{Settings}
+use Rattle.roff_num.specs.Widths.{byte_width}
+use Rattle.roff_layout.specs.Glyphs.{gap_blank, further_blank, text_width}
+use Rattle.roff_layout.specs.Settings.{fills}
+use Rattle.roff_layout.specs.Fitting.{Word, word_text, gap_text, line_text, line_indent, fits}
+use Rattle.roff_layout.specs.Words.{is_empty}
 use Rattle.roff_lines.specs.Filling.{with_word, lines_of}
 use Rattle.roff_lines.specs.FirstLine.{MeasuredWord, count_joining, first_line_count, measured, first_of, EndedUnder, TakesFirstLine}
 use Rattle.roff_lines.proofs.FirstLine.{joining_by}

@@ -3,18 +3,20 @@ use Rattle.std.proofs.Common.{◌≡◌, Bool, true, false, not, ◌&&◌, Optio
 use Rattle.std.specs.Prelude.{if◌then◌else◌}
 use Rattle.std.specs.List.{cons_option}
 use Rattle.std.proofs.lemmas.List.{reverse-append, map-append}
-use Rattle.roff_lines.specs.declared.glyph.Glyph.{Glyph}
-use Rattle.roff_lines.specs.declared.settings.Settings.{Settings}
-use Rattle.roff_lines.specs.Glyphs.{glyph_width}
-use Rattle.roff_lines.specs.Settings.{settings_with, counted, fills}
-use Rattle.roff_lines.specs.Events.{Event, Print, Tab, WordEnd, Gap, LineEnd, Count, Break, Interrupt, Resume, Set, History, settings_after, stops_after}
-use Rattle.roff_lines.specs.Stops.{stops_with}
-use Rattle.roff_lines.specs.Places.{has_line_glyph, moved, input_place}
-use Rattle.roff_lines.specs.Fitting.{Word, fits, last_line}
-use Rattle.roff_lines.specs.Words.{is_empty, has_open_word, open_glyphs, line_glyphs, blanks, paragraph, words, temporary_indent, open_word}
-use Rattle.roff_lines.specs.Lines.{Finished, empty_line, line_laid_out, finished}
-use Rattle.roff_lines.specs.Paragraphs.{finished_lines}
-use Rattle.roff_lines.specs.Telling.{glyphs_told}
+use Rattle.roff_layout.specs.declared.glyph.Glyph.{Glyph}
+use Rattle.roff_layout.specs.declared.settings.Settings.{Settings}
+use Rattle.roff_layout.specs.Glyphs.{glyph_width}
+use Rattle.roff_layout.specs.Settings.{settings_with, counted, fills}
+use Rattle.roff_layout.specs.declared.event.Event.{Event}
+use Rattle.roff_layout.specs.declared.event.Event.TheVariants.{Print, Tab, WordEnd, Gap, LineEnd, Count, Break, Interrupt, Resume, Set}
+use Rattle.roff_layout.specs.Events.{History, settings_after, stops_after}
+use Rattle.roff_layout.specs.TabStops.{stops_with}
+use Rattle.roff_layout.specs.Places.{has_line_glyph, moved, input_place}
+use Rattle.roff_layout.specs.Fitting.{Word, fits, last_line}
+use Rattle.roff_layout.specs.Words.{is_empty, has_open_word, open_glyphs, line_glyphs, blanks, paragraph, words, temporary_indent, open_word}
+use Rattle.roff_layout.specs.Lines.{Finished, empty_line, line_laid_out, finished}
+use Rattle.roff_layout.specs.Paragraphs.{finished_lines}
+use Rattle.roff_layout.specs.Telling.{glyphs_told}
 use Rattle.roff_lines.specs.Interruptions.{uninterrupted, LeaveTheSame}
 
 -- the line that the end of a word finishes, told whether it is open, the words before it, itself, and what is in force

@@ -2,7 +2,7 @@
 use Rattle.std.proofs.Common.{◌≡◌, ◌↔◌, ◌⊎◌, ℕ, ◌+◌, ◌-◌, ◌%◌, ◌<◌, ◌≤◌, List, [], ◌∷◌, Contains, length, get_or, zero, suc, Some, None, refl, subst, arith, inl, inr}
 use Rattle.std.proofs.lemmas.Bool.Decides.{nat_tests}
 use Rattle.std.proofs.lemmas.List.Elements.{Contains-append_right}
-use Rattle.roff_lines.specs.Stops.{TabStops, shorter_way, way_to_nearest, way_to_stop}
+use Rattle.roff_layout.specs.TabStops.{TabStops, shorter_way, way_to_nearest, way_to_stop}
 use Rattle.roff_lines.specs.NearestStop.{IsStop, LeadsToNearest}
 
 -- the shorter of two ways is one of them

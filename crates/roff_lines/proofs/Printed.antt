@@ -4,13 +4,14 @@ use Rattle.std.specs.Prelude.{reverse, if◌then◌else◌, not}
 use Rattle.std.specs.List.{flat_map}
 use Rattle.std.proofs.lemmas.Grind.{flat_map-append}
 use Rattle.std.proofs.lemmas.List.{append-nil, length-append, reverse-append}
-use Rattle.roff_lines.specs.declared.glyph.Glyph.{Glyph}
-use Rattle.roff_lines.specs.Glyphs.{glyph_text, glyph_width}
-use Rattle.roff_lines.specs.Events.{Print, History}
-use Rattle.roff_lines.specs.Places.{moved}
-use Rattle.roff_lines.specs.Fitting.{word_text, line_text}
-use Rattle.roff_lines.specs.Words.{is_empty, is_closer, is_sentence_mark, blanks, open_glyphs, open_word, words}
-use Rattle.roff_lines.specs.Lines.{pending_line, pending_length}
+use Rattle.roff_layout.specs.declared.glyph.Glyph.{Glyph}
+use Rattle.roff_layout.specs.Glyphs.{glyph_text, glyph_width}
+use Rattle.roff_layout.specs.declared.event.Event.TheVariants.{Print}
+use Rattle.roff_layout.specs.Events.{History}
+use Rattle.roff_layout.specs.Places.{moved}
+use Rattle.roff_layout.specs.Fitting.{word_text, line_text}
+use Rattle.roff_layout.specs.Words.{is_empty, is_closer, is_sentence_mark, blanks, open_glyphs, open_word, words}
+use Rattle.roff_layout.specs.Lines.{pending_line, pending_length}
 use Rattle.roff_lines.specs.Env.Kept.{Kept, begun_blanks, length_with, with_glyph}
 use Rattle.roff_lines.specs.Env.Stands.{Stands}
 use Rattle.roff_lines.proofs.Gaps.{begun_blanks-stands}

@@ -4,12 +4,12 @@ use Rattle.std.specs.Prelude.{map, reverse, All}
 use Rattle.std.specs.List.{flat_map}
 use Rattle.std.proofs.lemmas.Bool.Decides.{nat_tests}
 use Rattle.std.proofs.lemmas.List.Elements.{All-head, All-tail}
-use Rattle.roff_lines.specs.declared.glyph.Glyph.TheVariants.{Printed}
-use Rattle.roff_lines.specs.Glyphs.{glyph_text, text_byte}
-use Rattle.roff_lines.specs.Events.{WordEnd}
-use Rattle.roff_lines.specs.Words.{is_empty}
-use Rattle.roff_lines.specs.Columns.{spread, trimmed, written_by_break}
-use Rattle.roff_lines.specs.Telling.{glyphs_told}
+use Rattle.roff_layout.specs.declared.glyph.Glyph.TheVariants.{Printed}
+use Rattle.roff_layout.specs.Glyphs.{glyph_text, text_byte}
+use Rattle.roff_layout.specs.declared.event.Event.TheVariants.{WordEnd}
+use Rattle.roff_layout.specs.Words.{is_empty}
+use Rattle.roff_layout.specs.Columns.{spread, trimmed, written_by_break}
+use Rattle.roff_layout.specs.Telling.{glyphs_told}
 use Rattle.roff_lines.proofs.GlyphsInFront.{eqb-above, spread-glyph}
 use Rattle.roff_lines.proofs.Telling.{settings_after-told, words-word}
 

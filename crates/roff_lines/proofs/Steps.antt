@@ -13,7 +13,8 @@ use Rattle.std.proofs.lemmas.Bool.{and_parts, eqb-true, not-true, not-false, or_
 use Rattle.std.proofs.lemmas.Bool.Decides.{nat_tests}
 use Rattle.std.proofs.lemmas.List.{get_or-take, get_or-drop, length-drop, length-map, length-take, take-take}
 use Rattle.std.proofs.lemmas.List.Sums.{prefix_len-le-length, prefix_len_passes, prefix_len_stops, sum_by-append, sum_by-cons}
-use Rattle.roff_lines.specs.Glyphs.{byte_width, gap_blank, gaps_in, text_width}
+use Rattle.roff_num.specs.Widths.{byte_width}
+use Rattle.roff_layout.specs.Glyphs.{gap_blank, gaps_in, text_width}
 use Rattle.roff_lines.specs.Env.Tells.{GoesOn, IsRun}
 use Rattle.roff_lines.proofs.WordRuns.{IsRun-more}
 

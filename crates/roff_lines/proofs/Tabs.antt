@@ -1,10 +1,11 @@
 -- Tabs, where an environment stands for its history.
 use Rattle.std.proofs.Common.{◌≡◌, ℕ, ◌∷◌, ap, subst, ◌∙◌, arith}
 use Rattle.std.proofs.lemmas.Bool.Decides.{nat_tests}
-use Rattle.roff_lines.specs.declared.glyph.Glyph.TheVariants.{Blanks}
-use Rattle.roff_lines.specs.Stops.{shorter_way, way_to_stop}
-use Rattle.roff_lines.specs.Events.{Print, Tab, History}
-use Rattle.roff_lines.specs.Places.{tab_width}
+use Rattle.roff_layout.specs.declared.glyph.Glyph.TheVariants.{Blanks}
+use Rattle.roff_layout.specs.TabStops.{shorter_way, way_to_stop}
+use Rattle.roff_layout.specs.declared.event.Event.TheVariants.{Print, Tab}
+use Rattle.roff_layout.specs.Events.{History}
+use Rattle.roff_layout.specs.Places.{tab_width}
 use Rattle.roff_lines.specs.Env.Kept.{Kept}
 use Rattle.roff_lines.specs.Env.Stands.{Stands, StandsBehind}
 

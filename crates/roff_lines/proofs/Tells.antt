@@ -1,8 +1,8 @@
 -- Bytes of a text line that are told one after another.
 use Rattle.std.proofs.Common.{◌≡◌, ℕ, List, [], ◌∷◌, ◌++◌, refl, sym, ap, subst, ◌∙◌, append_assoc}
 use Rattle.std.specs.List.{AllByRecursion}
-use Rattle.roff_lines.specs.Events.{History}
-use Rattle.roff_lines.specs.Telling.{bytes_told, QuietlyTold}
+use Rattle.roff_layout.specs.Events.{History}
+use Rattle.roff_layout.specs.Telling.{bytes_told, QuietlyTold}
 use Rattle.roff_lines.specs.Env.Kept.{Kept}
 use Rattle.roff_lines.specs.Env.Stands.{Stands}
 use Rattle.roff_lines.specs.Env.Tells.{Tells, TellsFront}

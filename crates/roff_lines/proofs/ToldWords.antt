@@ -3,16 +3,18 @@ use Rattle.std.proofs.Common.{◌≡◌, ℕ, ◌+◌, ◌-◌, ◌&&◌, not, B
 use Rattle.std.specs.Prelude.{All, ◌==◌, if◌then◌else◌}
 use Rattle.std.proofs.lemmas.Bool.{cases_Bool, cond_both, eqb-true, not-false}
 use Rattle.std.proofs.lemmas.List.Elements.{All-nil, All-cons, All-head, All-tail}
-use Rattle.roff_lines.specs.declared.glyph.Glyph.{Glyph}
-use Rattle.roff_lines.specs.declared.settings.Settings.{Settings}
-use Rattle.roff_lines.specs.Events.{Event, Print, WordEnd, Gap, LineEnd, Count, Break, Set, History, settings_after}
-use Rattle.roff_lines.specs.Settings.{fills, counted}
-use Rattle.roff_lines.specs.Fitting.{Word, begins_line}
-use Rattle.roff_lines.specs.Words.{is_empty, open_glyphs, has_open_word, line_glyphs, begun_gap, blanks, open_word, words, temporary_indent, indent_by}
-use Rattle.roff_lines.specs.Places.{has_line_glyph}
-use Rattle.roff_lines.specs.Lines.{pending_line}
-use Rattle.roff_lines.specs.Telling.{glyphs_told, words_told, IsOfText, IsWordUnder, IsClear}
-use Rattle.roff_lines.specs.Paragraphs.{until_break}
+use Rattle.roff_layout.specs.declared.glyph.Glyph.{Glyph}
+use Rattle.roff_layout.specs.declared.settings.Settings.{Settings}
+use Rattle.roff_layout.specs.declared.event.Event.{Event}
+use Rattle.roff_layout.specs.declared.event.Event.TheVariants.{Print, WordEnd, Gap, LineEnd, Count, Break, Set}
+use Rattle.roff_layout.specs.Events.{History, settings_after}
+use Rattle.roff_layout.specs.Settings.{fills, counted}
+use Rattle.roff_layout.specs.Fitting.{Word, begins_line}
+use Rattle.roff_layout.specs.Words.{is_empty, open_glyphs, has_open_word, line_glyphs, begun_gap, blanks, open_word, words, temporary_indent, indent_by}
+use Rattle.roff_layout.specs.Places.{has_line_glyph}
+use Rattle.roff_layout.specs.Lines.{pending_line}
+use Rattle.roff_layout.specs.Telling.{glyphs_told, words_told, IsOfText, IsWordUnder, IsClear}
+use Rattle.roff_layout.specs.Paragraphs.{until_break}
 use Rattle.roff_lines.proofs.Gaps.{begun_gap-same}
 use Rattle.roff_lines.proofs.PendingLine.{is_empty-true}
 use Rattle.roff_lines.proofs.Telling.{settings_after-told, temporary_indent-told, has_open_word-word, words-word}

@@ -3,7 +3,8 @@ use Rattle.std.proofs.Common.{◌≡◌, ℕ, ◌+◌, ◌<◌, ◌≤◌, Bool,
 use Rattle.std.specs.Prelude.{if◌then◌else◌, ◌==◌}
 use Rattle.std.specs.List.{AllByRecursion}
 use Rattle.std.proofs.lemmas.List.Sums.{sum_by-cons, sum_by-append}
-use Rattle.roff_lines.specs.Glyphs.{gap_blank, byte_width, text_width, gaps_in}
+use Rattle.roff_num.specs.Widths.{byte_width}
+use Rattle.roff_layout.specs.Glyphs.{gap_blank, text_width, gaps_in}
 use Rattle.roff_lines.proofs.GlyphsInFront.{eqb-above}
 
 -- a byte is at most one column wide

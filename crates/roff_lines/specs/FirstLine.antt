@@ -1,10 +1,10 @@
 -- The first line that some words fill, where each word is known by its gap and its width alone.
 use Rattle.std.specs.Prelude.{◌≡◌, ℕ, ◌+◌, ◌-◌, ◌≤◌, true, List, [], ◌∷◌, length, map, reverse, nat_le, All, Option, Some, None, if◌then◌else◌}
-use Rattle.roff_lines.specs.declared.settings.Settings.{Settings}
+use Rattle.roff_layout.specs.declared.settings.Settings.{Settings}
 pub use Rattle.roff_lines.specs.declared.fill.Word.{Word as MeasuredWord}
-use Rattle.roff_lines.specs.Glyphs.{text_width}
-use Rattle.roff_lines.specs.Settings.{fills}
-use Rattle.roff_lines.specs.Fitting.{Word, word_text}
+use Rattle.roff_layout.specs.Glyphs.{text_width}
+use Rattle.roff_layout.specs.Settings.{fills}
+use Rattle.roff_layout.specs.Fitting.{Word, word_text}
 use Rattle.roff_lines.specs.Filling.{lines_of}
 
 -- the width of a line with a word more, if it fits in the measure; the first word always does

@@ -1,9 +1,10 @@
 -- Interrupted lines of the input (manual, section 4.2).
 use Rattle.std.specs.Prelude.{◌≡◌, [], ◌∷◌}
-use Rattle.roff_lines.specs.Events.{Interrupt, Resume, History, stops_after}
-use Rattle.roff_lines.specs.Places.{input_place}
-use Rattle.roff_lines.specs.Words.{line_glyphs, paragraph, open_word}
-use Rattle.roff_lines.specs.Paragraphs.{finished_lines}
+use Rattle.roff_layout.specs.declared.event.Event.TheVariants.{Interrupt, Resume}
+use Rattle.roff_layout.specs.Events.{History, stops_after}
+use Rattle.roff_layout.specs.Places.{input_place}
+use Rattle.roff_layout.specs.Words.{line_glyphs, paragraph, open_word}
+use Rattle.roff_layout.specs.Paragraphs.{finished_lines}
 
 -- a history without its interruptions
 abbrev pub uninterrupted : History → History

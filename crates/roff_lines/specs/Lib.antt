@@ -1,16 +1,4 @@
-pub mod Glyphs
-pub mod Settings
-pub mod Stops
 pub mod NearestStop
-pub mod Events
-pub mod Places
-pub mod Fitting
-pub mod Words
-pub mod Lines
-pub mod Telling
-pub mod Columns
-pub mod Diverted
-pub mod TitleColumns
 pub mod Stretch
 pub mod StopTable
 pub mod Env
@@ -18,7 +6,5 @@ pub mod Shape
 pub mod GlyphsInFront
 pub mod Filling
 pub mod FirstLine
-pub mod Paragraphs
 pub mod Interruptions
-pub mod LastLine
 pub mod Clauses

@@ -1,6 +1,6 @@
 -- What leads to the nearest tab stop (manual, section 9.1), in columns.
 use Rattle.std.specs.Prelude.{◌≡◌, ℕ, ◌+◌, ◌%◌, ◌<◌, ◌≤◌, Contains, Some, None}
-use Rattle.roff_lines.specs.Stops.{TabStops}
+use Rattle.roff_layout.specs.TabStops.{TabStops}
 
 -- whether a stop stands at a place
 abbrev pub IsStop : TabStops → ℕ → Type 0

@@ -2,16 +2,16 @@
 
 ghost use Rattle.std.specs.Prelude.{◌≡◌, ℕ, [], IfOk};
 ghost use Rattle.roff_lines.specs.Clauses.{Count, Interrupt, Resume, Set, History, settings_after};
-ghost use Rattle.roff_lines.specs.Clauses.{last_width, input_place, is_interrupted};
+ghost use Rattle.roff_lines.specs.Clauses.{counted, last_width, input_place, is_interrupted};
 ghost use Rattle.roff_lines.specs.Clauses.{has_line_glyph, has_open_word};
 
 mod finishing;
 mod text;
 mod words;
 
-use crate::settings::{Param, Settings};
 use crate::stops::StopTable;
 use crate::stretch::Stretch;
+use roff_layout::{Param, Settings};
 use std::alloc::{AllocError, Global};
 use std::marker::Model;
 
@@ -143,7 +143,7 @@ impl Env {
     pub fn count(&mut self)
         ensures { StandsBehind self.old Count self.new }
     {
-        self.settings = self.settings.counted();
+        self.settings = counted(self.settings);
     }
 
     /// Interrupts the line of the input: the next text line goes on in the same word.
@@ -170,4 +170,13 @@ impl Env {
             self.temporary_indent = Some(columns);
         }
     }
+}
+
+/// What is in force behind a text line of the input.
+fn counted(settings: Settings) -> Settings
+    ensures { result ≡ counted settings }
+{
+    let mut behind = settings;
+    behind.centring = settings.centring.saturating_sub(1);
+    behind
 }

@@ -5,7 +5,7 @@ ghost use Rattle.std.specs.Iterator.{DrainsIf, IsFinite};
 ghost use Rattle.roff_lines.specs.Clauses.{MeasuredWord, first_line_count, width_with};
 
 /// A word that is filled into lines: the blanks of the gap before it and its own width, in columns.
-#[derive(Clone, Copy, Debug, PartialEq, Eq)]
+#[derive(Clone, Copy)]
 pub struct Word {
     /// The blanks of the gap before the word.
     pub gap: u64,

@@ -5,7 +5,7 @@ ghost use Rattle.std.specs.Prelude.{nat_lt, if◌then◌else◌, ◌==◌, slice
 ghost use Rattle.std.specs.Int.{w64, trailing_zeros};
 ghost use Rattle.std.specs.List.{prefix_len};
 ghost use Rattle.std.specs.Simd.Lanes.{chunk, mask_l};
-ghost use Rattle.roff_lines.specs.Glyphs.{gap_blank, gaps_in, text_width};
+ghost use Rattle.roff_layout.specs.Glyphs.{gap_blank, gaps_in, text_width};
 ghost use Rattle.roff_lines.specs.Env.Tells.{GoesOn, IsRun};
 
 use std::simd::prelude::*;

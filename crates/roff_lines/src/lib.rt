@@ -6,13 +6,10 @@
 #![tactic(auto)]
 
 mod env;
-mod event;
 mod fill;
 mod glyph;
 mod lanes;
 pub mod laws;
-mod line;
-mod settings;
 mod shape;
 mod stops;
 mod stretch;
@@ -20,11 +17,7 @@ mod title;
 mod words;
 
 pub use env::Env;
-pub use event::Event;
 pub use fill::{Word, fill_words};
-pub use glyph::Glyph;
 pub use lanes::{HALF_STEP, STEP, glyphs_of_half_step, glyphs_of_step};
-pub use line::{FURTHER_BLANK, GAP, Line, UNPADDABLE};
-pub use settings::{AdjustMode, Param, Settings};
 pub use title::place_title;
 pub use words::count_of_glyphs;

@@ -3,9 +3,8 @@
 ghost use Rattle.std.specs.Prelude.{◌≡◌, ◌-◌, ◌<◌, ◌^◌, []};
 ghost use Rattle.roff_lines.specs.Clauses.{finished_of, empty_line, laid_out, line_width, shaped};
 
-use crate::line::Line;
-use crate::settings::{AdjustMode, Settings};
 use crate::stretch::Stretch;
+use roff_layout::{AdjustMode, Line, Settings};
 
 /// A finished line without its text.
 #[derive(Clone, Copy)]

@@ -3,7 +3,7 @@
 ghost use Rattle.std.specs.Prelude.{◌≡◌, None, IfOk};
 ghost use Rattle.roff_lines.specs.Clauses.{stops_with, way_to_stop, way_to_nearest, shorter_way};
 
-use crate::settings::Param;
+use roff_layout::Param;
 use std::alloc::{AllocError, Global};
 use std::marker::Model;
 
@@ -23,7 +23,7 @@ pub(crate) struct StopTable {
 
 impl Model for StopTable {
     ghost use Rattle.roff_lines.specs.StopTable.Kept.{stops_kept, IsRoomy};
-    ghost use Rattle.roff_lines.specs.Stops.{TabStops};
+    ghost use Rattle.roff_layout.specs.TabStops.{TabStops};
 
     ghost Value = { TabStops };
 

@@ -4,7 +4,7 @@ ghost use Rattle.std.specs.Prelude.{◌≡◌, ℕ, ◌+◌, ◌<◌, ◌≤◌,
 ghost use Rattle.std.specs.List.{AllByRecursion};
 ghost use Rattle.roff_lines.specs.Clauses.{text_width, gaps_in};
 
-use crate::line::GAP;
+use roff_layout::GAP;
 use roff_num::width_of_byte;
 use std::alloc::{AllocError, Global};
 use std::marker::Model;

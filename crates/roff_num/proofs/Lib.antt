@@ -11,3 +11,4 @@ pub mod Openings
 pub mod Comings
 pub mod LeftFold
 pub mod DefaultTexts
+pub mod SmallNumbers

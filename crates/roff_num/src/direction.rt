@@ -1,7 +1,7 @@
 //! Which way a register is stepped.
 
 /// Which way a register is stepped: `\n+x` or `\n-x`.
-#[derive(Clone, Copy, Debug, PartialEq, Eq)]
+#[derive(Clone, Copy)]
 pub enum Direction {
     /// The increment is added.
     Up,

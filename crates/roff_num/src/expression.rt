@@ -16,7 +16,7 @@ use arrayvec::ArrayVec;
 const MOST_NESTED: usize = 32;
 
 /// What opens an operand within an operand.
-#[derive(Clone, Copy, Debug, PartialEq, Eq)]
+#[derive(Clone, Copy)]
 pub(crate) enum Opening {
     /// `(`, before an expression.
     Parenthesis,
@@ -25,7 +25,7 @@ pub(crate) enum Opening {
 }
 
 /// An operand that holds another one, which isn't read to its end.
-#[derive(Clone, Copy, Debug, PartialEq, Eq)]
+#[derive(Clone, Copy)]
 pub(crate) struct Frame {
     /// The operator before it, with the value of what stands before that.
     pub(crate) pending: Option<(Operator, i32)>,
@@ -45,7 +45,7 @@ impl Default for Frame {
 }
 
 /// What a step of the reading leads to.
-#[derive(Clone, Copy, Debug, PartialEq, Eq)]
+#[derive(Clone, Copy)]
 pub(crate) enum Next {
     /// An operand begins at the place reached.
     Opened,

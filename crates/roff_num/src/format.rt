@@ -139,6 +139,10 @@ fn push_decimal(size: u32, digits: u8, text: &mut NumText)
     ensures text { text.new.items ≡ text.old.items ++ decimal_field (min digits 32) size }
     ensures short { array_vec_len text.new ≤ array_vec_len text.old + 32 }
 {
+    if digits == 1 && size < 10 {
+        text.push(b'0' + size as u8);
+        return;
+    }
     let mut buffer = Buffer::new();
     let decimal = buffer.format(size).as_bytes();
     let width = MOST_DIGITS.min(digits as usize);

@@ -7,15 +7,11 @@ mod direction;
 mod evaluation;
 mod expression;
 mod format;
-#[cfg(test)]
-mod format_tests;
 pub mod laws;
 mod limit;
 mod limits;
 mod name;
 mod num;
-#[cfg(test)]
-mod number_tests;
 mod numeral;
 mod operator;
 mod short_name;

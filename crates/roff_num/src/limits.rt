@@ -6,7 +6,7 @@ ghost use Rattle.roff_num.specs.Clauses.{default_limits, limits_with, value_of};
 use crate::limit::Limit;
 
 /// The values of the limits that stop a run of the formatter. Those of tables aren't among them.
-#[derive(Clone, Copy, Debug, PartialEq, Eq)]
+#[derive(Clone, Copy)]
 pub struct Limits {
     /// The items taken from the source: bytes, ends of pushed texts, events put back.
     pub bytes: u32,

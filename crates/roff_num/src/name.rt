@@ -45,15 +45,26 @@ impl Name {
     }
 
     /// Whether two names are the same, byte by byte.
+    #[inline(always)]
     pub fn is_same(&self, other: &Name) -> bool
         ensures { IsTrue result ↔ (self.now ≡ other.now) }
     {
         match (self.as_bytes(), other.as_bytes()) {
-            ([first], [other_first]) => first == other_first,
             ([first, second], [other_first, other_second]) => {
                 first == other_first && second == other_second
             }
-            (bytes, others) => bytes == others,
+            (bytes, others) => are_same(bytes, others),
         }
+    }
+}
+
+/// Whether these bytes are the same.
+#[inline(never)]
+fn are_same(bytes: &[u8], others: &[u8]) -> bool
+    ensures { IsTrue result ↔ (bytes.now ≡ others.now) }
+{
+    match (bytes, others) {
+        ([first], [other_first]) => first == other_first,
+        _ => bytes == others,
     }
 }

@@ -4,11 +4,11 @@ ghost use Rattle.std.specs.Prelude.{◌≡◌, FitsSigned};
 ghost use Rattle.roff_num.specs.Clauses.{w32, rounded};
 
 /// A number, in basic units where it is a length.
-#[derive(Clone, Copy, Debug, Default, PartialEq, Eq)]
+#[derive(Clone, Copy, Default, PartialEq, Eq)]
 pub struct Num(pub i32);
 
 /// What a number counts that has no scale letter.
-#[derive(Clone, Copy, Debug, PartialEq, Eq)]
+#[derive(Clone, Copy)]
 pub enum Scale {
     /// Basic units.
     Units,
@@ -19,7 +19,7 @@ pub enum Scale {
 }
 
 /// Why a text isn't a number.
-#[derive(Clone, Copy, Debug, PartialEq, Eq)]
+#[derive(Clone, Copy, PartialEq, Eq)]
 pub enum NumFault {
     /// An operand is missing.
     Missing,

@@ -10,7 +10,7 @@ use crate::num::{NumFault, Scale};
 use crate::operator::begins_with;
 
 /// A unit: `over` basic units in each `under` of it.
-#[derive(Clone, Copy, Debug, PartialEq, Eq)]
+#[derive(Clone, Copy)]
 pub(crate) struct Ratio {
     pub(crate) over: u16,
     pub(crate) under: u16,

@@ -6,7 +6,7 @@ ghost use Rattle.roff_num.specs.Clauses.{applied, begins_with, operator_at, trut
 use crate::num::NumFault;
 
 /// An operator between two operands.
-#[derive(Clone, Copy, Debug, PartialEq, Eq)]
+#[derive(Clone, Copy)]
 pub(crate) enum Operator {
     Add,
     Subtract,

@@ -6,7 +6,7 @@ ghost use Rattle.roff_num.specs.ShortNames.{name_bytes, short_name};
 use crate::name::Name;
 
 /// A name of one or two bytes.
-#[derive(Clone, Copy, Debug, PartialEq, Eq)]
+#[derive(Clone, Copy)]
 pub struct ShortName {
     /// The first byte.
     pub first: u8,

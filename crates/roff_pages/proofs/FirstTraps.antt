@@ -2,8 +2,8 @@
 use Rattle.std.proofs.Common.{◌≡◌, ℕ, suc, ◌<◌, ◌≤◌, Bool, true, false, List, [], ◌∷◌, ◌++◌, length, set, get_or, refl, sym, ap, ◌∙◌, arith, inl, inr}
 use Rattle.std.specs.List.{list_any, remove}
 use Rattle.std.proofs.lemmas.Bool.{cases_Bool}
-use Rattle.roff_pages.specs.declared.trap.Trap.{Trap}
-use Rattle.roff_pages.specs.Turning.{is_given, with_first, with_trap, without_first}
+use Rattle.roff_layout.specs.declared.trap.Trap.{Trap}
+use Rattle.roff_layout.specs.Turning.{is_given, with_first, with_trap, without_first}
 use Rattle.roff_pages.specs.Pages.FirstTraps.{first_index}
 
 -- it is found where one passes

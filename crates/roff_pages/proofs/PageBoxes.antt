@@ -4,17 +4,18 @@ use Rattle.std.specs.Prelude.{if◌then◌else◌, ◌==◌, nat_le, nat_lt}
 use Rattle.std.proofs.lemmas.Bool.{cases_lt, eq-eqb, le-ltb, lt-leb, and_left, and_right}
 use Rattle.roff_num.specs.declared.num.Num.{Num}
 use Rattle.roff_num.specs.declared.short_name.ShortName.{ShortName}
-use Rattle.roff_lines.specs.Words.{is_empty}
-use Rattle.roff_pages.specs.declared.trap.Trap.{Trap}
+use Rattle.roff_layout.specs.Words.{is_empty}
+use Rattle.roff_layout.specs.declared.trap.Trap.{Trap}
 use Rattle.roff_sinks.specs.declared.page_fault.PageFault.{PageFault}
 use Rattle.roff_sinks.specs.Sinks.{Sunk}
-use Rattle.roff_pages.specs.Layout.{Box, Empty, Layout, Diversion, page_place}
-use Rattle.roff_pages.specs.Happenings.{Happening, is_eject}
-use Rattle.roff_pages.specs.Stops.{Target, is_diverted, page_target, place_of, target}
-use Rattle.roff_pages.specs.Puts.{Put, appended, boxes_put, puts}
-use Rattle.roff_pages.specs.Turning.{behind_put, in_innermost, next_behind, no_space_behind, turned_if_full, unput, with_event, with_put}
-use Rattle.roff_pages.specs.Springs.{first_met, is_on_top, is_passed, passed, passed_in, springs}
-use Rattle.roff_pages.specs.DeviceText.{box_line, device_lines, device_text}
+use Rattle.roff_layout.specs.Layout.{Box, Empty, Layout, Diversion, page_place}
+use Rattle.roff_layout.specs.Happenings.{Happening, is_eject}
+use Rattle.roff_layout.specs.Stops.{Target, is_diverted, page_target, place_of, target}
+use Rattle.roff_layout.specs.Puts.{Put, appended, boxes_put, puts}
+use Rattle.roff_layout.specs.Turning.{behind_put, in_innermost, next_behind, no_space_behind, turned_if_full, unput, with_event, with_put}
+use Rattle.roff_layout.specs.Springs.{first_met, is_on_top, is_passed, passed, passed_in, springs}
+use Rattle.roff_layout.specs.DeviceText.{box_line, device_lines, device_text}
+use Rattle.roff_layout.proofs.DeviceText.{either_none}
 use Rattle.roff_pages.specs.Pages.Kept.{Kept}
 use Rattle.roff_pages.specs.Pages.Stands.{StandsAs, SameLimits}
 use Rattle.roff_pages.specs.Pages.Advancing.{sprung_by, with_lines}
@@ -135,10 +136,6 @@ none_at_all : (over same : Bool) (on_top : Option ShortName) → same ≡ true �
 none_at_all true same on_top e = refl
 none_at_all false true on_top e = refl
 none_at_all false false on_top e = cc
-
-pub either_none : (b : Bool) → let none : List ℕ = [] in (if b then none else none) ≡ none
-either_none true = refl
-either_none false = refl
 
 -- a happening puts nothing, and leaves the layout as it is
 pub record PutsNothing (x : Happening) (L : Layout) : Type 0 where

@@ -3,16 +3,16 @@ use Rattle.std.proofs.Common.{◌≡◌, ℕ, zero, suc, ◌+◌, ◌-◌, ◌<�
 use Rattle.std.specs.Prelude.{◌^◌}
 use Rattle.std.proofs.lemmas.List.{length-replicate, length-append}
 use Rattle.roff_num.specs.declared.num.Num.{Num}
-use Rattle.roff_lines.specs.Lines.{Finished}
-use Rattle.roff_lines.specs.Columns.{device_line, printed}
+use Rattle.roff_layout.specs.Lines.{Finished}
+use Rattle.roff_layout.specs.Columns.{device_line, printed}
 use Rattle.roff_sinks.specs.declared.page_fault.PageFault.TheVariants.{Sink}
 use Rattle.roff_sinks.specs.Sinks.{Sunk, Writes, Fails}
-use Rattle.roff_pages.specs.Layout.{Box, Lined, Empty, Layout, page_place}
-use Rattle.roff_pages.specs.Happenings.{Places, Titles}
-use Rattle.roff_pages.specs.Stops.{next_stop}
-use Rattle.roff_sinks.specs.Titles.{Title, title_text}
-use Rattle.roff_pages.specs.DeviceText.{device_lines}
-use Rattle.roff_pages.specs.Turning.{no_space_behind, turned_if_full}
+use Rattle.roff_layout.specs.Layout.{Box, Lined, Empty, Layout, page_place}
+use Rattle.roff_layout.specs.Happenings.{Places, Titles}
+use Rattle.roff_layout.specs.Stops.{next_stop}
+use Rattle.roff_layout.specs.Titles.{Title, title_text}
+use Rattle.roff_layout.specs.DeviceText.{device_lines}
+use Rattle.roff_layout.specs.Turning.{no_space_behind, turned_if_full}
 use Rattle.roff_pages.specs.Pages.Kept.{Kept}
 use Rattle.roff_pages.specs.Pages.Stands.{StandsAs}
 use Rattle.roff_pages.specs.Pages.Advancing.{sprung_by, way_on, with_lines}

@@ -1,12 +1,3 @@
-pub mod Layout
-pub mod Happenings
-pub mod Stops
-pub mod Puts
-pub mod Turning
-pub mod Springs
-pub mod DeviceText
-pub mod DivertedText
-pub mod Queries
 pub mod Rows
 pub mod WholePages
 pub mod Reach

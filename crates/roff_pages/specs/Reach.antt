@@ -1,10 +1,10 @@
 -- How far a happening's boxes reach, and which traps they meet.
 use Rattle.std.specs.Prelude.{◌≡◌, ℕ, ◌+◌, ◌<◌, ◌≤◌, List, [], ◌∷◌, length, Option, Some, None}
-use Rattle.roff_lines.specs.Lines.{Finished}
-use Rattle.roff_pages.specs.Layout.{Box, Lined, Empty, Layout}
-use Rattle.roff_pages.specs.Happenings.{Happening, Places}
-use Rattle.roff_pages.specs.Stops.{target}
-use Rattle.roff_pages.specs.Puts.{appended}
+use Rattle.roff_layout.specs.Lines.{Finished}
+use Rattle.roff_layout.specs.Layout.{Box, Lined, Empty, Layout}
+use Rattle.roff_layout.specs.Happenings.{Happening, Places}
+use Rattle.roff_layout.specs.Stops.{target}
+use Rattle.roff_layout.specs.Puts.{appended}
 
 -- the places before and behind a happening
 abbrev pub place_before : Happening → Layout → ℕ

@@ -1,13 +1,13 @@
 -- What layouts do on lists of happenings, the oldest first: worked rows are computed with these.
 use Rattle.std.specs.Prelude.{ℕ, Bool, ℤ, List, [], ◌∷◌, ◌++◌, Option, Some, None}
 use Rattle.roff_num.specs.declared.short_name.ShortName.{ShortName}
-use Rattle.roff_pages.specs.declared.trap.Trap.{Trap}
-use Rattle.roff_pages.specs.Layout.{Layout, first_layout}
-use Rattle.roff_pages.specs.Happenings.{Happening, Places, Titles}
-use Rattle.roff_pages.specs.Turning.{with_event}
-use Rattle.roff_pages.specs.Springs.{springs, goes_on}
-use Rattle.roff_pages.specs.DeviceText.{device_text}
-use Rattle.roff_pages.specs.DivertedText.{diverted_text}
+use Rattle.roff_layout.specs.declared.trap.Trap.{Trap}
+use Rattle.roff_layout.specs.Layout.{Layout, first_layout}
+use Rattle.roff_layout.specs.Happenings.{Happening, Places, Titles}
+use Rattle.roff_layout.specs.Turning.{with_event}
+use Rattle.roff_layout.specs.Springs.{springs, goes_on}
+use Rattle.roff_layout.specs.DeviceText.{device_text}
+use Rattle.roff_layout.specs.DivertedText.{diverted_text}
 
 -- the layout behind what happened
 abbrev pub behind : List Happening → Layout → Layout

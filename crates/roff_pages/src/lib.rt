@@ -6,19 +6,15 @@
 #![tactic(auto)]
 
 pub mod laws;
-mod layout_event;
 mod line_width;
 mod open_diversion;
 mod pages;
 pub mod rows;
 mod sought;
-mod trap;
 mod traps;
 
-pub use layout_event::LayoutEvent;
 pub use pages::Pages;
 pub use roff_sinks::{
     Block, BlockWrite, ByteSink, PAGE_NUMBER, PageFault, SinkFault, StdWrite, TitleLine,
     TitlePiece, TitlePieces, WriteSink,
 };
-pub use trap::Trap;

@@ -1,10 +1,10 @@
 //! A diversion that is open.
 
-use crate::trap::Trap;
+use roff_layout::Trap;
 use roff_num::ShortName;
 
 /// What is kept of an open diversion. Its text is kept elsewhere.
-#[derive(Clone, Copy, Debug, PartialEq, Eq)]
+#[derive(Clone, Copy)]
 pub struct OpenDiversion {
     /// The name under which it was opened.
     pub name: ShortName,

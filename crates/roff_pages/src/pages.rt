@@ -1,7 +1,7 @@
 //! Pages: how the lines on a page, its traps and the open diversions are kept.
 
 ghost use Rattle.std.specs.Prelude.{◌≡◌, ◌-◌, [], IfOk, Some, None, not, min, ◌^◌, ◌*◌};
-ghost use Rattle.roff_pages.specs.Layout.{Layout, first_layout, page_place};
+ghost use Rattle.roff_layout.specs.Layout.{Layout, first_layout, page_place};
 
 mod diverted;
 mod diverting;
@@ -12,8 +12,8 @@ mod spacing;
 mod turning;
 
 use crate::open_diversion::OpenDiversion;
-use crate::trap::Trap;
 use arrayvec::ArrayVec;
+use roff_layout::Trap;
 use roff_num::{Limits, Num};
 use roff_sinks::Block;
 use std::alloc::{AllocError, Global};

@@ -3,7 +3,7 @@
 use roff_num::ShortName;
 
 /// Which trap is sought: the first of these.
-#[derive(Clone, Copy, Debug, PartialEq, Eq)]
+#[derive(Clone, Copy)]
 pub(crate) enum Sought {
     /// Those that were given this place.
     Given(i32),

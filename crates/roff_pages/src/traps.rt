@@ -3,16 +3,16 @@
 ghost use Rattle.std.specs.Prelude.{◌≡◌, ◌≤◌, ◌<◌, length, vec_capacity, OnOk, IfErr};
 ghost use Rattle.roff_num.specs.declared.limit.Limit.TheVariants.{Traps};
 ghost use Rattle.std.specs.Prelude.{ℕ, ◌+◌, Some};
-ghost use Rattle.roff_pages.specs.Stops.{place_of, next_stop, nearer_stop, stop_at, trap_stop};
-ghost use Rattle.roff_pages.specs.Queries.{way_from};
+ghost use Rattle.roff_layout.specs.Stops.{place_of, next_stop, nearer_stop, stop_at, trap_stop};
+ghost use Rattle.roff_layout.specs.Queries.{way_from};
 ghost use Rattle.roff_pages.specs.Pages.Counted.{counted};
-ghost use Rattle.roff_pages.specs.Turning.{is_named, same_name};
-ghost use Rattle.roff_pages.specs.Turning.{moved_to, with_first, with_trap, without_first};
-ghost use Rattle.roff_pages.specs.Springs.{diversion_trap_passed, first_met, is_on_top, is_passed};
+ghost use Rattle.roff_layout.specs.Turning.{is_named, same_name};
+ghost use Rattle.roff_layout.specs.Turning.{moved_to, with_first, with_trap, without_first};
+ghost use Rattle.roff_layout.specs.Springs.{diversion_trap_passed, first_met, is_on_top, is_passed};
 ghost use Rattle.roff_pages.specs.Pages.FirstTraps.{first_index, is_sought};
 
 use crate::sought::Sought;
-use crate::trap::Trap;
+use roff_layout::Trap;
 use roff_num::{Limit, ShortName};
 
 /// Where a place as it was given lies on a page of this length, in lines, if it lies there.

@@ -2,9 +2,9 @@
 use Rattle.std.proofs.Common.{◌≡◌, ℕ, zero, suc, ◌+◌, ◌-◌, true, false, ◌||◌, inl, inr, List, [], ◌∷◌, ◌++◌, length, replicate, refl, ap, ◌∙◌, append_assoc, add-one, arith, ne_eqb}
 use Rattle.std.specs.Prelude.{if◌then◌else◌, ◌==◌}
 use Rattle.std.proofs.lemmas.Bool.{and_right, cases_Bool}
-use Rattle.roff_lines.specs.Glyphs.{gap_blank, further_blank, glyph_blank}
-use Rattle.roff_lines.specs.Words.{is_empty}
-use Rattle.roff_lines.specs.Columns.{spaces, added_columns, spread, trimmed}
+use Rattle.roff_layout.specs.Glyphs.{gap_blank, further_blank, glyph_blank}
+use Rattle.roff_layout.specs.Words.{is_empty}
+use Rattle.roff_layout.specs.Columns.{spaces, added_columns, spread, trimmed}
 use Rattle.roff_sinks.specs.LineBytes.Fronts.{is_blank_mark, without_blanks}
 
 -- a list with something at its end isn't empty

@@ -4,8 +4,8 @@ use Rattle.std.specs.Prelude.{◌==◌, ◌||◌}
 use Rattle.std.proofs.lemmas.List.{length-replicate, take_all}
 use Rattle.std.proofs.lemmas.List.Sums.{take_while-cons}
 use Rattle.std.proofs.Math.Seq.{take-append_seam}
-use Rattle.roff_lines.specs.Glyphs.{gap_blank, further_blank, glyph_blank}
-use Rattle.roff_lines.specs.Columns.{spaces, added_columns, spread}
+use Rattle.roff_layout.specs.Glyphs.{gap_blank, further_blank, glyph_blank}
+use Rattle.roff_layout.specs.Columns.{spaces, added_columns, spread}
 use Rattle.roff_sinks.specs.LineBytes.Fronts.{blanks_in_front}
 
 -- blanks before other bytes are the first of those in front

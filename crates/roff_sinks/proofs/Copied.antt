@@ -5,8 +5,8 @@ use Rattle.std.proofs.lemmas.Bool.{cases_Bool, eqb-true}
 use Rattle.std.proofs.lemmas.Bool.Decides.{nat_tests}
 use Rattle.std.proofs.lemmas.List.{drop_all}
 use Rattle.std.proofs.lemmas.Nat.{mod-mul-add}
-use Rattle.roff_lines.specs.Glyphs.{gap_blank, further_blank, glyph_blank}
-use Rattle.roff_lines.specs.Columns.{added_columns, spaces, spread}
+use Rattle.roff_layout.specs.Glyphs.{gap_blank, further_blank, glyph_blank}
+use Rattle.roff_layout.specs.Columns.{added_columns, spaces, spread}
 use Rattle.roff_sinks.specs.LineBytes.Fronts.{WritesOver, written_mark}
 use Rattle.roff_sinks.proofs.SharedColumns.{added-behind}
 

@@ -4,10 +4,10 @@ use Rattle.std.specs.Prelude.{if◌then◌else◌, ◌==◌}
 use Rattle.std.proofs.lemmas.Bool.{eqb-true}
 use Rattle.std.proofs.lemmas.List.{length-append}
 use Rattle.std.proofs.lemmas.List.Sums.{sum_by-cons}
-use Rattle.roff_lines.specs.Glyphs.{gap_blank, further_blank, glyph_blank, gaps_in}
-use Rattle.roff_lines.specs.Lines.{Finished}
-use Rattle.roff_lines.specs.Columns.{added_columns, printed, spaces, spread}
-use Rattle.roff_lines.specs.Diverted.{diverted, escaped}
+use Rattle.roff_layout.specs.Glyphs.{gap_blank, further_blank, glyph_blank, gaps_in}
+use Rattle.roff_layout.specs.Lines.{Finished}
+use Rattle.roff_layout.specs.Columns.{added_columns, printed, spaces, spread}
+use Rattle.roff_layout.specs.Diverted.{diverted, escaped}
 use Rattle.roff_sinks.specs.DivertedBytes.{is_doubled}
 use Rattle.roff_lines.proofs.Columns.{added_before_none, added_columns-le}
 use Rattle.roff_lines.proofs.Widths.{gaps_in-cons}

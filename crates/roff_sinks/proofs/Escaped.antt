@@ -4,8 +4,8 @@ use Rattle.std.specs.Prelude.{not, nat_lt, ◌&&◌, ◌==◌}
 use Rattle.std.proofs.lemmas.Bool.{cases_Bool, eqb-true, ltb-true}
 use Rattle.std.proofs.lemmas.List.{take-append-drop}
 use Rattle.std.proofs.lemmas.List.Sums.{take_while-cons}
-use Rattle.roff_lines.specs.Columns.{spread}
-use Rattle.roff_lines.specs.Diverted.{escaped_byte, escaped}
+use Rattle.roff_layout.specs.Columns.{spread}
+use Rattle.roff_layout.specs.Diverted.{escaped_byte, escaped}
 use Rattle.roff_sinks.specs.LineBytes.Fronts.{blanks_in_front}
 use Rattle.roff_sinks.specs.DivertedBytes.{is_plain, plain_in_front}
 use Rattle.roff_sinks.proofs.BlanksInFront.{blank_in_front}

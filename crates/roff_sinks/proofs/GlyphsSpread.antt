@@ -3,8 +3,8 @@ use Rattle.std.proofs.Common.{◌≡◌, ℕ, zero, suc, false, inl, inr, List, 
 use Rattle.std.specs.Prelude.{◌==◌, ◌||◌, nat_lt}
 use Rattle.std.proofs.lemmas.Bool.{cases_Bool, ltb-true}
 use Rattle.std.proofs.lemmas.List.{take-append-drop}
-use Rattle.roff_lines.specs.Glyphs.{gap_blank, further_blank, glyph_blank}
-use Rattle.roff_lines.specs.Columns.{spread}
+use Rattle.roff_layout.specs.Glyphs.{gap_blank, further_blank, glyph_blank}
+use Rattle.roff_layout.specs.Columns.{spread}
 use Rattle.roff_lines.specs.GlyphsInFront.{glyphs_in_front}
 use Rattle.roff_lines.proofs.GlyphsInFront.{front-blank, front-glyph, spread-glyph}
 

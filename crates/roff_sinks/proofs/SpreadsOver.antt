@@ -3,7 +3,7 @@ use Rattle.std.proofs.Common.{◌≡◌, ℕ, zero, suc, ◌+◌, ◌-◌, ◌*�
 use Rattle.std.specs.Prelude.{◌%◌}
 use Rattle.std.proofs.Math.Seq.{drop-cons, take-append-add}
 use Rattle.std.proofs.lemmas.List.{drop-drop, length-append, length-drop, length-replicate, length-take, take_all}
-use Rattle.roff_lines.specs.Columns.{spaces, spread}
+use Rattle.roff_layout.specs.Columns.{spaces, spread}
 use Rattle.roff_lines.specs.GlyphsInFront.{glyphs_in_front}
 use Rattle.roff_sinks.specs.LineBytes.Fronts.{Moves, SpreadsOver, WritesOver}
 use Rattle.roff_sinks.proofs.GlyphsSpread.{take-append-spread}

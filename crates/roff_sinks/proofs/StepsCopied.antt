@@ -7,7 +7,7 @@ use Rattle.std.proofs.Math.Seq.{take-append-add}
 use Rattle.std.proofs.lemmas.Simd.{length-chunk, put_chunk_is}
 use Rattle.std.proofs.lemmas.List.{length-take, length-replicate, take-append-le, take-take}
 use Rattle.std.proofs.lemmas.List.Sums.{prefix_len-le-length}
-use Rattle.roff_lines.specs.Columns.{spaces}
+use Rattle.roff_layout.specs.Columns.{spaces}
 use Rattle.roff_sinks.proofs.SpreadsOver.{take-spaces}
 
 -- what stands up to a place within a step that was written

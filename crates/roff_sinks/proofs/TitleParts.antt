@@ -5,11 +5,12 @@ use Rattle.std.proofs.lemmas.Bool.{and_right, cases_Bool, eqb-true}
 use Rattle.std.proofs.lemmas.List.{length-take, replicate-append-replicate}
 use Rattle.std.proofs.lemmas.List.Folds.{sum_by-replicate}
 use Rattle.std.proofs.lemmas.List.Sums.{sum_by-append, take_while-cons}
-use Rattle.roff_lines.specs.Glyphs.{glyph_blank, byte_width, text_width}
-use Rattle.roff_lines.specs.Words.{is_empty}
-use Rattle.roff_lines.specs.Columns.{spaces, trimmed}
-use Rattle.roff_lines.specs.TitleColumns.{centre_column, right_column, title_columns}
-use Rattle.roff_sinks.specs.Titles.{page_mark, part_at, part_text, parts_placed}
+use Rattle.roff_num.specs.Widths.{byte_width}
+use Rattle.roff_layout.specs.Glyphs.{glyph_blank, text_width}
+use Rattle.roff_layout.specs.Words.{is_empty}
+use Rattle.roff_layout.specs.Columns.{spaces, trimmed}
+use Rattle.roff_layout.specs.TitleColumns.{centre_column, right_column, title_columns}
+use Rattle.roff_layout.specs.Titles.{page_mark, part_at, part_text, parts_placed}
 use Rattle.roff_sinks.specs.TitleParts.{HasNoBlank, blank_bytes_in_front, blanks_before, is_blank_byte, is_shown, shown_in_front}
 
 -- the tail of lists that are the same

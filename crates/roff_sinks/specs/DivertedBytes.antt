@@ -1,8 +1,8 @@
 -- What is taken of a line as a diversion keeps it.
 use Rattle.std.specs.Prelude.{◌≡◌, ℕ, ◌+◌, ◌*◌, ◌<◌, ◌≤◌, Bool, not, ◌&&◌, ◌||◌, List, ◌++◌, length, nat_lt, ◌==◌}
 use Rattle.std.specs.List.{take_while}
-use Rattle.roff_lines.specs.Columns.{spaces}
-use Rattle.roff_lines.specs.Diverted.{escaped}
+use Rattle.roff_layout.specs.Columns.{spaces}
+use Rattle.roff_layout.specs.Diverted.{escaped}
 use Rattle.roff_sinks.specs.LineBytes.Fronts.{is_blank_mark}
 
 -- a piece was taken of the bytes of a line, of so many at most: blanks, each as the two bytes that a diversion keeps of it,

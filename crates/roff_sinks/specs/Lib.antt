@@ -3,6 +3,5 @@ pub mod DivertedBytes
 pub mod Sinks
 pub mod Devices
 pub mod Within
-pub mod Titles
 pub mod TitleParts
 pub mod TitleLeft

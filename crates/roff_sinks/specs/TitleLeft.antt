@@ -1,10 +1,10 @@
 -- What is left of a title that is taken piece by piece.
 use Rattle.std.specs.Prelude.{ℕ, List, ◌++◌}
-use Rattle.roff_lines.specs.Columns.{spaces, trimmed}
+use Rattle.roff_layout.specs.Columns.{spaces, trimmed}
 use Rattle.roff_sinks.specs.declared.title.TitleLine.{TitleLine}
 use Rattle.roff_sinks.specs.declared.title.TitlePieces.TheInside.{Inside}
 use Rattle.roff_sinks.specs.declared.title_part.PartText.{PartText}
-use Rattle.roff_sinks.specs.Titles.{Title, part_text}
+use Rattle.roff_layout.specs.Titles.{Title, part_text}
 
 -- the title that the code has
 abbrev pub title_of : TitleLine → Title

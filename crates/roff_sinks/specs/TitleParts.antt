@@ -1,10 +1,10 @@
 -- A title's parts, byte by byte.
 use Rattle.std.specs.Prelude.{◌≡◌, ℕ, Bool, false, not, ◌&&◌, ◌||◌, List, [], ◌++◌, if◌then◌else◌, ◌==◌}
 use Rattle.std.specs.List.{AllByRecursion, take_while}
-use Rattle.roff_lines.specs.Glyphs.{glyph_blank}
-use Rattle.roff_lines.specs.Words.{is_empty}
-use Rattle.roff_lines.specs.Columns.{spaces}
-use Rattle.roff_sinks.specs.Titles.{page_mark}
+use Rattle.roff_layout.specs.Glyphs.{glyph_blank}
+use Rattle.roff_layout.specs.Words.{is_empty}
+use Rattle.roff_layout.specs.Columns.{spaces}
+use Rattle.roff_layout.specs.Titles.{page_mark}
 
 -- no byte is a blank
 abbrev pub HasNoBlank : List ℕ → Type 0

@@ -3,15 +3,15 @@
 ghost use Rattle.std.specs.Prelude.{◌≡◌, ◌≤◌, [], ◌∷◌, ◌++◌, length, replicate, vec_capacity, OnOk};
 ghost use Rattle.std.specs.Prelude.{IfOk};
 ghost use Rattle.std.specs.Prelude.{OnErr, ◌+◌, ◌<◌, ◌^◌, true, false};
-ghost use Rattle.roff_lines.specs.Columns.{device_line, finished_of, line_bytes, printed};
-ghost use Rattle.roff_lines.specs.Columns.{spaces};
-ghost use Rattle.roff_lines.specs.Glyphs.{text_width};
+ghost use Rattle.roff_layout.specs.Columns.{device_line, finished_of, line_bytes, printed};
+ghost use Rattle.roff_layout.specs.Columns.{spaces};
+ghost use Rattle.roff_layout.specs.Glyphs.{text_width};
 ghost use Rattle.roff_sinks.specs.LineBytes.Fronts.{Moves};
 ghost use Rattle.roff_sinks.specs.Sinks.{Fails, HoldsBack, Puts};
 ghost use Rattle.roff_sinks.specs.TitleLeft.{title_of};
 ghost use Rattle.roff_sinks.specs.TitleParts.{HasNoBlank};
 ghost use Rattle.roff_sinks.specs.Within.{PutsAtOnce};
-ghost use Rattle.roff_sinks.specs.Titles.{part_text, title_text};
+ghost use Rattle.roff_layout.specs.Titles.{part_text, title_text};
 
 mod added_title;
 mod within;
@@ -20,7 +20,7 @@ use self::within::add_line;
 use crate::line_bytes::LineBytes;
 use crate::sink::{ByteSink, SinkFault};
 use crate::title::{TitleLine, TitlePieces};
-use roff_lines::Line;
+use roff_layout::Line;
 use std::alloc::{AllocError, Global};
 use std::marker::Model;
 

@@ -1,11 +1,13 @@
 //! What a diversion keeps of a finished line.
 
 ghost use Rattle.std.specs.Prelude.{◌≡◌, ◌-◌, ◌<◌, ◌≤◌, ◌^◌, ◌++◌, count_by, length, min};
-ghost use Rattle.roff_lines.specs.Clauses.{added_columns, diverted, finished_of, gaps_in, printed};
+ghost use Rattle.roff_layout.specs.Columns.{added_columns, finished_of, printed};
+ghost use Rattle.roff_layout.specs.Diverted.{diverted};
+ghost use Rattle.roff_layout.specs.Glyphs.{gaps_in};
 ghost use Rattle.roff_sinks.specs.DivertedBytes.{TakesEscaped, is_doubled};
 
 use crate::line_bytes::{LineBytes, Piece, is_blank};
-use roff_lines::{GAP, Line};
+use roff_layout::{GAP, Line};
 use std::marker::Model;
 
 /// The bytes of a line in the text of a diversion (manual, section 7.3): `\&`, the line with each
@@ -20,7 +22,7 @@ pub struct DivertedBytes<'a> {
 
 impl<'a> Model for DivertedBytes<'a> {
     ghost use Rattle.std.specs.Prelude.{ℕ, List, ◌++◌};
-    ghost use Rattle.roff_lines.specs.Diverted.{escaped};
+    ghost use Rattle.roff_layout.specs.Diverted.{escaped};
 
     ghost Value = { List ℕ };
 

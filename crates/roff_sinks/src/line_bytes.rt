@@ -1,7 +1,7 @@
 //! What a finished line writes.
 
 ghost use Rattle.std.specs.Prelude.{◌≡◌, ◌++◌, replicate, ℕ};
-ghost use Rattle.roff_lines.specs.Clauses.{device_line, finished_of, line_bytes, printed};
+ghost use Rattle.roff_layout.specs.Columns.{device_line, finished_of, line_bytes, printed};
 ghost use Rattle.roff_sinks.specs.LineBytes.Fronts.{is_blank_mark, without_blanks};
 ghost use Rattle.roff_sinks.specs.LineBytes.Shares.{shared_out};
 
@@ -10,7 +10,7 @@ mod pieces;
 mod spreading;
 mod steps;
 
-use roff_lines::{FURTHER_BLANK, GAP, Line, UNPADDABLE};
+use roff_layout::{FURTHER_BLANK, GAP, Line, UNPADDABLE};
 use std::marker::Model;
 
 /// The bytes that a line writes: its lead, its text with the blanks spread, a newline, and its

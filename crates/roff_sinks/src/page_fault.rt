@@ -1,7 +1,7 @@
 //! Why something isn't written.
 
 /// Why something isn't written.
-#[derive(Clone, Copy, Debug, PartialEq, Eq)]
+#[derive(Clone, Copy)]
 pub enum PageFault {
     /// The limit on the output would be passed. Nothing changed, and nothing was written.
     Output,

@@ -7,7 +7,7 @@ use crate::block_write::BlockWrite;
 use std::marker::Model;
 
 /// A sink that took a part of a piece, and no more.
-#[derive(Clone, Copy, Debug, PartialEq, Eq)]
+#[derive(Clone, Copy)]
 pub struct SinkFault;
 
 /// A sink of bytes.

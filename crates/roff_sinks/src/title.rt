@@ -2,9 +2,9 @@
 
 ghost use Rattle.std.specs.Prelude.{◌≡◌, ◌+◌, ◌<◌, ◌^◌, ◌++◌, [], ℕ, List, length};
 ghost use Rattle.std.specs.Prelude.{IfSome, IfNone};
-ghost use Rattle.roff_lines.specs.Clauses.{text_width};
-ghost use Rattle.roff_lines.specs.Columns.{spaces, trimmed};
-ghost use Rattle.roff_sinks.specs.Titles.{part_text, title_text};
+ghost use Rattle.roff_layout.specs.Glyphs.{text_width};
+ghost use Rattle.roff_layout.specs.Columns.{spaces, trimmed};
+ghost use Rattle.roff_layout.specs.Titles.{part_text, title_text};
 ghost use Rattle.roff_sinks.specs.TitleParts.{HasNoBlank, blanks_before};
 ghost use Rattle.roff_sinks.specs.TitleLeft.{title_of};
 
@@ -14,9 +14,9 @@ use std::marker::Model;
 
 /// A title: its three parts as they are kept, its length, and the page number (manual, section 14).
 ///
-/// In a part [`UNPADDABLE`](roff_lines::UNPADDABLE) stands for a blank, and
+/// In a part [`UNPADDABLE`](roff_layout::UNPADDABLE) stands for a blank, and
 /// [`PAGE_NUMBER`](crate::PAGE_NUMBER) for the page number.
-#[derive(Clone, Copy, Debug)]
+#[derive(Clone, Copy)]
 pub struct TitleLine<'a> {
     /// The part on the left.
     pub left: &'a [u8],

@@ -2,21 +2,21 @@
 
 ghost use Rattle.std.specs.Prelude.{◌≡◌, ◌+◌, ◌<◌, ◌≤◌, ◌^◌, ◌++◌, ◌∷◌, ℕ, List, [], length};
 ghost use Rattle.std.specs.Prelude.{take, true};
-ghost use Rattle.roff_lines.specs.Clauses.{text_width};
-ghost use Rattle.roff_lines.specs.Columns.{spaces};
-ghost use Rattle.roff_sinks.specs.Titles.{part_text};
+ghost use Rattle.roff_layout.specs.Glyphs.{text_width};
+ghost use Rattle.roff_layout.specs.Columns.{spaces};
+ghost use Rattle.roff_layout.specs.Titles.{part_text};
 ghost use Rattle.roff_sinks.specs.TitleParts.{HasNoBlank, blank_bytes_in_front};
 ghost use Rattle.roff_sinks.specs.TitleParts.{is_blank_byte, shown_in_front};
 ghost use Rattle.std.proofs.Props.{props};
 
-use roff_lines::UNPADDABLE;
+use roff_layout::UNPADDABLE;
 use roff_num::width_of_byte;
 
 /// The byte of a title's part that stands for the page number.
 pub const PAGE_NUMBER: u8 = 0x01;
 
 /// What comes next of a title.
-#[derive(Clone, Copy, Debug)]
+#[derive(Clone, Copy)]
 pub struct TitlePiece<'a> {
     /// How many blanks.
     pub blanks: u128,

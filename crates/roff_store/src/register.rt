@@ -6,7 +6,7 @@ ghost use Rattle.roff_store.specs.Registers.{stepped, unset_register};
 use roff_num::{Direction, Format, Num, NumFault};
 
 /// A number register: its value, how the value is written, and by how much a step changes it.
-#[derive(Clone, Copy, Debug, PartialEq, Eq)]
+#[derive(Clone, Copy)]
 pub struct Register {
     /// The value, in basic units where it is a length.
     pub value: Num,

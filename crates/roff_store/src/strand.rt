@@ -9,7 +9,7 @@ pub(crate) const NO_CHUNK: usize = usize::MAX;
 ///
 /// Reading changes `rest` and `at`. They lie apart: side by side they are loaded and stored as one
 /// vector, and a byte takes longer.
-#[derive(Clone, Copy, Debug)]
+#[derive(Clone, Copy)]
 pub(crate) struct Strand {
     /// How many bytes it has.
     pub(crate) rest: usize,

@@ -1,7 +1,7 @@
 //! What a name stands for, and how texts in the making and leases are called (manual, section 7).
 
 /// What a name stands for.
-#[derive(Clone, Copy, Debug)]
+#[derive(Clone, Copy)]
 pub enum Entry<'a> {
     /// A string, macro or diversion: its bytes.
     Body(&'a [u8]),
@@ -10,7 +10,7 @@ pub enum Entry<'a> {
 }
 
 /// What a name stands for, without the bytes.
-#[derive(Clone, Copy, Debug, PartialEq, Eq)]
+#[derive(Clone, Copy, PartialEq, Eq)]
 pub enum Kind {
     /// A string, macro or diversion: how many bytes it has.
     Body(usize),
@@ -19,7 +19,7 @@ pub enum Kind {
 }
 
 /// How long the body of a name is, and what it ends in.
-#[derive(Clone, Copy, Debug)]
+#[derive(Clone, Copy)]
 pub struct BodyEnd {
     /// How many bytes it has; none where the name has no body.
     pub len: usize,
@@ -28,15 +28,15 @@ pub struct BodyEnd {
 }
 
 /// A text in the making, by its number: the oldest is 0.
-#[derive(Clone, Copy, Debug, PartialEq, Eq)]
+#[derive(Clone, Copy)]
 pub struct OpenId(pub usize);
 
 /// A lease on a body, by its number.
-#[derive(Clone, Copy, Debug, PartialEq, Eq)]
+#[derive(Clone, Copy, PartialEq, Eq)]
 pub struct LeaseId(pub u32);
 
 /// What came of leasing a body by how many bytes it has.
-#[derive(Clone, Copy, Debug)]
+#[derive(Clone, Copy)]
 pub enum Leased {
     /// The lease, and the last byte of the body, if there is one.
     Body(LeaseId, Option<u8>),

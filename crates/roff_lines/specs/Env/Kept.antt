@@ -1,16 +1,16 @@
 -- What an environment keeps of its history.
 use Rattle.std.specs.Prelude.{◌≡◌, ℕ, ◌+◌, ◌-◌, ◌<◌, ◌≤◌, ◌^◌, Bool, true, false, ◌&&◌, ◌||◌, not, List, [], ◌++◌, length, Option, Some, None, if◌then◌else◌, ◌==◌}
 use Rattle.roff_lines.specs.declared.env.Env.TheInside.{Inside}
-use Rattle.roff_lines.specs.declared.settings.Settings.{Settings}
-use Rattle.roff_lines.specs.declared.glyph.Glyph.{Glyph}
-use Rattle.roff_lines.specs.Glyphs.{glyph_text, glyph_width, text_width}
-use Rattle.roff_lines.specs.Settings.{fills}
-use Rattle.roff_lines.specs.Stops.{TabStops}
-use Rattle.roff_lines.specs.Places.{most_place, moved}
-use Rattle.roff_lines.specs.Fitting.{gap_text, may_be_wide}
-use Rattle.roff_lines.specs.Words.{is_closer, is_sentence_mark, ends_sentence_behind, ends_sentence_behind_words, indent_by}
-use Rattle.roff_lines.specs.Lines.{Finished, laid_out, empty_line}
-use Rattle.roff_lines.specs.LastLine.{line_width}
+use Rattle.roff_layout.specs.declared.settings.Settings.{Settings}
+use Rattle.roff_layout.specs.declared.glyph.Glyph.{Glyph}
+use Rattle.roff_layout.specs.Glyphs.{glyph_text, glyph_width, text_width}
+use Rattle.roff_layout.specs.Settings.{fills}
+use Rattle.roff_layout.specs.TabStops.{TabStops}
+use Rattle.roff_layout.specs.Places.{most_place, moved}
+use Rattle.roff_layout.specs.Fitting.{gap_text, may_be_wide}
+use Rattle.roff_layout.specs.Words.{is_closer, is_sentence_mark, ends_sentence_behind, ends_sentence_behind_words, indent_by}
+use Rattle.roff_layout.specs.Lines.{Finished, laid_out, empty_line}
+use Rattle.roff_layout.specs.LastLine.{line_width}
 
 -- what is in force, the indent that is pending for one line alone, and the tab stops; the pending line's text and its
 -- indent, and whether a word stands in it; the open word's text, and whether there is one; the blanks before it; what the

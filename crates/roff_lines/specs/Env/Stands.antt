@@ -1,12 +1,13 @@
 -- When an environment stands for its history.
 use Rattle.std.specs.Prelude.{◌≡◌, ℕ, ◌<◌, ◌≤◌, ◌^◌, min, true, not, ◌∷◌, Option}
-use Rattle.roff_lines.specs.Events.{Event, History, settings_after, stops_after, is_interrupted}
-use Rattle.roff_lines.specs.Places.{has_line_glyph, input_place}
-use Rattle.roff_lines.specs.Fitting.{word_text, line_text, line_indent}
-use Rattle.roff_lines.specs.Words.{is_empty, has_open_word, line_glyphs, ends_sentence, blanks, open_word, words, temporary_indent}
-use Rattle.roff_lines.specs.Lines.{Finished, pending_line, pending_length, finished}
+use Rattle.roff_layout.specs.declared.event.Event.{Event}
+use Rattle.roff_layout.specs.Events.{History, settings_after, stops_after, is_interrupted}
+use Rattle.roff_layout.specs.Places.{has_line_glyph, input_place}
+use Rattle.roff_layout.specs.Fitting.{word_text, line_text, line_indent}
+use Rattle.roff_layout.specs.Words.{is_empty, has_open_word, line_glyphs, ends_sentence, blanks, open_word, words, temporary_indent}
+use Rattle.roff_layout.specs.Lines.{Finished, pending_line, pending_length, finished}
 use Rattle.roff_lines.specs.Env.Kept.{Kept}
-use Rattle.roff_lines.specs.LastLine.{last_width}
+use Rattle.roff_layout.specs.LastLine.{last_width}
 
 -- an environment of this limit keeps k behind the history h
 pub record Stands (line_cap : ℕ) (h : History) (k : Kept) : Type 0 where

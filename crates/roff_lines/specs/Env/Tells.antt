@@ -1,10 +1,10 @@
 -- Bytes of a text line that an environment is told at once.
 use Rattle.std.specs.Prelude.{◌≡◌, ℕ, ◌+◌, ◌-◌, ◌<◌, ◌≤◌, true, List, [], ◌∷◌, ◌++◌, length, slice_index_or}
 use Rattle.std.specs.List.{AllByRecursion}
-use Rattle.roff_lines.specs.Glyphs.{text_width}
-use Rattle.roff_lines.specs.Events.{History}
-use Rattle.roff_lines.specs.Fitting.{may_be_wide}
-use Rattle.roff_lines.specs.Telling.{bytes_told, QuietlyTold}
+use Rattle.roff_layout.specs.Glyphs.{text_width}
+use Rattle.roff_layout.specs.Events.{History}
+use Rattle.roff_layout.specs.Fitting.{may_be_wide}
+use Rattle.roff_layout.specs.Telling.{bytes_told, QuietlyTold}
 use Rattle.roff_lines.specs.Env.Kept.{Kept, glyph_room, word_finishes}
 use Rattle.roff_lines.specs.Env.Stands.{Stands}
 

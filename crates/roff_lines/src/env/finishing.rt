@@ -6,9 +6,8 @@ ghost use Rattle.roff_lines.specs.Clauses.{WordEnd, LineEnd, Break, History, fin
 ghost use Rattle.roff_lines.specs.Clauses.{shaped};
 
 use super::Env;
-use crate::event::Event;
-use crate::line::Line;
 use crate::shape::Shape;
+use roff_layout::{Event, Line};
 use std::mem;
 
 impl Env {

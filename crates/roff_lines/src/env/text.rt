@@ -12,9 +12,9 @@ ghost use Rattle.roff_lines.specs.Env.Tells.{EndsGlyphs};
 use super::Env;
 use super::words::{moved, push_gap};
 use crate::glyph::{ends_sentence_behind, ends_sentence_behind_words};
-use crate::settings::Settings;
 use crate::stretch::Stretch;
 use crate::words::{measured_glyphs, whole_words};
+use roff_layout::Settings;
 
 /// More columns than the pending line has, its indent among them.
 const MOST_COLUMNS: u64 = 1 << 35;

@@ -7,11 +7,10 @@ ghost use Rattle.roff_lines.specs.Clauses.{pending_length, shaped, text_width, g
 ghost use Rattle.roff_lines.specs.Clauses.{may_be_wide};
 
 use super::Env;
-use crate::glyph::{Glyph, kept_byte};
-use crate::line::{FURTHER_BLANK, GAP, UNPADDABLE};
-use crate::settings::Settings;
+use crate::glyph::{ends_sentence_behind_glyph, kept_byte};
 use crate::shape::Shape;
 use crate::stretch::Stretch;
+use roff_layout::{FURTHER_BLANK, GAP, Glyph, Settings, UNPADDABLE};
 use roff_num::Limit;
 use std::mem;
 
@@ -66,7 +65,7 @@ impl Env {
         }
         self.is_open = true;
         self.has_glyph = true;
-        self.ends_sentence = glyph.ends_sentence_behind(self.ends_sentence);
+        self.ends_sentence = ends_sentence_behind_glyph(glyph, self.ends_sentence);
         self.place = moved(self.place, glyph.width());
     }
 

@@ -2,8 +2,8 @@
 use Rattle.std.specs.Prelude.{ℕ, suc, Bool, List, [], ◌∷◌, if◌then◌else◌}
 use Rattle.roff_pages.specs.declared.sought.Sought.{Sought}
 use Rattle.roff_pages.specs.declared.sought.Sought.TheVariants.{Given, Named}
-use Rattle.roff_pages.specs.declared.trap.Trap.{Trap}
-use Rattle.roff_pages.specs.Turning.{is_given, is_named}
+use Rattle.roff_layout.specs.declared.trap.Trap.{Trap}
+use Rattle.roff_layout.specs.Turning.{is_given, is_named}
 
 -- its place in turn, or how many traps there are
 abbrev pub first_index : (Trap → Bool) → List Trap → ℕ

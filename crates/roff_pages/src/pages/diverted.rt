@@ -4,16 +4,17 @@
 //! what is put the page ends if it has become shorter than its place.
 
 ghost use Rattle.std.specs.Prelude.{◌≡◌, ℕ, ◌+◌, ◌<◌, ◌^◌, length, List, Option};
-ghost use Rattle.roff_lines.specs.Columns.{finished_of, printed};
-ghost use Rattle.roff_lines.specs.Glyphs.{text_width};
-ghost use Rattle.roff_sinks.specs.Titles.{part_text};
+ghost use Rattle.roff_layout.specs.Columns.{finished_of, printed};
+ghost use Rattle.roff_layout.specs.Glyphs.{text_width};
+ghost use Rattle.roff_layout.specs.Titles.{part_text};
 ghost use Rattle.roff_sinks.specs.TitleLeft.{title_of};
-ghost use Rattle.roff_pages.specs.Layout.{Box, Diversion, Layout};
-ghost use Rattle.roff_pages.specs.Happenings.{Does, Need, Places, Space, Titles};
-ghost use Rattle.roff_pages.specs.Puts.{needed, within_stop};
-ghost use Rattle.roff_pages.specs.Turning.{greatest_width, in_diversion, turned_if_full};
-ghost use Rattle.roff_pages.specs.Springs.{springs};
-ghost use Rattle.roff_pages.specs.Queries.{text_target, way_from};
+ghost use Rattle.roff_layout.specs.Layout.{Box, Diversion, Layout};
+ghost use Rattle.roff_layout.specs.declared.layout_event.LayoutEvent.TheVariants.{Need, Space};
+ghost use Rattle.roff_layout.specs.Happenings.{Does, Places, Titles};
+ghost use Rattle.roff_layout.specs.Puts.{needed, within_stop};
+ghost use Rattle.roff_layout.specs.Turning.{greatest_width, in_diversion, turned_if_full};
+ghost use Rattle.roff_layout.specs.Springs.{springs};
+ghost use Rattle.roff_layout.specs.Queries.{text_target, way_from};
 ghost use Rattle.roff_pages.specs.Pages.Advancing.{sprung_diverted, sprung_or, with_diverted};
 ghost use Rattle.roff_pages.specs.Pages.Counted.{counted};
 ghost use Rattle.roff_pages.specs.Pages.Stands.{kept_diversion};
@@ -23,7 +24,7 @@ use super::{MOST_COUNTED, Pages};
 use crate::line_width::width_of_line;
 use crate::open_diversion::OpenDiversion;
 use crate::traps::passed_in_diversion;
-use roff_lines::Line;
+use roff_layout::Line;
 use roff_num::ShortName;
 use roff_sinks::{TitleLine, width_of_title};
 

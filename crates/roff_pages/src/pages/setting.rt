@@ -1,16 +1,21 @@
 //! What is set: the page's length, offset and number, no-space mode, and the traps.
 
 ghost use Rattle.std.specs.Prelude.{◌≡◌, ◌≤◌, ◌<◌, length, OnOk, IfErr};
-ghost use Rattle.roff_pages.specs.Happenings.{Does, Length, ListPages, Offset, Next, Number};
-ghost use Rattle.roff_pages.specs.Happenings.{NoSpace, Plant};
-ghost use Rattle.roff_pages.specs.Happenings.{Uproot, MoveTrap, RemoveTrap};
-ghost use Rattle.roff_pages.specs.Turning.{with_trap};
+ghost use Rattle.roff_layout.specs.declared.layout_event.LayoutEvent.TheVariants.{Length};
+ghost use Rattle.roff_layout.specs.declared.layout_event.LayoutEvent.TheVariants.{ListPages};
+ghost use Rattle.roff_layout.specs.declared.layout_event.LayoutEvent.TheVariants.{Offset, Next};
+ghost use Rattle.roff_layout.specs.declared.layout_event.LayoutEvent.TheVariants.{Number};
+ghost use Rattle.roff_layout.specs.Happenings.{Does};
+ghost use Rattle.roff_layout.specs.declared.layout_event.LayoutEvent.TheVariants.{NoSpace, Plant};
+ghost use Rattle.roff_layout.specs.declared.layout_event.LayoutEvent.TheVariants.{Uproot, MoveTrap};
+ghost use Rattle.roff_layout.specs.declared.layout_event.LayoutEvent.TheVariants.{RemoveTrap};
+ghost use Rattle.roff_layout.specs.Turning.{with_trap};
 ghost use Rattle.roff_num.specs.declared.limit.Limit.TheVariants.{Traps};
 
 use super::Pages;
 use crate::sought::Sought;
-use crate::trap::Trap;
 use crate::traps::{move_named, next_stop, plant_among, remove_first};
+use roff_layout::Trap;
 use roff_num::{Limit, Num, ShortName};
 
 impl Pages {

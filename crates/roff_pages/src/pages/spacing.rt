@@ -2,8 +2,11 @@
 
 ghost use Rattle.std.specs.Prelude.{◌≡◌, ◌<◌, ◌≤◌, ◌^◌, [], OnOk, IfErr, nat_lt, ◌&&◌, ◌==◌};
 ghost use Rattle.std.specs.Prelude.{if◌then◌else◌, replicate};
-ghost use Rattle.roff_pages.specs.Layout.{Empty, Layout};
-ghost use Rattle.roff_pages.specs.Happenings.{Does, EjectLast, EjectOn, Need, Space, ejecting};
+ghost use Rattle.roff_layout.specs.Layout.{Empty, Layout};
+ghost use Rattle.roff_layout.specs.declared.layout_event.LayoutEvent.TheVariants.{EjectLast};
+ghost use Rattle.roff_layout.specs.declared.layout_event.LayoutEvent.TheVariants.{EjectOn, Need};
+ghost use Rattle.roff_layout.specs.declared.layout_event.LayoutEvent.TheVariants.{Space};
+ghost use Rattle.roff_layout.specs.Happenings.{Does, ejecting};
 ghost use Rattle.roff_pages.specs.Pages.Printing.{BoxedTo, HappensWriting, IsUnprinted, Printed};
 ghost use Rattle.roff_pages.specs.Pages.Printing.{if_listed};
 ghost use Rattle.roff_pages.specs.Pages.Advancing.{way_on};

@@ -1,10 +1,10 @@
 -- What of a line's text, and of its bytes, stands in front.
 use Rattle.std.specs.Prelude.{◌≡◌, ℕ, ◌+◌, ◌-◌, ◌≤◌, Bool, ◌&&◌, ◌||◌, List, [], ◌∷◌, ◌++◌, length, take, drop, nat_le, if◌then◌else◌, ◌==◌}
 use Rattle.std.specs.List.{take_while}
-use Rattle.roff_lines.specs.Glyphs.{gap_blank, further_blank, glyph_blank}
-use Rattle.roff_lines.specs.Words.{is_empty}
+use Rattle.roff_layout.specs.Glyphs.{gap_blank, further_blank, glyph_blank}
+use Rattle.roff_layout.specs.Words.{is_empty}
 use Rattle.roff_lines.specs.GlyphsInFront.{glyphs_in_front}
-use Rattle.roff_lines.specs.Columns.{spaces, spread}
+use Rattle.roff_layout.specs.Columns.{spaces, spread}
 
 -- whether a byte of a text stands for a blank
 abbrev pub is_blank_mark : ℕ → Bool

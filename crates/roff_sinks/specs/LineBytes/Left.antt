@@ -1,7 +1,7 @@
 -- What is left of the bytes of a line.
 use Rattle.std.specs.Prelude.{◌≡◌, ℕ, ◌+◌, ◌*◌, ◌%◌, ◌<◌, ◌^◌, List, ◌++◌, length, replicate}
 use Rattle.roff_sinks.specs.declared.line_bytes.LineBytes.TheInside.{Inside}
-use Rattle.roff_lines.specs.Columns.{spaces, spread}
+use Rattle.roff_layout.specs.Columns.{spaces, spread}
 
 -- the columns that are spread over the gaps: those that each gap gets, and the rest
 abbrev pub spare_columns : Inside → ℕ

@@ -3,15 +3,15 @@
 ghost use Rattle.std.specs.Prelude.{◌≡◌, ◌+◌, ◌<◌, ◌≤◌, ◌^◌, ◌++◌, ◌∷◌, [], ℕ, List, true};
 ghost use Rattle.std.specs.Prelude.{if◌then◌else◌, ◌==◌};
 ghost use Rattle.std.specs.Prelude.{length, vec_capacity};
-ghost use Rattle.roff_lines.specs.Columns.{device_line, spaces, trimmed};
-ghost use Rattle.roff_lines.specs.Glyphs.{glyph_blank, text_width};
+ghost use Rattle.roff_layout.specs.Columns.{device_line, spaces, trimmed};
+ghost use Rattle.roff_layout.specs.Glyphs.{glyph_blank, text_width};
 ghost use Rattle.roff_sinks.specs.TitleLeft.{title_of};
-ghost use Rattle.roff_sinks.specs.Titles.{part_text, title_text};
+ghost use Rattle.roff_layout.specs.Titles.{part_text, title_text};
 
 use super::BLOCK;
 use crate::title::{TitleLine, gaps_in_title};
 use crate::title_part::{PAGE_NUMBER, measure_part};
-use roff_lines::UNPADDABLE;
+use roff_layout::UNPADDABLE;
 
 /// Adds to an empty block the bytes of a title behind so many columns. Tells whether it had room
 /// for all.

@@ -2,11 +2,11 @@
 
 ghost use Rattle.std.specs.Prelude.{◌≡◌, ◌+◌, ◌<◌, ◌≤◌, ◌^◌, ◌++◌, [], length, replicate};
 ghost use Rattle.std.specs.Prelude.{IfSome, IfNone, true, vec_capacity};
-ghost use Rattle.roff_lines.specs.Columns.{device_line, finished_of, printed};
-ghost use Rattle.roff_lines.specs.Glyphs.{text_width};
+ghost use Rattle.roff_layout.specs.Columns.{device_line, finished_of, printed};
+ghost use Rattle.roff_layout.specs.Glyphs.{text_width};
 ghost use Rattle.roff_sinks.specs.TitleLeft.{title_of};
 ghost use Rattle.roff_sinks.specs.TitleParts.{HasNoBlank};
-ghost use Rattle.roff_sinks.specs.Titles.{part_text, title_text};
+ghost use Rattle.roff_layout.specs.Titles.{part_text, title_text};
 ghost use Rattle.roff_sinks.specs.Within.{PutsWithin};
 
 use super::added_title::add_title;
@@ -15,7 +15,7 @@ use crate::line_bytes::LineBytes;
 use crate::page_fault::PageFault;
 use crate::sink::ByteSink;
 use crate::title::{TitleLine, TitlePieces};
-use roff_lines::Line;
+use roff_layout::Line;
 
 impl Block {
     /// Writes a line as [`Block::put_line_behind`] does, if that takes so many bytes at most, and

@@ -1,11 +1,12 @@
 //! A line as it is printed, byte by byte as a diversion keeps it.
 
 ghost use Rattle.std.specs.Prelude.{◌≡◌, ◌≤◌, ◌<◌, ◌++◌, ◌∷◌, [], length, take};
-ghost use Rattle.roff_lines.specs.Clauses.{escaped, finished_of, printed};
+ghost use Rattle.roff_layout.specs.Columns.{finished_of, printed};
+ghost use Rattle.roff_layout.specs.Diverted.{escaped};
 ghost use Rattle.roff_sinks.specs.DivertedBytes.{plain_in_front};
 
 use super::{LineBytes, shares};
-use roff_lines::Line;
+use roff_layout::Line;
 
 impl<'a> LineBytes<'a> {
     /// The bytes of a line as it is printed, its trailing blanks too, and a newline.

@@ -1,13 +1,14 @@
 //! The blanks in front of what is left of a line, and the glyphs behind them.
 
 ghost use Rattle.std.specs.Prelude.{◌≡◌, ◌≤◌, ◌++◌, ◌∷◌, [], take, ℕ, true, false, if◌then◌else◌};
-ghost use Rattle.roff_lines.specs.Columns.{spaces};
+ghost use Rattle.roff_layout.specs.Columns.{spaces};
 ghost use Rattle.roff_lines.specs.GlyphsInFront.{glyphs_in_front};
 ghost use Rattle.roff_sinks.specs.LineBytes.Fronts.{TakesPiece, blanks_in_front};
 
 use super::spreading::added_to_gap;
 use super::{LineBytes, Piece};
-use roff_lines::{FURTHER_BLANK, GAP, UNPADDABLE, count_of_glyphs};
+use roff_layout::{FURTHER_BLANK, GAP, UNPADDABLE};
+use roff_lines::count_of_glyphs;
 
 impl<'a> LineBytes<'a> {
     /// Takes the blanks in front and then the glyphs behind them, those above the blank: at most

@@ -2,14 +2,15 @@
 
 ghost use Rattle.std.specs.Prelude.{◌≡◌, ◌+◌, ◌*◌, ◌<◌, ◌≤◌, ◌^◌, ◌++◌, length, take, ◌-◌, ◌%◌};
 ghost use Rattle.std.specs.Prelude.{drop, map, slice_index_or, vec_capacity, true};
-ghost use Rattle.roff_lines.specs.Columns.{spaces};
+ghost use Rattle.roff_layout.specs.Columns.{spaces};
 ghost use Rattle.roff_lines.specs.GlyphsInFront.{glyphs_in_front};
 ghost use Rattle.roff_sinks.specs.LineBytes.Fronts.{written_mark, Moves, SpreadsOver};
 ghost use Rattle.roff_sinks.specs.LineBytes.Fronts.{WritesOver};
 
 use super::steps::{blank_step, copy_half_step, copy_step};
 use super::{LineBytes, Sharing, Written};
-use roff_lines::{FURTHER_BLANK, GAP, HALF_STEP, STEP, glyphs_of_half_step, glyphs_of_step};
+use roff_layout::{FURTHER_BLANK, GAP};
+use roff_lines::{HALF_STEP, STEP, glyphs_of_half_step, glyphs_of_step};
 
 impl<'a> LineBytes<'a> {
     /// Adds the bytes in front, as far as the text goes, to a block of at most so many bytes. Adds

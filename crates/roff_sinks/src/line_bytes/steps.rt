@@ -2,7 +2,7 @@
 
 ghost use Rattle.std.specs.Prelude.{◌≡◌, ◌+◌, ◌≤◌, length};
 ghost use Rattle.std.specs.Simd.Lanes.{chunk, put_chunk};
-ghost use Rattle.roff_lines.specs.Columns.{spaces};
+ghost use Rattle.roff_layout.specs.Columns.{spaces};
 
 use std::simd::prelude::*;
 

@@ -1,5 +1,5 @@
-use Rattle.roff_lines.specs.Events.{stops_after}
-use Rattle.roff_lines.specs.Places.{input_place}
+use Rattle.roff_layout.specs.Events.{stops_after}
+use Rattle.roff_layout.specs.Places.{input_place}
 use Rattle.roff_lines.proofs.NearestStop.{leads_to_nearest, way_to_stop-same}
 use Rattle.roff_lines.proofs.laws.nearest_stops.Goals as goal
 

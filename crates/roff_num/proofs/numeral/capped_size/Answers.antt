@@ -1,3 +1,5 @@
+use Rattle.std.proofs.lemmas.Grind.{elements}
+use Rattle.std.proofs.lemmas.Int.{ints}
 use Rattle.std.proofs.Common.{arith, ◌≡◌, ◌^◌, ◌<◌, ◌≤◌, zero, min, take, length, ◌++◌, ap, ◌∙◌, refl}
 use Rattle.std.proofs.lemmas.List.{take_min, length-take}
 use Rattle.std.specs.Str.Parse.{digits_value, digits_value_after}
@@ -25,3 +27,6 @@ returns c =
     ∙ (ap (λ ds. min (digits_value_after 10 (min (digits_value 10 c.args.whole.now) 18446744073709551615) ds) 18446744073709551615) kept ∙ number))) in
     let part : c.from-3.result ≡ 10 ^ min 9 (length decimals) = c.from-3.ensures ∙ (c.pow-part.ensures ∙ ap (λ n. 10 ^ n) count) in
     rw (digits, c.from-2.ensures, part, c.from-4.ensures) refl
+
+pub digits_behind-number-requires : goal.digits_behind-number-requires
+digits_behind-number-requires c = grind (ints, arith, elements)

@@ -1,7 +1,7 @@
 use Rattle.std.proofs.Common.{◌≡◌, ◌+◌, ◌-◌, ◌≤◌, ◌++◌, [], List, ℕ, length, take, replicate, append_assoc, append-nil, refl, sym, ap, subst, ◌∙◌, arith, rules, vec_len, vec_capacity}
 use Rattle.std.proofs.lemmas.List.{take_all, length-append, length-replicate, replicate-append-replicate}
 use Rattle.std.proofs.lemmas.Result.{err_from_is_err_and}
-use Rattle.roff_lines.specs.Columns.{spaces}
+use Rattle.roff_layout.specs.Columns.{spaces}
 use Rattle.roff_sinks.specs.Sinks.{Sunk, Writes, Fails, HoldsBack}
 use Rattle.roff_sinks.proofs.Appending.{Fails-held, HoldsBack-keep, HoldsBack-put}
 use Rattle.roff_sinks.proofs.block.push_blanks.Goals as goal

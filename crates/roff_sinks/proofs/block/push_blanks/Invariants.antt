@@ -1,5 +1,5 @@
 use Rattle.std.proofs.Common.{◌≤◌, ◌-◌, ◌++◌, length, vec_capacity}
-use Rattle.roff_lines.specs.Columns.{spaces}
+use Rattle.roff_layout.specs.Columns.{spaces}
 use Rattle.roff_sinks.specs.Sinks.{HoldsBack}
 use Rattle.roff_sinks.proofs.block.push_blanks.Given as goal
 

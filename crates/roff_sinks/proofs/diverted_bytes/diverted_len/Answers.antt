@@ -1,7 +1,7 @@
 use Rattle.std.proofs.Common.{◌≡◌, ℕ, ◌+◌, ◌-◌, ◌*◌, ◌^◌, List, length, min, count_by, ap, ◌∙◌, arith}
-use Rattle.roff_lines.specs.Columns.{added_columns, finished_of, printed}
-use Rattle.roff_lines.specs.Diverted.{diverted}
-use Rattle.roff_lines.specs.Glyphs.{gaps_in}
+use Rattle.roff_layout.specs.Columns.{added_columns, finished_of, printed}
+use Rattle.roff_layout.specs.Diverted.{diverted}
+use Rattle.roff_layout.specs.Glyphs.{gaps_in}
 use Rattle.roff_sinks.specs.DivertedBytes.{is_doubled}
 use Rattle.roff_sinks.proofs.DivertedLength.{counted_blanks, length-diverted}
 use Rattle.roff_sinks.proofs.diverted_bytes.diverted_len.Goals as goal

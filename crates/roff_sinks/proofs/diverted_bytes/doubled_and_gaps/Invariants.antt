@@ -1,5 +1,5 @@
 use Rattle.std.proofs.Common.{◌≡◌, ◌≤◌, count_by, take}
-use Rattle.roff_lines.specs.Glyphs.{gaps_in}
+use Rattle.roff_layout.specs.Glyphs.{gaps_in}
 use Rattle.roff_sinks.specs.DivertedBytes.{is_doubled}
 use Rattle.roff_sinks.proofs.diverted_bytes.doubled_and_gaps.Given as goal
 

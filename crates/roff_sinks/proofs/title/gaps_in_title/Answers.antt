@@ -1,10 +1,10 @@
 use Rattle.std.proofs.Common.{◌≡◌, ◌+◌, ◌-◌, List, ◌++◌, ℕ, slice_index_or, ap, ◌∙◌, arith}
 use Rattle.std.specs.Prelude.{if◌then◌else◌}
-use Rattle.roff_lines.specs.Glyphs.{text_width}
-use Rattle.roff_lines.specs.Columns.{spaces}
-use Rattle.roff_lines.specs.TitleColumns.{centre_column, right_column}
-use Rattle.roff_lines.specs.Words.{is_empty}
-use Rattle.roff_sinks.specs.Titles.{part_text}
+use Rattle.roff_layout.specs.Glyphs.{text_width}
+use Rattle.roff_layout.specs.Columns.{spaces}
+use Rattle.roff_layout.specs.TitleColumns.{centre_column, right_column}
+use Rattle.roff_layout.specs.Words.{is_empty}
+use Rattle.roff_layout.specs.Titles.{part_text}
 use Rattle.roff_sinks.specs.TitleParts.{blanks_before}
 use Rattle.roff_sinks.proofs.TitleParts.{is_empty-part, parts_at, title_assembled}
 use Rattle.roff_sinks.proofs.title.gaps_in_title.Goals as goal

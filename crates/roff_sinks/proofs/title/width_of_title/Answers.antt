@@ -1,8 +1,8 @@
 use Rattle.std.proofs.Common.{◌≡◌, ◌+◌, ◌∙◌, ℕ, List, false, true, arith, refl, sym}
-use Rattle.roff_lines.specs.Glyphs.{text_width}
-use Rattle.roff_lines.specs.TitleColumns.{centre_column, right_column}
-use Rattle.roff_lines.specs.Words.{is_empty}
-use Rattle.roff_sinks.specs.Titles.{part_text, parts_placed}
+use Rattle.roff_layout.specs.Glyphs.{text_width}
+use Rattle.roff_layout.specs.TitleColumns.{centre_column, right_column}
+use Rattle.roff_layout.specs.Words.{is_empty}
+use Rattle.roff_layout.specs.Titles.{part_text, parts_placed}
 use Rattle.roff_sinks.proofs.TitleParts.{is_empty-part, parts_at, width-placed}
 use Rattle.roff_sinks.proofs.title.width_of_title.Goals as goal
 

@@ -1,6 +1,6 @@
 use Rattle.std.proofs.Common.{◌≡◌, ℕ, List, length}
-use Rattle.roff_lines.specs.Glyphs.{text_width}
-use Rattle.roff_sinks.specs.Titles.{part_text}
+use Rattle.roff_layout.specs.Glyphs.{text_width}
+use Rattle.roff_layout.specs.Titles.{part_text}
 use Rattle.roff_sinks.proofs.title_part.is_plain.Given as goal
 
 abbrev pub invariant-loop-byte : goal.invariant-loop-byte

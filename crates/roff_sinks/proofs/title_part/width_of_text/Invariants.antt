@@ -1,5 +1,5 @@
 use Rattle.std.proofs.Common.{◌≡◌, ◌+◌, length}
-use Rattle.roff_lines.specs.Glyphs.{text_width}
+use Rattle.roff_layout.specs.Glyphs.{text_width}
 use Rattle.roff_sinks.proofs.title_part.width_of_text.Given as goal
 
 abbrev pub invariant-loop-byte : goal.invariant-loop-byte

@@ -1,6 +1,6 @@
 use Rattle.std.proofs.Common.{ap, ◌∙◌}
 use Rattle.std.proofs.lemmas.Result.{on_ok_weaker}
-use Rattle.roff_lines.specs.Stops.{way_to_stop}
+use Rattle.roff_layout.specs.TabStops.{way_to_stop}
 use Rattle.roff_lines.specs.Env.Kept.{Kept}
 use Rattle.roff_lines.proofs.Tabs.{StandsBehind-tab}
 use Rattle.roff_lines.proofs.env.Env.tab.Goals as goal

@@ -1,3 +1,6 @@
+use Rattle.std.proofs.lemmas.Grind.{common_steps}
+use Rattle.std.proofs.Common.{arith}
+use Rattle.std.proofs.lemmas.Int.{ints}
 use Rattle.roff_lines.proofs.Tells.{TellsFront-append}
 use Rattle.roff_lines.proofs.TextRuns.{TellsFront-blank, TellsFront-same, QuietlyTold-told, Stands-told, most_told}
 use Rattle.roff_lines.proofs.env.Env.text.Goals as goal
@@ -32,3 +35,9 @@ pub returns-clause-most : goal.returns-clause-most
 returns-clause-most c =
     most_told c.args.bytes.now c.loop-behind.rest.now c.args.self.now c.loop-behind.self c.loop-behind.invariant.told c.requires
     c.loop-behind.invariant.ends c.in_default.ensures.1
+
+pub loop-behind-smaller : goal.loop-behind-smaller
+loop-behind-smaller c = grind (ints, arith, common_steps)
+
+pub overflow_sub-result : goal.overflow_sub-result
+overflow_sub-result c = grind (ints, arith, common_steps)

@@ -1,5 +1,5 @@
 use Rattle.std.proofs.Common.{◌≡◌, ℕ, ◌-◌, true, false, List, [], rules, ap, ◌∙◌, arith}
-use Rattle.roff_lines.specs.Glyphs.{gaps_in}
+use Rattle.roff_layout.specs.Glyphs.{gaps_in}
 use Rattle.roff_lines.specs.Env.Kept.{with_words}
 use Rattle.roff_lines.proofs.WholeWords.{some-words, gaps-words, width-words, TellsFront-words}
 use Rattle.roff_lines.proofs.env.Env.words_in_front.Goals as goal

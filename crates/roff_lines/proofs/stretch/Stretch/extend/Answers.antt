@@ -1,6 +1,7 @@
 use Rattle.std.proofs.Common.{◌≡◌, ◌+◌, ◌++◌, rules, sym, ap, ◌∙◌}
 use Rattle.std.proofs.lemmas.List.Sums.{sum_by-append}
-use Rattle.roff_lines.specs.Glyphs.{byte_width, text_width, gaps_in}
+use Rattle.roff_num.specs.Widths.{byte_width}
+use Rattle.roff_layout.specs.Glyphs.{text_width, gaps_in}
 use Rattle.roff_lines.proofs.Widths.{gaps_in-append_above}
 use Rattle.roff_lines.proofs.stretch.Stretch.extend.Goals as goal
 

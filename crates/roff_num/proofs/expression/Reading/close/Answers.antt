@@ -39,3 +39,6 @@ returns-in-Parenthesis-clause-goes_on c = λ scale place.
     (rw (to_z-of_z w32 c.in-Ok.value fits) at (c.close_parenthesis.ensures.goes_on scale place))
     ∙ come_to-innermost c.args.text.now scale place c.args.self.now.frames.items c.pop.new.self.items c.in-Some.frame (32 - length c.pop.new.self.items)
     c.args.self.now.pending c.args.value c.in-Ok.value c.args.self.now.at before c.in-Some.ensures.items levels
+
+pub leave-requires : goal.leave-requires
+leave-requires c = omega (arith, ints)

@@ -1,6 +1,6 @@
 use Rattle.std.proofs.Common.{◌≡◌, ◌≤◌, None, ap, sym, ◌∙◌, arith}
 use Rattle.std.specs.Prelude.{if◌then◌else◌}
-use Rattle.roff_pages.specs.Springs.{first_met, is_passed}
+use Rattle.roff_layout.specs.Springs.{first_met, is_passed}
 use Rattle.roff_pages.specs.Pages.Kept.{Kept}
 use Rattle.roff_pages.proofs.NextStop.{next_stop-full}
 use Rattle.roff_pages.proofs.Standing.{turns_standing, turn_sprung, trap_sprung}

@@ -1,9 +1,9 @@
 use Rattle.std.proofs.Common.{◌≡◌, List, length, ap, ◌∙◌, subst, sym}
-use Rattle.roff_sinks.specs.Titles.{title_text}
+use Rattle.roff_layout.specs.Titles.{title_text}
 use Rattle.roff_sinks.specs.TitleLeft.{title_of}
-use Rattle.roff_pages.specs.Layout.{Box, Layout}
-use Rattle.roff_pages.specs.Happenings.{Happening, Titles}
-use Rattle.roff_pages.specs.Turning.{greatest_width}
+use Rattle.roff_layout.specs.Layout.{Box, Layout}
+use Rattle.roff_layout.specs.Happenings.{Happening, Titles}
+use Rattle.roff_layout.specs.Turning.{greatest_width}
 use Rattle.roff_pages.specs.Pages.Counted.{counted}
 use Rattle.roff_pages.specs.Pages.Kept.{Kept}
 use Rattle.roff_pages.specs.Pages.Stands.{StandsAs}

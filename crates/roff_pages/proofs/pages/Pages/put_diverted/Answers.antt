@@ -1,6 +1,6 @@
 use Rattle.std.proofs.Common.{◌≡◌, ◌∷◌, ◌∙◌, List, Option, ap, reverse, sym}
 use Rattle.roff_pages.specs.declared.open_diversion.OpenDiversion.{OpenDiversion}
-use Rattle.roff_pages.specs.Turning.{turned_if_full}
+use Rattle.roff_layout.specs.Turning.{turned_if_full}
 use Rattle.roff_pages.specs.Pages.Advancing.{sprung_or, with_diverted}
 use Rattle.roff_pages.specs.Pages.Kept.{Kept, open_diversions}
 use Rattle.roff_pages.proofs.Diverting.{diverted_standing, passed_kept}

@@ -1,5 +1,5 @@
 use Rattle.std.proofs.Common.{refl, ◌∙◌, ◌≡◌, ◌++◌, [], List, ℕ, append-nil, ap, replicate, subst}
-use Rattle.roff_lines.specs.Columns.{device_line, finished_of, printed}
+use Rattle.roff_layout.specs.Columns.{device_line, finished_of, printed}
 use Rattle.roff_sinks.specs.Sinks.{Fails, Puts}
 use Rattle.roff_sinks.proofs.Appending.{Fails-front, Puts-behind}
 use Rattle.roff_sinks.proofs.block.Block.put_in_parts.Goals as goal

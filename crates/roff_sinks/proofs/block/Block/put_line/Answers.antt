@@ -1,5 +1,5 @@
 use Rattle.std.proofs.Common.{◌≡◌, ◌++◌, ◌∷◌, [], List, ℕ, append_assoc, replicate, subst}
-use Rattle.roff_lines.specs.Columns.{device_line, finished_of, line_bytes, printed}
+use Rattle.roff_layout.specs.Columns.{device_line, finished_of, line_bytes, printed}
 use Rattle.roff_sinks.specs.Sinks.{Puts}
 use Rattle.roff_sinks.proofs.block.Block.put_line.Goals as goal
 

@@ -1,5 +1,5 @@
 use Rattle.std.proofs.Common.{◌≡◌, ◌<◌, ◌++◌, ℕ, List, ap, arith, length, replicate}
-use Rattle.roff_lines.specs.Columns.{device_line, finished_of, printed}
+use Rattle.roff_layout.specs.Columns.{device_line, finished_of, printed}
 use Rattle.roff_sinks.proofs.block.Block.put_line_within.Goals as goal
 
 pub returns-then-not-is_empty : goal.returns-then-not-is_empty

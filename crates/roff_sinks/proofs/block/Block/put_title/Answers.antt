@@ -1,9 +1,9 @@
 use Rattle.std.proofs.Common.{◌≡◌, ◌++◌, ◌∷◌, [], List, ℕ, append_assoc, append-nil, refl, sym, ap, subst, ◌∙◌, arith}
 use Rattle.std.proofs.lemmas.Result.{err_from_is_err_and, on_ok_weaker, on_err_weaker}
-use Rattle.roff_lines.specs.Columns.{spaces, trimmed}
+use Rattle.roff_layout.specs.Columns.{spaces, trimmed}
 use Rattle.roff_sinks.specs.Sinks.{Sunk, Fails, HoldsBack}
 use Rattle.roff_sinks.specs.TitleLeft.{title_of}
-use Rattle.roff_sinks.specs.Titles.{title_text}
+use Rattle.roff_layout.specs.Titles.{title_text}
 use Rattle.roff_sinks.proofs.Appending.{Fails-held, HoldsBack-keep, HoldsBack-more, HoldsBack-push, HoldsBack-put}
 use Rattle.roff_sinks.proofs.block.Block.put_title.Invariants.{Begun}
 use Rattle.roff_sinks.proofs.block.Block.put_title.Goals as goal

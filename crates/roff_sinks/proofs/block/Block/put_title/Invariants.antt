@@ -1,8 +1,8 @@
 use Rattle.std.proofs.Common.{◌≡◌, ◌≤◌, ◌++◌, ℕ, List, length, vec_capacity}
-use Rattle.roff_lines.specs.Columns.{spaces, trimmed}
+use Rattle.roff_layout.specs.Columns.{spaces, trimmed}
 use Rattle.roff_sinks.specs.Sinks.{Sunk, HoldsBack}
 use Rattle.roff_sinks.specs.TitleLeft.{title_of}
-use Rattle.roff_sinks.specs.Titles.{title_text}
+use Rattle.roff_layout.specs.Titles.{title_text}
 use Rattle.roff_sinks.proofs.block.Block.put_title.Given as goal
 
 -- a beginning of a title was written but its end, which is held back, and the rest is to come

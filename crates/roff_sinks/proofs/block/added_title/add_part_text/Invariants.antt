@@ -1,5 +1,5 @@
 use Rattle.std.proofs.Common.{◌≡◌, ◌≤◌, ◌++◌, length, vec_capacity}
-use Rattle.roff_sinks.specs.Titles.{part_text}
+use Rattle.roff_layout.specs.Titles.{part_text}
 use Rattle.roff_sinks.proofs.block.added_title.add_part_text.Given as goal
 
 abbrev pub invariant-loop-byte : goal.invariant-loop-byte

@@ -1,5 +1,5 @@
 use Rattle.std.proofs.Common.{◌≡◌, ◌≤◌, length, vec_capacity}
-use Rattle.roff_lines.specs.Columns.{trimmed}
+use Rattle.roff_layout.specs.Columns.{trimmed}
 use Rattle.roff_sinks.proofs.block.added_title.cut_blanks.Given as goal
 
 abbrev pub invariant-loop-last : goal.invariant-loop-last

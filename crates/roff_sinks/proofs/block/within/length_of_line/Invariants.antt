@@ -1,5 +1,5 @@
 use Rattle.std.proofs.Common.{◌≡◌, ◌+◌, ◌-◌, ◌≤◌, length}
-use Rattle.roff_lines.specs.Columns.{device_line, finished_of, printed}
+use Rattle.roff_layout.specs.Columns.{device_line, finished_of, printed}
 use Rattle.roff_sinks.proofs.block.within.length_of_line.Given as goal
 
 abbrev pub invariant-loop-byte : goal.invariant-loop-byte

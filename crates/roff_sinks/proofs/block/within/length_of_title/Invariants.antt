@@ -1,7 +1,7 @@
 use Rattle.std.proofs.Common.{◌≡◌, ◌+◌, ◌-◌, ◌≤◌, ◌++◌, length}
-use Rattle.roff_lines.specs.Columns.{spaces, trimmed}
+use Rattle.roff_layout.specs.Columns.{spaces, trimmed}
 use Rattle.roff_sinks.specs.TitleLeft.{title_of}
-use Rattle.roff_sinks.specs.Titles.{title_text}
+use Rattle.roff_layout.specs.Titles.{title_text}
 use Rattle.roff_sinks.proofs.block.within.length_of_title.Given as goal
 
 abbrev pub invariant-loop-piece : goal.invariant-loop-piece

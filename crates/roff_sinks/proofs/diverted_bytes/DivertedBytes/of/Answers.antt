@@ -1,6 +1,6 @@
 use Rattle.std.proofs.Common.{[], ◌∷◌, List, ℕ, ap, ◌∙◌}
-use Rattle.roff_lines.specs.Columns.{finished_of, printed}
-use Rattle.roff_lines.specs.Diverted.{escaped}
+use Rattle.roff_layout.specs.Columns.{finished_of, printed}
+use Rattle.roff_layout.specs.Diverted.{escaped}
 use Rattle.roff_sinks.proofs.Escaped.{escaped-append}
 use Rattle.roff_sinks.proofs.diverted_bytes.DivertedBytes.of.Goals as goal
 

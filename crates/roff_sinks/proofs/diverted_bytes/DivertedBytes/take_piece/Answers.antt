@@ -1,6 +1,6 @@
 use Rattle.std.proofs.Common.{◌≡◌, ℕ, ◌+◌, ◌-◌, ◌*◌, ◌/◌, ◌<◌, ◌≤◌, List, [], ◌∷◌, ◌++◌, length, sym, ap, ◌∙◌, arith, rules}
-use Rattle.roff_lines.specs.Columns.{spaces}
-use Rattle.roff_lines.specs.Diverted.{escaped}
+use Rattle.roff_layout.specs.Columns.{spaces}
+use Rattle.roff_layout.specs.Diverted.{escaped}
 use Rattle.roff_sinks.specs.DivertedBytes.{TakesEscaped}
 use Rattle.roff_sinks.proofs.Escaped.{escaped-append}
 use Rattle.roff_sinks.proofs.diverted_bytes.DivertedBytes.take_piece.Goals as goal

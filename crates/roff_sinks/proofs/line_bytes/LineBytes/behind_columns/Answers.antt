@@ -1,7 +1,7 @@
 use Rattle.std.proofs.Common.{◌≡◌, ℕ, ◌+◌, ◌*◌, List, [], ◌∷◌, ◌++◌, length, replicate, refl, sym, ap, ◌∙◌, append_assoc}
 use Rattle.std.specs.Prelude.{◌==◌, if◌then◌else◌}
 use Rattle.std.proofs.lemmas.List.{replicate-append-replicate}
-use Rattle.roff_lines.specs.Columns.{spaces, spread, trimmed}
+use Rattle.roff_layout.specs.Columns.{spaces, spread, trimmed}
 use Rattle.roff_sinks.specs.LineBytes.Fronts.{without_blanks}
 use Rattle.roff_sinks.specs.LineBytes.Shares.{shared_out}
 use Rattle.roff_sinks.proofs.Blanks.{line_bytes_of_front}

@@ -1,5 +1,5 @@
 use Rattle.std.proofs.Common.{[], ◌∷◌, replicate, ◌∙◌, append_assoc}
-use Rattle.roff_lines.specs.Columns.{finished_of, printed, trimmed}
+use Rattle.roff_layout.specs.Columns.{finished_of, printed, trimmed}
 use Rattle.roff_sinks.proofs.line_bytes.LineBytes.of.Goals as goal
 
 pub returns : goal.returns

@@ -1,6 +1,6 @@
 use Rattle.std.proofs.Common.{◌≡◌, ℕ, true, false, ◌+◌, List, ◌∷◌, ◌++◌, ap, ◌∙◌, arith, rules, append_assoc}
 use Rattle.std.proofs.lemmas.List.{replicate-append-replicate}
-use Rattle.roff_lines.specs.Columns.{spaces}
+use Rattle.roff_layout.specs.Columns.{spaces}
 use Rattle.roff_sinks.proofs.BlanksInFront.{as_many_blanks, all_blanks}
 use Rattle.roff_sinks.proofs.line_bytes.LineBytes.take_blanks.Goals as goal
 

@@ -1,5 +1,5 @@
 use Rattle.std.proofs.Common.{◌≡◌, ◌≤◌, ◌-◌, ◌++◌}
-use Rattle.roff_lines.specs.Columns.{spaces}
+use Rattle.roff_layout.specs.Columns.{spaces}
 use Rattle.roff_sinks.proofs.line_bytes.LineBytes.take_blanks.Given as goal
 
 abbrev pub invariant-loop-count : goal.invariant-loop-count

@@ -1,6 +1,6 @@
 use Rattle.std.proofs.Common.{◌≡◌, ℕ, false, List, [], ◌∷◌, take, replicate, refl, sym, ap, ◌∙◌, arith, ne_eqb}
 use Rattle.std.specs.Prelude.{◌==◌}
-use Rattle.roff_lines.specs.Diverted.{escaped}
+use Rattle.roff_layout.specs.Diverted.{escaped}
 use Rattle.roff_sinks.specs.LineBytes.Fronts.{blanks_in_front}
 use Rattle.roff_sinks.specs.LineBytes.Left.{spare_columns}
 use Rattle.roff_sinks.proofs.BlanksInFront.{first_byte}

@@ -1,6 +1,6 @@
 use Rattle.std.proofs.Common.{◌≡◌, ℕ, ◌+◌, ◌-◌, ◌≤◌, List, ◌++◌, replicate, sym, ap, ◌∙◌, arith, rules, append_assoc}
 use Rattle.std.proofs.lemmas.List.{replicate-append-replicate}
-use Rattle.roff_lines.specs.Columns.{spaces, spread}
+use Rattle.roff_layout.specs.Columns.{spaces, spread}
 use Rattle.roff_sinks.specs.LineBytes.Left.{spare_columns}
 use Rattle.roff_sinks.proofs.line_bytes.LineBytes.take_owed.Goals as goal
 

@@ -1,6 +1,6 @@
 use Rattle.std.proofs.Common.{◌≡◌, ℕ, ◌-◌, ◌≤◌, List, ◌++◌, length, take, ap, arith}
 use Rattle.std.proofs.lemmas.List.{drop_at, length-replicate, length-take}
-use Rattle.roff_lines.specs.Columns.{spaces}
+use Rattle.roff_layout.specs.Columns.{spaces}
 use Rattle.roff_lines.specs.GlyphsInFront.{glyphs_in_front}
 use Rattle.roff_sinks.specs.LineBytes.Fronts.{TakesPiece, blanks_in_front}
 use Rattle.roff_sinks.proofs.line_bytes.LineBytes.take_piece.Goals as goal

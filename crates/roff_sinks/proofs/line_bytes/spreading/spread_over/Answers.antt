@@ -1,5 +1,5 @@
 use Rattle.std.proofs.Common.{◌≡◌, ℕ, suc, ◌+◌, ◌*◌, ◌<◌, ◌≤◌, ◌++◌, ◌∷◌, List, length, drop, slice_index_or, refl, subst, ◌∙◌, arith}
-use Rattle.roff_lines.specs.Columns.{spaces, spread}
+use Rattle.roff_layout.specs.Columns.{spaces, spread}
 use Rattle.roff_sinks.proofs.SharedColumns.{over-behind}
 use Rattle.roff_sinks.proofs.SpreadsOver.{SpreadsOver-blanks, SpreadsOver-glyphs, spread-mark, spread-widened}
 use Rattle.roff_sinks.proofs.line_bytes.spreading.spread_over.Goals as goal

@@ -1,5 +1,5 @@
 use Rattle.std.proofs.Common.{◌≡◌, ◌+◌, ◌++◌, length, take}
-use Rattle.roff_lines.specs.Columns.{spaces}
+use Rattle.roff_layout.specs.Columns.{spaces}
 use Rattle.roff_sinks.proofs.line_bytes.spreading.write_blanks.Given as goal
 
 abbrev pub invariant-loop-written : goal.invariant-loop-written

@@ -1,5 +1,5 @@
 use Rattle.std.proofs.Common.{◌≡◌, ℕ, ◌+◌, ◌<◌, List, ◌++◌, length, sym, ap, ◌∙◌, arith, rules}
-use Rattle.roff_lines.specs.Columns.{spaces, trimmed}
+use Rattle.roff_layout.specs.Columns.{spaces, trimmed}
 use Rattle.roff_sinks.specs.TitleLeft.{part_left}
 use Rattle.roff_sinks.proofs.TitleParts.{all_blank, none_left, piece_behind, piece_last, piece_left}
 use Rattle.roff_sinks.proofs.title.TitlePieces.next_piece.Goals as goal

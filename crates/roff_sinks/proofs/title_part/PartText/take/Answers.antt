@@ -1,7 +1,7 @@
 use Rattle.std.proofs.Common.{◌≡◌, ℕ, ◌+◌, List, ◌∷◌, ◌++◌, length, drop, false, sym, ap, subst, ◌∙◌, arith, ne_eqb}
 use Rattle.std.specs.Prelude.{◌==◌}
-use Rattle.roff_lines.specs.Columns.{spaces}
-use Rattle.roff_sinks.specs.Titles.{page_mark}
+use Rattle.roff_layout.specs.Columns.{spaces}
+use Rattle.roff_layout.specs.Titles.{page_mark}
 use Rattle.roff_sinks.specs.TitleParts.{HasNoBlank}
 use Rattle.roff_sinks.proofs.TitleParts.{mark_printed, none_behind, run_taken, shown_no_blank, shown_printed, some_shown}
 use Rattle.roff_sinks.proofs.title_part.PartText.take.Goals as goal

@@ -1,0 +1,24 @@
+-- The width of the last finished line (manual, section 8: the register `.n`), in columns.
+use Rattle.std.specs.Prelude.{◌≡◌, ℕ, ◌+◌, List, [], ◌∷◌, length}
+use Rattle.roff_layout.specs.Glyphs.{text_width}
+use Rattle.roff_layout.specs.Events.{History}
+use Rattle.roff_layout.specs.Lines.{Finished}
+use Rattle.roff_layout.specs.Columns.{column_of}
+use Rattle.roff_layout.specs.Paragraphs.{finished_lines}
+
+-- the columns of a line's text, those that are spread over its gaps among them; not its lead
+abbrev pub line_width : Finished → ℕ
+line_width l = text_width l.text + l.spare
+
+-- the width of the newest of some lines, 0 where there is none
+abbrev pub newest_width : List Finished → ℕ
+newest_width [] = 0
+newest_width (line ∷ lines) = line_width line
+
+-- the width of the last line that a history finished
+abbrev pub last_width : History → ℕ
+last_width h = newest_width (finished_lines h)
+
+-- a line whose text ends so far behind its lead
+abbrev pub EndsAtWidth : Finished → Type 0
+EndsAtWidth line = column_of line (length line.text) ≡ line.lead + line_width line

@@ -1,0 +1,33 @@
+//! What happens to one environment.
+
+use crate::glyph::Glyph;
+use crate::settings::Param;
+
+/// What happens to one environment: a text is told to it as a list of these.
+///
+/// A word end stands before each gap, line end and break; where a word is open all the same, it
+/// stays open.
+#[derive(Clone, Copy)]
+pub enum Event {
+    /// A glyph joins the word that is open, or opens one.
+    Print(Glyph),
+    /// A tab joins the word as a glyph does. It moves to the next tab stop, or nowhere without one.
+    Tab,
+    /// The open word ends.
+    WordEnd,
+    /// So many blanks stand between words.
+    Gap(u32),
+    /// A line of the input ends.
+    LineEnd,
+    /// A text line of the input was read: one line less is to be centred. The line's end comes
+    /// before it.
+    Count,
+    /// The pending line is to be finished.
+    Break,
+    /// A line of the input is interrupted: the next text line goes on in the same word.
+    Interrupt,
+    /// A text line goes on with the line that was interrupted.
+    Resume,
+    /// A parameter changes.
+    Set(Param),
+}
