@@ -1,12 +1,15 @@
 //! Kinds of bytes, and runs of them.
 
-ghost use Rattle.std.specs.Prelude.{◌≡◌, ◌==◌, ◌≤◌, ◌<◌, ◌+◌, ◌^◌, count_by, drop, length, take};
-ghost use Rattle.std.specs.Prelude.{take_while};
-ghost use Rattle.std.specs.List.{list_all, prefix_len};
+ghost use Rattle.std.specs.Prelude.{◌≡◌, ◌==◌, ◌≤◌, ◌<◌, ◌+◌, ◌^◌, count_by, length, take};
+ghost use Rattle.std.specs.Prelude.{take_while, if◌then◌else◌};
+ghost use Rattle.std.specs.Int.{w64, trailing_zeros};
+ghost use Rattle.std.specs.List.{prefix_len};
+ghost use Rattle.std.specs.Simd.Lanes.{chunk};
 ghost use Rattle.roff_source.specs.Bytes.{is_argument_byte};
 ghost use Rattle.roff_source.specs.Bytes.{is_dropped, is_passed, is_silent, is_text_byte, newline};
 
 use memchr::{memchr, memchr2};
+use std::simd::prelude::*;
 
 /// Whether a byte stands in the input and prints nothing: STX, ETX, ENQ, ACK and BEL.
 pub fn is_silent(byte: u8) -> bool
@@ -40,6 +43,9 @@ pub fn passed_len(bytes: &[u8], within_block: bool) -> usize
 pub fn is_argument_byte(byte: u8) -> bool
     ensures { result ≡ is_argument_byte byte }
 {
+    if byte >= b' ' && byte < b'\\' {
+        return true;
+    }
     !(byte == b'\\' || (is_dropped(byte) || byte == b'\n'))
 }
 
@@ -51,13 +57,36 @@ fn is_text_byte(byte: u8) -> bool
     byte >= 32 && byte != 127 && byte != b'\\'
 }
 
+/// How many bytes are looked at in one step.
+const STEP: usize = 16;
+
 /// How many of these bytes are plain text, up to the first that is a control byte, DEL or a
-/// backslash.
+/// backslash. The last step is that of the last bytes, of which some may have been looked at.
 #[inline(always)]
 pub fn text_in_front(bytes: &[u8]) -> usize
     ensures { result ≡ length (take_while is_text_byte bytes.now) }
 {
-    let mut count = steps_in_front(bytes);
+    if bytes.len() < STEP {
+        return text_of_few(bytes);
+    }
+    let last = bytes.len() - STEP;
+    let mut start = 0;
+    while start < last {
+        let run = text_of_step(bytes, start);
+        if run < STEP {
+            return start + run;
+        }
+        start += STEP;
+    }
+    last + text_of_step(bytes, last)
+}
+
+/// The same of few bytes, byte by byte.
+#[inline(always)]
+fn text_of_few(bytes: &[u8]) -> usize
+    ensures { result ≡ length (take_while is_text_byte bytes.now) }
+{
+    let mut count = 0;
     while count < bytes.len() {
         if !is_text_byte(bytes[count]) {
             return count;
@@ -67,37 +96,28 @@ pub fn text_in_front(bytes: &[u8]) -> usize
     count
 }
 
-/// How many bytes are looked at in one step.
-const STEP: usize = 16;
-
-/// How many of these bytes are plain text, by whole steps alone.
+/// How many bytes of a step, from its first, are plain text.
 #[inline(always)]
-fn steps_in_front(bytes: &[u8]) -> usize
-    ensures few { result ≤ length bytes.now }
-    ensures text { result + prefix_len is_text_byte (drop result bytes.now)
-        ≡ prefix_len is_text_byte bytes.now }
+fn text_of_step(bytes: &[u8], start: usize) -> usize
+    requires { start + 16 ≤ length bytes.now }
+    ensures { result ≡ prefix_len is_text_byte (chunk start 16 bytes.now) }
 {
-    let mut count = 0;
-    while bytes.len() - count >= STEP {
-        if !is_text(&bytes[count..count + STEP]) {
-            return count;
-        }
-        count += STEP;
-    }
-    count
+    let step = u8x16::from_slice(&bytes[start..]);
+    let control = step.simd_lt(u8x16::splat(b' '));
+    let other = step.simd_eq(u8x16::splat(127)) | step.simd_eq(u8x16::splat(b'\\'));
+    first_set((control | other).to_bitmask())
 }
 
-/// Whether these bytes are all plain text. Each is looked at, so that the compiler takes many at
-/// once.
+/// The place of the lowest bit of a step's mask that is set, or behind the step where none is.
 #[inline(always)]
-fn is_text(bytes: &[u8]) -> bool
-    ensures { result ≡ list_all is_text_byte bytes.now }
+fn first_set(mask: u64) -> usize
+    ensures { result ≡ (if mask == 0 then 16 else trailing_zeros w64 mask) }
 {
-    let mut is = true;
-    for byte in bytes {
-        is &= is_text_byte(*byte);
+    if mask == 0 {
+        STEP
+    } else {
+        mask.trailing_zeros() as usize
     }
-    is
 }
 
 /// The first of these bytes, so many at most.

@@ -89,7 +89,7 @@ pub trait ByteSource {
 const BLOCK: usize = 4_096;
 
 /// Whether a reader may still be read.
-#[derive(Clone, Copy, Debug, PartialEq, Eq)]
+#[derive(Clone, Copy)]
 enum Reach {
     Open,
     Ended,
