@@ -72,6 +72,20 @@ module _ {E : Type 0} where
       let cut : Begins front bytes (length front) = begins front bytes (length front) same in
       same ∙ sym (ap (take (length front)) whole ∙ take-append-le (length front) bytes (leading behind) cut.among)
 
+  -- a byte of a text in front stands there alone
+  leading-first : (t : Texts) (items : List (Ahead (EventOrBody E))) (b : ℕ) → Some (ByteAhead b) ≡ first items → b ∷ [] ≡ take 1 (leading (with_bodies t items))
+  leading-first t [] b is = absurd (cc)
+  leading-first t (ByteAhead c ∷ items) b is = let same : b ≡ c = cc in ap (λ (n : ℕ). n ∷ []) same
+  leading-first t (FreeAhead c ∷ items) b is = absurd (cc)
+  leading-first t (EndAhead ∷ items) b is = absurd (cc)
+  leading-first t (ReturnAhead back ∷ items) b is = absurd (cc)
+  leading-first t (DoAhead event ∷ items) b is = absurd (cc)
+
+  pub leading-byte : (t : Texts) (full : Held (EventOrBody E)) (b : ℕ) (front : List ℕ) → Some (ByteAhead b) ≡ first full.ahead → front ≡ b ∷ []
+      → front ≡ take (length front) (leading (with_bodies t full.ahead))
+  leading-byte t full b front is alone =
+      subst (λ (bytes : List ℕ). bytes ≡ take (length bytes) (leading (with_bodies t full.ahead))) (sym alone) (leading-first t full.ahead b is)
+
   -- so many bytes in front of items
   drop-bytes : (bytes : List ℕ) (count : ℕ) (items : List (Ahead E)) → length bytes ≡ count → drop count (map ByteAhead bytes ++ items) ≡ items
   drop-bytes bytes count items is =

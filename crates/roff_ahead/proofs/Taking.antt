@@ -1,9 +1,11 @@
 -- The front item of what slots stand for.
-use Rattle.std.proofs.Common.{true, false, ◌≡◌, ◌<◌, ◌≤◌, ◌+◌, ◌-◌, ℕ, zero, suc, List, [], ◌∷◌, ◌++◌, length, length-append, take, get_or, refl, sym, ap, subst, ◌∙◌, arith}
+use Rattle.std.proofs.Common.{Bool, Some, true, false, ◌≡◌, ◌<◌, ◌≤◌, ◌+◌, ◌-◌, ℕ, zero, suc, List, [], ◌∷◌, ◌++◌, length, length-append, drop, take, get_or, refl, sym, ap, subst, ◌∙◌, arith}
 use Rattle.std.specs.Prelude.{replicate}
 use Rattle.std.proofs.lemmas.Bool.Decides.{nat_tests}
 use Rattle.std.proofs.lemmas.List.{take_more, take_all}
-use Rattle.roff_input.specs.Input.{Ahead, ByteAhead, EndAhead, first_but_ends}
+use Rattle.roff_input.specs.Input.{Ahead, ByteAhead, EndAhead, first, first_but_ends}
+use Rattle.roff_ahead.specs.declared.pushed_texts.Mark.{Mark}
+use Rattle.roff_ahead.specs.declared.pushed_texts.Mark.TheVariants.{Ends, Return, Free, Do}
 use Rattle.roff_ahead.specs.PushedTexts.Standing.{standing, items_of, is_byte_next, IsStacked}
 use Rattle.roff_ahead.specs.declared.pushed_texts.MarkAt.{MarkAt}
 use Rattle.roff_ahead.proofs.Standing.{standing-append, standing_mark}
@@ -13,6 +15,15 @@ pub last_split : (bytes : List ℕ) → 0 < length bytes → bytes ≡ take (len
 last_split bytes some =
     let last : length bytes - 1 < length bytes = omega (arith, some) in
     sym (take_all (length bytes - 1 + 1) bytes (omega (arith, some))) ∙ take_more bytes (length bytes - 1) 0 last
+
+-- what is left of some bytes without those before the last one
+drop-last : (bytes : List ℕ) → 0 < length bytes → drop (length bytes - 1) bytes ≡ get_or bytes (length bytes - 1) 0 ∷ []
+drop-last [] some = absurd (omega (arith, some))
+drop-last (b ∷ []) some = refl
+drop-last (b ∷ c ∷ bytes) some =
+    let rest = drop-last (c ∷ bytes) (omega arith) in
+    let one : length (b ∷ c ∷ bytes) - 1 ≡ suc (length (c ∷ bytes) - 1) = omega arith in
+    ap (λ (n : ℕ). drop n (b ∷ c ∷ bytes)) one ∙ rest ∙ ap (λ (n : ℕ). get_or (b ∷ c ∷ bytes) n 0 ∷ []) (sym one)
 
 module _ {E : Type 0} where
   -- a byte comes next: it is the last one of the stack
@@ -56,3 +67,27 @@ module _ {E : Type 0} where
       → first_but_ends (replicate n EndAhead ++ items) ≡ first_but_ends items
   first_but_ends-ends zero items = refl
   first_but_ends-ends (suc n) items = first_but_ends-ends n items
+
+  -- a mark stands for no byte
+  no_byte : (mark : Mark E) (items : List (Ahead E)) (b : ℕ) → Some (ByteAhead b) ≡ first (items_of mark ++ items) → ⊥
+  no_byte (Ends more) items b is = cc
+  no_byte (Return back) items b is = cc
+  no_byte (Free c) items b is = cc
+  no_byte (Do event) items b is = cc
+
+  -- the byte in front is the last one of the stack, which has some
+  front_byte-by : (next : Bool) (pushed_texts : List (MarkAt E)) (bytes : List ℕ) (b : ℕ) → is_byte_next pushed_texts bytes ≡ next → IsStacked pushed_texts (length bytes)
+      → Some (ByteAhead b) ≡ first (standing pushed_texts bytes) → (0 < length bytes) × (drop (length bytes - 1) bytes ≡ b ∷ [])
+  front_byte-by true pushed_texts bytes b next stacked is =
+      let some : 0 < length bytes = some_byte pushed_texts bytes next in
+      let last : ℕ = get_or bytes (length bytes - 1) 0 in
+      let found : Some (ByteAhead b) ≡ Some (ByteAhead last) = is ∙ ap (λ (items : List (Ahead E)). first items) (standing_last pushed_texts bytes next) in
+      let same : b ≡ last = cc in
+      (some, drop-last bytes some ∙ ap (λ (n : ℕ). n ∷ []) (sym same))
+  front_byte-by false [] bytes b next stacked is = absurd (cc)
+  front_byte-by false (slot ∷ pushed_texts) bytes b next stacked is =
+      absurd (no_byte slot.mark (standing pushed_texts bytes) b (is ∙ ap (λ (items : List (Ahead E)). first items) (standing_behind slot pushed_texts bytes next stacked)))
+
+  pub front_byte-last : (pushed_texts : List (MarkAt E)) (bytes : List ℕ) (b : ℕ) → IsStacked pushed_texts (length bytes)
+      → Some (ByteAhead b) ≡ first (standing pushed_texts bytes) → (0 < length bytes) × (drop (length bytes - 1) bytes ≡ b ∷ [])
+  front_byte-last pushed_texts bytes b stacked is = front_byte-by (is_byte_next pushed_texts bytes) pushed_texts bytes b refl stacked is

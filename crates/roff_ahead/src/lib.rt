@@ -1,4 +1,5 @@
-//! What stands ahead of the source: pushed texts, bodies, their ends, and events that were put back.
+//! What stands ahead of the source: pushed texts, bodies, their ends, and events that were put
+//! back.
 #![tactic(auto)]
 
 mod input_ahead;

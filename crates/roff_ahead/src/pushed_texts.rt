@@ -1,11 +1,12 @@
 //! What stands ahead of the source: pushed texts, events put back, and bytes in front again.
 
 ghost use Rattle.std.specs.Prelude.{false, true, ◌≡◌, ◌+◌, ◌<◌, ◌≤◌, ◌^◌, [], ◌∷◌, ◌++◌, map, reverse};
-ghost use Rattle.std.specs.Prelude.{length, IfOk, option_map, vec_len, vec_capacity};
+ghost use Rattle.std.specs.Prelude.{length, IfOk, Some, option_map, vec_len, vec_capacity, ℕ};
 ghost use Rattle.roff_ahead.specs.PushedTexts.Held.{most_marks, most_used};
 ghost use Rattle.roff_ahead.specs.PushedTexts.Standing.{standing, items_of, item_of, is_byte_next};
 ghost use Rattle.roff_ahead.specs.PushedTexts.Standing.{IsStacked};
-ghost use Rattle.roff_input.specs.Input.{is_none_ahead, first, first_but_ends, ByteAhead, FreeAhead};
+ghost use Rattle.roff_input.specs.Input.{is_none_ahead, first, first_but_ends, ByteAhead};
+ghost use Rattle.roff_input.specs.Input.{FreeAhead};
 ghost use Rattle.roff_input.specs.Input.{EndAhead, ReturnAhead, DoAhead, bytes_ahead, ends_ahead};
 ghost use Rattle.roff_input.specs.Input.{events_ahead, frees_ahead, most_frees};
 
@@ -213,8 +214,29 @@ impl<E: Copy> PushedTexts<E> {
         }
     }
 
+    /// The byte of a text that is in front, alone, where one is.
+    #[inline(always)]
+    pub fn front_byte(&self) -> &[u8]
+        ensures { (b : ℕ) → Some (ByteAhead b) ≡ first self.now.ahead → result.now ≡ b ∷ [] }
+    {
+        let bytes = self.bytes.as_slice();
+        if bytes.is_empty() {
+            return &[];
+        }
+        &bytes[bytes.len() - 1..]
+    }
+
     /// Takes the front item.
     pub fn take(&mut self) -> PushedItem<E>
+        requires { is_none_ahead self.old.ahead ≡ false }
+        ensures { self.old ≡ record self.new { ahead = item_of result ∷ self.new.ahead } }
+    {
+        self.take_known()
+    }
+
+    /// The same where the caller knows what it is: that is put into place, and nothing is asked twice.
+    #[inline(always)]
+    pub fn take_known(&mut self) -> PushedItem<E>
         requires { is_none_ahead self.old.ahead ≡ false }
         ensures { self.old ≡ record self.new { ahead = item_of result ∷ self.new.ahead } }
     {
@@ -268,6 +290,7 @@ fn is_byte_next<E>(pushed_texts: &[MarkAt<E>], bytes: &[u8]) -> bool
 }
 
 /// Takes the first item of the mark in front.
+#[inline(always)]
 fn take_mark<E>(pushed_texts: &mut Vec<MarkAt<E>>, bytes: &[u8]) -> PushedItem<E>
     requires some { 0 < vec_len pushed_texts.old }
     requires mark { is_byte_next (reverse pushed_texts.old.items) bytes.now ≡ false }

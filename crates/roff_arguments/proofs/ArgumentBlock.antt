@@ -5,13 +5,13 @@ use Rattle.std.proofs.Math.Seq.{drop-length}
 use Rattle.std.proofs.lemmas.Bool.{cases_Bool, ltb-true}
 use Rattle.std.proofs.lemmas.Bool.Decides.{nat_tests}
 use Rattle.std.proofs.lemmas.List.{drop-append-le, drop_all, length-reverse, reverse-reverse, reverse-append}
-use Rattle.roff_arguments.specs.Arguments.{Arguments, with_byte, with_whole, total_length, held, has_byte, kept_by_place, kept, only_kept}
+use Rattle.roff_input.specs.Arguments.{Arguments, with_byte, with_whole, total_length, held, has_byte, kept_by_place, kept, only_kept}
 use Rattle.roff_arguments.specs.ArgumentTexts.Ends.{texts_ending, last_end, is_kept, EndWithin}
-use Rattle.roff_arguments.specs.declared.arguments.Place.{Place}
-use Rattle.roff_arguments.specs.declared.arguments.Place.TheVariants.{Between}
+use Rattle.roff_input.specs.declared.place.Place.{Place}
+use Rattle.roff_input.specs.declared.place.Place.TheVariants.{Between}
 use Rattle.roff_arguments.proofs.Ends.{EndWithin-last, last_end-append, texts_ending-append_block, texts_ending-append, slice_range-rest, length-texts_ending, total_length-texts_ending}
-use Rattle.roff_arguments.proofs.KeptArguments.{reverse-cons, total_length-reverse}
-use Rattle.roff_arguments.proofs.KeptTexts.{zero-nat_lt, nat_lt-zero, suc-nat_lt, if_kept, kept_behind-append, length-kept_behind}
+use Rattle.roff_input.proofs.KeptArguments.{reverse-cons, total_length-reverse}
+use Rattle.roff_input.proofs.KeptTexts.{zero-nat_lt, nat_lt-zero, suc-nat_lt, if_kept, kept_behind-append, length-kept_behind}
 
 -- arguments in order
 abbrev pub arguments_of : List (List ℕ) → List ℕ → Place → Arguments

@@ -1,8 +1,8 @@
 -- Arguments of calls, stacked in one block.
-use Rattle.std.proofs.Common.{◌≡◌, ℕ, ◌+◌, ◌*◌, ◌≤◌, List, [], ◌∷◌, ◌++◌, length, length-append, length-drop, take, drop, suc, refl, sym, ap, arith}
+use Rattle.std.proofs.Common.{◌≡◌, ℕ, ◌+◌, ◌*◌, ◌≤◌, List, [], ◌∷◌, ◌++◌, append-nil, length, length-append, length-drop, take, drop, suc, refl, sym, subst, ap, arith}
 use Rattle.std.proofs.lemmas.List.{take_at, drop_at, length-take-le}
-use Rattle.roff_arguments.specs.Arguments.{total_length}
-use Rattle.roff_arguments.specs.Arguments.{live_bytes}
+use Rattle.roff_input.specs.Arguments.{total_length}
+use Rattle.roff_input.specs.Arguments.{live_bytes}
 use Rattle.roff_arguments.specs.ArgumentTexts.Ends.{texts_ending, EndWithin}
 use Rattle.roff_arguments.specs.Calls.Kept.{calls_in, IsOnTop, AreStacked}
 use Rattle.roff_arguments.specs.declared.calls.CallStart.{CallStart}
@@ -67,3 +67,11 @@ module _ (start : CallStart) (bytes ends block more : List ℕ) (byte : length b
       let others : AreStacked below (take start.byte (bytes ++ block)) (take start.end (ends ++ more)) =
       rw (take_at bytes block start.byte byte, take_at ends more start.end end) stacked in
       (IsOnTop-push within full few, others)
+
+-- none do so too
+pub AreStacked-none : (start : CallStart) (bytes ends : List ℕ) → length bytes ≡ start.byte → length ends ≡ start.end → (below : List CallStart)
+    → AreStacked below bytes ends → AreStacked (start ∷ below) bytes ends
+AreStacked-none start bytes ends byte end below stacked =
+    subst (λ (all : List ℕ). AreStacked (start ∷ below) all ends) (append-nil bytes)
+    (subst (λ (all : List ℕ). AreStacked (start ∷ below) (bytes ++ []) all) (append-nil ends)
+    (AreStacked-push start bytes ends [] [] byte end below (omega arith) refl (omega arith) stacked))

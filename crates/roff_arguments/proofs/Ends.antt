@@ -3,7 +3,7 @@ use Rattle.std.proofs.Common.{◌≡◌, ℕ, ◌+◌, ◌-◌, ◌≤◌, List,
 use Rattle.std.specs.Prelude.{slice_get, Some, None}
 use Rattle.std.specs.List.{slice_range}
 use Rattle.std.proofs.lemmas.List.{take-append-le, drop-append-le, take-append-drop, take_rest, length-take-le}
-use Rattle.roff_arguments.specs.Arguments.{total_length}
+use Rattle.roff_input.specs.Arguments.{total_length}
 use Rattle.roff_arguments.specs.ArgumentTexts.Ends.{texts_ending, last_end, EndWithin}
 
 -- the first begins within the block, and so does what lies behind the last

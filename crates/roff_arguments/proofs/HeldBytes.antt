@@ -2,10 +2,11 @@
 use Rattle.std.proofs.Common.{◌≡◌, ℕ, suc, ◌+◌, ◌≤◌, ◌<◌, Bool, true, false, if◌then◌else◌, List, [], ◌∷◌, ◌++◌, length, take, get_or, Option, refl, sym, ap, subst, ◌∙◌, arith}
 use Rattle.std.specs.List.{AllByRecursion}
 use Rattle.std.proofs.Math.Seq.{take-suc}
-use Rattle.roff_arguments.specs.Arguments.{AreFewer, Arguments, HeldFewer, bytes_held, held, only_kept, with_argument_byte}
+use Rattle.roff_input.specs.Arguments.{AreFewer, Arguments, HeldFewer, bytes_held, held, only_kept, with_argument_byte}
 use Rattle.roff_source.specs.Bytes.{is_argument_byte}
-use Rattle.roff_arguments.specs.ArgumentTexts.Kept.{KeptArguments, TakesFront, is_held, keeping}
-use Rattle.roff_arguments.proofs.KeptArguments.{held-only_kept, held-with_argument_byte}
+use Rattle.roff_arguments.specs.ArgumentTexts.Kept.{KeptArguments, TakesFront, keeping}
+use Rattle.roff_input.specs.Arguments.{is_held}
+use Rattle.roff_input.proofs.KeptArguments.{held-only_kept, held-with_argument_byte}
 
 -- of each byte one more is held at the most
 one_at_most : (holds : Bool) → (if holds then 1 else 0) ≤ 1

@@ -1,6 +1,4 @@
-pub mod KeptTexts
-pub mod KeptArguments
-pub mod Settling
+pub mod Keeping
 pub mod Ends
 pub mod ArgumentBlock
 pub mod CallStack

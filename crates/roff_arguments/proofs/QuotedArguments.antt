@@ -5,10 +5,10 @@ use Rattle.std.specs.List.{flat_map}
 use Rattle.std.proofs.lemmas.Bool.{eqb-true}
 use Rattle.std.proofs.lemmas.List.{append-nil, reverse-reverse, reverse-append}
 use Rattle.std.proofs.lemmas.List.Sums.{fold-append}
-use Rattle.roff_arguments.specs.Arguments.{Arguments, with_argument_byte, arguments_read}
+use Rattle.roff_input.specs.Arguments.{Arguments, with_argument_byte, arguments_read}
 use Rattle.roff_source.specs.Bytes.{blank, quote}
 use Rattle.roff_arguments.specs.Quoting.{quoted_byte, quoted, quoted_line, QuotedArgumentsReadBack}
-use Rattle.roff_arguments.specs.declared.arguments.Place.TheVariants.{Between, InQuotes, BehindQuote}
+use Rattle.roff_input.specs.declared.place.Place.TheVariants.{Between, InQuotes, BehindQuote}
 
 -- the arguments behind some bytes
 abbrev behind : Arguments → List ℕ → Arguments

@@ -1,4 +1,3 @@
-pub mod Arguments
 pub mod ArgumentTexts
 pub mod ArgumentList
 pub mod Quoting

@@ -1,7 +1,7 @@
 -- Arguments written in quotes, as the end of a control line from which they are read again (manual, section 7.3).
 use Rattle.std.specs.Prelude.{◌≡◌, ℕ, List, [], ◌∷◌, ◌++◌, map, fold, if◌then◌else◌, ◌==◌}
 use Rattle.std.specs.List.{flat_map, join_with_byte}
-use Rattle.roff_arguments.specs.Arguments.{no_arguments, with_argument_byte, arguments_read}
+use Rattle.roff_input.specs.Arguments.{no_arguments, with_argument_byte, arguments_read}
 use Rattle.roff_source.specs.Bytes.{blank, quote}
 
 -- a byte within quotes: a quote is written twice

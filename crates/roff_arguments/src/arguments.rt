@@ -1,35 +1,24 @@
 //! The arguments of a control line, held while they are read.
 
 ghost use Rattle.std.specs.Prelude.{◌≡◌, ℕ, ◌+◌, ◌<◌, ◌≤◌, ◌∷◌, ◌++◌, length, reverse, slice_get};
-ghost use Rattle.std.specs.Prelude.{IfOk, ◌==◌, true};
+ghost use Rattle.std.specs.Prelude.{IfOk, ◌==◌, false, true};
 ghost use Rattle.std.specs.Option.{option_copied};
-ghost use Rattle.roff_arguments.specs.Arguments.{AreFewer, Arguments, no_arguments, with_unit};
-ghost use Rattle.roff_arguments.specs.Arguments.{is_behind_quote, with_argument_byte, with_kept};
-ghost use Rattle.roff_arguments.specs.Arguments.{with_plain, with_byte, with_whole, settled};
-ghost use Rattle.roff_arguments.specs.Arguments.{finished, held, kept, in_argument, total_length};
+ghost use Rattle.roff_input.specs.Arguments.{AreFewer, Arguments, no_arguments, with_unit};
+ghost use Rattle.roff_input.specs.Arguments.{is_behind_quote, with_argument_byte, with_kept};
+ghost use Rattle.roff_input.specs.Arguments.{with_plain, with_byte, with_whole, settled};
+ghost use Rattle.roff_input.specs.Arguments.{finished, held, is_held, kept, in_argument};
+ghost use Rattle.roff_input.specs.Arguments.{total_length};
 ghost use Rattle.roff_arguments.specs.ArgumentTexts.Ends.{is_kept, last_end, EndWithin};
 ghost use Rattle.roff_arguments.specs.ArgumentTexts.Ends.{EndWithin-prop, texts_ending};
 
 use roff_escape::CopyUnit;
+use roff_input::Place;
 use roff_source::is_argument_byte;
 use std::alloc::{AllocError, Global};
 use std::marker::Model;
 
 /// How many arguments are kept though they may have no byte.
 const KEPT_BY_PLACE: usize = 32;
-
-/// Where the reading of arguments stands.
-#[derive(Clone, Copy, Debug, PartialEq, Eq)]
-pub enum Place {
-    /// Between arguments.
-    Between,
-    /// In one.
-    InPlain,
-    /// In one, within quotes.
-    InQuotes,
-    /// Behind a quote there, which ends the argument unless another quote follows.
-    BehindQuote,
-}
 
 /// The arguments of a control line as far as it is read, one after another in one block.
 ///
@@ -45,7 +34,7 @@ pub struct ArgumentTexts {
 }
 
 /// The arguments of a control line, in order.
-#[derive(Clone, Copy, Debug)]
+#[derive(Clone, Copy)]
 pub struct ArgumentList<'a> {
     bytes: &'a [u8],
     ends: &'a [u32],
@@ -62,34 +51,9 @@ impl Model for ArgumentTexts {
     ghost invariant = { IsSound };
 }
 
-impl Place {
-    ghost use Rattle.roff_arguments.specs.ArgumentTexts.Kept.{is_held};
-
-    /// Whether a byte of the line is one of an argument; else it separates arguments, or quotes.
-    fn holds(self, byte: u8) -> bool
-        ensures { result ≡ is_held self byte }
-    {
-        match self {
-            Place::Between => byte != b' ' && byte != b'"',
-            Place::InQuotes => byte != b'"',
-            Place::InPlain | Place::BehindQuote => byte != b' ',
-        }
-    }
-
-    /// Where the reading stands once a byte has begun an argument, if none was begun.
-    fn in_argument(self) -> Place
-        ensures { result ≡ in_argument self }
-    {
-        match self {
-            Place::Between => Place::InPlain,
-            place => place,
-        }
-    }
-}
-
 impl ArgumentTexts {
     ghost use Rattle.roff_arguments.specs.ArgumentTexts.Kept.{KeptArguments, keeping, Keeps};
-    ghost use Rattle.roff_arguments.specs.ArgumentTexts.Kept.{TakesFront};
+    ghost use Rattle.roff_arguments.specs.ArgumentTexts.Kept.{StopsAt, TakesFront};
     ghost use Rattle.roff_arguments.specs.ArgumentList.{listed};
 
     /// No argument, with room for so many bytes.
@@ -131,7 +95,7 @@ impl ArgumentTexts {
             → held (with_unit a unit) ≡ held a + result }
     {
         match unit {
-            CopyUnit::Byte(byte) if self.place.holds(byte) => 1,
+            CopyUnit::Byte(byte) if is_in_argument(self.place, byte) => 1,
             CopyUnit::Byte(_) => 0,
             CopyUnit::Kept(_) => 2,
         }
@@ -154,7 +118,8 @@ impl ArgumentTexts {
     #[inline(always)]
     pub fn take_front(&mut self, bytes: &[u8], most: Option<usize>) -> usize
         requires { held self.old.arguments + length bytes.now ≤ self.old.room }
-        ensures { TakesFront most bytes.now result self.old self.new }
+        ensures takes { TakesFront most bytes.now result self.old self.new }
+        ensures stops { StopsAt most bytes.now result self.new.arguments }
     {
         let mut count = 0;
         while count < bytes.len() {
@@ -174,7 +139,8 @@ impl ArgumentTexts {
     /// Whether fewer than so many arguments are whole, where there is a bound.
     #[inline(always)]
     fn are_fewer(&self, most: Option<usize>) -> bool
-        ensures { result ≡ true → AreFewer most self.now.arguments }
+        ensures fewer { result ≡ true → AreFewer most self.now.arguments }
+        ensures as_many { result ≡ false → AreFewer most self.now.arguments → ⊥ }
     {
         match most {
             None => true,
@@ -273,7 +239,7 @@ impl ArgumentTexts {
         ensures { self.new ≡ keeping self.old (with_kept self.old.arguments byte) }
     {
         self.settle();
-        let place = self.place.in_argument();
+        let place = in_argument(self.place);
         self.push(b'\\', place);
         self.push(byte, place);
     }
@@ -379,5 +345,27 @@ fn last_end(ends: &[u32]) -> u32
     match ends.last() {
         Some(end) => *end,
         None => 0,
+    }
+}
+
+/// Whether a byte of the line is one of an argument, by where the reading stands; else it separates
+/// arguments, or quotes.
+fn is_in_argument(place: Place, byte: u8) -> bool
+    ensures { result ≡ is_held place byte }
+{
+    match place {
+        Place::Between => byte != b' ' && byte != b'"',
+        Place::InQuotes => byte != b'"',
+        Place::InPlain | Place::BehindQuote => byte != b' ',
+    }
+}
+
+/// Where the reading stands once a byte has begun an argument, if none was begun.
+fn in_argument(place: Place) -> Place
+    ensures { result ≡ in_argument place }
+{
+    match place {
+        Place::Between => Place::InPlain,
+        place => place,
     }
 }

@@ -1,9 +1,9 @@
 //! The arguments of the bodies that lines called and that haven't ended.
 
 ghost use Rattle.std.specs.Prelude.{◌≡◌, ◌+◌, ◌<◌, ◌≤◌, ◌∷◌, [], drop, length, IfOk};
-ghost use Rattle.roff_arguments.specs.Arguments.{total_length};
+ghost use Rattle.roff_input.specs.Arguments.{total_length};
 ghost use Rattle.roff_arguments.specs.ArgumentList.{listed};
-ghost use Rattle.roff_arguments.specs.Arguments.{live_bytes};
+ghost use Rattle.roff_input.specs.Arguments.{live_bytes};
 
 use crate::arguments::ArgumentList;
 use std::alloc::{AllocError, Global};
@@ -93,6 +93,9 @@ impl Calls {
             byte: self.bytes.len(),
             end: self.ends.len(),
         });
+        if arguments.is_empty() {
+            return;
+        }
         self.bytes.extend_from_slice(arguments.block()).unwrap();
         self.ends.extend_from_slice(arguments.ends()).unwrap();
     }

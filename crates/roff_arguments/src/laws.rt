@@ -1,8 +1,8 @@
 //! Facts about the definitions alone, as contracts of functions that do nothing.
 
 ghost use Rattle.std.specs.Prelude.{◌≡◌};
-ghost use Rattle.roff_arguments.specs.Arguments.{Arguments, FirstArgumentsAreKept, finished, held};
-ghost use Rattle.roff_arguments.specs.Arguments.{only_kept, settled, with_unit};
+ghost use Rattle.roff_input.specs.Arguments.{Arguments, FirstArgumentsAreKept, finished, held};
+ghost use Rattle.roff_input.specs.Arguments.{only_kept, settled, with_unit};
 ghost use Rattle.roff_arguments.specs.Quoting.{QuotedArgumentsReadBack};
 ghost use Rattle.roff_escape.specs.declared.open_escape.CopyUnit.{CopyUnit};
 

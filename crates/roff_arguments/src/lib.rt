@@ -5,5 +5,5 @@ mod arguments;
 mod calls;
 pub mod laws;
 
-pub use arguments::{ArgumentList, ArgumentTexts, Place, bytes_of};
+pub use arguments::{ArgumentList, ArgumentTexts, bytes_of};
 pub use calls::Calls;

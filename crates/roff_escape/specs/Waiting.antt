@@ -3,11 +3,15 @@
 -- What an escape puts in front is read as if it stood there, and its end is no byte of it. So what waits for a byte sees the first
 -- one behind any ends of texts before it takes one of these: if that byte stays, what waits ends before it, and else the item in
 -- front is taken.
-use Rattle.std.specs.Prelude.{ℕ, Bool, true, false, ◌&&◌, ◌||◌, not, List, [], ◌∷◌, Option, Some, None, if◌then◌else◌}
+use Rattle.std.specs.Prelude.{ℕ, pos, Bool, true, false, ◌&&◌, ◌||◌, not, List, [], ◌∷◌, Option, Some, None, is_ok, if◌then◌else◌}
+use Rattle.roff_num.specs.Expressions.{value_at}
+use Rattle.roff_num.specs.declared.num.Scale.TheVariants.{Units}
 use Rattle.roff_source.specs.Bytes.{is_digit, is_dropped}
 use Rattle.roff_escape.specs.Conditions.{ends_at_backslash, is_decided, ends_at_newline, ends_condition, is_read_in_arguments}
 use Rattle.roff_escape.specs.OpenEscape.{OpenEscape, Backslash, Comment, Name, Size, Delimited, Width, Condition}
 use Rattle.roff_escape.specs.OpenEscapes.{is_sign, reads_text, surroundings}
+use Rattle.roff_escape.specs.declared.open_escape.ConditionPart.TheVariants.{Expression, Decided}
+use Rattle.roff_escape.specs.declared.open_escape.Decision.TheVariants.{Is}
 use Rattle.roff_escape.specs.declared.open_escape.SizePart.{SizePart}
 use Rattle.roff_escape.specs.declared.open_escape.SizePart.TheVariants.{Nothing as NoSize, Sign, Digit}
 use Rattle.roff_escape.specs.declared.open_escape.Surroundings.{Surroundings}
@@ -59,3 +63,13 @@ is_ended_by (Size part ∷ rest) seen = ends_size part seen
 is_ended_by (Delimited purpose d text ∷ rest) seen = ends_at_newline seen
 is_ended_by (Width d width is_deep ∷ rest) seen = ends_at_newline seen
 is_ended_by (Condition part text ∷ rest) seen = ends_condition part seen
+
+-- whether the condition on top is an expression that is a number
+abbrev pub is_number_on_top : List OpenEscape → Bool
+is_number_on_top (Condition (Expression negated) text ∷ rest) = is_ok (value_at text 0 Units (Some (pos 0)))
+is_number_on_top (_) = false
+
+-- whether the condition on top is so, if it is read and asks nothing more, and no byte ended it that may be the first of what follows
+abbrev pub decided_on_top : List OpenEscape → Option Bool
+decided_on_top (Condition (Decided (Is so) None) text ∷ rest) = Some so
+decided_on_top (_) = None

@@ -6,7 +6,7 @@ ghost use Rattle.roff_escape.specs.Characters.{character};
 ghost use Rattle.roff_escape.specs.Characters.Coded.{bytes_of};
 
 /// The bytes that a character prints.
-#[derive(Clone, Copy, Debug, PartialEq, Eq)]
+#[derive(Clone, Copy)]
 enum Text {
     One([u8; 1]),
     Two([u8; 2]),
@@ -15,7 +15,7 @@ enum Text {
 }
 
 /// A row of the table: a character.
-#[derive(Clone, Copy, Debug, PartialEq, Eq)]
+#[derive(Clone, Copy)]
 struct Row {
     /// Its name.
     name: [u8; 2],

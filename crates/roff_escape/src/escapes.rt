@@ -7,7 +7,7 @@ ghost use Rattle.roff_escape.specs.Escapes.{escape_of, is_copied};
 use roff_num::Direction;
 
 /// What an escape is, by the byte behind its backslash.
-#[derive(Clone, Copy, Debug, PartialEq, Eq)]
+#[derive(Clone, Copy)]
 pub enum Escape {
     /// It prints a byte.
     Prints(u8),
@@ -38,7 +38,7 @@ pub enum Escape {
 }
 
 /// What the text between two delimiters behind an escape is for.
-#[derive(Clone, Copy, Debug, PartialEq, Eq)]
+#[derive(Clone, Copy)]
 pub enum TextUse {
     /// The length of a motion along the line.
     Motion,
@@ -47,7 +47,7 @@ pub enum TextUse {
 }
 
 /// What the name behind an escape is for.
-#[derive(Clone, Copy, Debug, PartialEq, Eq)]
+#[derive(Clone, Copy)]
 pub enum NameUse {
     /// A register is read, and stepped first if there is a direction.
     Register(Option<Direction>),
@@ -64,7 +64,7 @@ pub enum NameUse {
 }
 
 /// What is known of a byte behind a backslash.
-#[derive(Clone, Copy, Debug, PartialEq, Eq)]
+#[derive(Clone, Copy)]
 pub(crate) struct Row {
     /// The byte.
     pub(crate) byte: u8,

@@ -7,7 +7,7 @@ use crate::escapes::{NameUse, TextUse};
 use roff_num::Name;
 
 /// A unit of copy mode.
-#[derive(Clone, Copy, Debug, PartialEq, Eq)]
+#[derive(Clone, Copy)]
 pub enum CopyUnit {
     /// A byte.
     Byte(u8),
@@ -16,7 +16,7 @@ pub enum CopyUnit {
 }
 
 /// How much of a name is read.
-#[derive(Clone, Copy, Debug, PartialEq, Eq)]
+#[derive(Clone, Copy)]
 pub enum NamePart {
     /// Nothing of it: the next unit is the name.
     Nothing,
@@ -27,7 +27,7 @@ pub enum NamePart {
 }
 
 /// How much of a size is read.
-#[derive(Clone, Copy, Debug, PartialEq, Eq)]
+#[derive(Clone, Copy)]
 pub enum SizePart {
     /// Nothing of it: a sign or a digit may follow.
     Nothing,
@@ -38,7 +38,7 @@ pub enum SizePart {
 }
 
 /// How much of a condition is read.
-#[derive(Clone, Copy, Debug, PartialEq, Eq)]
+#[derive(Clone, Copy)]
 pub enum ConditionPart {
     /// Nothing but blanks and a `!`: the next byte says what is asked.
     Choice {
@@ -69,7 +69,7 @@ pub enum ConditionPart {
 }
 
 /// What a condition was found to ask.
-#[derive(Clone, Copy, Debug, PartialEq, Eq)]
+#[derive(Clone, Copy)]
 pub enum Decision {
     /// It is so, or isn't.
     Is(bool),
@@ -78,7 +78,7 @@ pub enum Decision {
 }
 
 /// How the byte behind a backslash is read.
-#[derive(Clone, Copy, Debug, PartialEq, Eq)]
+#[derive(Clone, Copy, PartialEq, Eq)]
 pub enum Surroundings {
     /// As in a text line: every escape is one. This is the place on the line, in basic units.
     Text(i32),
@@ -109,7 +109,7 @@ impl Surroundings {
 }
 
 /// What something that is read does at the next item.
-#[derive(Clone, Copy, Debug, PartialEq, Eq)]
+#[derive(Clone, Copy)]
 pub enum Waiting {
     /// It takes the item in front, whatever that is.
     Takes,
@@ -120,7 +120,7 @@ pub enum Waiting {
 }
 
 /// Something that is half read. The texts stand behind each other in one block.
-#[derive(Clone, Copy, Debug, Default, PartialEq, Eq)]
+#[derive(Clone, Copy, Default)]
 pub(crate) enum HeldEscape {
     /// A backslash: the byte behind it comes next.
     #[default]

@@ -1,2 +1,5 @@
+pub mod KeptTexts
+pub mod KeptArguments
+pub mod Settling
 pub mod Counts
 pub mod FewEvents

@@ -13,7 +13,7 @@ use Rattle.roff_escape.specs.declared.open_escape.ConditionPart.TheVariants.{Cho
 use Rattle.roff_escape.specs.declared.open_escape.CopyUnit.{CopyUnit}
 use Rattle.roff_store.specs.Named.{Named}
 use Rattle.roff_store.specs.Texts.{Entry}
-use Rattle.roff_arguments.specs.Arguments.{Arguments, no_arguments, only_kept, held, with_plain, live_bytes}
+use Rattle.roff_input.specs.Arguments.{Arguments, no_arguments, only_kept, held, with_plain, live_bytes}
 
 -- an item ahead of the source
 pub data Ahead (E : Type 0) : Type 0 where

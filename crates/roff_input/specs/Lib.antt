@@ -1,3 +1,4 @@
+pub mod Arguments
 pub mod Input
 pub mod Shown
 pub mod Looking

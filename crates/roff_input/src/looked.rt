@@ -4,7 +4,7 @@ ghost use Rattle.std.specs.Prelude.{◌≡◌};
 ghost use Rattle.roff_input.specs.Looking.{closing, is_closed, is_nothing};
 
 /// What was looked at of the source, and whether anything more is taken of it.
-#[derive(Clone, Copy, Debug, PartialEq, Eq)]
+#[derive(Clone, Copy)]
 pub enum Looked {
     /// Nothing: its next byte is the next one.
     Nothing,

@@ -2,7 +2,7 @@
 use Rattle.std.proofs.Common.{◌≡◌, ◌≤◌, ◌+◌, ℕ, Bool, true, false, List, [], ◌∷◌, length, length-drop, drop, sym, ap, arith}
 use Rattle.std.specs.Prelude.{if◌then◌else◌, nat_le}
 use Rattle.roff_input.specs.Input.{Ahead, ByteAhead, FreeAhead, EndAhead, ReturnAhead, DoAhead, bytes_ahead, ends_ahead, item_taken, results_below, returns_ahead}
-use Rattle.roff_arguments.specs.Arguments.{live_bytes}
+use Rattle.roff_input.specs.Arguments.{live_bytes}
 use Rattle.roff_input.specs.Unread.{Unread, IsWithin}
 use Rattle.roff_input.specs.Shown.{ShowsReturn, shown_ahead}
 

@@ -1,13 +1,20 @@
 -- Bytes of a front that are held in the first argument of a line, of which none ends it.
-use Rattle.std.proofs.Common.{◌≡◌, ℕ, ◌+◌, ◌≤◌, ◌==◌, Bool, true, false, List, [], ◌∷◌, ◌++◌, length, take, drop, inl, inr, refl, sym, ap, subst, ◌∙◌, arith}
+use Rattle.std.proofs.Common.{◌≡◌, ℕ, ◌+◌, ◌≤◌, ◌==◌, Bool, true, false, Option, List, [], ◌∷◌, ◌++◌, length, take, drop, inl, inr, refl, sym, ap, subst, ◌∙◌, arith}
 use Rattle.std.specs.List.{AllByRecursion}
 use Rattle.std.proofs.Math.Seq.{take-add}
+use Rattle.std.proofs.lemmas.Bool.{and_parts}
 use Rattle.std.proofs.lemmas.List.{take-append-drop, take-take}
-use Rattle.roff_arguments.specs.Arguments.{Arguments, held, is_behind_quote, with_byte_at}
-use Rattle.roff_arguments.specs.declared.arguments.Place.{Place}
-use Rattle.roff_arguments.specs.declared.arguments.Place.TheVariants.{Between, InPlain, InQuotes, BehindQuote}
+use Rattle.roff_input.specs.Arguments.{Arguments, held, is_behind_quote, with_byte_at}
+use Rattle.roff_input.specs.declared.place.Place.{Place}
+use Rattle.roff_input.specs.declared.place.Place.TheVariants.{Between, InPlain, InQuotes, BehindQuote}
+use Rattle.roff_arguments.specs.ArgumentTexts.Kept.{StopsAt}
 use Rattle.roff_source.specs.Bytes.{blank, quote}
-use Rattle.roff_scan.specs.Unread.FirstArguments.{MayStand, Unended, is_inside}
+use Rattle.roff_input.specs.Input.{is_none_ahead}
+use Rattle.roff_input.specs.Looking.{is_nothing}
+use Rattle.roff_input.specs.Unread.{Unread, asks_to_take}
+use Rattle.roff_input.specs.declared.looked.Looked.TheVariants.{Nothing}
+use Rattle.roff_scan.specs.Unread.FirstArguments.{MayStand, Unended, first_argument, first_room, is_inside}
+use Rattle.roff_scan.proofs.Fronts.{nothing_looked}
 
 -- where neither a blank nor a quote adds a byte, no argument is being read
 pub between-held : (place : Place) (a : Arguments) → held (with_byte_at place a blank) ≡ held a + 0 → held (with_byte_at place a quote) ≡ held a + 0 → place ≡ Between
@@ -54,3 +61,16 @@ may-stand false place between other = other
 -- the first of bytes that were lent are the first of those that come next
 pub cut_of_front : (front bytes next : List ℕ) → front ≡ take (length front) bytes → length front ≤ length bytes → bytes ≡ take (length bytes) next → front ≡ take (length front) next
 cut_of_front front bytes next cut few is = cut ∙ ap (take (length front)) is ∙ take-take (length front) (length bytes) next few
+
+pub stands-between : (none_begun : Bool) (place : Place) → (none_begun ≡ false → place ≡ Between → ⊥) → place ≡ Between → none_begun ≡ true
+stands-between true place others is = refl
+stands-between false place others is = absurd (others refl is)
+
+-- what stops the taking of bytes that were lent stops that of those that stand ready
+pub stops-cut : {E : Type 0} (most : Option ℕ) (none_begun : Bool) (ready : List ℕ) (u : Unread E) (bytes front : List ℕ) (room count : ℕ) (a : Arguments)
+    → front ≡ first_argument none_begun bytes → (is_none_ahead u.input.ahead ≡ true → u.looked ≡ Nothing → bytes ≡ take room ready)
+    → room ≡ first_room u → asks_to_take u ≡ true → StopsAt most front count a → StopsAt most (first_argument none_begun (take (first_room u) ready)) count a
+stops-cut most none_begun ready u bytes front room count a cut whole is_room asks stops =
+    let parts = and_parts (is_none_ahead u.input.ahead) (is_nothing u.looked) asks in
+    let are : bytes ≡ take (first_room u) ready = whole parts.0 (nothing_looked u.looked parts.1) ∙ ap (λ (n : ℕ). take n ready) is_room in
+    subst (λ (xs : List ℕ). StopsAt most xs count a) (cut ∙ ap (first_argument none_begun) are) stops

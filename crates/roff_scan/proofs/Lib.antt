@@ -16,3 +16,4 @@ pub mod Fronts
 pub mod PushedFronts
 pub mod Newlines
 pub mod TextEnds
+pub mod Sound

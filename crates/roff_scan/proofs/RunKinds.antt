@@ -9,8 +9,8 @@ use Rattle.roff_escape.specs.OpenEscape.{OpenEscape, texts_held}
 use Rattle.roff_escape.specs.declared.open_escape.CopyUnit.TheVariants.{Byte}
 use Rattle.roff_escape.proofs.ConditionFronts.{taken-plain}
 use Rattle.roff_escape.proofs.EscapeFronts.{HalvesRead-held}
-use Rattle.roff_arguments.specs.Arguments.{HeldFewer, bytes_held, held, only_kept, with_argument_byte}
-use Rattle.roff_arguments.specs.Arguments.{Arguments as LineArguments}
+use Rattle.roff_input.specs.Arguments.{HeldFewer, bytes_held, held, only_kept, with_argument_byte}
+use Rattle.roff_input.specs.Arguments.{Arguments as LineArguments}
 use Rattle.roff_arguments.proofs.HeldBytes.{held-bytes_held}
 use Rattle.roff_ahead.proofs.GivenFronts.{HalvesTaken-held}
 use Rattle.roff_input.specs.Input.{Input}

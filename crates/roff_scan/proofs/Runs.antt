@@ -3,8 +3,8 @@ use Rattle.std.proofs.Common.{◌≡◌, ℕ, ◌+◌, ◌≤◌, Bool, true, fa
 use Rattle.std.specs.List.{AllByRecursion}
 use Rattle.std.proofs.lemmas.Bool.{and_parts}
 use Rattle.std.proofs.lemmas.List.{length-take-le, take-take}
-use Rattle.roff_arguments.specs.Arguments.{HeldFewer, held}
-use Rattle.roff_arguments.specs.Arguments.{Arguments as LineArguments}
+use Rattle.roff_input.specs.Arguments.{HeldFewer, held}
+use Rattle.roff_input.specs.Arguments.{Arguments as LineArguments}
 use Rattle.roff_escape.specs.OpenEscape.{OpenEscape, texts_held}
 use Rattle.roff_input.specs.Input.{Input, is_none_ahead, pushed}
 use Rattle.roff_source.specs.Tape.{Tape}
@@ -17,18 +17,12 @@ use Rattle.roff_scan.specs.declared.run_kind.RunKind.TheVariants.{Text, Blanks, 
 use Rattle.roff_input.specs.Looking.{is_nothing}
 use Rattle.roff_input.specs.declared.looked.Looked.{Looked}
 use Rattle.roff_input.specs.declared.looked.Looked.TheVariants.{Nothing, Byte, Closed}
-use Rattle.roff_scan.proofs.Fronts.{passes_none}
+use Rattle.roff_scan.proofs.Fronts.{nothing_looked, passes_none}
 use Rattle.roff_scan.proofs.AddedFronts.{adding-none}
 use Rattle.roff_scan.proofs.Staged.{passes-staged, stage-behind, staged}
 use Rattle.roff_scan.proofs.RunKinds.{count_held, fewer-none, halves-none, run-none, run-plain, run-texts}
 
--- no byte was looked at
-pub is_nothing-nothing : (looked : Looked) → is_nothing looked ≡ true → looked ≡ Nothing
-is_nothing-nothing Nothing is = refl
-is_nothing-nothing (Byte b) is = cc
-is_nothing-nothing (Closed kept) is = cc
-
--- nor is one that was
+-- a byte that was looked at was
 not_nothing : (looked : Looked) → is_nothing looked ≡ false → is_nothing looked ≡ true → ⊥
 not_nothing Nothing some none = cc
 not_nothing (Byte b) some none = cc
@@ -99,7 +93,7 @@ module _ {E : Type 0} where
           whole = λ goes asks.
               let parts = and_parts (is_none_ahead u.input.ahead) (is_nothing u.looked) asks in
               far goes
-              ∙ ap (take_while (is_of kind)) (all parts.0 (is_nothing-nothing u.looked parts.1))
+              ∙ ap (take_while (is_of kind)) (all parts.0 (nothing_looked u.looked parts.1))
               ∙ ap (λ (n : ℕ). take_while (is_of kind) (take n ready)) (room goes);
         }
 
@@ -109,7 +103,7 @@ module _ {E : Type 0} where
       → goes_by_bytes kind ≡ true → asks_to_take u ≡ true → [] ≡ take_while (is_of kind) (take (room_for kind u) ready)
   none-whole kind ready u front most empty all room goes asks =
       let parts = and_parts (is_none_ahead u.input.ahead) (is_nothing u.looked) asks in
-      ap (take_while (is_of kind)) (sym empty ∙ all parts.0 (is_nothing-nothing u.looked parts.1))
+      ap (take_while (is_of kind)) (sym empty ∙ all parts.0 (nothing_looked u.looked parts.1))
       ∙ ap (λ (n : ℕ). take_while (is_of kind) (take n ready)) (room goes)
 
   -- no bytes are put behind no text

@@ -1,6 +1,6 @@
 -- Bytes that are taken behind a change of what is half read, of the arguments or of the texts in the making.
 use Rattle.std.proofs.Common.{◌≡◌, ℕ, List, [], ◌∷◌, ◌++◌, map, refl, sym, ap, ◌∙◌}
-use Rattle.roff_arguments.specs.Arguments.{Arguments as LineArguments}
+use Rattle.roff_input.specs.Arguments.{Arguments as LineArguments}
 use Rattle.roff_escape.specs.OpenEscape.{OpenEscape}
 use Rattle.roff_input.specs.Input.{Ahead, ByteAhead, Input, bytes_taken, counting, item_taken, lines_taken}
 use Rattle.roff_source.specs.Tape.{Tape}

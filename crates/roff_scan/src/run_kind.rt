@@ -4,7 +4,7 @@ ghost use Rattle.std.specs.Prelude.{◌≡◌};
 ghost use Rattle.roff_scan.specs.RunKinds.{has_newlines, is_held};
 
 /// What the bytes of a run do.
-#[derive(Clone, Copy, Debug, PartialEq, Eq)]
+#[derive(Clone, Copy)]
 pub enum RunKind {
     /// Plain text of a text line is told, each byte as a glyph or a gap, by whoever has the lines:
     /// the unread input takes none by itself.

@@ -1,6 +1,7 @@
 //! A source over a source with pictures, of which bytes are gathered.
 
-ghost use Rattle.std.specs.Prelude.{◌≡◌, ◌+◌, ◌<◌, ◌≤◌, ◌++◌, [], length, vec_capacity, vec_len, IfErr, IfOk};
+ghost use Rattle.std.specs.Prelude.{◌≡◌, ◌+◌, ◌<◌, ◌≤◌, ◌++◌, [], length, vec_capacity, vec_len};
+ghost use Rattle.std.specs.Prelude.{IfErr, IfOk};
 ghost use Rattle.roff_num.specs.Faults.{Rises};
 ghost use Rattle.roff_source.specs.Tape.{Answers, Ends, Failed, Gives, OneByte, OneNote, answer_of};
 ghost use Rattle.tbl_core.specs.NotesLeft.{notes_left};
@@ -17,8 +18,8 @@ const GATHERED: usize = 1_024;
 /// How many pieces are gathered at most.
 const PIECES: usize = 128;
 
-/// A source that gives what a [`TblSource`] gives. Bytes that are pending there are gathered as they
-/// come: so they stand ready together.
+/// A source that gives what a [`TblSource`] gives. Bytes that are pending there are gathered as
+/// they come: so they stand ready together.
 #[derive(Drop)]
 pub struct GatheredSource<S: ByteSource> {
     source: TblSource<S>,
@@ -31,7 +32,8 @@ pub struct GatheredSource<S: ByteSource> {
 }
 
 impl<S: ByteSource> GatheredSource<S> {
-    ghost use Rattle.tbl_core.specs.Gathered.{KeepsGiven, gathered_gives, inner_of, left_of, tables_of};
+    ghost use Rattle.tbl_core.specs.Gathered.{KeepsGiven, gathered_gives, inner_of, left_of};
+    ghost use Rattle.tbl_core.specs.Gathered.{tables_of};
 
     /// A source over `inner`, of which nothing is read yet. The line length is in columns.
     ///
@@ -159,7 +161,8 @@ impl<S: ByteSource> GatheredSource<S> {
 }
 
 impl<S: ByteSource> ByteSource for GatheredSource<S> {
-    ghost use Rattle.tbl_core.specs.Gathered.{gathered_gives, gathered_ready, inner_of, some_gathered};
+    ghost use Rattle.tbl_core.specs.Gathered.{gathered_gives, gathered_ready, inner_of};
+    ghost use Rattle.tbl_core.specs.Gathered.{some_gathered};
 
     ghost gives = { gathered_gives S.gives };
 

@@ -7,7 +7,7 @@ ghost use Rattle.tbl_core.specs.Lines.{is_other, line_counted, next_line};
 use roff_num::Limit;
 
 /// How much of a name stands at a line's beginning: `.TS`, or within a table `.TE`.
-#[derive(Clone, Copy, Debug, PartialEq, Eq)]
+#[derive(Clone, Copy)]
 pub(crate) enum Front {
     /// No byte of the line was taken.
     Nothing,
@@ -70,7 +70,7 @@ pub(crate) fn ends_name(byte: u8) -> bool
 }
 
 /// How many bytes were taken, and the line of the last one.
-#[derive(Clone, Copy, Debug, PartialEq, Eq)]
+#[derive(Clone, Copy)]
 pub(crate) struct Count {
     /// The bytes taken.
     pub(crate) taken: u32,
@@ -118,7 +118,7 @@ impl Count {
 }
 
 /// Where the next byte stands.
-#[derive(Clone, Copy, Debug, PartialEq, Eq)]
+#[derive(Clone, Copy)]
 pub(crate) enum Position {
     /// Outside tables, on a line that begins so.
     Outside(Front),

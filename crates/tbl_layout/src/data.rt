@@ -14,7 +14,7 @@ use crate::widths::text_width;
 use memchr::memchr;
 
 /// What a whole line is.
-#[derive(Clone, Copy, Debug, PartialEq, Eq)]
+#[derive(Clone, Copy)]
 pub enum Judged {
     /// A line that isn't laid out, by the place of what makes it so.
     Refused(usize),
@@ -23,7 +23,7 @@ pub enum Judged {
 }
 
 /// A field that is kept.
-#[derive(Clone, Copy, Debug, PartialEq, Eq)]
+#[derive(Clone, Copy)]
 pub struct Field {
     /// Where its text begins in the block.
     pub from: usize,

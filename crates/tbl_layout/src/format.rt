@@ -9,7 +9,7 @@ ghost use Rattle.tbl_layout.specs.KeyCounts.{Counts};
 use crate::option_words::as_small;
 
 /// A key of the format: how the texts of a column stand in it.
-#[derive(Clone, Copy, Debug, PartialEq, Eq)]
+#[derive(Clone, Copy)]
 pub enum Key {
     /// `l`: at the left edge.
     Left,
@@ -22,7 +22,7 @@ pub enum Key {
 }
 
 /// Where the reading of a format stands.
-#[derive(Clone, Copy, Debug, PartialEq, Eq)]
+#[derive(Clone, Copy)]
 pub enum FormatPlace {
     /// In its rows.
     InRows,
@@ -33,7 +33,7 @@ pub enum FormatPlace {
 }
 
 /// What counts of a format's keys, as far as it was read.
-#[derive(Clone, Copy, Debug, PartialEq, Eq)]
+#[derive(Clone, Copy)]
 pub struct KeyCount {
     /// Where the reading stands.
     pub place: FormatPlace,

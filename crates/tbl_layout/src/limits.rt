@@ -7,7 +7,7 @@ use roff_num::Limit;
 
 /// The values of the limits that stop the formatting of tables. Those of the formatter of text
 /// aren't among them.
-#[derive(Clone, Copy, Debug, PartialEq, Eq)]
+#[derive(Clone, Copy)]
 pub struct TblLimits {
     /// The rows of a table: data rows, rule lines and commands.
     pub rows: u32,

@@ -8,7 +8,7 @@ use crate::message::{Message, OptionText, Told};
 use roff_source::at_most;
 
 /// What is reported.
-#[derive(Clone, Copy, Debug, PartialEq, Eq)]
+#[derive(Clone, Copy)]
 pub enum Cause {
     /// A table that can't be formatted.
     BadFormat,
@@ -19,7 +19,7 @@ pub enum Cause {
 }
 
 /// A message that is kept.
-#[derive(Clone, Copy, Debug, PartialEq, Eq)]
+#[derive(Clone, Copy)]
 pub struct KeptNote {
     /// The line that it names.
     pub line: u32,

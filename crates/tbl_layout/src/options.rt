@@ -12,7 +12,7 @@ use crate::notes::{Cause, KeptNote};
 use crate::option_words::option_of;
 
 /// What of a table's options is laid out.
-#[derive(Clone, Copy, Debug, PartialEq, Eq)]
+#[derive(Clone, Copy)]
 pub struct Options {
     /// The byte between fields.
     pub separator: u8,
@@ -21,7 +21,7 @@ pub struct Options {
 }
 
 /// What an option says.
-#[derive(Clone, Copy, Debug, PartialEq, Eq)]
+#[derive(Clone, Copy)]
 pub enum TableOption {
     /// `center`, `centre`.
     Center,
@@ -42,7 +42,7 @@ pub enum TableOption {
 }
 
 /// The options that were read, and whether all of them can be laid out.
-#[derive(Clone, Copy, Debug, PartialEq, Eq)]
+#[derive(Clone, Copy)]
 pub struct Settings {
     /// What was set.
     pub options: Options,

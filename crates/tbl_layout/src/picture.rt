@@ -19,7 +19,7 @@ use itoa::Buffer;
 use roff_source::{at_most, is_dropped, is_silent};
 
 /// A piece of what is given.
-#[derive(Clone, Copy, Debug, PartialEq, Eq)]
+#[derive(Clone, Copy)]
 pub enum Piece {
     /// Bytes of the block, from a place up to another.
     Block(usize, usize),

@@ -15,7 +15,7 @@ use tbl_layout::format::{FormatPlace, KeyCount};
 use tbl_layout::options::{bracketed, read_options};
 
 /// What is known of the line that is begun.
-#[derive(Clone, Copy, Debug, PartialEq, Eq)]
+#[derive(Clone, Copy)]
 pub enum Begun {
     /// It is of options, or of a format without options; within brackets or not.
     Front(bool),

@@ -21,7 +21,7 @@ use tbl_layout::picture::{FRAME, Piece, write_frame};
 use tbl_layout::piece_queue::PieceQueue;
 
 /// What is to give behind pieces.
-#[derive(Clone, Copy, Debug, PartialEq, Eq)]
+#[derive(Clone, Copy)]
 pub enum Rest {
     /// Nothing.
     Nothing,

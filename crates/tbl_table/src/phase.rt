@@ -1,7 +1,7 @@
 //! What of a table is read.
 
 /// What of a table is read.
-#[derive(Clone, Copy, Debug, PartialEq, Eq)]
+#[derive(Clone, Copy)]
 pub enum Phase {
     /// Its first line.
     AtHead,

@@ -42,7 +42,7 @@ impl<E: Copy> InputAhead<E> {
                 if !escapes.take_on(byte) {
                     return false;
                 }
-                let _ = self.pushed_texts.take();
+                let _ = self.pushed_texts.take_known();
                 true
             }
             Some(PushedItem::Do(_)) => false,
@@ -53,13 +53,19 @@ impl<E: Copy> InputAhead<E> {
         }
     }
 
-    /// Bytes of a body in front, as they lie together; none where anything else is in front.
+    /// Bytes of a body in front, as they lie together, or a byte of a text; none where anything else is
+    /// in front.
     #[inline(always)]
     pub fn front(&self) -> &[u8]
         ensures { result.now ≡ take (length result.now) (leading self.now.ahead) }
     {
-        match body_in_front(&self.pushed_texts) {
-            Some(lease) => self.texts.lease_front(lease),
+        match self.pushed_texts.front() {
+            Some(PushedItem::Do(EventOrBody::Body(lease))) => self.texts.lease_front(lease),
+            Some(PushedItem::Do(EventOrBody::Event(_))) => &[],
+            Some(PushedItem::Byte(_)) => self.pushed_texts.front_byte(),
+            Some(PushedItem::Free(_)) => &[],
+            Some(PushedItem::End) => &[],
+            Some(PushedItem::Return(_)) => &[],
             None => &[],
         }
     }

@@ -1,6 +1,7 @@
 //! Texts, bodies and events that are put in front.
 
-ghost use Rattle.std.specs.Prelude.{true, false, ◌≡◌, ◌+◌, ◌<◌, ◌≤◌, ◌∷◌, ◌++◌, map, length, None, ℕ};
+ghost use Rattle.std.specs.Prelude.{true, false, ◌≡◌, ◌+◌, ◌<◌, ◌≤◌, ◌∷◌, ◌++◌, map, length, None};
+ghost use Rattle.std.specs.Prelude.{ℕ};
 ghost use Rattle.std.specs.Prelude.{List};
 ghost use Rattle.std.specs.List.{last_or};
 ghost use Rattle.roff_input.specs.Input.{ByteAhead, FreeAhead, EndAhead, ReturnAhead, DoAhead};
@@ -206,12 +207,14 @@ fn put_body<E: Copy>(
     len: usize,
 )
     requires len { len ≡ length (body_of name.now texts.old) }
-    requires sound { IsSound {E = E} (record { pushed_texts = pushed_texts.old; texts = texts.old }) }
+    requires sound { IsSound {E = E}
+        (record { pushed_texts = pushed_texts.old; texts = texts.old }) }
     requires end { is_end_next pushed_texts.old.ahead ≡ true }
     requires bytes { length (body_of name.now texts.old)
         + bytes_ahead (with_bodies texts.old pushed_texts.old.ahead) ≤ pushed_texts.old.most_bytes }
     ensures { PutsBytes (record { pushed_texts = pushed_texts.old; texts = texts.old })
-        (record { pushed_texts = pushed_texts.new; texts = texts.new }) (body_of name.now texts.old) }
+        (record { pushed_texts = pushed_texts.new; texts = texts.new })
+        (body_of name.now texts.old) }
 {
     if len == 0 {
         return;

@@ -69,7 +69,7 @@ impl<E: Copy> InputAhead<E> {
     {
         match self.pushed_texts.front() {
             Some(PushedItem::End) => {
-                let _end = self.pushed_texts.take();
+                let _end = self.pushed_texts.take_known();
                 true
             }
             Some(PushedItem::Do(_)) => false,
@@ -93,7 +93,7 @@ impl<E: Copy> InputAhead<E> {
                 if back > 0 {
                     return false;
                 }
-                let _return = self.pushed_texts.take();
+                let _return = self.pushed_texts.take_known();
                 true
             }
             Some(PushedItem::Do(_)) => false,

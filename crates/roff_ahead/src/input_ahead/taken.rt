@@ -172,8 +172,8 @@ impl<E: Copy> InputAhead<E> {
         }
     }
 
-    /// Drops all that stands ahead. Returns what is gone back to behind the outermost end of a body,
-    /// by its code; 0 is a line's beginning.
+    /// Drops all that stands ahead. Returns what is gone back to behind the outermost end of a
+    /// body, by its code; 0 is a line's beginning.
     pub fn clear(&mut self) -> u8
         ensures back { result ≡ outermost_back 0 self.old.ahead }
         ensures change { self.new ≡ record self.old { ahead = [] } }

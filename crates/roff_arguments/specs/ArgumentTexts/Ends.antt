@@ -2,7 +2,7 @@
 use Rattle.std.specs.Prelude.{ℕ, ◌≤◌, Bool, ◌||◌, List, [], ◌∷◌, length, nat_lt}
 use Rattle.std.specs.Coded.{×_prop, le_prop}
 use Rattle.std.specs.List.{slice_range}
-use Rattle.roff_arguments.specs.Arguments.{kept_by_place}
+use Rattle.roff_input.specs.Arguments.{kept_by_place}
 
 -- the texts that end there, the first of which begins at a place
 abbrev pub texts_ending : List ℕ → ℕ → List ℕ → List (List ℕ)

@@ -1,13 +1,10 @@
 -- What a buffer of arguments keeps.
-use Rattle.std.specs.Prelude.{◌≡◌, ℕ, ◌+◌, ◌<◌, ◌≤◌, ◌^◌, Bool, true, not, ◌||◌, List, length, reverse, take, drop, vec_capacity, ◌==◌, Option}
+use Rattle.std.specs.Prelude.{◌≡◌, ℕ, ◌+◌, ◌<◌, ◌≤◌, ◌^◌, true, List, length, reverse, take, drop, vec_capacity, Option, Bool, false, not, get_or, ◌||◌, ◌==◌}
 use Rattle.std.specs.List.{AllByRecursion}
-use Rattle.roff_arguments.specs.Arguments.{Arguments, HeldFewer, bytes_held, kept, only_kept}
+use Rattle.roff_input.specs.Arguments.{Arguments, HeldFewer, bytes_held, kept, only_kept, AreFewer}
 use Rattle.roff_source.specs.Bytes.{is_argument_byte}
 use Rattle.roff_arguments.specs.ArgumentTexts.Ends.{texts_ending, last_end, EndWithin}
-use Rattle.roff_source.specs.Bytes.{blank, quote}
 use Rattle.roff_arguments.specs.declared.arguments.ArgumentTexts.TheInside.{Inside}
-use Rattle.roff_arguments.specs.declared.arguments.Place.{Place}
-use Rattle.roff_arguments.specs.declared.arguments.Place.TheVariants.{Between, InPlain, InQuotes, BehindQuote}
 
 -- the arguments, and how many bytes there is room for
 pub record KeptArguments : Type 0 where
@@ -38,13 +35,6 @@ pub record IsSound (a : Inside) : Type 0 where
   pub ends : EndWithin (length a.bytes.items) 0 a.ends.items
   pub kept : kept (texts_ending a.bytes.items 0 a.ends.items) ≡ texts_ending a.bytes.items 0 a.ends.items
 
--- whether a byte is one of an argument, by where the reading stands: else it separates or quotes
-abbrev pub is_held : Place → ℕ → Bool
-is_held Between b = not (b == blank || b == quote)
-is_held InPlain b = not (b == blank)
-is_held InQuotes b = not (b == quote)
-is_held BehindQuote b = not (b == blank)
-
 -- the buffer keeps what is to be kept of a line's arguments
 pub record Keeps (a : Arguments) (k : KeptArguments) : Type 0 where
   pub same : k.arguments ≡ only_kept a
@@ -55,3 +45,10 @@ pub record TakesFront (most : Option ℕ) (bytes : List ℕ) (count : ℕ) (old 
   pub plain : AllByRecursion (λ b. is_argument_byte b ≡ true) (take count bytes)
   pub fewer : HeldFewer most (take count bytes) old.arguments
   pub taken : new ≡ record old { arguments = bytes_held (take count bytes) old.arguments }
+
+-- why no more than so many of these bytes were taken, with these arguments behind them: there are no more, the next one isn't held as
+-- it is read, or as many arguments are whole as may be
+pub data StopsAt (most : Option ℕ) (bytes : List ℕ) (count : ℕ) (a : Arguments) : Type 0 where
+  NoMore : length bytes ≤ count → StopsAt most bytes count a
+  NotHeld : is_argument_byte (get_or bytes count 0) ≡ false → StopsAt most bytes count a
+  AsManyWhole : (AreFewer most a → ⊥) → StopsAt most bytes count a

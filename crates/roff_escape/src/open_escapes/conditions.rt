@@ -8,6 +8,7 @@ ghost use Rattle.roff_escape.specs.Conditions.{byte_of_condition, byte_or_backsl
 ghost use Rattle.roff_escape.specs.Conditions.{condition_ended, delimiter_met, expression_over};
 ghost use Rattle.roff_escape.specs.Conditions.{to_decide, texts_compared, unit_of_condition};
 ghost use Rattle.roff_escape.specs.Nesting.{IsNested};
+ghost use Rattle.roff_escape.specs.Waiting.{decided_on_top, is_number_on_top};
 ghost use Rattle.roff_escape.specs.declared.open_escape.ConditionPart.{ConditionPart as PartOf};
 
 use super::OpenEscapes;
@@ -37,6 +38,7 @@ impl OpenEscapes {
             → (Found.Decides (Decision.Is so) None, self.new)
             ≡ leaving (reading_ended base self.old.escapes) self.old) }
         ensures kept { result ≡ None → self.new ≡ self.old }
+        ensures decided { result ≡ decided_on_top self.old.escapes }
     {
         match self.top() {
             Some(
@@ -61,6 +63,7 @@ impl OpenEscapes {
         ensures ended { result ≡ true → (base : Surroundings)
             → (Found.GoesOn, self.new) ≡ leaving (reading_ended base self.old.escapes) self.old }
         ensures kept { result ≡ false → self.new ≡ self.old }
+        ensures number { result ≡ is_number_on_top self.old.escapes }
     {
         match self.top() {
             Some(HeldEscape::Condition(ConditionPart::Expression { negated }, begin)) => {
@@ -79,6 +82,7 @@ impl OpenEscapes {
         ensures ended { result ≡ true → (base : Surroundings)
             → (Found.GoesOn, self.new) ≡ leaving (reading_ended base self.old.escapes) self.old }
         ensures kept { result ≡ false → self.new ≡ self.old }
+        ensures number { result ≡ is_number_on_top self.old.escapes }
     {
         match eval(self.text(begin), 0, Scale::Units, Some(0)) {
             Ok((value, _)) => {

@@ -1,6 +1,6 @@
 -- Lines that call bodies, bodies that spring, the arguments of calls, and the results of conditions that are kept (manual, section 7).
 use Rattle.std.specs.Prelude.{ℕ, Bool, false, List, [], ◌∷◌, ◌++◌, drop, length, map, Option, Some, None, if◌then◌else◌, ◌==◌, not, get_or, reverse}
-use Rattle.roff_arguments.specs.Arguments.{no_arguments, only_kept, finished}
+use Rattle.roff_input.specs.Arguments.{no_arguments, only_kept, finished}
 use Rattle.roff_source.specs.Bytes.{newline}
 use Rattle.roff_input.specs.Input.{Input, ByteAhead, ReturnAhead}
 

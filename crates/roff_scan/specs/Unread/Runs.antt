@@ -6,8 +6,8 @@ use Rattle.roff_escape.specs.ConditionFronts.{HalvesTaken}
 use Rattle.roff_escape.specs.EscapeFronts.{HalvesRead}
 use Rattle.roff_escape.specs.EscapeTexts.{KeptEscapes}
 use Rattle.roff_escape.specs.OpenEscape.{OpenEscape}
-use Rattle.roff_arguments.specs.Arguments.{HeldFewer, bytes_held}
-use Rattle.roff_arguments.specs.Arguments.{Arguments as LineArguments}
+use Rattle.roff_input.specs.Arguments.{HeldFewer, bytes_held}
+use Rattle.roff_input.specs.Arguments.{Arguments as LineArguments}
 use Rattle.roff_arguments.specs.ArgumentTexts.Kept.{KeptArguments}
 use Rattle.roff_input.specs.Input.{Input}
 use Rattle.roff_input.specs.Input.Names.{adding, stored}

@@ -1,6 +1,6 @@
 //! The arguments of the line that is being read.
 
-ghost use Rattle.roff_arguments.specs.Arguments.{is_behind_quote, with_unit, settled, finished};
+ghost use Rattle.roff_input.specs.Arguments.{is_behind_quote, with_unit, settled, finished};
 ghost use Rattle.roff_arguments.specs.ArgumentList.{listed};
 ghost use Rattle.std.specs.Prelude.{reverse, ◌≡◌};
 ghost use Rattle.roff_input.specs.Input.{holding_plain, with_arguments, without_arguments};

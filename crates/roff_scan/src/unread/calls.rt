@@ -43,9 +43,9 @@ impl<E: Copy> Unread<E> {
         Ok(())
     }
 
-    /// A name springs: its body is put in front, as it is now and as a line calls it, and an end that
-    /// leads back to what this code stands for. No arguments are in force in it; those of a line that
-    /// is half read stay.
+    /// A name springs: its body is put in front, as it is now and as a line calls it, and an end
+    /// that leads back to what this code stands for. No arguments are in force in it; those of a
+    /// line that is half read stay.
     ///
     /// # Errors
     ///

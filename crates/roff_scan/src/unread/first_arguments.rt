@@ -1,9 +1,9 @@
 //! The first argument of a line, taken as far as it isn't whole.
 
 ghost use Rattle.std.specs.Prelude.{◌≡◌, ◌≤◌, drop, length, take, take_while, false, true};
-ghost use Rattle.roff_arguments.specs.Arguments.{is_behind_quote};
-ghost use Rattle.roff_arguments.specs.declared.arguments.Place.TheVariants.{Between};
-ghost use Rattle.roff_scan.specs.Unread.FirstArguments.{Unended, is_inside};
+ghost use Rattle.roff_input.specs.Arguments.{is_behind_quote};
+ghost use Rattle.roff_input.specs.declared.place.Place.TheVariants.{Between};
+ghost use Rattle.roff_scan.specs.Unread.FirstArguments.{Unended, is_inside, first_argument};
 
 use super::Unread;
 use super::fronts::front_of;
@@ -17,8 +17,9 @@ impl<E: Copy> Unread<E> {
     ghost use Rattle.roff_scan.specs.Unread.FirstArguments.{TakesFirst};
 
     /// Takes bytes together that stand in front, as they lie together, and are held in the first
-    /// argument of the line: blanks in front of it, and then its bytes up to one that may end it, and
-    /// no more than the limits have room for. Returns how many; none where an argument is whole.
+    /// argument of the line: blanks in front of it, and then its bytes up to one that may end it,
+    /// and no more than the limits have room for. Returns how many; none where an argument is
+    /// whole.
     #[inline(never)]
     pub fn take_first_argument<S: ByteSource>(&mut self, source: &mut S) -> usize
         requires { is_behind_quote self.old.input.arguments.place ≡ false }
@@ -43,7 +44,8 @@ impl<E: Copy> Unread<E> {
 /// Whether no argument is being read, so that a blank changes nothing.
 #[inline(always)]
 fn is_between(arguments: &ArgumentTexts) -> bool
-    ensures { result ≡ true → arguments.now.arguments.place ≡ Between }
+    ensures between { result ≡ true → arguments.now.arguments.place ≡ Between }
+    ensures others { result ≡ false → arguments.now.arguments.place ≡ Between → ⊥ }
 {
     arguments.bytes_more(CopyUnit::Byte(b' ')) == 0
         && arguments.bytes_more(CopyUnit::Byte(b'"')) == 0
@@ -56,6 +58,7 @@ fn argument_in_front(bytes: &[u8], none_begun: bool) -> &[u8]
     ensures begins { result.now ≡ take (length result.now) bytes.now }
     ensures among { length result.now ≤ length bytes.now }
     ensures unended { Unended none_begun result.now }
+    ensures whole { result.now ≡ first_argument none_begun bytes.now }
 {
     if !none_begun {
         return at_most(bytes, inside_in_front(bytes));

@@ -1,7 +1,8 @@
 //! What is half read.
 
 ghost use Rattle.roff_escape.specs.OpenEscapes.{byte_read, reading_ended};
-ghost use Rattle.roff_escape.specs.Waiting.{decides, is_ended_by, waiting_of};
+ghost use Rattle.roff_escape.specs.Waiting.{decided_on_top, decides, is_ended_by};
+ghost use Rattle.roff_escape.specs.Waiting.{is_number_on_top, waiting_of};
 ghost use Rattle.std.specs.Prelude.{true, false, not, ◌≡◌, ◌==◌, length};
 ghost use Rattle.roff_input.specs.Input.{choosing, holding_text};
 
@@ -28,8 +29,8 @@ impl<E: Copy> Unread<E> {
         self.escapes.decides_now()
     }
 
-    /// What the reading on top does at the next item; above a text line, above arguments, or in copy
-    /// mode.
+    /// What the reading on top does at the next item; above a text line, above arguments, or in
+    /// copy mode.
     #[inline(always)]
     pub fn waiting(&self, base: Surroundings) -> Waiting
         ensures { result ≡ waiting_of base self.now.input.escapes }
@@ -67,6 +68,7 @@ impl<E: Copy> Unread<E> {
     #[inline(always)]
     pub fn end_decided(&mut self) -> Option<bool>
         ensures ended { EndsDecided result self.old self.new }
+        ensures decided { result ≡ decided_on_top self.old.input.escapes }
     {
         self.escapes.end_decided()
     }
@@ -78,6 +80,7 @@ impl<E: Copy> Unread<E> {
         ensures ended { result ≡ true → (base : Surroundings) → (Found.GoesOn, self.new)
             ≡ reading (reading_ended base self.old.input.escapes) self.old }
         ensures kept { result ≡ false → self.new ≡ self.old }
+        ensures number { result ≡ is_number_on_top self.old.input.escapes }
     {
         self.escapes.decide_expression()
     }

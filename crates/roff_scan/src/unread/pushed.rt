@@ -2,7 +2,8 @@
 
 ghost use Rattle.std.specs.Prelude.{true, false, ◌≡◌, ◌+◌, ◌<◌, ◌≤◌, length};
 ghost use Rattle.roff_input.specs.Input.{leaving, outermost_back, events_ahead, frees_ahead};
-ghost use Rattle.roff_input.specs.Input.{most_events, most_frees, depth, pushing, putting_back, freeing};
+ghost use Rattle.roff_input.specs.Input.{most_events, most_frees, depth, pushing, putting_back};
+ghost use Rattle.roff_input.specs.Input.{freeing};
 ghost use Rattle.roff_input.specs.Input.Names.{body_named};
 
 use super::Unread;
@@ -63,8 +64,8 @@ impl<E: Copy> Unread<E> {
         Ok(())
     }
 
-    /// Puts an event back in front. There is room for it where events are as few as those are that a
-    /// run puts back.
+    /// Puts an event back in front. There is room for it where events are as few as those are that
+    /// a run puts back.
     #[cold]
     pub fn put_back(&mut self, event: E)
         ensures change { events_ahead self.old.input.ahead < most_events self.old.limits.depth
@@ -81,9 +82,9 @@ impl<E: Copy> Unread<E> {
         self.input_ahead.free(bytes);
     }
 
-    /// Drops all that stands ahead of the source, of which nothing more is taken. That costs nothing.
-    /// Returns what is gone back to behind the outermost end of a body, by its code; 0 is a line's
-    /// beginning.
+    /// Drops all that stands ahead of the source, of which nothing more is taken. That costs
+    /// nothing. Returns what is gone back to behind the outermost end of a body, by its code; 0 is
+    /// a line's beginning.
     pub fn leave(&mut self) -> u8
         ensures back { result ≡ outermost_back 0 self.old.input.ahead }
         ensures change { self.new ≡ record self.old {

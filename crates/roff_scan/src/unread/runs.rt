@@ -1,9 +1,10 @@
 //! Runs: bytes in front that do alike, and are taken together.
 
 ghost use Rattle.std.specs.Prelude.{false, ◌≡◌, ◌≤◌, ◌+◌, length, true};
-ghost use Rattle.std.specs.Prelude.{take, take_while, ◌==◌};
+ghost use Rattle.std.specs.Prelude.{ℕ, Some, take, take_while, ◌==◌};
 ghost use Rattle.std.specs.List.{AllByRecursion};
-ghost use Rattle.roff_arguments.specs.Arguments.{held};
+ghost use Rattle.roff_input.specs.Arguments.{held};
+ghost use Rattle.roff_arguments.specs.ArgumentTexts.Kept.{StopsAt};
 ghost use Rattle.roff_escape.specs.OpenEscape.{texts_held};
 ghost use Rattle.roff_source.specs.Bytes.{blank, is_text_byte};
 ghost use Rattle.roff_input.specs.Input.{is_none_ahead, pushed};
@@ -26,10 +27,11 @@ const COPIED: usize = 64;
 impl<E: Copy> Unread<E> {
     ghost use Rattle.roff_scan.specs.Unread.Runs.{TakesRun};
     ghost use Rattle.roff_scan.specs.Unread.Calls.{TakesPushed};
+    ghost use Rattle.roff_scan.specs.Unread.FirstArguments.{first_room};
 
     /// Takes bytes together that stand in front, as they lie together, and do this: up to the first
-    /// that does otherwise, and no more than the limits have room for. Whether anything is half read
-    /// isn't looked at. Returns how many.
+    /// that does otherwise, and no more than the limits have room for. Whether anything is half
+    /// read isn't looked at. Returns how many.
     #[inline(always)]
     pub fn take_run<S: ByteSource>(&mut self, kind: RunKind, source: &mut S) -> usize
         ensures takes { TakesRun kind (S.gives source.old) (S.gives source.new)
@@ -38,7 +40,7 @@ impl<E: Copy> Unread<E> {
         ensures failures { S.failures source.new ≡ S.failures source.old }
     {
         match kind {
-            RunKind::Arguments => self.take_arguments(source),
+            RunKind::Arguments => self.take_arguments(source).0,
             RunKind::CallArguments(most) => self.take_call_arguments(most, source),
             RunKind::Name => self.take_name(source),
             RunKind::Condition => self.take_condition(source),
@@ -52,15 +54,25 @@ impl<E: Copy> Unread<E> {
 
     // Each kind that comes often has a copy of its own, for which the compiler knows the kind.
 
-    /// The same of bytes that are held in arguments.
+    /// The same of bytes that are held in arguments. Returns also whether the escape of a register may
+    /// stand behind them.
     #[inline(never)]
-    fn take_arguments<S: ByteSource>(&mut self, source: &mut S) -> usize
+    pub fn take_arguments<S: ByteSource>(&mut self, source: &mut S) -> (usize, bool)
         ensures takes { TakesRun Arguments (S.gives source.old) (S.gives source.new)
-            (S.ready source.old) result self.old self.new }
+            (S.ready source.old) result.0 self.old self.new }
         ensures notes { S.notes source.new ≤ S.notes source.old }
         ensures failures { S.failures source.new ≡ S.failures source.old }
     {
-        self.take_lying(RunKind::Arguments, source)
+        let most = self.room_for(RunKind::Arguments);
+        let front = front_of(&self.input_ahead, self.looked, source, most);
+        if front.is_empty() {
+            return (0, false);
+        }
+        let kind = RunKind::Arguments;
+        let count = take_part(kind, front, &mut self.arguments, &mut self.escapes);
+        let meets_register = begins_register(front, count);
+        self.pass_front(source, count, false);
+        (count, meets_register)
     }
 
     /// The same where fewer than so many are whole.
@@ -151,6 +163,7 @@ impl<E: Copy> Unread<E> {
             → pushed self.now.input + result ≤ self.now.limits.stack }
         ensures all { is_held kind ≡ false
             → self.now.input.charge + result ≡ self.now.limits.bytes }
+        ensures held { is_held kind ≡ true → result ≡ first_room self.now }
     {
         let allowed = (self.limits.bytes - self.charge) as usize;
         if kind.is_held() {
@@ -191,7 +204,8 @@ impl<E: Copy> Unread<E> {
         }
     }
 
-    /// The same of bytes of a body, as many as are copied at once: it lies among the texts that grow.
+    /// The same of bytes of a body, as many as are copied at once: it lies among the texts that
+    /// grow.
     fn add_run_ahead<S: ByteSource>(&mut self, source: &mut S) -> usize
         requires { is_none_ahead self.old.input.ahead ≡ false }
         ensures takes { TakesRun Definition (S.gives source.old) (S.gives source.new)
@@ -242,8 +256,10 @@ pub(super) fn take_part(
         → held arguments.old.arguments + length front.now ≤ arguments.old.room }
     requires escapes { is_held kind ≡ true
         → texts_held escapes.old.escapes + length front.now ≤ escapes.old.room }
-    ensures { TakesPart kind front.now result
+    ensures takes { TakesPart kind front.now result
         arguments.old arguments.new escapes.old escapes.new }
+    ensures stops { (most : ℕ) → kind ≡ CallArguments most
+        → StopsAt (Some most) front.now result arguments.new.arguments }
 {
     match kind {
         RunKind::Text => 0,
@@ -277,4 +293,16 @@ fn text_ready<S: ByteSource>(source: &S, most: usize) -> &[u8]
 {
     let front = at_most(source.buffered(), most);
     at_most(front, text_in_front(front))
+}
+
+/// Whether the escape of a register may begin at this place of some bytes: a backslash and its letter.
+#[inline(always)]
+fn begins_register(bytes: &[u8], place: usize) -> bool {
+    if place >= bytes.len() {
+        return false;
+    }
+    if bytes[place] != b'\\' {
+        return false;
+    }
+    bytes.len() - place > 1 && bytes[place + 1] == b'n'
 }

@@ -87,8 +87,8 @@ impl<E: Copy> Unread<E> {
         true
     }
 
-    /// Takes the end of a call at once that stands in front and leads back to a line's beginning, if
-    /// the limit on bytes allows it. What is half read isn't looked at. Returns whether it did.
+    /// Takes the end of a call at once that stands in front and leads back to a line's beginning,
+    /// if the limit on bytes allows it. What is half read isn't looked at. Returns whether it did.
     #[inline(always)]
     pub fn pass_return(&mut self) -> bool
         ensures passes { result ≡ true → PassesReturn self.old self.new }

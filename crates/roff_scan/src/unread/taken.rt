@@ -223,8 +223,8 @@ impl<E: Copy> Unread<E> {
         }
     }
 
-    /// The byte that is seen ahead of the source, which isn't asked, behind any ends of texts. Nothing
-    /// where none stands ahead, or something else is seen in front of it.
+    /// The byte that is seen ahead of the source, which isn't asked, behind any ends of texts.
+    /// Nothing where none stands ahead, or something else is seen in front of it.
     #[inline(always)]
     pub fn look_ahead<S: ByteSource>(&self, source: &S) -> Option<u8>
         ensures looks { IfSome result (λ b.

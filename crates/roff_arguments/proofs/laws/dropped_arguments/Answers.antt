@@ -1,4 +1,4 @@
-use Rattle.roff_arguments.proofs.KeptArguments.{only_kept-with_unit, only_kept-settled, only_kept-finished, held-only_kept}
+use Rattle.roff_input.proofs.KeptArguments.{only_kept-with_unit, only_kept-settled, only_kept-finished, held-only_kept}
 use Rattle.roff_arguments.proofs.laws.dropped_arguments.Goals as goal
 
 pub returns : goal.returns

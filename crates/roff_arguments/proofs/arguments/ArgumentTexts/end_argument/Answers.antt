@@ -1,5 +1,5 @@
 use Rattle.std.proofs.Common.{◌<◌, length, vec_len, vec_capacity, ◌∙◌, ap, sym, arith}
-use Rattle.roff_arguments.specs.Arguments.{Arguments}
+use Rattle.roff_input.specs.Arguments.{Arguments}
 use Rattle.roff_arguments.specs.ArgumentTexts.Kept.{KeptArguments}
 use Rattle.roff_arguments.proofs.ArgumentBlock.{AllKept-end, ends_fit, kept_in-end, kept_in-no_end}
 use Rattle.roff_arguments.proofs.Ends.{EndWithin-append}

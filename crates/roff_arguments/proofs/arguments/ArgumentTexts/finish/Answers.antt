@@ -1,7 +1,8 @@
 use Rattle.std.proofs.Common.{◌≡◌, ◌∙◌, ap, sym}
-use Rattle.roff_arguments.specs.Arguments.{Arguments, finished, only_kept}
+use Rattle.roff_input.specs.Arguments.{Arguments, finished, only_kept}
 use Rattle.roff_arguments.specs.ArgumentTexts.Kept.{KeptArguments}
-use Rattle.roff_arguments.proofs.KeptArguments.{Keeps-behind, only_kept-finished, finished_at-other}
+use Rattle.roff_input.proofs.KeptArguments.{only_kept-finished, finished_at-other}
+use Rattle.roff_arguments.proofs.Keeping.{Keeps-behind}
 use Rattle.roff_arguments.proofs.arguments.ArgumentTexts.finish.Goals as goal
 
 pub returns-in_default : goal.returns-in_default

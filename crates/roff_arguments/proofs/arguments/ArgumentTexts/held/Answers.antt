@@ -1,8 +1,8 @@
 use Rattle.std.proofs.Common.{◌∙◌, ap, sym}
-use Rattle.roff_arguments.specs.Arguments.{held}
+use Rattle.roff_input.specs.Arguments.{held}
 use Rattle.roff_arguments.specs.ArgumentTexts.Kept.{KeptArguments}
 use Rattle.roff_arguments.proofs.ArgumentBlock.{held-kept_in}
-use Rattle.roff_arguments.proofs.KeptArguments.{held-keeps}
+use Rattle.roff_arguments.proofs.Keeping.{held-keeps}
 use Rattle.roff_arguments.proofs.arguments.ArgumentTexts.held.Goals as goal
 
 pub returns-clause-value : goal.returns-clause-value

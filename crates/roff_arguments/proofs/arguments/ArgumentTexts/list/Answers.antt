@@ -1,7 +1,7 @@
 use Rattle.std.proofs.Common.{ℕ, List, ◌∙◌, ap, sym}
 use Rattle.std.specs.Prelude.{reverse}
 use Rattle.std.proofs.lemmas.List.{reverse-reverse}
-use Rattle.roff_arguments.specs.Arguments.{Arguments, kept}
+use Rattle.roff_input.specs.Arguments.{Arguments, kept}
 use Rattle.roff_arguments.specs.ArgumentTexts.Ends.{texts_ending}
 use Rattle.roff_arguments.specs.ArgumentTexts.Kept.{KeptArguments}
 use Rattle.roff_arguments.proofs.ArgumentBlock.{few_texts}

@@ -1,9 +1,10 @@
 use Rattle.std.proofs.Common.{◌∙◌, ap, sym}
-use Rattle.roff_arguments.specs.Arguments.{Arguments, settled_at, settled, only_kept}
+use Rattle.roff_input.specs.Arguments.{Arguments, settled_at, settled, only_kept}
 use Rattle.roff_arguments.specs.ArgumentTexts.Kept.{KeptArguments}
-use Rattle.roff_arguments.specs.declared.arguments.Place.{Place}
+use Rattle.roff_input.specs.declared.place.Place.{Place}
 use Rattle.roff_arguments.proofs.ArgumentBlock.{kept_in, only_kept-kept_in}
-use Rattle.roff_arguments.proofs.KeptArguments.{Keeps-behind, only_kept-settled, settled_at-other}
+use Rattle.roff_input.proofs.KeptArguments.{only_kept-settled, settled_at-other}
+use Rattle.roff_arguments.proofs.Keeping.{Keeps-behind}
 use Rattle.roff_arguments.proofs.arguments.ArgumentTexts.settle.Goals as goal
 
 pub returns-in-BehindQuote-clause-keeps : goal.returns-in-BehindQuote-clause-keeps

@@ -1,8 +1,9 @@
 use Rattle.std.proofs.Common.{ap}
-use Rattle.roff_arguments.specs.Arguments.{with_unit}
+use Rattle.roff_input.specs.Arguments.{with_unit}
 use Rattle.roff_arguments.specs.ArgumentTexts.Kept.{KeptArguments}
 use Rattle.roff_escape.specs.declared.open_escape.CopyUnit.TheVariants.{Byte, Kept}
-use Rattle.roff_arguments.proofs.KeptArguments.{Keeps-behind, only_kept-with_unit}
+use Rattle.roff_input.proofs.KeptArguments.{only_kept-with_unit}
+use Rattle.roff_arguments.proofs.Keeping.{Keeps-behind}
 use Rattle.roff_arguments.proofs.arguments.ArgumentTexts.take.Goals as goal
 
 pub returns-in-Byte-clause-keeps : goal.returns-in-Byte-clause-keeps

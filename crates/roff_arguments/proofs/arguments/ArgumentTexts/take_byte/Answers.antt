@@ -1,6 +1,6 @@
 use Rattle.std.proofs.Common.{◌∙◌, ap, sym, arith}
 use Rattle.roff_arguments.specs.ArgumentTexts.Kept.{KeptArguments}
-use Rattle.roff_arguments.proofs.KeptArguments.{held-behind_whole}
+use Rattle.roff_input.proofs.KeptArguments.{held-behind_whole}
 use Rattle.roff_arguments.proofs.arguments.ArgumentTexts.take_byte.Goals as goal
 
 pub push-requires : goal.push-requires

@@ -11,4 +11,4 @@ take_byte-requires c =
 pub loop-count-preserved : goal.loop-count-preserved
 loop-count-preserved c =
     TakesFront-more c.args.most c.args.bytes.now c.loop-count.count c.args.self.now _ _ c.loop-count.invariant c.loop-count-test.true
-    (sym c.is_argument_byte.ensures ∙ c.if-not-is_argument_byte.false) (c.are_fewer.ensures c.if-not-are_fewer.false) c.take_byte.ensures
+    (sym c.is_argument_byte.ensures ∙ c.if-not-is_argument_byte.false) (c.are_fewer.ensures.fewer c.if-not-are_fewer.false) c.take_byte.ensures

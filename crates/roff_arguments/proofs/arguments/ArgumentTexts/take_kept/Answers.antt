@@ -1,6 +1,6 @@
 use Rattle.std.proofs.Common.{arith}
-use Rattle.roff_arguments.specs.Arguments.{settled}
-use Rattle.roff_arguments.proofs.KeptArguments.{held-only_kept, held-settled, held-with_kept}
+use Rattle.roff_input.specs.Arguments.{settled}
+use Rattle.roff_input.proofs.KeptArguments.{held-only_kept, held-settled, held-with_kept}
 use Rattle.roff_arguments.proofs.arguments.ArgumentTexts.take_kept.Goals as goal
 
 pub push-requires : goal.push-requires

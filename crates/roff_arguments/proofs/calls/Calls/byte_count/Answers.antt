@@ -1,7 +1,7 @@
 use Rattle.std.proofs.Common.{◌∙◌, ap, sym}
 use Rattle.std.specs.Prelude.{reverse}
 use Rattle.roff_arguments.specs.Calls.Kept.{KeptCalls}
-use Rattle.roff_arguments.specs.Arguments.{live_bytes}
+use Rattle.roff_input.specs.Arguments.{live_bytes}
 use Rattle.roff_arguments.proofs.CallStack.{live_bytes-calls_in}
 use Rattle.roff_arguments.proofs.calls.Calls.byte_count.Goals as goal
 

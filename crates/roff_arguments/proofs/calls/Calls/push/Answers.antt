@@ -1,10 +1,10 @@
 use Rattle.std.proofs.Common.{◌≡◌, ◌+◌, ◌≤◌, List, ℕ, ◌∷◌, ◌++◌, length, length-append, refl, ◌∙◌, ap, sym, arith}
 use Rattle.std.specs.Prelude.{reverse}
 use Rattle.std.proofs.lemmas.List.{length-reverse, reverse-append}
-use Rattle.roff_arguments.specs.Arguments.{total_length}
+use Rattle.roff_input.specs.Arguments.{total_length}
 use Rattle.roff_arguments.specs.ArgumentList.{listed}
 use Rattle.roff_arguments.specs.declared.calls.CallStart.{CallStart}
-use Rattle.roff_arguments.proofs.CallStack.{length-calls_in, live_bytes-calls_in, few_ends, AreStacked-push}
+use Rattle.roff_arguments.proofs.CallStack.{length-calls_in, live_bytes-calls_in, few_ends, AreStacked-none, AreStacked-push}
 use Rattle.roff_arguments.proofs.Ends.{length-texts_ending}
 use Rattle.roff_arguments.proofs.calls.Calls.push.Goals as goal
 
@@ -47,8 +47,36 @@ unwrap-requires-2 c =
       c.self.invariant.ends,
     ))
 
+-- no argument has a byte, or an end
 pub invariant_of-self : goal.invariant_of-self
 invariant_of-self c =
+    let old = c.self.inside in
+    let start : CallStart = record { byte = c.len.result; end = c.len-2.result } in
+    let free = rw (← c.self.view_is) at c.requires.calls in
+    let calls = length-calls_in (reverse old.starts.items) old.bytes.items old.ends.items in
+    let front : reverse c.push_reserved.new.self.items ≡ start ∷ reverse old.starts.items =
+    rw (c.push_reserved.ensures.items, reverse-append) refl in
+    let byte = sym (c.len.ensures ∙ old.bytes.ok.0) in
+    let end = sym (c.len-2.ensures ∙ old.ends.ok.0) in
+    record {
+      bytes = c.self.invariant.bytes;
+      ends = c.self.invariant.ends;
+      starts = omega (arith, c.self.invariant.starts, c.push_reserved.ensures.capacity);
+      stacked = rw front (AreStacked-none start old.bytes.items old.ends.items byte end (reverse old.starts.items) c.self.invariant.stacked);
+      room = c.self.invariant.room;
+      calls = omega (
+        arith,
+        free,
+        calls,
+        length-reverse old.starts.items,
+        old.starts.ok.0,
+        c.push_reserved.ensures.len,
+        c.push_reserved.new.self.ok.0,
+      );
+    }
+
+pub invariant_of-self-2 : goal.invariant_of-self-2
+invariant_of-self-2 c =
     let old = c.self.inside in
     let new = c.args.arguments in
     let start : CallStart = record { byte = c.len.result; end = c.len-2.result } in

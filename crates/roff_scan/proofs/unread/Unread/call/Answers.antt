@@ -1,5 +1,5 @@
 use Rattle.std.proofs.Common.{◌≡◌, ◌≤◌, ◌<◌, ◌-◌, length, refl, sym, arith}
-use Rattle.roff_arguments.specs.Arguments.{held, total_length}
+use Rattle.roff_input.specs.Arguments.{held, total_length}
 use Rattle.roff_input.specs.Input.{depth}
 use Rattle.roff_input.specs.Input.Calls.{arguments_given, called_text}
 use Rattle.roff_input.specs.Input.Names.{body_named}

@@ -2,10 +2,11 @@ use Rattle.std.proofs.Common.{◌≡◌, Ok, Err, sym, subst}
 use Rattle.roff_num.specs.declared.limit.Limit.TheVariants.{Stack}
 use Rattle.roff_input.specs.Input.{with_arguments}
 use Rattle.roff_input.specs.Unread.{Unread, changing}
-use Rattle.roff_arguments.specs.Arguments.{with_unit}
+use Rattle.roff_input.specs.Arguments.{with_unit}
 use Rattle.roff_scan.specs.Unread.Kept.{kept_by}
 use Rattle.roff_scan.proofs.Changing.{hold_past_stack, hold_within, IsWithin-holding}
 use Rattle.roff_scan.proofs.LineCalls.{NoneBegun-with_unit}
+use Rattle.roff_scan.proofs.Sound.{sound-arguments}
 use Rattle.roff_scan.proofs.unread.Unread.hold.Goals as goal
 
 pub returns-then-bytes_more-self : goal.returns-then-bytes_more-self
@@ -22,21 +23,9 @@ pub invariant_of-self : goal.invariant_of-self
 invariant_of-self g c =
     let kept = kept_by c.self.inside in
     let counted = rw (← c.self.view_is) at c.pushed.ensures in
-    record {
-      bytes = c.self.invariant.bytes;
-      texts = c.self.invariant.texts;
-      arguments = rw c.take.ensures.value c.self.invariant.arguments;
-      begun = rw c.take.ensures.value (NoneBegun-with_unit c.self.inside.arguments.arguments c.args.unit c.self.invariant.begun);
-      call_bytes = c.self.invariant.call_bytes;
-      most_calls = c.self.invariant.most_calls;
-      calls = c.self.invariant.calls;
-      held = c.self.invariant.held;
-      small = c.self.invariant.small;
-      store = c.self.invariant.store;
-      once = c.self.invariant.once;
-      results = c.self.invariant.results;
-      within = rw c.take.ensures.value (IsWithin-holding kept (with_unit kept.input.arguments c.args.unit) c.self.invariant.within c.pushed.result c.bytes_more.result counted c.bytes_more.ensures.value c.if-bytes_more-self.false);
-    }
+    let holding = with_unit kept.input.arguments c.args.unit in
+    sound-arguments c.self.inside c.self.invariant _ _ c.take.ensures.value (NoneBegun-with_unit c.self.inside.arguments.arguments c.args.unit c.self.invariant.begun)
+    (IsWithin-holding kept holding c.self.invariant.within c.pushed.result c.bytes_more.result counted c.bytes_more.ensures.value c.if-bytes_more-self.false)
 
 pub returns : goal.returns
 returns g c =

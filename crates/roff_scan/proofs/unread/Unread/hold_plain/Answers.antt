@@ -1,11 +1,12 @@
 use Rattle.std.proofs.Common.{◌≡◌, Ok, Err, sym, subst}
 use Rattle.roff_num.specs.declared.limit.Limit.TheVariants.{Stack}
-use Rattle.roff_arguments.specs.Arguments.{with_plain}
+use Rattle.roff_input.specs.Arguments.{with_plain}
 use Rattle.roff_input.specs.Input.{holding_plain}
 use Rattle.roff_input.specs.Unread.{Unread, changing}
 use Rattle.roff_scan.specs.Unread.Kept.{kept_by}
 use Rattle.roff_scan.proofs.Changing.{plain_past_stack, plain_within, IsWithin-plain}
 use Rattle.roff_scan.proofs.LineCalls.{NoneBegun-with_plain}
+use Rattle.roff_scan.proofs.Sound.{sound-arguments}
 use Rattle.roff_scan.proofs.unread.Unread.hold_plain.Goals as goal
 
 pub returns-then-bytes_of-self : goal.returns-then-bytes_of-self
@@ -27,24 +28,8 @@ invariant_of-self g c =
     let counted = rw (← c.self.view_is) at c.pushed.ensures in
     let holding = with_plain kept.input.arguments c.args.unit in
     let longer = c.bytes_of.ensures kept.input.arguments in
-    record {
-      bytes = c.self.invariant.bytes;
-      texts = c.self.invariant.texts;
-      arguments = rw c.take_plain.ensures c.self.invariant.arguments;
-      begun = rw c.take_plain.ensures (NoneBegun-with_plain c.self.inside.arguments.arguments c.args.unit);
-      call_bytes = c.self.invariant.call_bytes;
-      most_calls = c.self.invariant.most_calls;
-      calls = c.self.invariant.calls;
-      held = c.self.invariant.held;
-      small = c.self.invariant.small;
-      store = c.self.invariant.store;
-      once = c.self.invariant.once;
-      results = c.self.invariant.results;
-      within =
-          rw c.take_plain.ensures
-          (IsWithin-plain kept holding c.self.invariant.within c.pushed.result c.bytes_of.result counted longer
-          c.if-bytes_of-self.false);
-    }
+    sound-arguments c.self.inside c.self.invariant _ _ c.take_plain.ensures (NoneBegun-with_plain c.self.inside.arguments.arguments c.args.unit)
+    (IsWithin-plain kept holding c.self.invariant.within c.pushed.result c.bytes_of.result counted longer c.if-bytes_of-self.false)
 
 pub returns : goal.returns
 returns g c =

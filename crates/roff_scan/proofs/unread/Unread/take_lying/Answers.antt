@@ -1,9 +1,9 @@
-use Rattle.std.proofs.Common.{◌≡◌, ◌≤◌, [], length, take, ap, rules, sym, ◌∙◌, arith}
-use Rattle.std.proofs.lemmas.List.{length-take-le}
+use Rattle.std.proofs.Common.{◌≡◌, [], ap, rules, sym, ◌∙◌, arith}
 use Rattle.roff_arguments.specs.ArgumentTexts.Kept.{KeptArguments}
 use Rattle.roff_scan.specs.Unread.Kept.{kept_by}
-use Rattle.roff_scan.proofs.RunKinds.{count_held, run-begun, run-held, run-room}
-use Rattle.roff_scan.proofs.Runs.{IsWithin-staged, none-whole, run-fits, run_in_front, run_no_newline, takes_none, takes_run}
+use Rattle.roff_scan.proofs.RunKinds.{run-room}
+use Rattle.roff_scan.proofs.Runs.{none-whole, run_in_front, run_no_newline, takes_none, takes_run}
+use Rattle.roff_scan.proofs.Sound.{sound-part}
 use Rattle.roff_scan.proofs.unread.Unread.take_lying.Goals as goal
 
 pub returns-then-is_empty-clause-takes : goal.returns-then-is_empty-clause-takes
@@ -19,44 +19,20 @@ returns-then-is_empty-clause-takes g c =
 
 pub invariant_of-self : goal.invariant_of-self
 invariant_of-self g c =
-    let kept = kept_by c.self.inside in
-    let part = c.take_part-count.ensures in
-    let bytes = take c.take_part-count.result c.front_of-front.result.now in
-    let few : length bytes ≤ c.room_for-most.result =
-    omega (arith, length-take-le c.take_part-count.result c.front_of-front.result.now part.few, part.few, c.front_of-front.ensures.few) in
-    let stack = rw (← c.self.view_is) at c.room_for-most.ensures.stack in
-    record {
-      bytes = c.self.invariant.bytes;
-      texts = c.self.invariant.texts;
-      arguments = rw part.held c.self.invariant.arguments;
-      begun = rw part.held (run-begun c.args.kind bytes kept.input.arguments c.self.invariant.begun);
-      call_bytes = c.self.invariant.call_bytes;
-      most_calls = c.self.invariant.most_calls;
-      calls = c.self.invariant.calls;
-      held = part.room ∙ c.self.invariant.held;
-      small = c.self.invariant.small;
-      store = c.self.invariant.store;
-      once = c.self.invariant.once;
-      results = c.self.invariant.results;
-      within =
-          rw part.held
-          (IsWithin-staged kept c.take_part-count.new.escapes.escapes _ (count_held c.args.kind bytes) c.self.invariant.within
-          (run-held c.args.kind bytes kept.input.arguments kept.input.escapes c.take_part-count.new.escapes.escapes part.half_read)
-          (run-fits c.args.kind kept bytes c.room_for-most.result few c.self.invariant.within stack));
-    }
+    sound-part c.self.inside c.self.invariant c.args.kind _ _ _ _ _ c.take_part-count.ensures.takes c.front_of-front.ensures.few (rw (← c.self.view_is) at c.room_for-most.ensures.stack)
 
 pub pass_front-requires-clause-front : goal.pass_front-requires-clause-front
 pass_front-requires-clause-front g c =
     let kept = kept_by c.self.inside in
     let bytes = rw (← c.self.view_is) at c.room_for-most.ensures.bytes in
     let stands = run_in_front c.args.kind (g.S.ByteSource.ready c.args.source.now) kept c.front_of-front.result.now c.take_part-count.result c.room_for-most.result
-    c.front_of-front.ensures.among c.front_of-front.ensures.bytes c.take_part-count.ensures.few (omega (arith, bytes, c.front_of-front.ensures.few)) in
+    c.front_of-front.ensures.among c.front_of-front.ensures.bytes c.take_part-count.ensures.takes.few (omega (arith, bytes, c.front_of-front.ensures.few)) in
     record { among = stands.among; within = stands.within }
 
 pub pass_front-requires-clause-plain : goal.pass_front-requires-clause-plain
 pass_front-requires-clause-plain g c = λ none.
     run_no_newline c.args.kind (g.S.ByteSource.ready c.args.source.now) (kept_by c.self.inside) c.front_of-front.result.now c.take_part-count.result c.room_for-most.result
-    c.front_of-front.ensures.among c.front_of-front.ensures.bytes c.take_part-count.ensures.few _ c.take_part-count.ensures.are_of c.take_part-count.ensures.half_read
+    c.front_of-front.ensures.among c.front_of-front.ensures.bytes c.take_part-count.ensures.takes.few _ c.take_part-count.ensures.takes.are_of c.take_part-count.ensures.takes.half_read
     (sym c.has_newlines.ensures ∙ none)
 
 pub returns-clause-takes : goal.returns-clause-takes
@@ -66,7 +42,7 @@ returns-clause-takes g c =
     let gave = g.S.ByteSource.gives c.args.source.now in
     let gives = g.S.ByteSource.gives c.pass_front.new.source in
     let front = c.front_of-front.result.now in
-    let part = c.take_part-count.ensures in
+    let part = c.take_part-count.ensures.takes in
     let most = c.room_for-most.result in
     let room = rw (← c.self.view_is) at c.room_for-most.ensures.all in
     rw (← c.self.view_is)

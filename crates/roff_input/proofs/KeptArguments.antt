@@ -3,14 +3,13 @@ use Rattle.std.proofs.Common.{◌≡◌, ℕ, ◌+◌, Bool, true, false, List, 
 use Rattle.std.specs.Prelude.{◌||◌, not, reverse, nat_lt, if◌then◌else◌, ◌==◌}
 use Rattle.std.proofs.lemmas.Bool.{eqb-true, ne_eqb}
 use Rattle.std.proofs.lemmas.List.{length-reverse, reverse-reverse, reverse-append}
-use Rattle.roff_arguments.specs.Arguments.{Arguments, with_byte, with_byte_at, with_argument_byte, with_two_bytes, with_kept, with_unit, with_whole, between, settled_at, settled, finished_at, finished, total_length, held, has_byte, kept_by_place, kept, only_kept}
-use Rattle.roff_arguments.specs.ArgumentTexts.Kept.{KeptArguments, Keeps, is_held}
+use Rattle.roff_input.specs.Arguments.{Arguments, with_byte, with_byte_at, with_argument_byte, with_two_bytes, with_kept, with_unit, with_whole, between, settled_at, settled, finished_at, finished, total_length, held, has_byte, kept_by_place, kept, only_kept, is_held}
 use Rattle.roff_source.specs.Bytes.{blank, quote, backslash}
-use Rattle.roff_arguments.specs.declared.arguments.Place.{Place}
-use Rattle.roff_arguments.specs.declared.arguments.Place.TheVariants.{Between, InPlain, InQuotes, BehindQuote}
+use Rattle.roff_input.specs.declared.place.Place.{Place}
+use Rattle.roff_input.specs.declared.place.Place.TheVariants.{Between, InPlain, InQuotes, BehindQuote}
 use Rattle.roff_escape.specs.declared.open_escape.CopyUnit.{CopyUnit}
 use Rattle.roff_escape.specs.declared.open_escape.CopyUnit.TheVariants.{Byte, Kept}
-use Rattle.roff_arguments.proofs.KeptTexts.{if_kept, kept_behind-append, kept_behind-kept_behind, nat_lt-kept_behind, total_length-kept_behind}
+use Rattle.roff_input.proofs.KeptTexts.{if_kept, kept_behind-append, kept_behind-kept_behind, nat_lt-kept_behind, total_length-kept_behind}
 
 -- the newest is the last
 pub reverse-cons : {A : Type 0} (x : A) (xs : List A) → reverse (x ∷ xs) ≡ reverse xs ++ x ∷ []
@@ -95,11 +94,6 @@ pub only_kept-with_unit : (a : Arguments) (unit : CopyUnit) → only_kept (with_
 only_kept-with_unit a (Byte b) = only_kept-with_byte_at a.place a b
 only_kept-with_unit a (Kept b) = ap (λ (s : Arguments). with_two_bytes s backslash b) (only_kept-settled a)
 
--- so a buffer keeps what is to be kept behind it
-pub Keeps-behind : (step : Arguments → Arguments) → ((a : Arguments) → only_kept (step (only_kept a)) ≡ only_kept (step a))
-    → (a : Arguments) (old new : KeptArguments) → new.arguments ≡ only_kept (step old.arguments) → Keeps a old → Keeps (step a) new
-Keeps-behind step law a old new is keeps = record { same = is ∙ ap (λ (b : Arguments). only_kept (step b)) keeps.same ∙ law a }
-
 -- bytes of texts, from the other end
 total_length-append : (texts more : List (List ℕ)) → total_length (texts ++ more) ≡ total_length texts + total_length more
 total_length-append [] more = sym (zero-add (total_length more))
@@ -116,9 +110,6 @@ pub held-only_kept : (a : Arguments) → held (only_kept a) ≡ held a
 held-only_kept a =
     ap (λ bytes. bytes + length a.begun)
     (total_length-reverse (kept (reverse a.whole)) ∙ total_length-kept_behind kept_by_place (reverse a.whole) ∙ total_length-reverse a.whole)
-
-pub held-keeps : (a : Arguments) (k : KeptArguments) → Keeps a k → held k.arguments ≡ held a
-held-keeps a k keeps = ap held keeps.same ∙ held-only_kept a
 
 -- the bytes behind events
 held-with_whole : (a : Arguments) → held (with_whole a) ≡ held a

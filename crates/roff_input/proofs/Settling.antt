@@ -1,9 +1,9 @@
 -- Arguments where no quote follows the quote before.
 use Rattle.std.proofs.Common.{◌≡◌, refl, ◌∙◌, ap}
-use Rattle.roff_arguments.specs.Arguments.{Arguments, settled_at, settled, held, only_kept}
-use Rattle.roff_arguments.specs.declared.arguments.Place.{Place}
-use Rattle.roff_arguments.specs.declared.arguments.Place.TheVariants.{Between, InPlain, InQuotes, BehindQuote}
-use Rattle.roff_arguments.proofs.KeptArguments.{held-only_kept, held-settled, only_kept-settled}
+use Rattle.roff_input.specs.Arguments.{Arguments, settled_at, settled, held, only_kept}
+use Rattle.roff_input.specs.declared.place.Place.{Place}
+use Rattle.roff_input.specs.declared.place.Place.TheVariants.{Between, InPlain, InQuotes, BehindQuote}
+use Rattle.roff_input.proofs.KeptArguments.{held-only_kept, held-settled, only_kept-settled}
 
 -- they stay so
 settled-settled_at : (place : Place) (a : Arguments) → a.place ≡ place → settled (settled_at place a) ≡ settled_at place a

@@ -1,7 +1,7 @@
 -- The arguments of a control line (manual, section 7.3).
-use Rattle.std.specs.Prelude.{◌≡◌, ℕ, ◌+◌, ◌<◌, Bool, true, false, List, [], ◌∷◌, ◌++◌, length, reverse, take, drop, filter, slice_get, if◌then◌else◌, ◌==◌, Option, None, Some, ⊤}
-use Rattle.roff_arguments.specs.declared.arguments.Place.{Place}
-use Rattle.roff_arguments.specs.declared.arguments.Place.TheVariants.{Between, InPlain, InQuotes, BehindQuote}
+use Rattle.std.specs.Prelude.{◌≡◌, ℕ, ◌+◌, ◌<◌, Bool, true, false, not, ◌||◌, List, [], ◌∷◌, ◌++◌, length, reverse, take, drop, filter, slice_get, if◌then◌else◌, ◌==◌, Option, None, Some, ⊤}
+use Rattle.roff_input.specs.declared.place.Place.{Place}
+use Rattle.roff_input.specs.declared.place.Place.TheVariants.{Between, InPlain, InQuotes, BehindQuote}
 use Rattle.roff_escape.specs.declared.open_escape.CopyUnit.{CopyUnit}
 use Rattle.roff_escape.specs.declared.open_escape.CopyUnit.TheVariants.{Byte, Kept}
 use Rattle.roff_source.specs.Bytes.{blank, quote, backslash}
@@ -154,3 +154,10 @@ FirstArgumentsAreKept =
 abbrev pub live_bytes : List (List (List ℕ)) → ℕ
 live_bytes [] = 0
 live_bytes (arguments ∷ calls) = total_length arguments + live_bytes calls
+
+-- whether a byte is one of an argument, by where the reading stands: else it separates or quotes
+abbrev pub is_held : Place → ℕ → Bool
+is_held Between b = not (b == blank || b == quote)
+is_held InPlain b = not (b == blank)
+is_held InQuotes b = not (b == quote)
+is_held BehindQuote b = not (b == blank)

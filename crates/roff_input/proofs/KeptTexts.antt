@@ -3,7 +3,7 @@ use Rattle.std.proofs.Common.{◌≡◌, ℕ, ◌+◌, ◌<◌, ◌≤◌, Bool,
 use Rattle.std.proofs.lemmas.Bool.Decides.{nat_tests}
 use Rattle.std.specs.Prelude.{◌||◌, filter, slice_get, nat_lt, if◌then◌else◌}
 use Rattle.std.proofs.lemmas.List.Elements.{filter-append}
-use Rattle.roff_arguments.specs.Arguments.{has_byte, kept_by_place, kept_behind, total_length, FirstArgumentsAreKept}
+use Rattle.roff_input.specs.Arguments.{has_byte, kept_by_place, kept_behind, total_length, FirstArgumentsAreKept}
 
 -- texts that have a byte
 abbrev with_bytes : List (List ℕ) → List (List ℕ)
