@@ -72,8 +72,10 @@ pub fn command_line_pages()
         ≡ Some (Ok ((page 1, page 1) ∷ (page 3, page 4) ∷ (page 0, page 0)
         ∷ (page 7, page 2147483647) ∷ [])) }
     ensures without_text { pages (codes "nroff" ∷ codes "--pages=" ∷ []) ≡ Some (Err []) }
-    ensures without_a_range { pages (codes "nroff" ∷ codes "-o1,,2" ∷ []) ≡ Some (Err (codes "1,,2")) }
-    ensures without_a_first_page { pages (codes "nroff" ∷ codes "-o-3" ∷ []) ≡ Some (Err (codes "-3")) }
+    ensures without_a_range { pages (codes "nroff" ∷ codes "-o1,,2" ∷ [])
+        ≡ Some (Err (codes "1,,2")) }
+    ensures without_a_first_page { pages (codes "nroff" ∷ codes "-o-3" ∷ [])
+        ≡ Some (Err (codes "-3")) }
     ensures backwards { pages (codes "nroff" ∷ codes "-o4-3" ∷ []) ≡ Some (Err (codes "4-3")) }
     ensures with_a_sign { pages (codes "nroff" ∷ codes "-o+3" ∷ []) ≡ Some (Err (codes "+3")) }
     ensures too_great { pages (codes "nroff" ∷ codes "-o2147483648" ∷ [])

@@ -8,7 +8,7 @@ use roff_num::{Limit, Limits};
 use tbl_core::TblLimits;
 
 /// The part of the program that a limit is of.
-#[derive(Clone, Copy, Debug, PartialEq, Eq)]
+#[derive(Clone, Copy)]
 pub enum LimitOf {
     /// The formatter of text.
     Formatter,

@@ -6,7 +6,7 @@ use roff_num::{Limits, Num};
 use tbl_core::TblLimits;
 
 /// A command, with what its options ask for.
-#[derive(Clone, Copy, Debug, PartialEq, Eq)]
+#[derive(Clone, Copy)]
 pub enum Asked {
     /// To format text, within these limits.
     Nroff(Limits),

@@ -75,7 +75,8 @@ pub const WIDTH: &str = "Most columns of a table's picture";
 /// What the option `--line-length` sets.
 pub const LINE_LENGTH: &str = "Columns within which tables are centred";
 
-// Help ends in these lines, after what it says of the command itself. A request may end the formatter.
+// Help ends in these lines, after what it says of the command itself. A request may end the
+// formatter.
 macro_rules! help_end {
     (formatter: $notes:literal) => {
         help_end!($notes, "\n  4  the request .ab ended the run")

@@ -2,7 +2,7 @@
 use Rattle.std.proofs.Common.{◌≡◌, ◌∙◌, ℕ, Bool, List, ◌∷◌, Option, refl, sym, ap, subst}
 use Rattle.roff_lines.specs.Env.Stands.{StandsBehind}
 use Rattle.roff_lines.specs.Env.Kept.{Kept as KeptLines}
-use Rattle.roff_lines.specs.declared.event.Event.TheVariants.{Count, Interrupt as IsInterrupted}
+use Rattle.roff_layout.specs.declared.event.Event.TheVariants.{Count, Interrupt as IsInterrupted}
 use Rattle.roff_run.specs.declared.environment_number.EnvironmentNumber.{EnvironmentNumber}
 use Rattle.roff_run.specs.declared.event.InputTrap.{InputTrap}
 use Rattle.roff_run.specs.Environments.{Environments, counted_down, gone_back, is_same, switched_to, turned_to, turned_unless, with_event, with_input_trap, with_interruption}

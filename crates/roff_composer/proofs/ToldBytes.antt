@@ -2,12 +2,12 @@
 use Rattle.std.proofs.Common.{◌≡◌, ℕ, ◌+◌, Bool, true, false, List, [], ◌∷◌, ◌++◌, Option, None, refl, sym, ap, subst, ◌∙◌}
 use Rattle.std.specs.Prelude.{◌==◌, option_map, if◌then◌else◌}
 use Rattle.std.proofs.lemmas.List.{append-nil}
-use Rattle.roff_lines.specs.Events.{History}
-use Rattle.roff_lines.specs.declared.event.Event.TheVariants.{Print, WordEnd, Gap}
-use Rattle.roff_lines.specs.Lines.{Finished, finished}
-use Rattle.roff_lines.specs.Telling.{QuietlyTold, bytes_told}
-use Rattle.roff_lines.specs.declared.glyph.Glyph.TheVariants.{Printed}
-use Rattle.roff_pages.specs.Happenings.{Places}
+use Rattle.roff_layout.specs.Events.{History}
+use Rattle.roff_layout.specs.declared.event.Event.TheVariants.{Print, WordEnd, Gap}
+use Rattle.roff_layout.specs.Lines.{Finished, finished}
+use Rattle.roff_layout.specs.Telling.{QuietlyTold, bytes_told}
+use Rattle.roff_layout.specs.declared.glyph.Glyph.TheVariants.{Printed}
+use Rattle.roff_layout.specs.Happenings.{Places}
 use Rattle.roff_run.specs.Environments.{Environments, environments}
 use Rattle.roff_run.specs.Layouts.{laid_out, layout_of}
 use Rattle.roff_run.specs.Output.{PageHistory, text_laid, text_of, written}

@@ -2,10 +2,10 @@
 
 ghost use Rattle.std.specs.Prelude.{◌≡◌, ◌+◌, ◌<◌, ◌↔◌, [], ◌∷◌, length, not, IfOk, IsErr};
 ghost use Rattle.std.specs.Prelude.{IsOkUnless, MatchOption, OnOk, Some};
-ghost use Rattle.roff_lines.specs.Words.{is_empty};
+ghost use Rattle.roff_layout.specs.Words.{is_empty};
 ghost use Rattle.roff_run.specs.Environments.{PageHistory, environments, fresh_environment};
 ghost use Rattle.roff_run.specs.Environments.{gone_back, interrupted_line, switched_to, turned};
-ghost use Rattle.roff_lines.specs.declared.event.Event.TheVariants.{Count};
+ghost use Rattle.roff_layout.specs.declared.event.Event.TheVariants.{Count};
 ghost use Rattle.roff_run.specs.Environments.{turned_to, turned_unless, with_event, with_input_trap};
 ghost use Rattle.roff_run.specs.Environments.{counted_down, trap_reached, with_interruption};
 ghost use Rattle.roff_run.specs.Springs.{springs};

@@ -2,16 +2,16 @@
 
 ghost use Rattle.std.specs.Prelude.{◌≡◌, ◌+◌, ◌<◌, ◌≤◌, ◌^◌, [], ◌∷◌, length, replicate, IfOk};
 ghost use Rattle.roff_run.specs.TitleTexts.{part_ended, title_length, with_bytes};
-ghost use Rattle.roff_lines.specs.Glyphs.{glyph_blank};
+ghost use Rattle.roff_layout.specs.Glyphs.{glyph_blank};
 
-use roff_lines::UNPADDABLE;
+use roff_layout::UNPADDABLE;
 use roff_run::TitlePart;
 use std::alloc::{AllocError, Global};
 use std::marker::Model;
 
 /// The three parts of a title, one behind another in one block (manual, section 14).
 ///
-/// In a part [`UNPADDABLE`](roff_lines::UNPADDABLE) stands for a blank, and 1 for the page number.
+/// In a part [`UNPADDABLE`](roff_layout::UNPADDABLE) stands for a blank, and 1 for the page number.
 #[derive(Drop)]
 pub struct TitleText {
     bytes: Vec<u8>,

@@ -6,9 +6,9 @@ use Rattle.std.proofs.lemmas.Bool.Decides.{nat_tests}
 use Rattle.std.proofs.lemmas.List.{append-nil}
 use Rattle.roff_num.specs.declared.limit.Limit.{Limit}
 use Rattle.roff_num.specs.declared.limits.Limits.{Limits}
-use Rattle.roff_lines.specs.Telling.{QuietlyTold}
-use Rattle.roff_lines.specs.declared.event.Event.TheVariants.{Print, WordEnd, Gap}
-use Rattle.roff_lines.specs.declared.glyph.Glyph.TheVariants.{Printed}
+use Rattle.roff_layout.specs.Telling.{QuietlyTold}
+use Rattle.roff_layout.specs.declared.event.Event.TheVariants.{Print, WordEnd, Gap}
+use Rattle.roff_layout.specs.declared.glyph.Glyph.TheVariants.{Printed}
 use Rattle.roff_source.specs.Bytes.{apostrophe, backslash, blank, dot, is_silent, is_text_byte, newline, tab}
 use Rattle.roff_source.specs.Tape.{Tape, items_then}
 use Rattle.roff_escape.specs.OpenEscape.{OpenEscape, Backslash}

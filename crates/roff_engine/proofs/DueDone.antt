@@ -1,7 +1,7 @@
 -- What is due before anything more is taken: a message is told, or ends the run, or the input is left.
 use Rattle.std.proofs.Common.{◌≡◌, ◌≤◌, ◌-◌, ◌==◌, if◌then◌else◌, ℕ, Bool, true, false, List, [], ◌++◌, Option, Some, None, Ok, Err, inl, inr, refl, sym, subst, ap, ◌∙◌, arith, append-nil}
 use Rattle.roff_num.specs.declared.limit.Limit.{Limit}
-use Rattle.roff_arguments.specs.Arguments.{no_arguments}
+use Rattle.roff_input.specs.Arguments.{no_arguments}
 use Rattle.roff_input.specs.Input.{leaving, outermost_back}
 use Rattle.roff_run.specs.Reading.Returns.{gone_back_to, line_of}
 use Rattle.roff_run.specs.TurnsToCome.{begun}

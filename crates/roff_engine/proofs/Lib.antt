@@ -27,9 +27,12 @@ pub mod Passing
 pub mod Turned
 pub mod PassingOn
 pub mod PassingEnds
+pub mod EndsAtOnce
 pub mod Telling
 pub mod Beginning
 pub mod TakenBytes
+pub mod BytesActed
 pub mod TitleRuns
 pub mod DueDone
 pub mod NamedSteps
+pub mod PutRegisters

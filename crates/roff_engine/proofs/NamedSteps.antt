@@ -1,8 +1,8 @@
 -- Steps that have names of their own: what they mean doesn't depend on what is kept.
 use Rattle.std.proofs.Common.{◌≡◌, ℕ, Bool, true, false, List, [], ◌∷◌, ◌++◌, Option, refl}
 use Rattle.std.specs.Prelude.{◌==◌, if◌then◌else◌}
-use Rattle.roff_lines.specs.declared.event.Event.TheVariants.{Print, Tab as PageTab}
-use Rattle.roff_lines.specs.declared.glyph.Glyph.TheVariants.{Blanks}
+use Rattle.roff_layout.specs.declared.event.Event.TheVariants.{Print, Tab as PageTab}
+use Rattle.roff_layout.specs.declared.glyph.Glyph.TheVariants.{Blanks}
 use Rattle.roff_run.specs.Environments.{PageHistory}
 use Rattle.roff_run.specs.Events.Lines.{print_event}
 use Rattle.roff_run.specs.Reading.TextLines.{leading_glyph}

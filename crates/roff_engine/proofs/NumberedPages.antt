@@ -7,12 +7,12 @@ use Rattle.roff_num.specs.declared.limits.Limits.{Limits}
 use Rattle.roff_num.specs.declared.num.Num.{Num}
 use Rattle.roff_engine.specs.Interpreter.Giving.{Gives}
 use Rattle.roff_engine.specs.declared.interpreter.Interpreter.{Interpreter}
-use Rattle.roff_pages.proofs.PageBoxes.{either_none}
-use Rattle.roff_pages.specs.Happenings.{Happening, Does}
-use Rattle.roff_pages.specs.Layout.{Layout}
+use Rattle.roff_layout.proofs.DeviceText.{either_none}
+use Rattle.roff_layout.specs.Happenings.{Happening, Does}
+use Rattle.roff_layout.specs.Layout.{Layout}
 use Rattle.roff_pages.specs.Pages.Stands.{Happens}
-use Rattle.roff_pages.specs.Stops.{is_diverted}
-use Rattle.roff_pages.specs.declared.layout_event.LayoutEvent.TheVariants.{Number}
+use Rattle.roff_layout.specs.Stops.{is_diverted}
+use Rattle.roff_layout.specs.declared.layout_event.LayoutEvent.TheVariants.{Number}
 use Rattle.roff_reader.specs.Reader.State.{ReaderState}
 use Rattle.roff_composer.proofs.GivenPages.{StandFor-quiet}
 use Rattle.roff_composer.specs.Composer.Standing.{StandFor}

@@ -14,7 +14,7 @@ use Rattle.roff_run.specs.declared.line_state.LineState.TheVariants.{LineStart}
 use Rattle.roff_fronts.proofs.LineEnds.{reads-ended}
 use Rattle.roff_engine.specs.declared.running.Running.{Running as Coded}
 use Rattle.roff_engine.specs.Engine.Outcome.{Seen, seen}
-use Rattle.roff_engine.specs.Running.Turning.{GoesFurther, GoesPast, IsAt}
+use Rattle.roff_engine.specs.Running.Turning.{GoesFurther, GoesPast, GoesPastIf, IsAt}
 use Rattle.roff_sinks.specs.Sinks.{Sunk}
 use Rattle.roff_engine.proofs.Turned.{goes_past_turned}
 use Rattle.roff_engine.proofs.TurnsLeft.{turns_of_run-fewer}
@@ -32,6 +32,20 @@ goes_past_both gave mid gives noted kept notes old between new now halfway behin
       second.past t tape start given (first.past t (items_then second.taken tape) start (second.before tape given)
       (subst (λ (whole : Tape). IsAt t whole start now old) (items_then-append first.taken second.taken tape) at));
   turns = omega (arith, first.turns, second.turns);
+}
+
+-- past bytes of which it is known if something is so, and then past others
+pub goes_past_if_both : (P : Type 0) (gave mid gives : Tape → Type 0) (noted kept notes : ℕ) (old between new : Coded) (now halfway behind : Seen)
+    → GoesPastIf P gave mid noted kept old between now halfway → GoesPast mid gives kept notes between new halfway behind
+    → GoesPastIf P gave gives noted notes old new now behind
+goes_past_if_both P gave mid gives noted kept notes old between new now halfway behind first second = record {
+  limits = second.limits ∙ first.limits;
+  taken = first.taken ++ second.taken;
+  before = λ t given. subst gave (sym (items_then-append first.taken second.taken t)) (first.before (items_then second.taken t) (second.before t given));
+  past = λ t tape start given at.
+      second.past t tape start given (first.past t (items_then second.taken tape) start (second.before tape given)
+      (subst (λ (whole : Tape). IsAt t whole start now old) (items_then-append first.taken second.taken tape) at));
+  turns = λ is. let few = first.turns is in omega (arith, few, second.turns);
 }
 
 -- past none

@@ -15,7 +15,7 @@ use Rattle.roff_run.specs.TurnsToCome.{lines_left, most_left}
 use Rattle.roff_formatter.proofs.EventsLeft.{drop-drop, left-front, most-drop, reach-least}
 use Rattle.roff_formatter.proofs.Performed.{sprang_first}
 use Rattle.std.proofs.lemmas.List.{append_assoc}
-use Rattle.roff_lines.specs.declared.event.Event.TheVariants.{Break, WordEnd}
+use Rattle.roff_layout.specs.declared.event.Event.TheVariants.{Break, WordEnd}
 use Rattle.roff_run.specs.declared.event.PageEvent.TheVariants.{Text}
 
 -- the event at an index, or what comes before it, sprang this, behind those in front of it

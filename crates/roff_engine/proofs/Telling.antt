@@ -2,7 +2,7 @@
 use Rattle.std.proofs.Common.{◌≡◌, ℕ, ◌+◌, ◌≤◌, Bool, true, List, [], ◌∷◌, length, length-take, take, None, refl, sym, ap, subst, ◌∙◌, arith}
 use Rattle.std.specs.Prelude.{map}
 use Rattle.std.specs.List.{AllByRecursion}
-use Rattle.roff_lines.specs.Telling.{QuietlyTold}
+use Rattle.roff_layout.specs.Telling.{QuietlyTold}
 use Rattle.roff_num.specs.declared.limits.Limits.{Limits}
 use Rattle.roff_source.specs.Bytes.{is_text_byte}
 use Rattle.roff_input.specs.Input.{Ahead, bytes_taken, lines_taken}

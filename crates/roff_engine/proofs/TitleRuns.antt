@@ -7,10 +7,10 @@ use Rattle.std.proofs.lemmas.Bool.Decides.{nat_tests}
 use Rattle.std.proofs.lemmas.List.{length-map}
 use Rattle.roff_num.specs.declared.limit.Limit.{Limit}
 use Rattle.roff_num.specs.declared.limits.Limits.{Limits}
-use Rattle.roff_lines.specs.Glyphs.{glyph_blank}
-use Rattle.roff_lines.specs.Words.{is_empty}
+use Rattle.roff_layout.specs.Glyphs.{glyph_blank}
+use Rattle.roff_layout.specs.Words.{is_empty}
 use Rattle.roff_sinks.specs.Sinks.{Sunk}
-use Rattle.roff_sinks.specs.Titles.{page_mark}
+use Rattle.roff_layout.specs.Titles.{page_mark}
 use Rattle.roff_source.specs.Bytes.{backslash, blank, is_silent, is_text_byte, newline, tab}
 use Rattle.roff_source.specs.Tape.{Tape, OneByte, items_then}
 use Rattle.roff_escape.specs.OpenEscape.{OpenEscape, Backslash}

@@ -11,7 +11,7 @@ use Rattle.roff_run.proofs.LinesLeft.{left_behind, left-few}
 use Rattle.roff_composer.specs.Composer.Standing.{StandFor}
 use Rattle.roff_composer.specs.declared.composer.Composer.{Composer as ComposerOf}
 use Rattle.roff_run.specs.Environments.{PageHistory, interrupted_line, line_left, environments, text_of}
-use Rattle.roff_lines.specs.Events.{is_interrupted}
+use Rattle.roff_layout.specs.Events.{is_interrupted}
 use Rattle.roff_run.specs.Events.Lines.{closing_events}
 use Rattle.roff_run.specs.Reading.Ends.{is_unfinished}
 use Rattle.roff_run.specs.Run.{State, escape_ends, input_ended, known, phase_ended}

@@ -5,3 +5,4 @@ pub mod Starting
 pub mod Springing
 pub mod Leaving
 pub mod Beginning
+pub mod EndsAtOnce

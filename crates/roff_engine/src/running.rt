@@ -5,6 +5,7 @@ ghost use Rattle.roff_run.specs.Run.{ahead_taken, byte_taken, in_front_taken, it
 ghost use Rattle.roff_input.specs.Input.{DoAhead};
 ghost use Rattle.roff_engine.specs.Clauses.{Puts, seen, due, Device};
 
+mod conditions;
 mod ending;
 mod fronts;
 mod half_read;
@@ -32,7 +33,7 @@ pub(crate) struct Running {
 
 impl Running {
     ghost use Rattle.roff_engine.specs.Running.Room.{SeesOn};
-    ghost use Rattle.roff_engine.specs.Running.Turning.{DoesItem, TurnsBy};
+    ghost use Rattle.roff_engine.specs.Running.Turning.{DoesItem, TurnsOver};
 
     /// Takes an item of the input, or ends what is half read; nothing is due. An `Err` is the
     /// status of a run that ended.
@@ -44,11 +45,8 @@ impl Running {
         err: &mut E,
     ) -> Result<(), Status>
         requires { due self.old.interpreter.reader.reading ≡ None }
-        ensures { TurnsBy (step self.old.limits)
-            (S.gives source.old) (S.gives source.new) (S.notes source.old) (S.notes source.new)
-            self.old self.new
-            (seen (S.failures source.old) (O.sunk out.old) (E.sunk err.old))
-            (seen (S.failures source.new) (O.sunk out.new) (E.sunk err.new)) result }
+        ensures { TurnsOver S.ByteSource O.ByteSink E.ByteSink (step self.old.limits)
+            source.old source.new out.old out.new err.old err.new self.old self.new result }
     {
         if self.unread.has_open_escape() {
             self.turn_half_read(source, out, err)
@@ -67,11 +65,8 @@ impl Running {
     ) -> Result<(), Status>
         requires none_due { due self.old.interpreter.reader.reading ≡ None }
         requires none_half { self.old.unread.input.escapes ≡ [] }
-        ensures { TurnsBy (step self.old.limits)
-            (S.gives source.old) (S.gives source.new) (S.notes source.old) (S.notes source.new)
-            self.old self.new
-            (seen (S.failures source.old) (O.sunk out.old) (E.sunk err.old))
-            (seen (S.failures source.new) (O.sunk out.new) (E.sunk err.new)) result }
+        ensures { TurnsOver S.ByteSource O.ByteSink E.ByteSink (step self.old.limits)
+            source.old source.new out.old out.new err.old err.new self.old self.new result }
     {
         self.tell_beginning(source);
         self.turn_alone(source, out, err)
@@ -86,11 +81,8 @@ impl Running {
         err: &mut E,
     ) -> Result<(), Status>
         requires none_half { self.old.unread.input.escapes ≡ [] }
-        ensures { TurnsBy (λ s. item_read self.old.limits s)
-            (S.gives source.old) (S.gives source.new) (S.notes source.old) (S.notes source.new)
-            self.old self.new
-            (seen (S.failures source.old) (O.sunk out.old) (E.sunk err.old))
-            (seen (S.failures source.new) (O.sunk out.new) (E.sunk err.new)) result }
+        ensures { TurnsOver S.ByteSource O.ByteSink E.ByteSink (λ s. item_read self.old.limits s)
+            source.old source.new out.old out.new err.old err.new self.old self.new result }
     {
         match self.interpreter.reader.reading() {
             LineState::Text(line) => self.turn_text(line, source, out, err),
@@ -108,11 +100,8 @@ impl Running {
         err: &mut E,
     ) -> Result<(), Status>
         requires none_half { self.old.unread.input.escapes ≡ [] }
-        ensures { TurnsBy (λ s. item_read self.old.limits s)
-            (S.gives source.old) (S.gives source.new) (S.notes source.old) (S.notes source.new)
-            self.old self.new
-            (seen (S.failures source.old) (O.sunk out.old) (E.sunk err.old))
-            (seen (S.failures source.new) (O.sunk out.new) (E.sunk err.new)) result }
+        ensures { TurnsOver S.ByteSource O.ByteSink E.ByteSink (λ s. item_read self.old.limits s)
+            source.old source.new out.old out.new err.old err.new self.old self.new result }
     {
         let line = self.unread.line();
         match self.unread.take_ready(source) {
@@ -130,11 +119,8 @@ impl Running {
         err: &mut E,
     ) -> Result<(), Status>
         requires none_half { self.old.unread.input.escapes ≡ [] }
-        ensures { TurnsBy (λ s. item_read self.old.limits s)
-            (S.gives source.old) (S.gives source.new) (S.notes source.old) (S.notes source.new)
-            self.old self.new
-            (seen (S.failures source.old) (O.sunk out.old) (E.sunk err.old))
-            (seen (S.failures source.new) (O.sunk out.new) (E.sunk err.new)) result }
+        ensures { TurnsOver S.ByteSource O.ByteSink E.ByteSink (λ s. item_read self.old.limits s)
+            source.old source.new out.old out.new err.old err.new self.old self.new result }
     {
         if self.interpreter.reader.waits_alone(&self.unread) {
             self.turn_looking(source, out, err)
@@ -152,11 +138,9 @@ impl Running {
         err: &mut E,
     ) -> Result<(), Status>
         requires { SeesOn self.old.unread.input }
-        ensures { TurnsBy (λ s. in_front_taken self.old.limits s.input.ahead s)
-            (S.gives source.old) (S.gives source.new) (S.notes source.old) (S.notes source.new)
-            self.old self.new
-            (seen (S.failures source.old) (O.sunk out.old) (E.sunk err.old))
-            (seen (S.failures source.new) (O.sunk out.new) (E.sunk err.new)) result }
+        ensures { TurnsOver S.ByteSource O.ByteSink E.ByteSink
+            (λ s. in_front_taken self.old.limits s.input.ahead s)
+            source.old source.new out.old out.new err.old err.new self.old self.new result }
     {
         let line = self.unread.line();
         match self.unread.take_ready(source) {
@@ -174,11 +158,9 @@ impl Running {
         err: &mut E,
     ) -> Result<(), Status>
         requires { SeesOn self.old.unread.input }
-        ensures { TurnsBy (λ s. in_front_taken self.old.limits s.input.ahead s)
-            (S.gives source.old) (S.gives source.new) (S.notes source.old) (S.notes source.new)
-            self.old self.new
-            (seen (S.failures source.old) (O.sunk out.old) (E.sunk err.old))
-            (seen (S.failures source.new) (O.sunk out.new) (E.sunk err.new)) result }
+        ensures { TurnsOver S.ByteSource O.ByteSink E.ByteSink
+            (λ s. in_front_taken self.old.limits s.input.ahead s)
+            source.old source.new out.old out.new err.old err.new self.old self.new result }
     {
         let line = self.unread.line();
         match self.unread.take(source) {
@@ -225,8 +207,8 @@ impl Running {
         out: &mut O,
         err: &mut E,
     ) -> Result<(), Status>
-        ensures { (failures : ℕ) → DoesItem line_before (ahead_taken (DoAhead event)) self.old self.new
-            (seen failures (O.sunk out.old) (E.sunk err.old))
+        ensures { (failures : ℕ) → DoesItem line_before (ahead_taken (DoAhead event))
+            self.old self.new (seen failures (O.sunk out.old) (E.sunk err.old))
             (seen failures (O.sunk out.new) (E.sunk err.new)) result }
     {
         let line = self.unread.line();

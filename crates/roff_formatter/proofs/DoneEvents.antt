@@ -6,16 +6,16 @@ use Rattle.roff_num.specs.declared.limit.Limit.TheVariants.{Line}
 use Rattle.roff_num.specs.declared.limits.Limits.{Limits}
 use Rattle.roff_num.specs.declared.short_name.ShortName.{ShortName}
 use Rattle.roff_lines.specs.Env.Stands.{StandsBehind}
-use Rattle.roff_lines.specs.Lines.{Finished, finished, pending_length}
+use Rattle.roff_layout.specs.Lines.{Finished, finished, pending_length}
 use Rattle.roff_lines.specs.declared.env.Env.{Env}
-use Rattle.roff_lines.specs.declared.event.Event.{Event}
-use Rattle.roff_pages.specs.DeviceText.{device_text}
-use Rattle.roff_pages.specs.Happenings.{Happening, Does, Places}
-use Rattle.roff_pages.specs.declared.layout_event.LayoutEvent.{LayoutEvent}
-use Rattle.roff_pages.specs.Layout.{Layout}
+use Rattle.roff_layout.specs.declared.event.Event.{Event}
+use Rattle.roff_layout.specs.DeviceText.{device_text}
+use Rattle.roff_layout.specs.Happenings.{Happening, Does, Places}
+use Rattle.roff_layout.specs.declared.layout_event.LayoutEvent.{LayoutEvent}
+use Rattle.roff_layout.specs.Layout.{Layout}
 use Rattle.roff_pages.specs.Pages.Stands.{StandsAs}
-use Rattle.roff_pages.specs.Springs.{goes_on, springs as springs_on_page}
-use Rattle.roff_pages.specs.Turning.{with_event}
+use Rattle.roff_layout.specs.Springs.{goes_on, springs as springs_on_page}
+use Rattle.roff_layout.specs.Turning.{with_event}
 use Rattle.roff_composer.specs.Composer.Standing.{StandFor}
 use Rattle.roff_composer.specs.Environments.Standing.{StandBy}
 use Rattle.roff_composer.specs.declared.composer.Composer.{Composer as ComposerOf}

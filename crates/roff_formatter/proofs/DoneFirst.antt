@@ -4,15 +4,15 @@ use Rattle.roff_num.specs.declared.limit.Limit.{Limit}
 use Rattle.roff_num.specs.declared.limit.Limit.TheVariants.{Output as OutputLimit}
 use Rattle.roff_num.specs.declared.limits.Limits.{Limits}
 use Rattle.roff_num.specs.declared.short_name.ShortName.{ShortName}
-use Rattle.roff_lines.specs.declared.event.Event.TheVariants.{WordEnd}
-use Rattle.roff_pages.specs.DeviceText.{device_text}
-use Rattle.roff_pages.specs.Happenings.{Happening}
-use Rattle.roff_pages.specs.Layout.{Layout}
+use Rattle.roff_layout.specs.declared.event.Event.TheVariants.{WordEnd}
+use Rattle.roff_layout.specs.DeviceText.{device_text}
+use Rattle.roff_layout.specs.Happenings.{Happening}
+use Rattle.roff_layout.specs.Layout.{Layout}
 use Rattle.roff_pages.specs.Pages.Kept.{Kept}
 use Rattle.roff_pages.specs.Pages.Printing.{DidTo}
 use Rattle.roff_pages.specs.Pages.Stands.{StandsAs}
-use Rattle.roff_pages.specs.Springs.{springs as springs_on_page}
-use Rattle.roff_pages.specs.Turning.{with_event}
+use Rattle.roff_layout.specs.Springs.{springs as springs_on_page}
+use Rattle.roff_layout.specs.Turning.{with_event}
 use Rattle.roff_composer.specs.Composer.Standing.{StandFor}
 use Rattle.roff_composer.specs.Environments.Standing.{StandBy}
 use Rattle.roff_composer.specs.declared.composer.Composer.{Composer as ComposerOf}

@@ -4,16 +4,16 @@ use Rattle.std.specs.Prelude.{is_some, nat_le, nat_lt}
 use Rattle.std.proofs.lemmas.Bool.{and_parts, eq-eqb, leb-true, ltb-true, ne_eqb}
 use Rattle.std.proofs.lemmas.List.{length-append}
 use Rattle.roff_num.specs.declared.short_name.ShortName.{ShortName}
-use Rattle.roff_pages.specs.Happenings.{Happening, Does}
-use Rattle.roff_pages.specs.Layout.{Box, Layout, page_place}
-use Rattle.roff_pages.specs.Puts.{boxes_put, ejected_if}
-use Rattle.roff_pages.specs.Queries.{nl}
-use Rattle.roff_pages.specs.Springs.{first_met, goes_on, is_on_top, is_passed, springs}
-use Rattle.roff_pages.specs.Stops.{page_target, place_of}
-use Rattle.roff_pages.specs.Turning.{behind_put, next_behind, page_begun, with_boxes, with_event}
-use Rattle.roff_pages.specs.declared.layout_event.LayoutEvent.{LayoutEvent}
-use Rattle.roff_pages.specs.declared.layout_event.LayoutEvent.TheVariants.{Eject, EjectTo, EjectOn, EjectLast}
-use Rattle.roff_pages.specs.declared.trap.Trap.{Trap}
+use Rattle.roff_layout.specs.Happenings.{Happening, Does}
+use Rattle.roff_layout.specs.Layout.{Box, Layout, page_place}
+use Rattle.roff_layout.specs.Puts.{boxes_put, ejected_if}
+use Rattle.roff_layout.specs.Queries.{nl}
+use Rattle.roff_layout.specs.Springs.{first_met, goes_on, is_on_top, is_passed, springs}
+use Rattle.roff_layout.specs.Stops.{page_target, place_of}
+use Rattle.roff_layout.specs.Turning.{behind_put, next_behind, page_begun, with_boxes, with_event}
+use Rattle.roff_layout.specs.declared.layout_event.LayoutEvent.{LayoutEvent}
+use Rattle.roff_layout.specs.declared.layout_event.LayoutEvent.TheVariants.{Eject, EjectTo, EjectOn, EjectLast}
+use Rattle.roff_layout.specs.declared.trap.Trap.{Trap}
 use Rattle.roff_pages.proofs.WholePages.{waits}
 use Rattle.roff_run.specs.Springs.{left_if}
 use Rattle.roff_formatter.specs.declared.halt.Halt.{Halt}

@@ -3,17 +3,17 @@ use Rattle.std.proofs.Common.{◌∙◌, ◌≡◌, ◌<◌, ℕ, Bool, true, fa
 use Rattle.std.specs.Prelude.{is_some, nat_le, option_map}
 use Rattle.std.proofs.lemmas.Bool.{ne_eqb}
 use Rattle.roff_num.specs.declared.limits.Limits.{Limits}
-use Rattle.roff_lines.specs.Lines.{Finished, finished}
-use Rattle.roff_lines.specs.Words.{has_open_word}
-use Rattle.roff_lines.specs.declared.event.Event.{Event}
-use Rattle.roff_lines.specs.declared.glyph.Glyph.{Glyph}
-use Rattle.roff_lines.specs.declared.event.Event.TheVariants.{Print, Tab, WordEnd, Gap, LineEnd, Count, Break, Interrupt as Interrupted, Resume, Set}
-use Rattle.roff_pages.specs.Happenings.{Does, Places}
-use Rattle.roff_pages.specs.Layout.{Layout, page_place}
-use Rattle.roff_pages.specs.Puts.{appended}
-use Rattle.roff_pages.specs.Queries.{is_diverting, takes_text}
-use Rattle.roff_pages.specs.Turning.{page_begun, with_boxes, with_event}
-use Rattle.roff_pages.specs.declared.layout_event.LayoutEvent.TheVariants.{Begin}
+use Rattle.roff_layout.specs.Lines.{Finished, finished}
+use Rattle.roff_layout.specs.Words.{has_open_word}
+use Rattle.roff_layout.specs.declared.event.Event.{Event}
+use Rattle.roff_layout.specs.declared.glyph.Glyph.{Glyph}
+use Rattle.roff_layout.specs.declared.event.Event.TheVariants.{Print, Tab, WordEnd, Gap, LineEnd, Count, Break, Interrupt as Interrupted, Resume, Set}
+use Rattle.roff_layout.specs.Happenings.{Does, Places}
+use Rattle.roff_layout.specs.Layout.{Layout, page_place}
+use Rattle.roff_layout.specs.Puts.{appended}
+use Rattle.roff_layout.specs.Queries.{is_diverting, takes_text}
+use Rattle.roff_layout.specs.Turning.{page_begun, with_boxes, with_event}
+use Rattle.roff_layout.specs.declared.layout_event.LayoutEvent.TheVariants.{Begin}
 use Rattle.roff_composer.specs.Composer.Standing.{StandFor}
 use Rattle.roff_formatter.specs.declared.formatter.Formatter.{Formatter}
 use Rattle.roff_formatter.specs.Reaching.{Beginning, Reaches}

@@ -1,6 +1,6 @@
 -- How many interrupted lines are left in the environment in force behind some events.
 use Rattle.std.proofs.Common.{◌≡◌, ◌≤◌, ℕ, zero, suc, Bool, true, false, List, [], ◌∷◌, Option, Some, None, refl, arith}
-use Rattle.roff_lines.specs.declared.event.Event.TheVariants.{Print, Tab, WordEnd, Gap, LineEnd, Count, Break, Interrupt as Interrupted, Resume, Set}
+use Rattle.roff_layout.specs.declared.event.Event.TheVariants.{Print, Tab, WordEnd, Gap, LineEnd, Count, Break, Interrupt as Interrupted, Resume, Set}
 use Rattle.roff_formatter.specs.Formatter.Sprung.{may_be_left}
 use Rattle.roff_run.proofs.LinesLeft.{left_by-fewer, lines_left-event, most_left-fewer}
 use Rattle.roff_run.specs.Environments.{PageHistory, interrupted_line, text_of}
@@ -12,7 +12,7 @@ use Rattle.roff_run.specs.Titles.{told}
 use Rattle.roff_formatter.specs.Formatter.Performing.{behind_event, behind_events, behind_next}
 use Rattle.roff_run.specs.TurnsToCome.{left_by, most_left}
 use Rattle.roff_run.specs.Springs.{begins, next, own_word_end, page_begin_or, word_end_of}
-use Rattle.roff_lines.specs.Words.{has_open_word}
+use Rattle.roff_layout.specs.Words.{has_open_word}
 
 -- what comes before an event, if anything does, leaves as many
 abbrev LeavesAll : Option PageEvent → Type 0

@@ -7,18 +7,18 @@ use Rattle.std.proofs.lemmas.List.{length-append, length-map}
 use Rattle.roff_num.specs.declared.limit.Limit.{Limit}
 use Rattle.roff_num.specs.declared.limit.Limit.TheVariants.{Line, Output as OutputLimit, Traps, Diversions, Environments as EnvironmentsLimit}
 use Rattle.roff_num.specs.declared.limits.Limits.{Limits}
-use Rattle.roff_lines.specs.Lines.{pending_length}
-use Rattle.roff_lines.specs.declared.event.Event.{Event}
-use Rattle.roff_pages.specs.DeviceText.{device_lines, device_text}
-use Rattle.roff_pages.specs.Happenings.{Happening, Does}
-use Rattle.roff_pages.specs.declared.layout_event.LayoutEvent.{LayoutEvent}
-use Rattle.roff_pages.specs.declared.layout_event.LayoutEvent.TheVariants.{ListPages, Begin, Close, Space, Need, Eject, EjectTo, EjectOn, EjectLast, Length, Offset, Next, Number, NoSpace, Plant, Uproot, MoveTrap, RemoveTrap, DiversionTrap, NoDiversionTrap, Divert, EndDivert}
-use Rattle.roff_pages.specs.Layout.{Box, Layout}
+use Rattle.roff_layout.specs.Lines.{pending_length}
+use Rattle.roff_layout.specs.declared.event.Event.{Event}
+use Rattle.roff_layout.specs.DeviceText.{device_lines, device_text}
+use Rattle.roff_layout.specs.Happenings.{Happening, Does}
+use Rattle.roff_layout.specs.declared.layout_event.LayoutEvent.{LayoutEvent}
+use Rattle.roff_layout.specs.declared.layout_event.LayoutEvent.TheVariants.{ListPages, Begin, Close, Space, Need, Eject, EjectTo, EjectOn, EjectLast, Length, Offset, Next, Number, NoSpace, Plant, Uproot, MoveTrap, RemoveTrap, DiversionTrap, NoDiversionTrap, Divert, EndDivert}
+use Rattle.roff_layout.specs.Layout.{Box, Layout}
 use Rattle.roff_pages.specs.Pages.Kept.{Kept}
 use Rattle.roff_pages.specs.Pages.Stands.{SameLimits, StandsAs, kept_diversion}
-use Rattle.roff_pages.specs.Puts.{boxes_put, puts}
-use Rattle.roff_pages.specs.Stops.{is_diverted, target}
-use Rattle.roff_pages.specs.Turning.{with_event, with_trap}
+use Rattle.roff_layout.specs.Puts.{boxes_put, puts}
+use Rattle.roff_layout.specs.Stops.{is_diverted, target}
+use Rattle.roff_layout.specs.Turning.{with_event, with_trap}
 use Rattle.roff_composer.specs.Composer.Standing.{StandFor}
 use Rattle.roff_composer.specs.Environments.Standing.{StandBy}
 use Rattle.roff_composer.specs.declared.composer.Composer.{Composer as ComposerOf}

@@ -5,16 +5,16 @@ use Rattle.std.proofs.lemmas.Bool.{and_parts, eq-eqb, leb-true, ltb-true}
 use Rattle.roff_num.specs.declared.limit.Limit.{Limit}
 use Rattle.roff_num.specs.declared.limit.Limit.TheVariants.{Traps, Diversions}
 use Rattle.roff_num.specs.declared.short_name.ShortName.{ShortName}
-use Rattle.roff_pages.specs.Happenings.{Does}
-use Rattle.roff_pages.specs.Layout.{Diversion, Layout}
+use Rattle.roff_layout.specs.Happenings.{Does}
+use Rattle.roff_layout.specs.Layout.{Diversion, Layout}
 use Rattle.roff_pages.specs.Pages.Kept.{Kept}
 use Rattle.roff_pages.specs.Pages.Stands.{Happens}
-use Rattle.roff_pages.specs.Springs.{diversion_trap_passed, first_met, is_passed, passed_in, springs}
-use Rattle.roff_pages.specs.Stops.{innermost, page_target, place_of, stop_at}
-use Rattle.roff_pages.specs.Turning.{with_trap}
-use Rattle.roff_pages.specs.declared.layout_event.LayoutEvent.{LayoutEvent}
-use Rattle.roff_pages.specs.declared.layout_event.LayoutEvent.TheVariants.{ListPages, Begin, Close, Space, Need, Eject, EjectTo, EjectOn, EjectLast, Length, Offset, Next, Number, NoSpace, Plant, Uproot, MoveTrap, RemoveTrap, DiversionTrap, NoDiversionTrap, Divert, EndDivert}
-use Rattle.roff_pages.specs.declared.trap.Trap.{Trap}
+use Rattle.roff_layout.specs.Springs.{diversion_trap_passed, first_met, is_passed, passed_in, springs}
+use Rattle.roff_layout.specs.Stops.{innermost, page_target, place_of, stop_at}
+use Rattle.roff_layout.specs.Turning.{with_trap}
+use Rattle.roff_layout.specs.declared.layout_event.LayoutEvent.{LayoutEvent}
+use Rattle.roff_layout.specs.declared.layout_event.LayoutEvent.TheVariants.{ListPages, Begin, Close, Space, Need, Eject, EjectTo, EjectOn, EjectLast, Length, Offset, Next, Number, NoSpace, Plant, Uproot, MoveTrap, RemoveTrap, DiversionTrap, NoDiversionTrap, Divert, EndDivert}
+use Rattle.roff_layout.specs.declared.trap.Trap.{Trap}
 use Rattle.roff_formatter.specs.Formatter.Setting.{HasRoomFor, SetsOnPage, halted_within, is_quiet}
 use Rattle.roff_formatter.specs.Formatter.Sprung.{sprung_by}
 

@@ -1,8 +1,8 @@
 -- Events before which something may come, and that may spring a macro.
 use Rattle.std.proofs.Common.{◌∙◌, ◌≡◌, ◌≤◌, Bool, true, false, List, [], ◌∷◌, Option, Some, None, Result, Ok, Err, ap, arith, refl, subst, sym}
 use Rattle.roff_num.specs.declared.limits.Limits.{Limits}
-use Rattle.roff_lines.specs.Words.{has_open_word}
-use Rattle.roff_lines.specs.declared.event.Event.TheVariants.{Count, WordEnd}
+use Rattle.roff_layout.specs.Words.{has_open_word}
+use Rattle.roff_layout.specs.declared.event.Event.TheVariants.{Count, WordEnd}
 use Rattle.roff_composer.specs.Composer.Standing.{StandFor}
 use Rattle.roff_composer.specs.Environments.Standing.{StandBy}
 use Rattle.roff_composer.specs.declared.composer.Composer.{Composer as ComposerOf}
@@ -17,7 +17,7 @@ use Rattle.roff_run.specs.Environments.{environments, interrupted_line}
 use Rattle.roff_run.specs.Output.{PageHistory, text_of}
 use Rattle.roff_run.specs.PageEvents.{PageEvent}
 use Rattle.roff_run.specs.declared.event.PageEvent.TheVariants.{Text, Page}
-use Rattle.roff_pages.specs.declared.layout_event.LayoutEvent.TheVariants.{Begin}
+use Rattle.roff_layout.specs.declared.layout_event.LayoutEvent.TheVariants.{Begin}
 use Rattle.roff_run.specs.Registers.{AllRegisters}
 use Rattle.roff_run.specs.Run.{State}
 use Rattle.roff_run.specs.Springs.{begins, own_word_end, springs, word_end_of}

@@ -5,14 +5,14 @@ use Rattle.std.proofs.lemmas.Bool.Decides.{nat_tests}
 use Rattle.std.proofs.lemmas.List.Folds.{length-prefix_len}
 use Rattle.std.proofs.lemmas.List.Sums.{take_while-cons}
 use Rattle.std.specs.List.{AllByRecursion}
-use Rattle.roff_lines.specs.Events.{History}
+use Rattle.roff_layout.specs.Events.{History}
 use Rattle.roff_lines.specs.Env.Stands.{Stands}
-use Rattle.roff_lines.specs.Telling.{QuietlyTold, bytes_told}
+use Rattle.roff_layout.specs.Telling.{QuietlyTold, bytes_told}
 use Rattle.roff_lines.specs.declared.env.Env.{Env}
 use Rattle.roff_num.specs.declared.limits.Limits.{Limits}
-use Rattle.roff_pages.specs.Layout.{Layout}
+use Rattle.roff_layout.specs.Layout.{Layout}
 use Rattle.roff_pages.specs.Pages.Stands.{StandsAs}
-use Rattle.roff_pages.specs.Queries.{takes_text}
+use Rattle.roff_layout.specs.Queries.{takes_text}
 use Rattle.roff_source.proofs.PlainBytes.{take_while-plain}
 use Rattle.roff_source.specs.Bytes.{is_text_byte}
 use Rattle.roff_run.specs.Environments.{Environments, environments, text_of}

@@ -19,10 +19,10 @@ use Rattle.roff_num.specs.declared.format.Format.TheVariants.{Decimal, RomanLowe
 use Rattle.roff_num.proofs.Fields.{AllDigits-decimal_field}
 use Rattle.roff_num.proofs.Listing.{IsOverLetters-word, place-word}
 use Rattle.roff_num.proofs.RomanValues.{roman_value-roman}
-use Rattle.roff_lines.specs.Glyphs.{glyph_blank, text_width}
+use Rattle.roff_layout.specs.Glyphs.{glyph_blank, text_width}
 use Rattle.roff_lines.proofs.Widths.{text_width_le}
 use Rattle.roff_sinks.specs.TitleParts.{HasNoBlank}
-use Rattle.roff_sinks.specs.Titles.{page_mark, part_text}
+use Rattle.roff_layout.specs.Titles.{page_mark, part_text}
 
 -- bytes above the blank
 abbrev Shown : List ℕ → Type 0

@@ -4,13 +4,13 @@ use Rattle.std.proofs.lemmas.Nat.{mul-le}
 use Rattle.roff_num.specs.RegisterText.{register_text}
 use Rattle.roff_num.specs.declared.format.Format.{Format}
 use Rattle.roff_num.specs.declared.limits.Limits.{Limits}
-use Rattle.roff_lines.specs.Glyphs.{text_width}
-use Rattle.roff_lines.specs.declared.settings.Settings.{Settings}
-use Rattle.roff_pages.specs.Happenings.{Happening, Titles}
-use Rattle.roff_pages.specs.Layout.{Layout}
+use Rattle.roff_layout.specs.Glyphs.{text_width}
+use Rattle.roff_layout.specs.declared.settings.Settings.{Settings}
+use Rattle.roff_layout.specs.Happenings.{Happening, Titles}
+use Rattle.roff_layout.specs.Layout.{Layout}
 use Rattle.roff_pages.specs.Pages.Stands.{StandsAs}
 use Rattle.roff_sinks.specs.Sinks.{Sunk}
-use Rattle.roff_sinks.specs.Titles.{part_text}
+use Rattle.roff_layout.specs.Titles.{part_text}
 use Rattle.roff_composer.specs.Composer.Standing.{StandFor}
 use Rattle.roff_composer.specs.Environments.Standing.{StandBy}
 use Rattle.roff_composer.specs.declared.environments.Environments.{Environments as EnvironmentsOf}

@@ -5,6 +5,6 @@ pub use Rattle.roff_formatter.specs.Formatter.Setting.{DoesOnPage, IsOfTraps, Pu
 pub use Rattle.roff_run.specs.Starts.{pages_given}
 pub use Rattle.roff_run.specs.declared.event.PageEvent.TheVariants.{Back, Text, Environment, InputTrap as SetsTrap, Interrupt, Page}
 pub use Rattle.roff_sinks.specs.Sinks.{Sunk}
-pub use Rattle.roff_lines.specs.Columns.{finished_of}
+pub use Rattle.roff_layout.specs.Columns.{finished_of}
 pub use Rattle.roff_composer.specs.Composer.Standing.{StandFor}
-pub use Rattle.roff_lines.specs.declared.event.Event.TheVariants.{Tab, Gap, Print, WordEnd, LineEnd, Break}
+pub use Rattle.roff_layout.specs.declared.event.Event.TheVariants.{Tab, Gap, Print, WordEnd, LineEnd, Break}

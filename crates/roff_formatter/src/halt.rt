@@ -3,7 +3,7 @@
 use roff_num::Limit;
 
 /// What ends a run early.
-#[derive(Clone, Copy, Debug, PartialEq, Eq)]
+#[derive(Clone, Copy)]
 pub enum Halt {
     /// An event would pass a limit; the item that meant it was taken.
     Limit(Limit),

@@ -9,7 +9,7 @@ use crate::halt::Halt;
 use roff_num::ShortName;
 
 /// The macro that one of some events sprang, and which of them are left behind it.
-#[derive(Clone, Copy, Debug, PartialEq, Eq)]
+#[derive(Clone, Copy)]
 pub struct Sprung {
     /// The macro's name.
     pub name: ShortName,

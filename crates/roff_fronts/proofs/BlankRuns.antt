@@ -3,8 +3,8 @@ use Rattle.std.proofs.Common.{◌≡◌, ℕ, ◌+◌, ◌≤◌, ◌==◌, Bool
 use Rattle.std.specs.List.{AllByRecursion}
 use Rattle.std.specs.Prelude.{◌&&◌, nat_lt}
 use Rattle.std.proofs.lemmas.Bool.{cases_Bool, eqb-true, ltb-true, ne_eqb}
-use Rattle.roff_lines.specs.declared.event.Event.TheVariants.{Break, Gap, WordEnd}
-use Rattle.roff_arguments.specs.Arguments.{Arguments}
+use Rattle.roff_layout.specs.declared.event.Event.TheVariants.{Break, Gap, WordEnd}
+use Rattle.roff_input.specs.Arguments.{Arguments}
 use Rattle.roff_source.specs.Bytes.{blank}
 use Rattle.roff_escape.specs.OpenEscape.{OpenEscape}
 use Rattle.roff_escape.specs.OpenEscapes.{byte_read}

@@ -2,9 +2,9 @@
 use Rattle.std.proofs.Common.{◌≡◌, ℕ, ◌==◌, ◌≤◌, Bool, true, false, not, ◌||◌, List, [], ◌∷◌, Option, None, Some, refl, sym, ap, subst, ◌∙◌, arith}
 use Rattle.std.specs.Prelude.{if◌then◌else◌}
 use Rattle.std.specs.List.{AllByRecursion}
-use Rattle.roff_arguments.proofs.KeptArguments.{held-only_kept, held-with_argument_byte}
+use Rattle.roff_input.proofs.KeptArguments.{held-only_kept, held-with_argument_byte}
 use Rattle.roff_arguments.proofs.HeldBytes.{held-byte}
-use Rattle.roff_arguments.specs.Arguments.{Arguments, HeldFewer, bytes_held, held, only_kept, with_argument_byte}
+use Rattle.roff_input.specs.Arguments.{Arguments, HeldFewer, bytes_held, held, only_kept, with_argument_byte}
 use Rattle.roff_source.specs.Bytes.{is_argument_byte}
 use Rattle.roff_source.specs.Bytes.{backslash, is_dropped, newline}
 use Rattle.roff_escape.specs.OpenEscape.{OpenEscape}

@@ -12,3 +12,6 @@ pub mod ControlFronts
 mod FrontsRead
 pub mod LineEnds
 pub mod StringFronts
+pub mod RegisterNames
+pub mod RegistersPut
+pub mod PuttingRuns

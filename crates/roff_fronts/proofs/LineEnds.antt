@@ -1,6 +1,6 @@
 -- A newline behind which a line begins, and that changes nothing else: it leads from stage to stage, and is read past.
 use Rattle.std.proofs.Common.{◌≡◌, ℕ, List, [], ◌∷◌, None, refl, sym, subst, arith}
-use Rattle.roff_arguments.specs.Arguments.{Arguments}
+use Rattle.roff_input.specs.Arguments.{Arguments}
 use Rattle.roff_source.specs.Bytes.{newline}
 use Rattle.roff_source.specs.Tape.{Tape}
 use Rattle.roff_input.specs.Unread.{IsWithin}

@@ -1,6 +1,6 @@
 -- Bytes in the front of an escape that reads a name change only what is half read, one after another.
 use Rattle.std.proofs.Common.{◌≡◌, ℕ, List, None, refl, arith}
-use Rattle.roff_arguments.specs.Arguments.{Arguments}
+use Rattle.roff_input.specs.Arguments.{Arguments}
 use Rattle.roff_escape.specs.OpenEscape.{OpenEscape}
 use Rattle.roff_escape.specs.EscapeFronts.{ByteRead, HalvesRead, NothingRead}
 use Rattle.roff_store.specs.Named.{Named}

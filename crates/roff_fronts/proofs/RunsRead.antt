@@ -1,7 +1,7 @@
 -- Bytes that were taken together and changed only what is read were read past, wherever they stood.
-use Rattle.std.proofs.Common.{◌≡◌, ◌≤◌, ℕ, List, [], length, take, refl, sym, ap, subst, ◌∙◌, arith}
+use Rattle.std.proofs.Common.{◌≡◌, ◌+◌, ◌≤◌, ℕ, true, List, [], length, take, take_while, refl, sym, ap, subst, ◌∙◌, arith}
 use Rattle.std.proofs.lemmas.List.{take-take}
-use Rattle.roff_arguments.specs.Arguments.{Arguments}
+use Rattle.roff_input.specs.Arguments.{Arguments}
 use Rattle.roff_escape.specs.OpenEscape.{OpenEscape}
 use Rattle.roff_source.specs.Tape.{Tape}
 use Rattle.roff_store.specs.Named.{Named}
@@ -9,14 +9,16 @@ use Rattle.roff_store.specs.Texts.{Entry}
 use Rattle.roff_input.specs.Unread.{IsWithin}
 use Rattle.roff_scan.specs.Unread.Calls.{OfSource, OfTexts, PassesFront, front_bytes, next_bytes}
 use Rattle.roff_run.proofs.ItemsTaken.{FromAhead, FromSource, Origin}
-use Rattle.roff_run.proofs.PlainRuns.{counted, counted-source}
+use Rattle.roff_run.proofs.PlainRuns.{behind_bytes-charge, counted, counted-source}
 use Rattle.roff_fronts.proofs.TurnedRuns.{counted-bytes_taken}
 use Rattle.roff_run.specs.Reading.Items.{PageInput, PageUnread}
 use Rattle.roff_run.specs.Stages.{Here, Stage, Turned, stage_of}
-use Rattle.roff_scan.specs.Unread.Runs.{TakesRun, with_stage_of}
+use Rattle.roff_scan.specs.RunKinds.{goes_by_bytes, is_of}
+use Rattle.roff_scan.specs.Unread.Runs.{TakesRun, room_for, with_stage_of}
 use Rattle.roff_scan.specs.declared.run_kind.RunKind.{RunKind}
 use Rattle.roff_run.specs.declared.line_state.LineState.{LineState}
 use Rattle.roff_reader.specs.Reader.State.{ReaderState}
+use Rattle.roff_fronts.specs.Runs.{TakesReady}
 use Rattle.roff_fronts.specs.Stages.{ReadsPast}
 
 -- the input behind bytes that were taken at once is the one that counts them
@@ -26,6 +28,21 @@ passed-counted gave gives bytes before after (OfSource passes) =
     (FromSource passes.some.0, ap (λ (u : PageUnread). u.input) passes.input ∙ sym (counted-source passes.some.0 bytes before.input passes.ahead))
 passed-counted gave gives bytes before after (OfTexts passes) =
     (FromAhead passes.behind, ap (λ (u : PageUnread). u.input) passes.input ∙ sym (counted-bytes_taken passes.behind bytes before.input passes.in_front))
+
+-- so many more were taken
+pub passed-charge : (gave gives : Tape → Type 0) (bytes : List ℕ) (before after : PageUnread) → PassesFront gave gives bytes before after
+    → after.input.charge ≡ before.input.charge + length bytes
+passed-charge gave gives bytes before after passes =
+    let there = passed-counted gave gives bytes before after passes in
+    ap (λ (i : PageInput). i.charge) there.1 ∙ behind_bytes-charge there.0 bytes before.input
+
+-- of a run those that tell by themselves how far it goes
+pub takes-ready : (kind : RunKind) (gave gives : Tape → Type 0) (ready : List ℕ) (count : ℕ) (before after : PageUnread)
+    → TakesRun kind gave gives ready count before after → goes_by_bytes kind ≡ true
+    → TakesReady (take_while (is_of kind) (take (room_for kind before) ready)) before after
+takes-ready kind gave gives ready count before after took goes = λ asks.
+    passed-charge gave gives took.bytes before (record after { input = with_stage_of before.input after.input }) took.passes
+    ∙ ap (λ (bytes : List ℕ). before.input.charge + length bytes) (took.whole goes asks)
 
 -- Bytes were taken, with this input behind them as bytes that change nothing leave it; and something else changed of the stage
 -- besides, to which they lead.

@@ -1,11 +1,12 @@
 -- The beginning of a string's text is read past: a quote alone, which is dropped, or bytes of which the first is kept.
 use Rattle.std.proofs.Common.{◌≡◌, ℕ, zero, suc, ◌+◌, ◌≤◌, ◌==◌, Bool, true, false, not, ◌&&◌, ◌||◌, List, [], ◌∷◌, ◌++◌, length, length-take, map, take, take_while, min, nat_lt, Option, Some, refl, sym, ap, subst, ◌∙◌, arith, if◌then◌else◌}
 use Rattle.std.specs.List.{AllByRecursion}
+use Rattle.std.proofs.lemmas.Bool.{eqb-true}
 use Rattle.std.proofs.lemmas.Bool.Decides.{nat_tests}
 use Rattle.std.proofs.lemmas.List.{nil_from_length}
 use Rattle.roff_source.specs.Bytes.{backslash, blank, is_dropped, is_text_byte, newline, quote}
 use Rattle.roff_source.specs.Tape.{Tape}
-use Rattle.roff_arguments.specs.Arguments.{Arguments}
+use Rattle.roff_input.specs.Arguments.{Arguments}
 use Rattle.roff_escape.specs.OpenEscape.{OpenEscape}
 use Rattle.roff_escape.specs.Waiting.{is_ended_by}
 use Rattle.roff_escape.specs.declared.open_escape.CopyUnit.TheVariants.{Byte}
@@ -36,9 +37,12 @@ use Rattle.roff_run.specs.declared.line_state.LineState.TheVariants.{LineStart, 
 use Rattle.roff_reader.proofs.TextTaken.{plain-found}
 use Rattle.roff_reader.specs.Reader.State.{ReaderState}
 use Rattle.roff_fronts.proofs.AddedRuns.{grows-added, stage_with, turned-added}
-use Rattle.roff_fronts.proofs.RunsRead.{first_of_front, reads-bytes, reads-none, reads-taken, turned-behind}
+use Rattle.roff_fronts.proofs.RunsRead.{first_of_front, passed-charge, reads-bytes, reads-none, reads-taken, turned-behind}
 use Rattle.roff_fronts.specs.Stages.{ReadsPast}
-use Rattle.roff_fronts.specs.StringFronts.{AreKept, BeginsKept, IsQuoted}
+use Rattle.roff_fronts.specs.Runs.{TakesReady, ready_allowed}
+use Rattle.roff_fronts.specs.StringFronts.{AreKept, BeginsKept, IsQuoted, bytes_of_front, text_front}
+use Rattle.roff_fronts.specs.declared.strings.TextFront.{TextFront}
+use Rattle.roff_fronts.specs.declared.strings.TextFront.TheVariants.{Quote, Kept, Other}
 
 -- where the text is read, in front of it or behind its beginning
 abbrev at_text : ShortName → Bool → Bool → LineState
@@ -121,6 +125,30 @@ module _ (names : Named Entry) (name : ShortName) (appends : Bool) (half : List 
       Onward p q q quote [] refl (ap (λ (h : List OpenEscape). is_ended_by h (Some quote)) none_half)
       (λ k i. quote-dropped k (input_at names p i) name appends none_half) refl (omega arith) (omega arith) (Here q)
 
+-- what bytes are that begin with a quote, or with a byte that is kept
+front-parted : (b : ℕ) (rest : List ℕ) (t u : Bool) (kind : TextFront) → (b == quote) ≡ t → (b == blank) ≡ u → (if t then Quote else if u then Other else Kept) ≡ kind
+    → (kind ≡ Quote → IsQuoted (b ∷ rest)) × (kind ≡ Kept → AreKept (b ∷ rest))
+front-parted b rest true u kind quoted blank is =
+    (λ here. record { rest = rest; are = ap (λ (c : ℕ). c ∷ rest) (eqb-true b quote quoted) }, λ here. cc)
+front-parted b rest false true kind quoted blank is = (λ here. cc, λ here. cc)
+front-parted b rest false false kind quoted blank is =
+    (λ here. cc, λ here. record { first = b; rest = rest; are = refl; no_blank = blank; no_quote = quoted })
+
+pub front-quoted : (bytes : List ℕ) → text_front bytes ≡ Quote → IsQuoted bytes
+front-quoted [] is = cc
+front-quoted (b ∷ rest) is = (front-parted b rest (b == quote) (b == blank) Quote refl refl is).0 refl
+
+pub front-kept : (bytes : List ℕ) → text_front bytes ≡ Kept → AreKept bytes
+front-kept [] is = cc
+front-kept (b ∷ rest) is = (front-parted b rest (b == quote) (b == blank) Kept refl refl is).1 refl
+
+-- where bytes were taken as those that stand ready begin, as many were taken as the ones in front say
+pub takes-front : (front ready : List ℕ) (u after : PageUnread) (kind : TextFront) → (asks_to_take u ≡ true → front ≡ ready_allowed u ready)
+    → text_front front ≡ kind → TakesReady (bytes_of_front kind u ready) u after
+    → TakesReady (bytes_of_front (text_front (ready_allowed u ready)) u ready) u after
+takes-front front ready u after kind whole is takes = λ asks.
+    takes asks ∙ ap (λ (k : TextFront). u.input.charge + length (bytes_of_front k u ready)) (sym is ∙ ap text_front (whole asks))
+
 -- where a quote is the first of the bytes in front, one byte of them is a quote, and no newline
 module _ (ready front : List ℕ) (u : PageUnread) (front_is : front ≡ front_bytes (length front) ready u) (quoted : IsQuoted front) where
   quote_some : 1 ≤ length front
@@ -136,6 +164,12 @@ module _ (ready front : List ℕ) (u : PageUnread) (front_is : front ≡ front_b
 
   pub quote-is_front : IsFront (length front) ready u → IsFront 1 ready u
   quote-is_front is = record { among = omega (arith, quote_some, is.among); within = omega (arith, quote_some, is.within) }
+
+pub takes-quote : (gave gives : Tape → Type 0) (ready front : List ℕ) (before after : PageUnread) → front ≡ front_bytes (length front) ready before → IsQuoted front
+    → PassesFront gave gives (front_bytes 1 ready before) before after → TakesReady (quote ∷ []) before after
+takes-quote gave gives ready front before after is quoted passes = λ asks.
+    passed-charge gave gives (front_bytes 1 ready before) before after passes
+    ∙ ap (λ (bytes : List ℕ). before.input.charge + length bytes) (quote-front ready front before is quoted)
 
 -- bytes in front begin as those that come next
 front-first : (b : ℕ) (bytes all : List ℕ) (n : ℕ) → b ∷ bytes ≡ take n all → (rest : List ℕ) × (all ≡ b ∷ rest)

@@ -4,9 +4,9 @@ use Rattle.std.specs.Prelude.{if◌then◌else◌}
 use Rattle.std.specs.List.{AllByRecursion}
 use Rattle.std.proofs.lemmas.Bool.{eqb-true}
 use Rattle.roff_arguments.proofs.HeldBytes.{held-byte}
-use Rattle.roff_arguments.specs.Arguments.{Arguments, HeldFewer, bytes_held, is_behind_quote, only_kept, with_argument_byte}
-use Rattle.roff_arguments.specs.declared.arguments.Place.{Place}
-use Rattle.roff_arguments.specs.declared.arguments.Place.TheVariants.{Between, InPlain, InQuotes, BehindQuote}
+use Rattle.roff_input.specs.Arguments.{Arguments, HeldFewer, bytes_held, is_behind_quote, only_kept, with_argument_byte}
+use Rattle.roff_input.specs.declared.place.Place.{Place}
+use Rattle.roff_input.specs.declared.place.Place.TheVariants.{Between, InPlain, InQuotes, BehindQuote}
 use Rattle.roff_source.specs.Bytes.{backslash, blank, is_argument_byte, is_dropped, newline, quote}
 use Rattle.roff_source.specs.Tape.{Tape}
 use Rattle.roff_escape.specs.OpenEscape.{OpenEscape}

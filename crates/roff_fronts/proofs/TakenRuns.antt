@@ -1,6 +1,6 @@
 -- What bytes of a run lead to, by its kind.
 use Rattle.std.proofs.Common.{◌≡◌, ℕ, List, None, Some, false, refl, ap, ◌∙◌}
-use Rattle.roff_arguments.specs.Arguments.{bytes_held}
+use Rattle.roff_input.specs.Arguments.{bytes_held}
 use Rattle.roff_source.specs.Bytes.{is_passed, is_text_byte}
 use Rattle.roff_source.specs.Tape.{Tape}
 use Rattle.roff_store.specs.Texts.{newest}

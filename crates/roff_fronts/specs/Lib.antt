@@ -2,3 +2,4 @@ pub mod Runs
 pub mod Stages
 pub mod ControlFronts
 pub mod StringFronts
+pub mod Registers

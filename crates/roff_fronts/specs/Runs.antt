@@ -1,13 +1,15 @@
 -- Runs: bytes that do alike where something is read.
-use Rattle.std.specs.Prelude.{◌≡◌, ℕ, Bool, true, false, List, [], None, Some}
-use Rattle.roff_source.specs.Bytes.{is_argument_byte, is_passed, is_text_byte}
+use Rattle.std.specs.Prelude.{◌≡◌, ℕ, ◌+◌, ◌-◌, ◌==◌, Bool, true, false, List, [], length, take, take_while, None, Some}
+use Rattle.roff_input.specs.Unread.{asks_to_take}
+use Rattle.roff_run.specs.Reading.Items.{PageUnread}
+use Rattle.roff_source.specs.Bytes.{blank, is_argument_byte, is_passed, is_text_byte}
 use Rattle.roff_escape.specs.OpenEscape.{OpenEscape}
 use Rattle.roff_run.specs.Reading.{Passes}
 use Rattle.roff_run.specs.Reading.Ends.{due}
 use Rattle.roff_run.specs.Stages.{Adds, EndsLine, Holds, HoldsIfFewer, Ignores, ReadsHalves, TakesHalf, counts_blanks}
 use Rattle.roff_run.specs.Telling.{Prints}
 use Rattle.roff_run.specs.declared.line_state.LineState.{LineState}
-use Rattle.roff_run.specs.declared.line_state.LineState.TheVariants.{StringName, StringText, Title}
+use Rattle.roff_run.specs.declared.line_state.LineState.TheVariants.{Branch, StringName, StringText, Title}
 use Rattle.roff_reader.specs.Reader.State.{ReaderState}
 use Rattle.roff_scan.specs.declared.run_kind.RunKind.{RunKind}
 use Rattle.roff_scan.specs.declared.run_kind.RunKind.TheVariants.{Text, Blanks, Arguments, CallArguments, Name, Condition, Definition, Ignored, Dropped}
@@ -49,3 +51,16 @@ reads_apart (StringName appends) = true
 reads_apart (StringText name appends is_front) = true
 reads_apart (Title delimiter) = true
 reads_apart (_) = false
+
+-- where the source's next byte is the next one, these bytes were taken, and no more
+abbrev pub TakesReady : List ℕ → PageUnread → PageUnread → Type 0
+TakesReady bytes before after = asks_to_take before ≡ true → after.input.charge ≡ before.input.charge + length bytes
+
+-- of the bytes that stand ready those that the limit on bytes allows
+abbrev pub ready_allowed : PageUnread → List ℕ → List ℕ
+ready_allowed u ready = take (u.limits.bytes - u.input.charge) ready
+
+-- the blanks that are taken together where a branch begins
+abbrev pub branch_blanks : LineState → List ℕ → List ℕ
+branch_blanks Branch bytes = take_while (λ b. b == blank) bytes
+branch_blanks (_) bytes = []

@@ -1,8 +1,13 @@
 -- What a string's text begins with.
-use Rattle.std.specs.Prelude.{◌≡◌, ℕ, ◌==◌, false, List, ◌∷◌}
-use Rattle.roff_source.specs.Bytes.{blank, quote}
+use Rattle.std.specs.Prelude.{◌≡◌, ℕ, ◌==◌, true, false, if◌then◌else◌, List, [], ◌∷◌, take, take_while, Some}
+use Rattle.roff_source.specs.Bytes.{blank, is_text_byte, quote}
 use Rattle.roff_scan.specs.Unread.Calls.{next_bytes}
+use Rattle.roff_scan.specs.Unread.Runs.{room_for}
+use Rattle.roff_scan.specs.declared.run_kind.RunKind.TheVariants.{Definition}
 use Rattle.roff_run.specs.Reading.Items.{PageUnread}
+use Rattle.roff_run.specs.declared.line_state.LineState.{LineState}
+use Rattle.roff_run.specs.declared.line_state.LineState.TheVariants.{StringText}
+use Rattle.roff_fronts.specs.Runs.{ready_allowed}
 use Rattle.roff_fronts.specs.declared.strings.TextFront.{TextFront}
 use Rattle.roff_fronts.specs.declared.strings.TextFront.TheVariants.{Quote, Kept, Other}
 
@@ -24,7 +29,18 @@ pub record IsQuoted (bytes : List ℕ) : Type 0 where
   pub are : bytes ≡ quote ∷ rest
 
 -- what these bytes begin with
-abbrev pub IsTextFront : List ℕ → TextFront → Type 0
-IsTextFront bytes Quote = IsQuoted bytes
-IsTextFront bytes Kept = AreKept bytes
-IsTextFront bytes Other = Unit {0}
+abbrev pub text_front : List ℕ → TextFront
+text_front [] = Other
+text_front (b ∷ rest) = if b == quote then Quote else if b == blank then Other else Kept
+
+-- the bytes of the source that are taken together where a string's text begins so: a quote alone, or those up to one that isn't
+-- kept, as many as the limits have room for
+abbrev pub bytes_of_front : TextFront → PageUnread → List ℕ → List ℕ
+bytes_of_front Quote u ready = quote ∷ []
+bytes_of_front Kept u ready = take_while is_text_byte (take (room_for Definition u) ready)
+bytes_of_front Other u ready = []
+
+-- those that are taken where this is read
+abbrev pub string_front : LineState → PageUnread → List ℕ → List ℕ
+string_front (StringText (Some name) appends true) u ready = bytes_of_front (text_front (ready_allowed u ready)) u ready
+string_front (_) u ready = []

@@ -20,7 +20,7 @@ use roff_scan::{ByteSource, Unread};
 
 /// The first three bytes of a control line: the dot or apostrophe, by whether requests break behind
 /// it, and two more; and whether a newline was seen behind them.
-#[derive(Clone, Copy, Debug, PartialEq, Eq)]
+#[derive(Clone, Copy)]
 struct ControlFront {
     breaks: bool,
     first: u8,
@@ -29,7 +29,7 @@ struct ControlFront {
 }
 
 /// What was read of a control line's front.
-#[derive(Clone, Copy, Debug, PartialEq, Eq)]
+#[derive(Clone, Copy)]
 pub enum ControlRead {
     /// Nothing.
     Nothing,
@@ -148,8 +148,8 @@ pub(super) fn take_front<S: ByteSource>(
     unread.pass(source, count);
 }
 
-/// What was read in front of this, by whether a newline is next: that of a dropped line is taken with
-/// the bytes before it.
+/// What was read in front of this, by whether a newline is next: that of a dropped line is taken
+/// with the bytes before it.
 #[inline(always)]
 fn behind_front(reading: LineState, ends: bool) -> ControlRead
     ensures { is_read result ≡ true }
@@ -195,8 +195,8 @@ fn is_newline_next(bytes: &[u8]) -> bool {
     matches!(bytes, [b'\n', ..])
 }
 
-/// Whether a byte belongs to a name behind a dot or apostrophe. Of a byte that prints nothing it may
-/// say no, though it does.
+/// Whether a byte belongs to a name behind a dot or apostrophe. Of a byte that prints nothing it
+/// may say no, though it does.
 fn belongs_to_name(byte: u8) -> bool
     ensures belongs { result ≡ true → BelongsToName byte }
     ensures prints { result ≡ prints_in_name byte }

@@ -3,9 +3,10 @@
 ghost use Rattle.std.specs.Prelude.{◌≡◌, ◌≤◌, IfSome, List, []};
 ghost use Rattle.roff_escape.specs.OpenEscape.{OpenEscape};
 ghost use Rattle.roff_run.specs.declared.line_state.LineState.TheVariants.{Text as InText};
-ghost use Rattle.roff_fronts.specs.Runs.{IsRun, KeepsReader};
+ghost use Rattle.roff_fronts.specs.Runs.{IsRun, KeepsReader, TakesReady};
+ghost use Rattle.roff_fronts.specs.Runs.{branch_blanks, ready_allowed};
 ghost use Rattle.roff_fronts.specs.Stages.{ReadsPast};
-ghost use Rattle.roff_scan.specs.declared.run_kind.RunKind.TheVariants.{Blanks, Condition};
+ghost use Rattle.roff_scan.specs.declared.run_kind.RunKind.TheVariants.{Arguments, Blanks, Condition};
 
 use roff_reader::{CALL_ARGUMENTS, Reader};
 use roff_run::{LineState, PageEvent, TextLine};
@@ -129,6 +130,25 @@ fn take_staying<S: ByteSource>(
     unread.stays_within();
 }
 
+/// Takes bytes in front that are held in arguments. Returns whether the escape of a register may stand
+/// behind them.
+#[inline(always)]
+pub fn take_arguments<S: ByteSource>(
+    reader: &Reader,
+    unread: &mut Unread<PageEvent>,
+    source: &mut S,
+) -> bool
+    requires { IsRun Arguments reader.now.reading unread.old.input.escapes }
+    ensures past { ReadsPast (S.gives source.old) (S.gives source.new)
+        reader.now reader.now unread.old unread.new }
+    ensures notes { S.notes source.new ≤ S.notes source.old }
+    ensures failures { S.failures source.new ≡ S.failures source.old }
+{
+    let (_, meets_register) = unread.take_arguments(source);
+    unread.stays_within();
+    meets_register
+}
+
 /// Counts leading blanks that stand in front.
 #[inline(never)]
 fn take_blanks<S: ByteSource>(reader: &mut Reader, unread: &mut Unread<PageEvent>, source: &mut S)
@@ -159,6 +179,8 @@ pub fn take_branch_blanks<S: ByteSource>(
     ensures none_half { unread.new.input.escapes ≡ [] }
     ensures past { ReadsPast (S.gives source.old) (S.gives source.new)
         reader.now reader.now unread.old unread.new }
+    ensures whole { TakesReady (branch_blanks reader.now.reading (ready_allowed unread.old
+        (S.ready source.old))) unread.old unread.new }
     ensures notes { S.notes source.new ≤ S.notes source.old }
     ensures failures { S.failures source.new ≡ S.failures source.old }
 {

@@ -1,10 +1,13 @@
 //! The name of a string, and the beginning of its text, read at once where they stand ready.
 
 ghost use Rattle.std.specs.Prelude.{◌≡◌, ◌≤◌, [], Some, false, true};
-ghost use Rattle.roff_run.specs.declared.line_state.LineState.TheVariants.{StringName as InName, StringText as InText};
-ghost use Rattle.roff_fronts.specs.Runs.{reads_apart};
+ghost use Rattle.roff_run.specs.declared.line_state.LineState.TheVariants.{StringName as InName};
+ghost use Rattle.roff_run.specs.declared.line_state.LineState.TheVariants.{StringText as InText};
+ghost use Rattle.roff_fronts.specs.Runs.{TakesReady, ready_allowed, reads_apart};
 ghost use Rattle.roff_fronts.specs.Stages.{ReadsPast};
-ghost use Rattle.roff_fronts.specs.StringFronts.{BeginsKept, IsTextFront};
+ghost use Rattle.roff_fronts.specs.StringFronts.{BeginsKept, bytes_of_front};
+ghost use Rattle.roff_fronts.specs.StringFronts.{string_front, text_front};
+ghost use Rattle.roff_fronts.specs.declared.strings.TextFront.TheVariants.{Kept as KeptFront};
 
 use super::control::take_front;
 use roff_num::ShortName;
@@ -12,8 +15,8 @@ use roff_reader::Reader;
 use roff_run::{LineState, PageEvent};
 use roff_scan::{ByteSource, RunKind, Unread};
 
-/// Whether bytes in front may be taken together that are no run: of a string's name, of the beginning of its
-/// text, or of a title.
+/// Whether bytes in front may be taken together that are no run: of a string's name, of the
+/// beginning of its text, or of a title.
 #[inline(always)]
 pub fn begins_apart(reader: &Reader) -> bool
     ensures { result ≡ reads_apart reader.now.reading }
@@ -68,8 +71,8 @@ fn take_name<S: ByteSource>(
     unread.stays_within();
 }
 
-/// Takes bytes of a string's text together that stand in front, where it begins: a quote alone, or bytes
-/// of which the first is kept.
+/// Takes bytes of a string's text together that stand in front, where it begins: a quote alone, or
+/// bytes of which the first is kept.
 #[inline(always)]
 pub fn take_string_front<S: ByteSource>(
     reader: &mut Reader,
@@ -78,6 +81,8 @@ pub fn take_string_front<S: ByteSource>(
 )
     ensures past { ReadsPast (S.gives source.old) (S.gives source.new)
         reader.old reader.new unread.old unread.new }
+    ensures whole { unread.old.input.escapes ≡ [] → TakesReady (string_front reader.old.reading
+        unread.old (S.ready source.old)) unread.old unread.new }
     ensures notes { S.notes source.new ≤ S.notes source.old }
     ensures failures { S.failures source.new ≡ S.failures source.old }
 {
@@ -103,6 +108,9 @@ fn take_text_front<S: ByteSource>(
     requires { reader.old.reading ≡ InText (Some name) appends true }
     ensures past { ReadsPast (S.gives source.old) (S.gives source.new)
         reader.old reader.new unread.old unread.new }
+    ensures whole { unread.old.input.escapes ≡ [] → TakesReady (bytes_of_front (text_front
+        (ready_allowed unread.old (S.ready source.old))) unread.old (S.ready source.old))
+        unread.old unread.new }
     ensures notes { S.notes source.new ≤ S.notes source.old }
     ensures failures { S.failures source.new ≡ S.failures source.old }
 {
@@ -134,6 +142,8 @@ fn take_kept<S: ByteSource>(
     requires kept { BeginsKept (S.ready source.old) unread.old }
     ensures past { ReadsPast (S.gives source.old) (S.gives source.new)
         reader.old reader.new unread.old unread.new }
+    ensures whole { TakesReady (bytes_of_front KeptFront unread.old (S.ready source.old))
+        unread.old unread.new }
     ensures notes { S.notes source.new ≤ S.notes source.old }
     ensures failures { S.failures source.new ≡ S.failures source.old }
 {
@@ -157,7 +167,7 @@ fn behind_front(name: ShortName, appends: bool) -> LineState
 }
 
 /// What a string's text begins with.
-#[derive(Clone, Copy, Debug, PartialEq, Eq)]
+#[derive(Clone, Copy)]
 enum TextFront {
     /// A quote, which is dropped.
     Quote,
@@ -170,7 +180,7 @@ enum TextFront {
 /// What these bytes begin with, where a string's text begins.
 #[inline(always)]
 fn text_front(bytes: &[u8]) -> TextFront
-    ensures { IsTextFront bytes.now result }
+    ensures { result ≡ text_front bytes.now }
 {
     match bytes {
         [b'"', ..] => TextFront::Quote,

@@ -1,13 +1,13 @@
 -- Once the closing phase has begun nothing ends it.
 use Rattle.std.proofs.Common.{◌≡◌, Bool, true, false, List, ◌∷◌, Option, Some, None, refl, ◌∙◌}
 use Rattle.std.specs.Prelude.{nat_le, option_map, if◌then◌else◌}
-use Rattle.roff_lines.specs.Lines.{Finished, finished}
-use Rattle.roff_pages.specs.Happenings.{Happening, Does, Places, Titles}
-use Rattle.roff_pages.specs.Layout.{Box, Layout, page_place}
-use Rattle.roff_pages.specs.Puts.{Put, appended, puts}
-use Rattle.roff_pages.specs.Turning.{behind_put, next_behind, page_begun, unput, with_boxes}
-use Rattle.roff_pages.specs.declared.layout_event.LayoutEvent.{LayoutEvent}
-use Rattle.roff_pages.specs.declared.layout_event.LayoutEvent.TheVariants.{ListPages, Begin, Close, Space, Need, Eject, EjectTo, EjectOn, EjectLast, Length, Offset, Next, Number, NoSpace, Plant, Uproot, MoveTrap, RemoveTrap, DiversionTrap, NoDiversionTrap, Divert, EndDivert}
+use Rattle.roff_layout.specs.Lines.{Finished, finished}
+use Rattle.roff_layout.specs.Happenings.{Happening, Does, Places, Titles}
+use Rattle.roff_layout.specs.Layout.{Box, Layout, page_place}
+use Rattle.roff_layout.specs.Puts.{Put, appended, puts}
+use Rattle.roff_layout.specs.Turning.{behind_put, next_behind, page_begun, unput, with_boxes}
+use Rattle.roff_layout.specs.declared.layout_event.LayoutEvent.{LayoutEvent}
+use Rattle.roff_layout.specs.declared.layout_event.LayoutEvent.TheVariants.{ListPages, Begin, Close, Space, Need, Eject, EjectTo, EjectOn, EjectLast, Length, Offset, Next, Number, NoSpace, Plant, Uproot, MoveTrap, RemoveTrap, DiversionTrap, NoDiversionTrap, Divert, EndDivert}
 use Rattle.roff_run.specs.Environments.{PageHistory, text_of}
 use Rattle.roff_run.specs.Layouts.{laid_out, layout_of, placed}
 use Rattle.roff_run.specs.Springs.{next}

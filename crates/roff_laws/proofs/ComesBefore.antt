@@ -2,16 +2,16 @@
 use Rattle.std.proofs.Common.{◌≡◌, ◌≤◌, ◌+◌, ℕ, Bool, true, false, not, ◌||◌, List, [], ◌∷◌, Option, Some, None, refl, ◌∙◌, ap, arith}
 use Rattle.std.specs.Prelude.{◌&&◌, nat_le, if◌then◌else◌, ◌==◌}
 use Rattle.std.proofs.lemmas.Bool.{ne_eqb}
-use Rattle.roff_lines.specs.Lines.{Finished, finished}
-use Rattle.roff_lines.specs.Words.{has_open_word, is_empty}
-use Rattle.roff_lines.specs.declared.event.Event.TheVariants.{Print, Tab, WordEnd, Gap, LineEnd, Count, Break, Interrupt as Interrupted, Resume, Set}
-use Rattle.roff_pages.specs.Happenings.{Happening, Places}
-use Rattle.roff_pages.specs.declared.layout_event.LayoutEvent.TheVariants.{Begin}
-use Rattle.roff_pages.specs.Layout.{Box, Diversion, Layout, page_place}
-use Rattle.roff_pages.specs.Puts.{appended}
-use Rattle.roff_pages.specs.Queries.{is_diverting, takes_text}
-use Rattle.roff_pages.specs.Stops.{is_diverted}
-use Rattle.roff_pages.specs.Turning.{in_innermost, page_begun, with_boxes}
+use Rattle.roff_layout.specs.Lines.{Finished, finished}
+use Rattle.roff_layout.specs.Words.{has_open_word, is_empty}
+use Rattle.roff_layout.specs.declared.event.Event.TheVariants.{Print, Tab, WordEnd, Gap, LineEnd, Count, Break, Interrupt as Interrupted, Resume, Set}
+use Rattle.roff_layout.specs.Happenings.{Happening, Places}
+use Rattle.roff_layout.specs.declared.layout_event.LayoutEvent.TheVariants.{Begin}
+use Rattle.roff_layout.specs.Layout.{Box, Diversion, Layout, page_place}
+use Rattle.roff_layout.specs.Puts.{appended}
+use Rattle.roff_layout.specs.Queries.{is_diverting, takes_text}
+use Rattle.roff_layout.specs.Stops.{is_diverted}
+use Rattle.roff_layout.specs.Turning.{in_innermost, page_begun, with_boxes}
 use Rattle.roff_run.specs.Environments.{PageHistory, text_of}
 use Rattle.roff_run.specs.Layouts.{laid_out, layout_of}
 use Rattle.roff_run.specs.Springs.{begins, needs_page, next, own_word_end, page_begin_or, word_end_of}

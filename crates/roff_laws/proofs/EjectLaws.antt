@@ -2,16 +2,16 @@
 use Rattle.std.proofs.Common.{◌≡◌, ◌⊎◌, inl, inr, ◌<◌, ◌≤◌, ℕ, zero, suc, Bool, true, false, not, ◌&&◌, List, [], ◌∷◌, Option, Some, None, refl, sym, ◌∙◌, ap, subst, arith}
 use Rattle.std.specs.Prelude.{is_some, nat_le, if◌then◌else◌, ◌==◌}
 use Rattle.std.proofs.lemmas.Bool.{cases_lt, eq-eqb, eqb-true}
-use Rattle.roff_lines.specs.declared.event.Event.TheVariants.{WordEnd}
+use Rattle.roff_layout.specs.declared.event.Event.TheVariants.{WordEnd}
 use Rattle.roff_num.specs.declared.limits.Limits.{Limits}
-use Rattle.roff_pages.specs.Happenings.{Happening, Does, is_eject, is_eject_event}
-use Rattle.roff_pages.specs.Layout.{Box, Layout, page_place}
-use Rattle.roff_pages.specs.Puts.{Put, appended, ejected_if, puts}
-use Rattle.roff_pages.specs.Springs.{goes_on}
-use Rattle.roff_pages.specs.Stops.{Target, page_target}
-use Rattle.roff_pages.specs.Turning.{behind_put, next_behind, page_begun, with_boxes, with_event}
-use Rattle.roff_pages.specs.declared.layout_event.LayoutEvent.{LayoutEvent}
-use Rattle.roff_pages.specs.declared.layout_event.LayoutEvent.TheVariants.{ListPages, Begin, Close, Space, Need, Eject, EjectTo, EjectOn, EjectLast, Length, Offset, Next, Number, NoSpace, Plant, Uproot, MoveTrap, RemoveTrap, DiversionTrap, NoDiversionTrap, Divert, EndDivert}
+use Rattle.roff_layout.specs.Happenings.{Happening, Does, is_eject, is_eject_event}
+use Rattle.roff_layout.specs.Layout.{Box, Layout, page_place}
+use Rattle.roff_layout.specs.Puts.{Put, appended, ejected_if, puts}
+use Rattle.roff_layout.specs.Springs.{goes_on}
+use Rattle.roff_layout.specs.Stops.{Target, page_target}
+use Rattle.roff_layout.specs.Turning.{behind_put, next_behind, page_begun, with_boxes, with_event}
+use Rattle.roff_layout.specs.declared.layout_event.LayoutEvent.{LayoutEvent}
+use Rattle.roff_layout.specs.declared.layout_event.LayoutEvent.TheVariants.{ListPages, Begin, Close, Space, Need, Eject, EjectTo, EjectOn, EjectLast, Length, Offset, Next, Number, NoSpace, Plant, Uproot, MoveTrap, RemoveTrap, DiversionTrap, NoDiversionTrap, Divert, EndDivert}
 use Rattle.roff_run.specs.Layouts.{layout_of}
 use Rattle.roff_run.specs.PageEvents.{PageEvent, PageHistory}
 use Rattle.roff_run.specs.Run.{Leads, State, after, step, step_with}

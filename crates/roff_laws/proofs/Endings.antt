@@ -9,8 +9,8 @@ use Rattle.roff_laws.specs.ResultLaws.{EveryRunEnds, StepsLeadToTheLastState, No
 use Rattle.roff_run.specs.Run.{State, Leads, grown, initial, paged_state, performing, sprung_read, unless_refused, with_registers, with_sprung, step_with, step, after}
 use Rattle.roff_source.specs.Tape.{Tape}
 use Rattle.roff_run.specs.TurnsToCome.{left_by, lines_left, most_left, phases_left, unended}
-use Rattle.roff_lines.specs.declared.event.Event.TheVariants.{Print, Tab, WordEnd, Gap, LineEnd, Count, Break as PageBreak, Interrupt as Interrupted, Resume, Set}
-use Rattle.roff_pages.specs.declared.layout_event.LayoutEvent.TheVariants.{Begin}
+use Rattle.roff_layout.specs.declared.event.Event.TheVariants.{Print, Tab, WordEnd, Gap, LineEnd, Count, Break as PageBreak, Interrupt as Interrupted, Resume, Set}
+use Rattle.roff_layout.specs.declared.layout_event.LayoutEvent.TheVariants.{Begin}
 use Rattle.roff_num.specs.declared.limit.Limit.{Limit}
 use Rattle.roff_num.specs.declared.num.Num.{Num}
 use Rattle.roff_run.specs.Environments.{Environments, PageHistory, interrupted_line, line_to_go_on}
@@ -21,7 +21,7 @@ use Rattle.roff_run.specs.Reading.Returns.{back_of, in_sprung}
 use Rattle.roff_run.specs.Requests.{called_by}
 use Rattle.roff_run.specs.Springs.{left_of, next, page_begin_or, springs}
 use Rattle.roff_run.specs.Layouts.{layout_of}
-use Rattle.roff_pages.specs.Queries.{takes_text}
+use Rattle.roff_layout.specs.Queries.{takes_text}
 use Rattle.roff_run.specs.Titles.{put_back, told}
 use Rattle.roff_run.specs.declared.request.Called.{Called}
 use Rattle.roff_run.specs.declared.request.Called.TheVariants.{Request as ARequest, Body as ABody, Nothing as Unknown}

@@ -1,8 +1,8 @@
 -- Switches between environments, and what happened in each.
 use Rattle.std.proofs.Common.{◌≡◌, ◌∙◌, ℕ, Bool, true, false, List, [], ◌∷◌, Option, refl, ap}
 use Rattle.std.specs.Prelude.{if◌then◌else◌}
-use Rattle.roff_lines.specs.declared.event.Event.{Event}
-use Rattle.roff_lines.specs.declared.event.Event.TheVariants.{Interrupt as IsInterrupted}
+use Rattle.roff_layout.specs.declared.event.Event.{Event}
+use Rattle.roff_layout.specs.declared.event.Event.TheVariants.{Interrupt as IsInterrupted}
 use Rattle.roff_run.specs.Environments.{PageHistory, InEnvironment, Environments, environments, gone_back, happened, is_same, number_behind, switched_to, turned, turned_to, turned_unless}
 use Rattle.roff_run.specs.declared.environment_number.EnvironmentNumber.{EnvironmentNumber}
 use Rattle.roff_run.specs.declared.event.InputTrap.{InputTrap}

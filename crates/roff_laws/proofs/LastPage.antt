@@ -2,14 +2,14 @@
 use Rattle.std.proofs.Common.{◌≡◌, ◌⊎◌, inl, inr, ◌+◌, ℕ, Bool, true, false, not, ◌&&◌, ◌||◌, List, [], ◌∷◌, ◌++◌, length, ◌-◌, Option, refl, sym, ◌∙◌, ap, subst, arith, append-nil}
 use Rattle.std.specs.Prelude.{is_some, nat_le, if◌then◌else◌, ◌==◌}
 use Rattle.std.proofs.lemmas.Bool.{eq-eqb, eqb-true}
-use Rattle.roff_pages.specs.DeviceText.{device_lines}
-use Rattle.roff_pages.specs.Happenings.{Happening, Does}
-use Rattle.roff_pages.specs.Layout.{Box, Layout, page_place}
-use Rattle.roff_pages.specs.Puts.{Put, boxes_put, ejected_if, puts}
-use Rattle.roff_pages.specs.Stops.{is_diverted, page_target}
-use Rattle.roff_pages.specs.Turning.{behind_put, next_behind, page_begun, with_boxes, with_event}
-use Rattle.roff_pages.specs.Springs.{goes_on}
-use Rattle.roff_pages.specs.declared.layout_event.LayoutEvent.TheVariants.{EjectLast}
+use Rattle.roff_layout.specs.DeviceText.{device_lines}
+use Rattle.roff_layout.specs.Happenings.{Happening, Does}
+use Rattle.roff_layout.specs.Layout.{Box, Layout, page_place}
+use Rattle.roff_layout.specs.Puts.{Put, boxes_put, ejected_if, puts}
+use Rattle.roff_layout.specs.Stops.{is_diverted, page_target}
+use Rattle.roff_layout.specs.Turning.{behind_put, next_behind, page_begun, with_boxes, with_event}
+use Rattle.roff_layout.specs.Springs.{goes_on}
+use Rattle.roff_layout.specs.declared.layout_event.LayoutEvent.TheVariants.{EjectLast}
 use Rattle.roff_run.specs.Environments.{PageHistory}
 use Rattle.roff_run.specs.Layouts.{layout_of}
 use Rattle.roff_run.specs.Output.{written}

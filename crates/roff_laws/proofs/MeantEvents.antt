@@ -16,8 +16,8 @@ use Rattle.roff_run.specs.Reading.Definitions.{definition_dropped, definition_gr
 use Rattle.roff_run.specs.Reading.Strings.{string_begun, string_emptied, string_entered, string_grown}
 use Rattle.roff_run.specs.Reading.Units.{holding, interrupted}
 use Rattle.roff_run.specs.declared.line_state.LineState.{LineState}
-use Rattle.roff_pages.specs.declared.layout_event.LayoutEvent.{LayoutEvent}
-use Rattle.roff_pages.specs.declared.layout_event.LayoutEvent.TheVariants.{ListPages, Begin, Close, Space, Need, Eject, EjectTo, EjectOn, EjectLast, Length, Offset, Next, Number, NoSpace, Plant, Uproot, MoveTrap, RemoveTrap, DiversionTrap, NoDiversionTrap, Divert, EndDivert}
+use Rattle.roff_layout.specs.declared.layout_event.LayoutEvent.{LayoutEvent}
+use Rattle.roff_layout.specs.declared.layout_event.LayoutEvent.TheVariants.{ListPages, Begin, Close, Space, Need, Eject, EjectTo, EjectOn, EjectLast, Length, Offset, Next, Number, NoSpace, Plant, Uproot, MoveTrap, RemoveTrap, DiversionTrap, NoDiversionTrap, Divert, EndDivert}
 use Rattle.roff_run.specs.Reading.Items.{PageInput, Taking}
 use Rattle.roff_run.specs.PageEvents.{PageEvent}
 use Rattle.roff_run.specs.Titles.{put_back}

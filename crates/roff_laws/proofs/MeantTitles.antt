@@ -21,7 +21,7 @@ use Rattle.roff_run.specs.Reading.Titles.{behind_part, character_put, escape_in_
 use Rattle.roff_run.specs.Registers.{Known}
 use Rattle.roff_run.specs.declared.title.TitlePart.{TitlePart}
 use Rattle.roff_run.specs.declared.title.TitlePart.TheVariants.{Left, Centre, Right}
-use Rattle.roff_arguments.specs.Arguments.{no_arguments}
+use Rattle.roff_input.specs.Arguments.{no_arguments}
 use Rattle.roff_run.specs.Requests.{request_effect}
 use Rattle.roff_run.specs.Requests.Effects.{Effect}
 use Rattle.roff_laws.proofs.MeantEvents.{Stays, Means, Means-if, ahead-calling_all, ahead-same}

@@ -3,17 +3,17 @@ use Rattle.std.proofs.Common.{◌≡◌, ◌<◌, ◌+◌, ℕ, ℤ, Bool, true,
 use Rattle.std.specs.Prelude.{is_some, if◌then◌else◌, ◌==◌}
 use Rattle.std.proofs.lemmas.Bool.{eqb-true}
 use Rattle.roff_num.specs.declared.num.Num.{Num}
-use Rattle.roff_pages.specs.DeviceText.{device_lines}
-use Rattle.roff_pages.specs.Happenings.{Happening, Does}
-use Rattle.roff_pages.specs.Layout.{Diversion, Layout}
-use Rattle.roff_pages.specs.Puts.{Put, boxes_put, ejected_if, puts}
-use Rattle.roff_pages.specs.Queries.{takes_text}
-use Rattle.roff_pages.specs.Stops.{Target, is_diverted, page_target, target}
-use Rattle.roff_pages.specs.Turning.{behind_put, is_given, is_named, moved_to, unput, with_first, with_mode, with_trap, without_first, without_put}
+use Rattle.roff_layout.specs.DeviceText.{device_lines}
+use Rattle.roff_layout.specs.Happenings.{Happening, Does}
+use Rattle.roff_layout.specs.Layout.{Diversion, Layout}
+use Rattle.roff_layout.specs.Puts.{Put, boxes_put, ejected_if, puts}
+use Rattle.roff_layout.specs.Queries.{takes_text}
+use Rattle.roff_layout.specs.Stops.{Target, is_diverted, page_target, target}
+use Rattle.roff_layout.specs.Turning.{behind_put, is_given, is_named, moved_to, unput, with_first, with_mode, with_trap, without_first, without_put}
 use Rattle.roff_pages.specs.WholePages.{keeps_length}
-use Rattle.roff_pages.specs.declared.layout_event.LayoutEvent.TheVariants.{Eject, EjectOn, EjectTo, MoveTrap, Need, NoSpace, Plant, RemoveTrap, Space, Uproot}
-use Rattle.roff_pages.specs.declared.layout_event.LayoutEvent.{LayoutEvent}
-use Rattle.roff_pages.specs.declared.trap.Trap.{Trap}
+use Rattle.roff_layout.specs.declared.layout_event.LayoutEvent.TheVariants.{Eject, EjectOn, EjectTo, MoveTrap, Need, NoSpace, Plant, RemoveTrap, Space, Uproot}
+use Rattle.roff_layout.specs.declared.layout_event.LayoutEvent.{LayoutEvent}
+use Rattle.roff_layout.specs.declared.trap.Trap.{Trap}
 use Rattle.roff_num.specs.declared.short_name.ShortName.{ShortName}
 use Rattle.roff_run.specs.Environments.{PageHistory}
 use Rattle.roff_run.specs.Layouts.{layout_of}

@@ -3,20 +3,20 @@ use Rattle.std.proofs.Common.{◌≡◌, ◌⊎◌, inl, inr, ◌<◌, ◌+◌, 
 use Rattle.std.specs.Prelude.{nat_le, is_some, option_map, if◌then◌else◌, ◌==◌}
 use Rattle.std.specs.List.{AllByRecursion}
 use Rattle.std.proofs.lemmas.Bool.{leb-false}
-use Rattle.roff_lines.specs.Lines.{Finished, finished}
-use Rattle.roff_lines.specs.Words.{is_empty}
-use Rattle.roff_lines.specs.declared.event.Event.{Event}
-use Rattle.roff_lines.specs.declared.event.Event.TheVariants.{Print, Tab, WordEnd, Gap, LineEnd, Count, Break, Interrupt as Interrupted, Resume, Set}
+use Rattle.roff_layout.specs.Lines.{Finished, finished}
+use Rattle.roff_layout.specs.Words.{is_empty}
+use Rattle.roff_layout.specs.declared.event.Event.{Event}
+use Rattle.roff_layout.specs.declared.event.Event.TheVariants.{Print, Tab, WordEnd, Gap, LineEnd, Count, Break, Interrupt as Interrupted, Resume, Set}
 use Rattle.roff_num.specs.declared.num.Num.{Num}
-use Rattle.roff_pages.specs.DeviceText.{box_line, device_lines, device_text}
-use Rattle.roff_pages.specs.Happenings.{Happening, Does, Places, Titles}
-use Rattle.roff_pages.specs.Layout.{Box, Diversion, Layout, page_place}
-use Rattle.roff_pages.specs.Puts.{Put, appended, puts}
-use Rattle.roff_pages.specs.Queries.{takes_text}
-use Rattle.roff_pages.specs.Stops.{is_diverted}
-use Rattle.roff_pages.specs.Turning.{behind_put, in_innermost, next_behind, page_begun, turned_if_full, with_boxes, with_event, with_range}
+use Rattle.roff_layout.specs.DeviceText.{box_line, device_lines, device_text}
+use Rattle.roff_layout.specs.Happenings.{Happening, Does, Places, Titles}
+use Rattle.roff_layout.specs.Layout.{Box, Diversion, Layout, page_place}
+use Rattle.roff_layout.specs.Puts.{Put, appended, puts}
+use Rattle.roff_layout.specs.Queries.{takes_text}
+use Rattle.roff_layout.specs.Stops.{is_diverted}
+use Rattle.roff_layout.specs.Turning.{behind_put, in_innermost, next_behind, page_begun, turned_if_full, with_boxes, with_event, with_range}
 use Rattle.roff_pages.specs.WholePages.{ends_page, keeps_length, page_boxes, sizes_behind}
-use Rattle.roff_pages.specs.declared.layout_event.LayoutEvent.TheVariants.{Begin, Close, Length, ListPages, Next, Number, Offset}
+use Rattle.roff_layout.specs.declared.layout_event.LayoutEvent.TheVariants.{Begin, Close, Length, ListPages, Next, Number, Offset}
 use Rattle.roff_pages.proofs.WholePages.{all_full}
 use Rattle.roff_run.specs.Environments.{PageHistory, text_of}
 use Rattle.roff_run.specs.Layouts.{laid_out, layout_of, placed}

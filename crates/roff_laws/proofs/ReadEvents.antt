@@ -5,7 +5,7 @@ use Rattle.std.proofs.Common.{ℕ, Bool, true, false, List, ◌++◌, Option, So
 use Rattle.std.specs.Prelude.{◌||◌, ◌&&◌, nat_le, ◌==◌}
 use Rattle.roff_num.specs.declared.short_name.ShortName.{ShortName}
 use Rattle.roff_num.specs.ShortNames.{name_at, name_bytes, name_or_none}
-use Rattle.roff_arguments.specs.Arguments.{no_arguments}
+use Rattle.roff_input.specs.Arguments.{no_arguments}
 use Rattle.roff_source.specs.Bytes.{tab, newline, blank, backslash, is_dropped, quote}
 use Rattle.roff_escape.specs.OpenEscapes.{byte_read, reading_ended}
 use Rattle.roff_escape.specs.declared.open_escape.CopyUnit.{CopyUnit}
@@ -50,7 +50,7 @@ use Rattle.roff_run.specs.declared.request.LinesFor.{LinesFor}
 use Rattle.roff_run.specs.declared.request.LinesFor.TheVariants.{Macro, Nobody}
 use Rattle.roff_run.specs.declared.request.Request.{Request}
 use Rattle.roff_laws.proofs.MeantEvents.{Stays, AreMeant, Grows, Means, Means-if, Means-same, ahead-called, ahead-calling_all, ahead-definition_dropped, ahead-definition_grown, ahead-holding_call, ahead-interrupted, ahead-result, ahead-same, ahead-string_begun, ahead-string_emptied, ahead-string_entered, ahead-string_grown}
-use Rattle.roff_lines.specs.Words.{is_empty}
+use Rattle.roff_layout.specs.Words.{is_empty}
 use Rattle.roff_laws.proofs.MeantTitles.{Means-behind_part, Means-title_ended, Means-title_found, Means-title_front_unit}
 use Rattle.roff_run.proofs.Collected.{of-collected, of-unit_or}
 use Rattle.roff_laws.proofs.TextEvents.{meant-line_end, Means-text_found, Means-beginning_found, Means-no_unit_found}

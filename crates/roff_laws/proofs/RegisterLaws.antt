@@ -19,7 +19,7 @@ use Rattle.roff_run.specs.declared.message.Message.{Message}
 use Rattle.roff_run.specs.declared.message.Message.TheVariants.{BadNumber}
 use Rattle.roff_run.specs.declared.query.Query.{Query}
 use Rattle.roff_run.specs.declared.query.Query.TheVariants.{Newlines, Indent, LineLength, LastWidth, Filling, LineSpacing, ColumnWidth, Arguments, PagePlace, PageLength, PageOffset, WayToTrap, Later}
-use Rattle.roff_pages.specs.Layout.{Layout}
+use Rattle.roff_layout.specs.Layout.{Layout}
 use Rattle.roff_laws.specs.RegisterLaws.{known_set, ValuesReadBack, FormatsReadBack, FormatsStay, UndefinedReadAsZero, ReadingMakesNone, ReadingIsSilent, ReadOnlyStay, ReadOnlyAreLeftAlone, RemovedReadAsZero}
 use Rattle.roff_run.specs.Registers.{AllRegisters, Known, SetTo, FormatAs, Remove, StepBy, answer, changed_by, is_page, is_read_only, known_behind, number_in_range, numbered, page_register, query_of, settable, text_asked}
 

@@ -5,8 +5,8 @@ use Rattle.roff_num.specs.declared.num.Scale.TheVariants.{Units}
 use Rattle.roff_run.specs.Numbers.{value_beside, value_in}
 use Rattle.std.proofs.Common.{◌<◌, ℕ, zero, suc, arith, ℤ, Bool, true, false, List, [], ◌∷◌, map, Option, Some, None, pos}
 use Rattle.std.specs.Prelude.{negsuc, pos, take, ◌&&◌, Result, Ok, Err, if◌then◌else◌, ◌==◌, length}
-use Rattle.roff_lines.specs.declared.settings.AdjustMode.{AdjustMode}
-use Rattle.roff_lines.specs.declared.settings.Param.{Param}
+use Rattle.roff_layout.specs.declared.settings.AdjustMode.{AdjustMode}
+use Rattle.roff_layout.specs.declared.settings.Param.{Param}
 use Rattle.roff_num.specs.declared.format.Format.{Format}
 use Rattle.roff_num.specs.declared.num.Num.{Num}
 use Rattle.roff_num.specs.declared.num.NumFault.{NumFault}
@@ -27,9 +27,9 @@ use Rattle.roff_run.specs.Requests.Springing.{input_trap, trap_set}
 use Rattle.roff_run.specs.Requests.Switching.{switch, switching_by, switching_to}
 use Rattle.roff_run.specs.Requests.Traps.{change_trap, moved, moved_if_named, place_given, plant_trap, planted}
 use Rattle.roff_run.specs.Requests.Tabs.{most_stops, setting_stops, stop_places, stop_set}
-use Rattle.roff_pages.specs.declared.layout_event.LayoutEvent.TheVariants.{Eject, EjectTo, Length, Next}
-use Rattle.roff_pages.specs.Layout.{Layout}
-use Rattle.roff_pages.specs.Queries.{is_diverting}
+use Rattle.roff_layout.specs.declared.layout_event.LayoutEvent.TheVariants.{Eject, EjectTo, Length, Next}
+use Rattle.roff_layout.specs.Layout.{Layout}
+use Rattle.roff_layout.specs.Queries.{is_diverting}
 use Rattle.roff_num.specs.ShortNames.{name_at, name_or_none}
 use Rattle.roff_laws.proofs.MeantEvents.{AreMeant, meant-append}
 use Rattle.roff_run.specs.declared.message.Message.TheVariants.{PageTooShort}

@@ -27,16 +27,16 @@ use Rattle.roff_run.proofs.Readings.{IsMade, ReadsOn, LimitStops, AheadTaken, By
 use Rattle.roff_run.proofs.Behind.{Behind-byte_taken, Behind-sprung_read, Behind-ahead_taken, Behind-escape_ends, Behind-line_ends, Passed-phase_ended}
 use Rattle.roff_input.specs.Input.{counting, item_taken}
 use Rattle.roff_num.specs.declared.num.Num.{Num}
-use Rattle.roff_pages.specs.DeviceText.{device_lines}
-use Rattle.roff_pages.specs.Happenings.{Happening, Does, Titles}
-use Rattle.roff_lines.specs.Lines.{finished}
-use Rattle.roff_pages.specs.Puts.{appended, puts}
-use Rattle.roff_pages.specs.Turning.{is_given, is_named, moved_to, unput}
-use Rattle.roff_pages.specs.declared.layout_event.LayoutEvent.{LayoutEvent}
-use Rattle.roff_pages.specs.declared.trap.Trap.{Trap}
-use Rattle.roff_pages.specs.declared.layout_event.LayoutEvent.TheVariants.{ListPages, Begin, Close, Space, Need, Eject, EjectTo, EjectOn, EjectLast, Length, Offset, Next, Number, NoSpace, Plant, Uproot, MoveTrap, RemoveTrap, DiversionTrap, NoDiversionTrap, Divert, EndDivert}
-use Rattle.roff_pages.specs.Layout.{Layout}
-use Rattle.roff_pages.specs.Stops.{is_diverted}
+use Rattle.roff_layout.specs.DeviceText.{device_lines}
+use Rattle.roff_layout.specs.Happenings.{Happening, Does, Titles}
+use Rattle.roff_layout.specs.Lines.{finished}
+use Rattle.roff_layout.specs.Puts.{appended, puts}
+use Rattle.roff_layout.specs.Turning.{is_given, is_named, moved_to, unput}
+use Rattle.roff_layout.specs.declared.layout_event.LayoutEvent.{LayoutEvent}
+use Rattle.roff_layout.specs.declared.trap.Trap.{Trap}
+use Rattle.roff_layout.specs.declared.layout_event.LayoutEvent.TheVariants.{ListPages, Begin, Close, Space, Need, Eject, EjectTo, EjectOn, EjectLast, Length, Offset, Next, Number, NoSpace, Plant, Uproot, MoveTrap, RemoveTrap, DiversionTrap, NoDiversionTrap, Divert, EndDivert}
+use Rattle.roff_layout.specs.Layout.{Layout}
+use Rattle.roff_layout.specs.Stops.{is_diverted}
 use Rattle.roff_run.specs.Requests.{called_by}
 use Rattle.roff_run.specs.Springs.{next}
 use Rattle.roff_run.specs.Requests.Effects.{page_numbered}

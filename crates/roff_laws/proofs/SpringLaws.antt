@@ -9,7 +9,7 @@ use Rattle.roff_num.specs.declared.limits.Limits.{Limits}
 use Rattle.roff_num.specs.declared.short_name.ShortName.{ShortName}
 use Rattle.roff_escape.specs.OpenEscape.{OpenEscape}
 use Rattle.roff_input.specs.Input.{Ahead, ReturnAhead, item_taken}
-use Rattle.roff_lines.specs.declared.event.Event.TheVariants.{Count}
+use Rattle.roff_layout.specs.declared.event.Event.TheVariants.{Count}
 use Rattle.roff_run.specs.Environments.{Environments, InEnvironment, counted_down, environments, happened, is_same, number_behind, trap_reached}
 use Rattle.roff_run.specs.Reading.Returns.{back_of, behind_return, gone_back_to}
 use Rattle.roff_run.specs.Reading.Waiting.{waiting_above}

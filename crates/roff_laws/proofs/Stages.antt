@@ -3,8 +3,8 @@
 -- Each function f of the run has its lemma Stage-f here, with a line for each of its cases.
 use Rattle.std.proofs.Common.{◌≡◌, ℕ, Bool, true, false, List, [], ◌∷◌, ◌++◌, map, Option, Some, None, ◌⊎◌, inl, inr, refl, sym, ◌∙◌, ap, subst}
 use Rattle.std.specs.Prelude.{nat_le, option_map, if◌then◌else◌}
-use Rattle.roff_lines.specs.Lines.{Finished, finished}
-use Rattle.roff_lines.specs.declared.event.Event.TheVariants.{WordEnd}
+use Rattle.roff_layout.specs.Lines.{Finished, finished}
+use Rattle.roff_layout.specs.declared.event.Event.TheVariants.{WordEnd}
 use Rattle.roff_num.specs.ShortNames.{name_bytes}
 use Rattle.roff_num.specs.declared.limits.Limits.{Limits}
 use Rattle.roff_num.specs.declared.num.Num.{Num}
@@ -12,12 +12,12 @@ use Rattle.roff_source.specs.Tape.{Tape, Item, Ended, Ends, Gives, front}
 use Rattle.roff_input.specs.Input.{Ahead, ByteAhead, FreeAhead, EndAhead, ReturnAhead, DoAhead, counting, item_taken}
 use Rattle.roff_input.specs.Input.Calls.{called_text}
 use Rattle.roff_input.specs.Input.Names.{body_named}
-use Rattle.roff_pages.specs.Happenings.{Happening, Does, Places, Titles}
-use Rattle.roff_pages.specs.declared.layout_event.LayoutEvent.{LayoutEvent}
-use Rattle.roff_pages.specs.declared.layout_event.LayoutEvent.TheVariants.{ListPages, Begin, Close, Space, Need, Eject, EjectTo, EjectOn, EjectLast, Length, Offset, Next, Number, NoSpace, Plant, Uproot, MoveTrap, RemoveTrap, DiversionTrap, NoDiversionTrap, Divert, EndDivert}
-use Rattle.roff_pages.specs.Layout.{Box, Layout, page_place}
-use Rattle.roff_pages.specs.Puts.{Put, appended, puts}
-use Rattle.roff_pages.specs.Turning.{behind_put, next_behind, page_begun, unput, with_boxes}
+use Rattle.roff_layout.specs.Happenings.{Happening, Does, Places, Titles}
+use Rattle.roff_layout.specs.declared.layout_event.LayoutEvent.{LayoutEvent}
+use Rattle.roff_layout.specs.declared.layout_event.LayoutEvent.TheVariants.{ListPages, Begin, Close, Space, Need, Eject, EjectTo, EjectOn, EjectLast, Length, Offset, Next, Number, NoSpace, Plant, Uproot, MoveTrap, RemoveTrap, DiversionTrap, NoDiversionTrap, Divert, EndDivert}
+use Rattle.roff_layout.specs.Layout.{Box, Layout, page_place}
+use Rattle.roff_layout.specs.Puts.{Put, appended, puts}
+use Rattle.roff_layout.specs.Turning.{behind_put, next_behind, page_begun, unput, with_boxes}
 use Rattle.roff_run.specs.Environments.{PageHistory, text_of}
 use Rattle.roff_run.specs.Layouts.{laid_out, layout_of, placed}
 use Rattle.roff_run.specs.Registers.{AllRegisters}
@@ -31,7 +31,7 @@ use Rattle.roff_run.specs.Requests.Effects.{page_numbered}
 use Rattle.roff_run.specs.Requests.Numbering.{number_of_page}
 use Rattle.roff_run.specs.Run.{State, ahead_taken, known, left_in, moved, paged_state, phase_ended, sprung_read, taken_as}
 use Rattle.roff_run.specs.Springs.{left_if, left_of, next}
-use Rattle.roff_pages.specs.Springs.{goes_on}
+use Rattle.roff_layout.specs.Springs.{goes_on}
 use Rattle.roff_run.specs.Reading.Calls.{last_called}
 use Rattle.roff_run.specs.Starts.{history_given, with_given}
 use Rattle.roff_run.specs.PageEvents.{PageEvent}

@@ -3,9 +3,9 @@
 -- Each function f of reading has its lemma Means-f here, with a line for each of its cases.
 use Rattle.std.proofs.Common.{ℕ, Bool, true, false, List, [], ◌∷◌, ◌++◌, map, Option, Some, None}
 use Rattle.std.specs.Prelude.{◌||◌, decimal, if◌then◌else◌, ◌==◌}
-use Rattle.roff_lines.specs.declared.event.Event.TheVariants.{Print, WordEnd, LineEnd, Count, Break, Tab}
-use Rattle.roff_lines.specs.declared.glyph.Glyph.{Glyph}
-use Rattle.roff_lines.specs.declared.glyph.Glyph.TheVariants.{Blanks, Printed}
+use Rattle.roff_layout.specs.declared.event.Event.TheVariants.{Print, WordEnd, LineEnd, Count, Break, Tab}
+use Rattle.roff_layout.specs.declared.glyph.Glyph.{Glyph}
+use Rattle.roff_layout.specs.declared.glyph.Glyph.TheVariants.{Blanks, Printed}
 use Rattle.roff_input.specs.Input.{Ahead}
 use Rattle.roff_input.specs.Input.Calls.{arguments_live}
 use Rattle.roff_input.specs.Input.Names.{body_named}

@@ -3,19 +3,19 @@ use Rattle.std.proofs.Common.{◌≡◌, ◌≢◌, ◌+◌, ℕ, Bool, true, fa
 use Rattle.std.specs.Prelude.{nat_le, nat_lt, if◌then◌else◌, ◌==◌}
 use Rattle.std.specs.List.{AllByRecursion}
 use Rattle.std.proofs.lemmas.Bool.{eq-eqb, eqb-true, leb-true, ltb-true, ne_eqb}
-use Rattle.roff_lines.specs.Words.{is_empty}
-use Rattle.roff_lines.specs.declared.event.Event.TheVariants.{Print, Tab, WordEnd, Gap, LineEnd, Count, Break, Interrupt as Interrupted, Resume, Set}
+use Rattle.roff_layout.specs.Words.{is_empty}
+use Rattle.roff_layout.specs.declared.event.Event.TheVariants.{Print, Tab, WordEnd, Gap, LineEnd, Count, Break, Interrupt as Interrupted, Resume, Set}
 use Rattle.roff_num.specs.declared.short_name.ShortName.{ShortName}
-use Rattle.roff_pages.specs.Happenings.{Happening, Does, Places, Titles, is_eject}
-use Rattle.roff_pages.specs.Layout.{Box, Diversion, Layout, page_place}
-use Rattle.roff_pages.specs.Puts.{Put, appended, boxes_put, ejected_if, puts}
+use Rattle.roff_layout.specs.Happenings.{Happening, Does, Places, Titles, is_eject}
+use Rattle.roff_layout.specs.Layout.{Box, Diversion, Layout, page_place}
+use Rattle.roff_layout.specs.Puts.{Put, appended, boxes_put, ejected_if, puts}
 use Rattle.roff_pages.specs.Reach.{IsMetAtEnd}
-use Rattle.roff_pages.specs.Springs.{first_met, is_on_top, is_passed, passed, passed_in, springs as springs_on_page}
-use Rattle.roff_pages.specs.Stops.{Target, is_diverted, page_target, place_of, target}
-use Rattle.roff_pages.specs.Turning.{behind_put, next_behind, page_begun, unput, with_boxes, with_event}
-use Rattle.roff_pages.specs.declared.layout_event.LayoutEvent.{LayoutEvent}
-use Rattle.roff_pages.specs.declared.layout_event.LayoutEvent.TheVariants.{ListPages, Begin, Close, Space, Need, Eject, EjectTo, EjectOn, EjectLast, Length, Offset, Next, Number, NoSpace, Plant, Uproot, MoveTrap, RemoveTrap, DiversionTrap, NoDiversionTrap, Divert, EndDivert}
-use Rattle.roff_pages.specs.declared.trap.Trap.{Trap}
+use Rattle.roff_layout.specs.Springs.{first_met, is_on_top, is_passed, passed, passed_in, springs as springs_on_page}
+use Rattle.roff_layout.specs.Stops.{Target, is_diverted, page_target, place_of, target}
+use Rattle.roff_layout.specs.Turning.{behind_put, next_behind, page_begun, unput, with_boxes, with_event}
+use Rattle.roff_layout.specs.declared.layout_event.LayoutEvent.{LayoutEvent}
+use Rattle.roff_layout.specs.declared.layout_event.LayoutEvent.TheVariants.{ListPages, Begin, Close, Space, Need, Eject, EjectTo, EjectOn, EjectLast, Length, Offset, Next, Number, NoSpace, Plant, Uproot, MoveTrap, RemoveTrap, DiversionTrap, NoDiversionTrap, Divert, EndDivert}
+use Rattle.roff_layout.specs.declared.trap.Trap.{Trap}
 use Rattle.roff_pages.proofs.NextStop.{on_the_page, page_met}
 use Rattle.roff_run.specs.Layouts.{happens, laid_out, layout_of}
 use Rattle.roff_run.specs.PageEvents.{PageHistory, PastEvent}

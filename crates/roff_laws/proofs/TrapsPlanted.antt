@@ -1,12 +1,12 @@
 -- How many traps are planted on pages behind what happens.
 use Rattle.std.proofs.Common.{◌≡◌, ◌≤◌, ℕ, Bool, true, false, List, [], ◌∷◌, length, Option, Some, None, refl, sym, subst, arith}
 use Rattle.std.specs.Prelude.{nat_le, option_map, if◌then◌else◌}
-use Rattle.roff_lines.specs.Lines.{Finished}
-use Rattle.roff_pages.specs.Happenings.{Happening, Places}
-use Rattle.roff_pages.specs.Layout.{Box, Layout, page_place}
-use Rattle.roff_pages.specs.Puts.{Put, appended}
-use Rattle.roff_pages.specs.Turning.{behind_put, next_behind, page_begun, unput, with_boxes, with_first, without_first}
-use Rattle.roff_pages.specs.declared.trap.Trap.{Trap}
+use Rattle.roff_layout.specs.Lines.{Finished}
+use Rattle.roff_layout.specs.Happenings.{Happening, Places}
+use Rattle.roff_layout.specs.Layout.{Box, Layout, page_place}
+use Rattle.roff_layout.specs.Puts.{Put, appended}
+use Rattle.roff_layout.specs.Turning.{behind_put, next_behind, page_begun, unput, with_boxes, with_first, without_first}
+use Rattle.roff_layout.specs.declared.trap.Trap.{Trap}
 use Rattle.roff_run.specs.Layouts.{laid_out}
 
 -- a page that ends leaves them as they are

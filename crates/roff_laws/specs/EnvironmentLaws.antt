@@ -1,7 +1,7 @@
 -- Words for the laws of environments (manual, section 17).
 use Rattle.std.specs.Prelude.{[], ◌∷◌, if◌then◌else◌}
-use Rattle.roff_lines.specs.Events.{History}
-use Rattle.roff_lines.specs.declared.event.Event.TheVariants.{Interrupt as IsInterrupted}
+use Rattle.roff_layout.specs.Events.{History}
+use Rattle.roff_layout.specs.declared.event.Event.TheVariants.{Interrupt as IsInterrupted}
 use Rattle.roff_run.specs.Environments.{PageHistory, InEnvironment, Environments, environments, is_same, number_behind}
 use Rattle.roff_run.specs.declared.environment_number.EnvironmentNumber.{EnvironmentNumber}
 use Rattle.roff_run.specs.declared.event.PageEvent.TheVariants.{Text, Interrupt, Environment, Back, InputTrap as SetsTrap, Page, Title}

@@ -2,9 +2,9 @@
 use Rattle.std.specs.Prelude.{◌≡◌, ◌⊎◌, ℕ, Bool, true, false, List, [], ◌∷◌, ◌++◌, length, Some}
 use Rattle.std.specs.List.{AllByRecursion}
 use Rattle.roff_num.specs.declared.limits.Limits.{Limits}
-use Rattle.roff_pages.specs.DeviceText.{box_line}
-use Rattle.roff_pages.specs.Layout.{Box}
-use Rattle.roff_pages.specs.declared.layout_event.LayoutEvent.TheVariants.{Length}
+use Rattle.roff_layout.specs.DeviceText.{box_line}
+use Rattle.roff_layout.specs.Layout.{Box}
+use Rattle.roff_layout.specs.declared.layout_event.LayoutEvent.TheVariants.{Length}
 use Rattle.roff_source.specs.Tape.{Tape}
 use Rattle.roff_run.specs.Environments.{PageHistory}
 use Rattle.roff_run.specs.Layouts.{layout_of}

@@ -1,6 +1,6 @@
 -- Laws over macros that spring, and over the input-line trap (manual, section 7.5).
 use Rattle.std.specs.Prelude.{◌≡◌, ◌≢◌, ◌-◌, ◌<◌, ◌≤◌, true, false, List, [], ◌∷◌, ◌++◌, map, Option, Some, None}
-use Rattle.roff_lines.specs.declared.event.Event.TheVariants.{Count}
+use Rattle.roff_layout.specs.declared.event.Event.TheVariants.{Count}
 use Rattle.roff_num.specs.ShortNames.{name_bytes}
 use Rattle.roff_num.specs.declared.limits.Limits.{Limits}
 use Rattle.roff_num.specs.declared.short_name.ShortName.{ShortName}

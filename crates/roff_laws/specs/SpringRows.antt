@@ -4,7 +4,7 @@ use Rattle.roff_num.specs.LimitValues.{default_limits}
 use Rattle.roff_num.specs.declared.short_name.ShortName.{ShortName}
 use Rattle.roff_store.specs.Texts.{Body}
 use Rattle.roff_input.specs.Input.{DoAhead}
-use Rattle.roff_pages.specs.declared.layout_event.LayoutEvent.TheVariants.{Length}
+use Rattle.roff_layout.specs.declared.layout_event.LayoutEvent.TheVariants.{Length}
 use Rattle.roff_source.specs.Tape.{OneByte, Ended}
 use Rattle.roff_run.specs.Environments.{PageHistory}
 use Rattle.roff_run.specs.Results.{turns}

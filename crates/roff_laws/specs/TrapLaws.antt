@@ -4,14 +4,14 @@ use Rattle.std.specs.List.{AllByRecursion}
 use Rattle.roff_num.specs.declared.limits.Limits.{Limits}
 use Rattle.roff_num.specs.declared.short_name.ShortName.{ShortName}
 use Rattle.roff_input.specs.Input.{Ahead, DoAhead}
-use Rattle.roff_pages.specs.declared.layout_event.LayoutEvent.{LayoutEvent}
-use Rattle.roff_pages.specs.declared.layout_event.LayoutEvent.TheVariants.{Eject, EjectOn, EjectTo}
-use Rattle.roff_pages.specs.declared.trap.Trap.{Trap}
-use Rattle.roff_pages.specs.Happenings.{Happening, Does, is_eject_event}
-use Rattle.roff_pages.specs.Layout.{Layout, page_place}
-use Rattle.roff_pages.specs.Puts.{puts}
+use Rattle.roff_layout.specs.declared.layout_event.LayoutEvent.{LayoutEvent}
+use Rattle.roff_layout.specs.declared.layout_event.LayoutEvent.TheVariants.{Eject, EjectOn, EjectTo}
+use Rattle.roff_layout.specs.declared.trap.Trap.{Trap}
+use Rattle.roff_layout.specs.Happenings.{Happening, Does, is_eject_event}
+use Rattle.roff_layout.specs.Layout.{Layout, page_place}
+use Rattle.roff_layout.specs.Puts.{puts}
 use Rattle.roff_pages.specs.Reach.{IsMetAtEnd, place_before, place_behind}
-use Rattle.roff_pages.specs.Stops.{is_diverted, place_of}
+use Rattle.roff_layout.specs.Stops.{is_diverted, place_of}
 use Rattle.roff_run.specs.Layouts.{happens, layout_of}
 use Rattle.roff_run.specs.PageEvents.{PageEvent, PageHistory, PastEvent}
 use Rattle.roff_run.specs.Run.{Leads, State, after}

@@ -1,8 +1,8 @@
 -- The events of a request, as the code puts them together.
-use Rattle.std.specs.Prelude.{ℕ, Bool, List, [], ◌∷◌, ◌++◌, map, Option}
+use Rattle.std.specs.Prelude.{◌≡◌, ℕ, Bool, false, ◌&&◌, List, [], ◌∷◌, ◌++◌, map, is_none, Option, if◌then◌else◌}
 use Rattle.std.specs.Option.{option_to_list}
-use Rattle.roff_lines.specs.declared.event.Event.TheVariants.{Set}
-use Rattle.roff_lines.specs.declared.settings.Param.TheVariants.{NoStops, Stop}
+use Rattle.roff_layout.specs.declared.event.Event.TheVariants.{Set}
+use Rattle.roff_layout.specs.declared.settings.Param.TheVariants.{NoStops, Stop}
 use Rattle.roff_run.specs.PageEvents.{PageEvent}
 use Rattle.roff_run.specs.declared.event.PageEvent.TheVariants.{Text}
 use Rattle.roff_meaning.specs.declared.events.RequestEvents.{RequestEvents}
@@ -24,6 +24,20 @@ request_events Nothing = []
 request_events (One event) = event ∷ []
 request_events (Two first second) = first ∷ second ∷ []
 
+-- those of tab stops, if they are set, or a few
+abbrev pub stops_or_few : Bool → List ℕ → RequestEvents → List PageEvent
+stops_or_few sets_stops columns few = if sets_stops then stops_set columns else request_events few
+
 -- one in front of a break, if there is one, those of the break, if there is one, and others behind it
 abbrev pub around_break : Option PageEvent → Bool → List PageEvent → List PageEvent
 around_break before breaks behind = option_to_list before ++ behind_break breaks behind
+
+-- these are a request's, and don't begin with those of a break: one stands in front of it, or there is none
+pub record BreakNotFirst (events : List PageEvent) : Type 0 where
+  pub before : Option PageEvent
+  pub breaks : Bool
+  pub sets_stops : Bool
+  pub columns : List ℕ
+  pub few : RequestEvents
+  pub not_first : (is_none before && breaks) ≡ false
+  pub are : events ≡ around_break before breaks (stops_or_few sets_stops columns few)

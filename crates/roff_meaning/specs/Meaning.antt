@@ -1,11 +1,12 @@
 -- What a meaning has that is kept.
-use Rattle.std.specs.Prelude.{Bool, List, [], ◌∷◌, Option, None, if◌then◌else◌}
-use Rattle.roff_lines.specs.declared.event.Event.TheVariants.{Resume}
+use Rattle.std.specs.Prelude.{Bool, List, [], ◌∷◌, Option, None, if◌then◌else◌, ◌≡◌}
+use Rattle.roff_layout.specs.declared.event.Event.TheVariants.{Resume}
 use Rattle.roff_run.specs.Events.Lines.{line_events}
 use Rattle.roff_run.specs.declared.event.LineEvents.{LineEvents}
 use Rattle.roff_run.specs.PageEvents.{PageEvent}
 use Rattle.roff_run.specs.declared.event.PageEvent.TheVariants.{Text}
 use Rattle.roff_run.specs.declared.message.Message.{Message}
+use Rattle.roff_meaning.specs.Events.{BreakNotFirst}
 
 -- a message, if there is one, and events
 pub record MeaningKept : Type 0 where
@@ -23,3 +24,8 @@ resumed_if resumes events = if resumes then Text Resume ∷ events else events
 -- the events of a request, or those of a text line, with which an interrupted one may go on
 abbrev pub kept_events : Bool → List PageEvent → Bool → LineEvents → List PageEvent
 kept_events is_request requested resumes line = if is_request then requested else resumed_if resumes (line_events line)
+
+-- these are a request's that don't begin with those of a break, or a text line's
+pub data IsWithoutBreak (events : List PageEvent) : Type 0 where
+  OfRequest : BreakNotFirst events → IsWithoutBreak events
+  OfLine : (resumes : Bool) (line : LineEvents) → events ≡ resumed_if resumes (line_events line) → IsWithoutBreak events

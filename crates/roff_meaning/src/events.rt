@@ -1,18 +1,20 @@
 //! The events of a request, as code keeps them.
 
-ghost use Rattle.std.specs.Prelude.{◌≡◌, ◌≤◌, ◌∷◌, [], true, drop, map, IfSome, slice_get, if◌then◌else◌};
+ghost use Rattle.std.specs.Prelude.{◌≡◌, ◌≤◌, ◌∷◌, [], true, drop, map, IfSome, slice_get};
+ghost use Rattle.std.specs.Prelude.{if◌then◌else◌, false};
 ghost use Rattle.roff_meaning.specs.Events.{around_break, request_events, stop_at, stops_set};
-ghost use Rattle.roff_lines.specs.declared.event.Event.TheVariants.{Break, WordEnd};
+ghost use Rattle.roff_meaning.specs.Events.{BreakNotFirst, stops_or_few};
+ghost use Rattle.roff_layout.specs.declared.event.Event.TheVariants.{Break, WordEnd};
 ghost use Rattle.roff_run.specs.declared.event.PageEvent.TheVariants.{Text};
 ghost use Rattle.roff_run.specs.Requests.Effects.{behind_break};
 
 use arrayvec::ArrayVec;
-use roff_lines::{Event, Param};
+use roff_layout::{Event, Param};
 use roff_run::PageEvent;
 use std::marker::Model;
 
 /// The events of a request behind its break, but for tab stops.
-#[derive(Clone, Copy, Debug, PartialEq, Eq)]
+#[derive(Clone, Copy)]
 pub enum RequestEvents {
     /// None.
     Nothing,
@@ -84,8 +86,9 @@ impl RequestedEvents {
     /// Whether they begin with those of a break.
     #[inline(always)]
     pub fn begin_with_break(&self) -> bool
-        ensures { result ≡ true
+        ensures begins { result ≡ true
             → self.now.items ≡ Text WordEnd ∷ Text Break ∷ drop 2 self.now.items }
+        ensures others { result ≡ false → BreakNotFirst self.now.items }
     {
         self.before.is_none() && self.breaks
     }
@@ -128,7 +131,7 @@ fn broken_at(
     index: usize,
 ) -> Option<PageEvent>
     ensures at { result ≡ slice_get (behind_break breaks
-        (if sets_stops then stops_set stops.now.items else request_events few.now)) index }
+        (stops_or_few sets_stops stops.now.items few.now)) index }
     ensures few { IfSome result (λ event. index ≤ 34) }
 {
     if !breaks {
@@ -142,8 +145,8 @@ fn broken_at(
 
 /// The event at an index of a break and what is kept behind it.
 fn break_at(few: &RequestEvents, sets_stops: bool, stops: &Stops, index: usize) -> Option<PageEvent>
-    ensures at { result ≡ slice_get
-        (Text Break ∷ (if sets_stops then stops_set stops.now.items else request_events few.now)) index }
+    ensures at { result
+        ≡ slice_get (Text Break ∷ stops_or_few sets_stops stops.now.items few.now) index }
     ensures few { IfSome result (λ event. index ≤ 33) }
 {
     if index == 0 {
@@ -155,7 +158,7 @@ fn break_at(few: &RequestEvents, sets_stops: bool, stops: &Stops, index: usize) 
 /// The event at an index of those that set these stops, if they are set, or of a few.
 fn kept_at(few: &RequestEvents, sets_stops: bool, stops: &Stops, index: usize) -> Option<PageEvent>
     ensures at { result ≡ slice_get
-        (if sets_stops then stops_set stops.now.items else request_events few.now) index }
+        (stops_or_few sets_stops stops.now.items few.now) index }
     ensures few { IfSome result (λ event. index ≤ 32) }
 {
     if sets_stops {

@@ -1,16 +1,16 @@
 //! What an item means, where that isn't told by the name of its step.
 
-ghost use Rattle.std.specs.Prelude.{◌≡◌, ◌≤◌, ◌∷◌, None, IfSome, drop, slice_get, true};
-ghost use Rattle.roff_lines.specs.declared.event.Event.TheVariants.{Break, WordEnd};
+ghost use Rattle.std.specs.Prelude.{◌≡◌, ◌≤◌, ◌∷◌, None, IfSome, drop, slice_get, true, false};
+ghost use Rattle.roff_layout.specs.declared.event.Event.TheVariants.{Break, WordEnd};
 ghost use Rattle.roff_run.specs.declared.event.PageEvent.TheVariants.{Text};
 ghost use Rattle.roff_run.specs.Events.Lines.{line_events};
 ghost use Rattle.roff_run.specs.Requests.Effects.{behind_break};
 ghost use Rattle.roff_meaning.specs.Events.{around_break, request_events, stops_set};
-ghost use Rattle.roff_meaning.specs.Meaning.{nothing_kept, resumed_if};
+ghost use Rattle.roff_meaning.specs.Meaning.{IsWithoutBreak, nothing_kept, resumed_if};
 
 use crate::events::{RequestEvents, RequestedEvents};
 use arrayvec::ArrayVec;
-use roff_lines::Event;
+use roff_layout::Event;
 use roff_run::{LineEvents, Message, PageEvent};
 use std::marker::Model;
 
@@ -102,8 +102,9 @@ impl Meaning {
     /// Whether the events begin with those of a break.
     #[inline(always)]
     pub fn begins_with_break(&self) -> bool
-        ensures { result ≡ true
+        ensures begins { result ≡ true
             → self.now.events ≡ Text WordEnd ∷ Text Break ∷ drop 2 self.now.events }
+        ensures others { result ≡ false → IsWithoutBreak self.now.events }
     {
         self.is_request && self.requested.begin_with_break()
     }

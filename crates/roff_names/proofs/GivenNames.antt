@@ -4,7 +4,7 @@ use Rattle.std.specs.Prelude.{filter}
 use Rattle.std.proofs.lemmas.List.{map-append}
 use Rattle.std.proofs.lemmas.List.Elements.{filter-append}
 use Rattle.roff_num.specs.Names.{name_of}
-use Rattle.roff_arguments.specs.Arguments.{has_byte}
+use Rattle.roff_input.specs.Arguments.{has_byte}
 use Rattle.roff_run.specs.Requests.Numbering.{name_given, names_given}
 
 -- some texts and the next one

@@ -3,7 +3,7 @@ use Rattle.std.proofs.Common.{◌≡◌, ℕ, ◌+◌, List, [], ◌∷◌, ◌+
 use Rattle.std.specs.Prelude.{reverse}
 use Rattle.std.proofs.lemmas.List.{map-append}
 use Rattle.roff_num.specs.Names.{name_of}
-use Rattle.roff_arguments.specs.Arguments.{Arguments}
+use Rattle.roff_input.specs.Arguments.{Arguments}
 use Rattle.roff_input.specs.Input.Names.{calling}
 use Rattle.roff_store.specs.TextCalls.{Call, Remove}
 use Rattle.roff_run.specs.Reading.Items.{PageUnread}

@@ -16,7 +16,8 @@ use roff_store::Kind;
 /// of all but the other branch of a condition.
 #[inline(always)]
 pub fn behind_called(breaks: bool, called: Called) -> Option<LineState>
-    ensures leads { IfSome result (λ reading. LeadsTo (λ i. behind_called i breaks called) reading) }
+    ensures leads { IfSome result
+        (λ reading. LeadsTo (λ i. behind_called i breaks called) reading) }
     ensures other { result ≡ None → LeadsToElse (λ i. behind_called i breaks called) }
     ensures alone { result ≡ None → reads_other_branch called ≡ true }
 {

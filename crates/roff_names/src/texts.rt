@@ -55,8 +55,8 @@ pub fn enter_string(
     }
 }
 
-/// How many bytes the first unit adds to the text of a string, if it has a name: in front of the text a
-/// blank and a quote are dropped.
+/// How many bytes the first unit adds to the text of a string, if it has a name: in front of the
+/// text a blank and a quote are dropped.
 pub fn first_bytes(name: Option<ShortName>, unit: CopyUnit) -> usize
     ensures { result ≡ length (first_text name unit) }
 {

@@ -19,11 +19,10 @@ use crate::numbering::{set_numbers, set_register};
 use crate::registers::{in_force, remove_given};
 use crate::telling::{happen, keep, keep_stops, say, set_always};
 use roff_composer::Composer;
-use roff_lines::Param;
+use roff_layout::{LayoutEvent, Param};
 use roff_meaning::{Meaning, RequestEvents};
 use roff_names::remove_names_given;
 use roff_num::{Limit, Num};
-use roff_pages::LayoutEvent;
 use roff_requests::{
     Changes, Given, Numbers, RequestFacts, Response, RunRegisters, page_name, response,
 };

@@ -3,14 +3,14 @@
 ghost use Rattle.std.specs.Prelude.{◌≡◌, ◌∷◌, []};
 ghost use Rattle.std.specs.Option.{option_to_list};
 ghost use Rattle.roff_arguments.specs.ArgumentList.{listed};
-ghost use Rattle.roff_lines.specs.declared.event.Event.TheVariants.{Set};
+ghost use Rattle.roff_layout.specs.declared.event.Event.TheVariants.{Set};
 ghost use Rattle.roff_meaning.specs.Events.{around_break, request_events};
 ghost use Rattle.roff_run.specs.Events.Steps.{events_of, messages_of};
 ghost use Rattle.roff_run.specs.Requests.Effects.{behind_break, meant_by};
 ghost use Rattle.roff_run.specs.Requests.Tabs.{tab_stops};
 ghost use Rattle.roff_run.specs.declared.event.PageEvent.TheVariants.{Text};
 
-use roff_lines::{Event, Param};
+use roff_layout::{Event, Param};
 use roff_meaning::{Meaning, RequestEvents};
 use roff_requests::tab_stops;
 use roff_run::{LineEvents, Message, PageEvent, Step};

@@ -4,8 +4,8 @@ use Rattle.std.specs.Option.{option_flatten}
 use Rattle.std.proofs.lemmas.List.{length-take}
 use Rattle.roff_composer.specs.declared.composer.Composer.{Composer as ComposerOf}
 use Rattle.roff_num.specs.declared.limit.Limit.{Limit}
-use Rattle.roff_arguments.proofs.KeptArguments.{held-finished, held-only_kept}
-use Rattle.roff_arguments.specs.Arguments.{finished}
+use Rattle.roff_input.proofs.KeptArguments.{held-finished, held-only_kept}
+use Rattle.roff_input.specs.Arguments.{finished}
 use Rattle.roff_input.specs.Input.{with_arguments}
 use Rattle.roff_run.specs.Definitions.{end_mark, front_of}
 use Rattle.roff_reader.specs.Reader.State.{ReaderState}

@@ -4,13 +4,13 @@ use Rattle.std.specs.Prelude.{if◌then◌else◌, filter, reverse}
 use Rattle.std.proofs.lemmas.Bool.{cases_Bool, lt-leb}
 use Rattle.std.proofs.lemmas.List.{length-append, length-drop, length-reverse, length-take}
 use Rattle.std.proofs.lemmas.List.Sums.{count_by-le-length, length-filter}
-use Rattle.roff_arguments.proofs.KeptArguments.{only_kept-with_unit}
-use Rattle.roff_arguments.specs.Arguments.{Arguments, has_byte, kept, only_kept, settled, settled_at, with_argument_byte}
+use Rattle.roff_input.proofs.KeptArguments.{only_kept-with_unit}
+use Rattle.roff_input.specs.Arguments.{Arguments, has_byte, kept, only_kept, settled, settled_at, with_argument_byte}
 use Rattle.roff_source.specs.Bytes.{backslash, newline, quote}
 use Rattle.roff_escape.specs.OpenEscape.{OpenEscape, Backslash}
 use Rattle.roff_escape.specs.OpenEscapes.{byte_read}
-use Rattle.roff_arguments.specs.declared.arguments.Place.{Place}
-use Rattle.roff_arguments.specs.declared.arguments.Place.TheVariants.{Between, InPlain, InQuotes, BehindQuote}
+use Rattle.roff_input.specs.declared.place.Place.{Place}
+use Rattle.roff_input.specs.declared.place.Place.TheVariants.{Between, InPlain, InQuotes, BehindQuote}
 use Rattle.roff_escape.specs.declared.open_escape.CopyUnit.TheVariants.{Byte}
 use Rattle.roff_escape.specs.declared.open_escape.Found.TheVariants.{GoesOn, Unit as GivesUnit}
 use Rattle.roff_escape.specs.declared.open_escape.Surroundings.TheVariants.{Arguments as AboveArguments}

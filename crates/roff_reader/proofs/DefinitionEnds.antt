@@ -22,8 +22,8 @@ use Rattle.roff_run.specs.declared.event.PageEvent.TheVariants.{Back, Page}
 use Rattle.roff_run.specs.Requests.{Effect, called_by, meant_by, request_effect, row_of}
 use Rattle.roff_run.specs.Requests.Effects.{happens, no_such_environment, nothing}
 use Rattle.roff_run.specs.Requests.Paging.{page_ejected}
-use Rattle.roff_pages.specs.Queries.{is_diverting}
-use Rattle.roff_pages.specs.declared.layout_event.LayoutEvent.TheVariants.{Eject}
+use Rattle.roff_layout.specs.Queries.{is_diverting}
+use Rattle.roff_layout.specs.declared.layout_event.LayoutEvent.TheVariants.{Eject}
 use Rattle.roff_run.specs.TitleTexts.{TitleText, title_length}
 use Rattle.roff_run.specs.declared.line_state.LineState.TheVariants.{Arguments as InArguments, TitleFront}
 use Rattle.roff_num.specs.declared.short_name.ShortName.{ShortName}

@@ -4,7 +4,7 @@ use Rattle.std.specs.Prelude.{nat_lt, if◌then◌else◌}
 use Rattle.roff_composer.specs.declared.composer.Composer.{Composer as ComposerOf}
 use Rattle.roff_num.specs.declared.limit.Limit.{Limit}
 use Rattle.roff_num.specs.declared.limit.Limit.TheVariants.{Names}
-use Rattle.roff_arguments.specs.Arguments.{finished, no_arguments, only_kept}
+use Rattle.roff_input.specs.Arguments.{finished, no_arguments, only_kept}
 use Rattle.roff_input.specs.Input.{with_arguments, without_arguments}
 use Rattle.roff_input.specs.Input.Calls.{arguments_given}
 use Rattle.roff_input.specs.Unread.{input_refusal}

@@ -2,7 +2,7 @@
 use Rattle.std.proofs.Common.{◌≡◌, ℕ, ◌==◌, Bool, true, false, List, [], ◌∷◌, length, Result, Ok, Err, refl, sym, subst, ap, ◌∙◌, arith}
 use Rattle.std.specs.Prelude.{◌&&◌, not, nat_lt, if◌then◌else◌}
 use Rattle.std.proofs.lemmas.Bool.{le-ltb}
-use Rattle.roff_lines.specs.Words.{is_empty}
+use Rattle.roff_layout.specs.Words.{is_empty}
 use Rattle.roff_num.specs.declared.limit.Limit.{Limit}
 use Rattle.roff_escape.specs.OpenEscape.{OpenEscape}
 use Rattle.roff_run.specs.Reading.{title_read}

@@ -1,7 +1,7 @@
 -- What is read does at the next item, by whether something is half read.
 use Rattle.std.proofs.Common.{◌≡◌, true, List, [], ◌∷◌, length, refl, ap}
 use Rattle.std.specs.Prelude.{not, ◌==◌}
-use Rattle.roff_arguments.specs.declared.arguments.Place.{Place}
+use Rattle.roff_input.specs.declared.place.Place.{Place}
 use Rattle.roff_escape.specs.OpenEscape.{OpenEscape}
 use Rattle.roff_escape.specs.Waiting.{waiting_of}
 use Rattle.roff_run.specs.Reading.Waiting.{copies_in, line_waits, waiting_above}

@@ -2,15 +2,17 @@
 
 ghost use Rattle.std.specs.Prelude.{◌≡◌, ◌==◌, ◌≤◌, ◌∷◌, [], IfOk, IfSome, None, false, slice_get};
 ghost use Rattle.std.specs.Prelude.{drop, true};
-ghost use Rattle.roff_lines.specs.declared.event.Event.TheVariants.{Break, WordEnd};
+ghost use Rattle.roff_layout.specs.declared.event.Event.TheVariants.{Break, WordEnd};
 ghost use Rattle.roff_run.specs.declared.event.PageEvent.TheVariants.{Text};
 ghost use Rattle.std.specs.Option.{option_to_list};
 ghost use Rattle.roff_source.specs.Bytes.{backslash, is_dropped};
+ghost use Rattle.roff_meaning.specs.Meaning.{IsWithoutBreak};
 ghost use Rattle.roff_run.specs.Events.Lines.{closing_events};
 ghost use Rattle.roff_run.specs.Events.Steps.{events_of, messages_of};
 ghost use Rattle.roff_run.specs.declared.step.Step.TheVariants.{Nothing};
 ghost use Rattle.roff_reader.specs.Clauses.{LineStart, TakesAs, fresh_reader};
-ghost use Rattle.roff_reader.specs.Clauses.{Known, interrupted, is_left, is_unfinished, taking, due};
+ghost use Rattle.roff_reader.specs.Clauses.{Known, interrupted, is_left, is_unfinished, taking};
+ghost use Rattle.roff_reader.specs.Clauses.{due};
 ghost use Rattle.roff_run.specs.Registers.Capped.{admitted, after};
 ghost use Rattle.roff_run.specs.Starts.{given_change};
 ghost use Rattle.roff_run.specs.declared.phase.Phase.{Phase};
@@ -46,8 +48,8 @@ use roff_scan::{Unread, is_dropped};
 use std::alloc::{AllocError, Global};
 use std::marker::Model;
 
-/// What is being read, the number registers, and what the last step means that has no name of its own:
-/// that may be much and is rare, so it is kept here, and steps are small.
+/// What is being read, the number registers, and what the last step means that has no name of its
+/// own: that may be much and is rare, so it is kept here, and steps are small.
 ///
 /// All its memory is reserved as it is made.
 #[derive(Drop)]
@@ -70,7 +72,8 @@ impl Model for Reader {
 }
 
 impl Reader {
-    /// At a line's beginning, without registers, with room for so many, and for titles of so many bytes.
+    /// At a line's beginning, without registers, with room for so many, and for titles of so many
+    /// bytes.
     pub fn new(alloc: Global, names_cap: u32, line: u32) -> Result<Self, AllocError>
         ensures { IfOk result (λ r. r ≡ fresh_reader names_cap line) }
     {
@@ -146,8 +149,8 @@ impl Reader {
         self.reading.due()
     }
 
-    /// Whether a line is to end where the input does: one of which something was read, or one that was
-    /// interrupted, if one is to end.
+    /// Whether a line is to end where the input does: one of which something was read, or one that
+    /// was interrupted, if one is to end.
     pub fn is_unfinished(&self, left: bool) -> bool
         ensures { (phase : Phase) (k : Known) → is_left phase k.interrupted ≡ left
             → result ≡ is_unfinished phase k self.now.reading }
@@ -176,8 +179,8 @@ impl Reader {
         self.reading = LineState::LineStart;
     }
 
-    /// The end of a body, with the number of what it leads back to: that is read on, unless a control
-    /// line is being read.
+    /// The end of a body, with the number of what it leads back to: that is read on, unless a
+    /// control line is being read.
     pub fn end_call(&mut self, back: u8)
         ensures { self.new
             ≡ record self.old { reading = behind_return back self.old.reading } }
@@ -213,8 +216,9 @@ impl Reader {
     /// Whether the events of the meaning that is kept begin with those of a break.
     #[inline(always)]
     pub fn begins_with_break(&self) -> bool
-        ensures { result ≡ true → self.now.meaning.events
+        ensures begins { result ≡ true → self.now.meaning.events
             ≡ Text WordEnd ∷ Text Break ∷ drop 2 self.now.meaning.events }
+        ensures others { result ≡ false → IsWithoutBreak self.now.meaning.events }
     {
         self.meaning.begins_with_break()
     }
@@ -303,7 +307,8 @@ impl Reader {
     }
 }
 
-/// Whether a byte is read by itself: it is neither dropped nor a backslash, and nothing is half read.
+/// Whether a byte is read by itself: it is neither dropped nor a backslash, and nothing is half
+/// read.
 #[inline(always)]
 #[tactic(auto, using(crate::proofs::TextTaken::none_half))]
 fn is_read_alone(byte: u8, unread: &Unread<PageEvent>) -> bool
@@ -311,7 +316,7 @@ fn is_read_alone(byte: u8, unread: &Unread<PageEvent>) -> bool
     ensures no_escape { result ≡ true → (byte == backslash) ≡ false }
     ensures none_half { result ≡ true → unread.now.input.escapes ≡ [] }
 {
-    if is_dropped(byte) {
+    if byte != b'\n' && is_dropped(byte) {
         return false;
     }
     if byte == b'\\' {

@@ -7,8 +7,8 @@ use Rattle.roff_num.specs.Steps.{followed}
 use Rattle.roff_num.specs.declared.num.NumFault.{NumFault}
 use Rattle.roff_meaning.specs.Events.{stop_at, stops_set}
 use Rattle.roff_run.specs.Numbers.{at_least_zero, rounded_in_range}
-use Rattle.roff_lines.specs.declared.event.Event.TheVariants.{Set}
-use Rattle.roff_lines.specs.declared.settings.Param.TheVariants.{NoStops}
+use Rattle.roff_layout.specs.declared.event.Event.TheVariants.{Set}
+use Rattle.roff_layout.specs.declared.settings.Param.TheVariants.{NoStops}
 use Rattle.roff_run.specs.PageEvents.{PageEvent}
 use Rattle.roff_run.specs.declared.event.PageEvent.TheVariants.{Text}
 use Rattle.roff_run.specs.Requests.Effects.{Response, bad_number, happens, meant_by, saying}

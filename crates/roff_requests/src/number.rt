@@ -66,7 +66,8 @@ pub(crate) fn height_in(place: i32, text: &[u8]) -> Result<i32, NumFault>
     }
 }
 
-/// The value of an argument beside the one in force: a sign in front adds to that, or takes from it.
+/// The value of an argument beside the one in force: a sign in front adds to that, or takes from
+/// it.
 ///
 /// # Errors
 ///

@@ -213,7 +213,8 @@ impl RunRegisters {
         }
     }
 
-    /// Sets a register that is given to a run, of a name of one byte, to a value, without an increment.
+    /// Sets a register that is given to a run, of a name of one byte, to a value, without an
+    /// increment.
     ///
     /// # Errors
     ///

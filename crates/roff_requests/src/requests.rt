@@ -22,7 +22,7 @@ use Request::{LeftOut, WithoutEffect};
 pub(crate) use effects::PageFacts;
 pub use effects::{Changes, RequestFacts, Response};
 pub use numbering::{Numbers, numbers_given, register_named};
-use roff_lines::Param;
+use roff_layout::Param;
 use roff_run::Request;
 pub use tabs::tab_stops;
 

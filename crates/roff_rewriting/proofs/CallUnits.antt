@@ -5,10 +5,10 @@ use Rattle.std.proofs.lemmas.Bool.{eqb-true, leb-true}
 use Rattle.std.proofs.lemmas.Bool.Decides.{nat_tests}
 use Rattle.std.proofs.lemmas.List.Elements.{All-head, All-tail}
 use Rattle.roff_num.specs.declared.short_name.ShortName.{ShortName}
-use Rattle.roff_arguments.proofs.KeptArguments.{held-only_kept, held-settled}
-use Rattle.roff_arguments.specs.Arguments.{Arguments, held, only_kept, settled, with_argument_byte, with_kept, with_unit}
-use Rattle.roff_arguments.specs.declared.arguments.Place.{Place}
-use Rattle.roff_arguments.specs.declared.arguments.Place.TheVariants.{Between, InPlain, InQuotes, BehindQuote}
+use Rattle.roff_input.proofs.KeptArguments.{held-only_kept, held-settled}
+use Rattle.roff_input.specs.Arguments.{Arguments, held, only_kept, settled, with_argument_byte, with_kept, with_unit}
+use Rattle.roff_input.specs.declared.place.Place.{Place}
+use Rattle.roff_input.specs.declared.place.Place.TheVariants.{Between, InPlain, InQuotes, BehindQuote}
 use Rattle.roff_source.specs.Bytes.{backslash, dot, is_dropped, newline, quote, tab}
 use Rattle.roff_store.specs.Named.{Named}
 use Rattle.roff_store.specs.Texts.{Entry}

@@ -4,7 +4,7 @@ use Rattle.std.specs.Prelude.{All, not, if◌then◌else◌, ◌==◌}
 use Rattle.std.proofs.lemmas.Bool.{eqb-true}
 use Rattle.std.proofs.lemmas.List.{append-nil, length-append}
 use Rattle.std.proofs.lemmas.List.Elements.{All-cons, All-head, All-nil, All-tail, All-weaker}
-use Rattle.roff_arguments.specs.Arguments.{Arguments}
+use Rattle.roff_input.specs.Arguments.{Arguments}
 use Rattle.roff_source.specs.Bytes.{backslash, is_dropped, newline}
 use Rattle.roff_escape.specs.EscapeLaws.{copied, copied_escape}
 use Rattle.roff_escape.specs.OpenEscape.{unit_bytes}

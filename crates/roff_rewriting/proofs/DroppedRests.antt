@@ -5,7 +5,7 @@ use Rattle.std.proofs.lemmas.List.{length-append}
 use Rattle.std.proofs.lemmas.List.Elements.{All-cons, All-head, All-nil, All-tail}
 use Rattle.roff_num.specs.declared.limits.Limits.{Limits}
 use Rattle.roff_num.specs.declared.short_name.ShortName.{ShortName}
-use Rattle.roff_arguments.specs.Arguments.{Arguments, held}
+use Rattle.roff_input.specs.Arguments.{Arguments, held}
 use Rattle.roff_source.specs.Bytes.{dot, is_dropped, newline}
 use Rattle.roff_source.specs.Tape.{OneByte, Tape, items_then}
 use Rattle.roff_escape.specs.OpenEscape.{OpenEscape}

@@ -2,10 +2,10 @@
 use Rattle.std.proofs.Common.{◌≡◌, Bool, true, false, List, [], ◌∷◌, ◌++◌, map, Option, Some, None, inl, inr, refl, sym, ◌∙◌, ap, subst}
 use Rattle.roff_num.specs.declared.limits.Limits.{Limits}
 use Rattle.roff_input.specs.Input.{Ahead, DoAhead}
-use Rattle.roff_lines.specs.declared.event.Event.TheVariants.{Print, Tab, WordEnd, Gap, LineEnd, Count, Break, Interrupt as Interrupted, Resume, Set}
-use Rattle.roff_pages.specs.Happenings.{Does}
-use Rattle.roff_pages.specs.Springs.{goes_on}
-use Rattle.roff_pages.specs.declared.layout_event.LayoutEvent.{LayoutEvent}
+use Rattle.roff_layout.specs.declared.event.Event.TheVariants.{Print, Tab, WordEnd, Gap, LineEnd, Count, Break, Interrupt as Interrupted, Resume, Set}
+use Rattle.roff_layout.specs.Happenings.{Does}
+use Rattle.roff_layout.specs.Springs.{goes_on}
+use Rattle.roff_layout.specs.declared.layout_event.LayoutEvent.{LayoutEvent}
 use Rattle.roff_run.specs.Layouts.{layout_of}
 use Rattle.roff_run.specs.PageEvents.{PageEvent, PageHistory, PastEvent}
 use Rattle.roff_run.specs.Run.{State, step_with}

@@ -5,8 +5,8 @@ use Rattle.std.proofs.lemmas.List.{length-append}
 use Rattle.std.proofs.lemmas.List.Sums.{fold-append}
 use Rattle.roff_num.specs.declared.short_name.ShortName.{ShortName}
 use Rattle.roff_num.specs.ShortNames.{name_bytes}
-use Rattle.roff_arguments.specs.Arguments.{Arguments, held, no_arguments, with_byte, with_plain}
-use Rattle.roff_arguments.specs.declared.arguments.Place.TheVariants.{InPlain}
+use Rattle.roff_input.specs.Arguments.{Arguments, held, no_arguments, with_byte, with_plain}
+use Rattle.roff_input.specs.declared.place.Place.TheVariants.{InPlain}
 use Rattle.roff_source.specs.Bytes.{backslash, blank, is_dropped, newline}
 use Rattle.roff_escape.specs.OpenEscape.{Backslash, unit_bytes}
 use Rattle.roff_escape.specs.OpenEscapes.{byte_read}

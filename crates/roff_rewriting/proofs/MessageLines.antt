@@ -8,7 +8,7 @@ use Rattle.roff_num.specs.declared.limit.Limit.TheVariants.{Bytes}
 use Rattle.roff_num.specs.declared.limits.Limits.{Limits}
 use Rattle.roff_num.specs.declared.short_name.ShortName.{ShortName}
 use Rattle.roff_num.specs.ShortNames.{name_bytes}
-use Rattle.roff_arguments.specs.Arguments.{Arguments, held, no_arguments}
+use Rattle.roff_input.specs.Arguments.{Arguments, held, no_arguments}
 use Rattle.roff_source.specs.Bytes.{blank, newline}
 use Rattle.roff_store.specs.Named.{Named}
 use Rattle.roff_store.specs.Texts.{Entry}

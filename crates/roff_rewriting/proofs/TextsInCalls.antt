@@ -13,10 +13,10 @@ use Rattle.std.proofs.lemmas.List.Sums.{fold-append}
 use Rattle.roff_num.specs.declared.limits.Limits.{Limits}
 use Rattle.roff_num.specs.declared.short_name.ShortName.{ShortName}
 use Rattle.roff_num.specs.ShortNames.{name_bytes}
-use Rattle.roff_arguments.proofs.Settling.{held-only_kept-settled}
-use Rattle.roff_arguments.specs.Arguments.{Arguments, arguments_read, held, is_behind_quote, live_bytes, no_arguments, only_kept, settled, settled_at, with_unit}
-use Rattle.roff_arguments.specs.declared.arguments.Place.{Place}
-use Rattle.roff_arguments.specs.declared.arguments.Place.TheVariants.{BehindQuote, Between, InPlain, InQuotes}
+use Rattle.roff_input.proofs.Settling.{held-only_kept-settled}
+use Rattle.roff_input.specs.Arguments.{Arguments, arguments_read, held, is_behind_quote, live_bytes, no_arguments, only_kept, settled, settled_at, with_unit}
+use Rattle.roff_input.specs.declared.place.Place.{Place}
+use Rattle.roff_input.specs.declared.place.Place.TheVariants.{BehindQuote, Between, InPlain, InQuotes}
 use Rattle.roff_source.specs.Bytes.{backslash, blank, is_dropped, is_silent, newline, tab}
 use Rattle.roff_store.specs.Named.{Named}
 use Rattle.roff_store.specs.Texts.{Entry}

@@ -6,7 +6,7 @@ use Rattle.std.proofs.lemmas.List.Elements.{All-append, All-cons, All-nil, All-r
 use Rattle.roff_num.specs.declared.limits.Limits.{Limits}
 use Rattle.roff_num.specs.declared.short_name.ShortName.{ShortName}
 use Rattle.roff_num.specs.ShortNames.{name_bytes}
-use Rattle.roff_arguments.specs.Arguments.{live_bytes, no_arguments}
+use Rattle.roff_input.specs.Arguments.{live_bytes, no_arguments}
 use Rattle.roff_source.specs.Bytes.{blank, newline, quote}
 use Rattle.roff_store.specs.Named.{Named}
 use Rattle.roff_store.specs.Texts.{Entry}

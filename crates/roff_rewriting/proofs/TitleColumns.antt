@@ -7,12 +7,12 @@ use Rattle.std.proofs.lemmas.List.Elements.{All-append, All-cons, All-drop, All-
 use Rattle.std.proofs.lemmas.List.Sums.{sum_by-cons}
 use Rattle.std.proofs.Math.Nat.{le-max_right}
 use Rattle.std.proofs.Math.Seq.{drop-append-add, drop-append_seam, take-append_seam, take-length}
-use Rattle.roff_lines.specs.Columns.{spaces}
-use Rattle.roff_lines.specs.Glyphs.{glyph_blank, text_width}
-use Rattle.roff_lines.specs.TitleColumns.{centre_column, right_column as column_of_right}
-use Rattle.roff_lines.specs.Words.{is_empty}
+use Rattle.roff_layout.specs.Columns.{spaces}
+use Rattle.roff_layout.specs.Glyphs.{glyph_blank, text_width}
+use Rattle.roff_layout.specs.TitleColumns.{centre_column, right_column as column_of_right}
+use Rattle.roff_layout.specs.Words.{is_empty}
 use Rattle.roff_num.specs.Widths.{byte_width}
-use Rattle.roff_sinks.specs.Titles.{page_mark, part_at, part_text, parts_placed}
+use Rattle.roff_layout.specs.Titles.{page_mark, part_at, part_text, parts_placed}
 use Rattle.roff_source.specs.Bytes.{blank}
 use Rattle.roff_rewriting.specs.TitleLaws.{HasBytesAt, IsBlank, PartsStand, TitleOnLine, is_printable, middle_column, right_column, with_number}
 use Rattle.roff_run.specs.Reading.Titles.{is_page_character}

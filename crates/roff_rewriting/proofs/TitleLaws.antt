@@ -4,14 +4,14 @@ use Rattle.std.specs.Prelude.{All, ℤ, ◌==◌}
 use Rattle.std.proofs.lemmas.List.{append-nil, length-append}
 use Rattle.std.proofs.lemmas.List.Elements.{All-weaker}
 use Rattle.roff_input.specs.Input.{lines_taken}
-use Rattle.roff_arguments.specs.Arguments.{Arguments, no_arguments}
+use Rattle.roff_input.specs.Arguments.{Arguments, no_arguments}
 use Rattle.roff_escape.specs.OpenEscape.{OpenEscape}
-use Rattle.roff_lines.specs.Events.{settings_after}
+use Rattle.roff_layout.specs.Events.{settings_after}
 use Rattle.roff_num.specs.RegisterText.{register_text}
 use Rattle.roff_num.specs.ShortNames.{name_bytes}
 use Rattle.roff_num.specs.declared.limits.Limits.{Limits}
 use Rattle.roff_num.specs.declared.short_name.ShortName.{ShortName}
-use Rattle.roff_sinks.specs.Titles.{part_text, parts_placed}
+use Rattle.roff_layout.specs.Titles.{part_text, parts_placed}
 use Rattle.roff_source.specs.Bytes.{blank, newline}
 use Rattle.roff_source.specs.Tape.{Tape}
 use Rattle.roff_store.specs.Named.{Named}

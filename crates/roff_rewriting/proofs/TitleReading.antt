@@ -8,8 +8,8 @@ use Rattle.roff_escape.specs.OpenEscape.{Backslash}
 use Rattle.roff_escape.specs.OpenEscapes.{Reads}
 use Rattle.roff_escape.specs.declared.open_escape.CopyUnit.TheVariants.{Byte}
 use Rattle.roff_escape.specs.declared.open_escape.Found.TheVariants.{GoesOn, Unit as GivesUnit}
-use Rattle.roff_lines.specs.Glyphs.{glyph_blank}
-use Rattle.roff_sinks.specs.Titles.{page_mark}
+use Rattle.roff_layout.specs.Glyphs.{glyph_blank}
+use Rattle.roff_layout.specs.Titles.{page_mark}
 use Rattle.roff_source.specs.Bytes.{backslash, blank, is_dropped, is_silent, newline, tab}
 use Rattle.roff_rewriting.proofs.TitleColumns.{byte_kept, not-byte, printable-bounds}
 use Rattle.roff_rewriting.specs.TitleLaws.{IsDelimiter, IsPartByte, IsTitle, TitleOnLine, closing, is_printable, title_bytes}

@@ -1,7 +1,7 @@
 -- Runs over bytes of which two may hold two more together, as an escape that stays as it is does at its second byte.
 use Rattle.std.proofs.Common.{◌≡◌, ℕ, ◌+◌, ◌≤◌, false, List, [], ◌∷◌, ◌++◌, length, Some, None, refl, ap, ◌∙◌, arith}
 use Rattle.roff_num.specs.declared.limits.Limits.{Limits}
-use Rattle.roff_arguments.specs.Arguments.{held}
+use Rattle.roff_input.specs.Arguments.{held}
 use Rattle.roff_store.specs.Named.{Named}
 use Rattle.roff_store.specs.Texts.{Entry}
 use Rattle.roff_escape.specs.Waiting.{is_ended_by}

@@ -1,9 +1,9 @@
 -- Behind each word's end a text line tells a gap, the line's end or a break.
 use Rattle.std.proofs.Common.{ℕ, Bool, true, false, List, [], ◌∷◌, ◌++◌, map, Option, Some, None}
 use Rattle.std.specs.Prelude.{if◌then◌else◌, ◌==◌, ◌||◌}
-use Rattle.roff_lines.specs.declared.event.Event.TheVariants.{Print, Tab}
-use Rattle.roff_lines.specs.declared.glyph.Glyph.{Glyph}
-use Rattle.roff_lines.specs.declared.glyph.Glyph.TheVariants.{Blanks, Printed}
+use Rattle.roff_layout.specs.declared.event.Event.TheVariants.{Print, Tab}
+use Rattle.roff_layout.specs.declared.glyph.Glyph.{Glyph}
+use Rattle.roff_layout.specs.declared.glyph.Glyph.TheVariants.{Blanks, Printed}
 use Rattle.roff_num.specs.declared.num.Num.{Num}
 use Rattle.roff_source.specs.Bytes.{apostrophe, blank, dot, is_silent, newline, tab}
 use Rattle.roff_escape.specs.Characters.{character}

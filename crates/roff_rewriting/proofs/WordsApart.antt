@@ -2,20 +2,20 @@
 use Rattle.std.proofs.Common.{◌≡◌, inl, inr, ℕ, zero, suc, Bool, true, false, not, List, [], ◌∷◌, ◌++◌, Option, Some, None, refl, sym, ◌∙◌, ap, subst, arith}
 use Rattle.std.specs.Prelude.{◌<◌, ◌+◌, ◌==◌, ◌&&◌, ◌||◌, if◌then◌else◌}
 use Rattle.std.proofs.lemmas.Bool.{ne_eqb}
-use Rattle.roff_arguments.proofs.KeptArguments.{reverse-cons}
+use Rattle.roff_input.proofs.KeptArguments.{reverse-cons}
 use Rattle.std.proofs.lemmas.List.{reverse-reverse}
 use Rattle.roff_num.specs.declared.limits.Limits.{Limits}
-use Rattle.roff_lines.specs.Events.{History, settings_after}
-use Rattle.roff_lines.specs.Fitting.{Word}
-use Rattle.roff_lines.specs.Lines.{Finished}
-use Rattle.roff_lines.specs.Words.{begun_gap, blanks, ends_sentence, has_open_word, is_empty, line_end_gap, line_glyphs, open_glyphs, open_word, words}
-use Rattle.roff_lines.specs.declared.event.Event.{Event}
-use Rattle.roff_lines.specs.declared.event.Event.TheVariants.{Print, Tab, WordEnd, Gap, LineEnd, Count, Break, Interrupt as Interrupted, Resume, Set}
-use Rattle.roff_lines.specs.declared.glyph.Glyph.{Glyph}
-use Rattle.roff_lines.specs.declared.glyph.Glyph.TheVariants.{Blanks}
-use Rattle.roff_lines.specs.Places.{has_line_glyph, tab_width}
-use Rattle.roff_lines.specs.Settings.{fills}
-use Rattle.roff_pages.specs.Happenings.{Places}
+use Rattle.roff_layout.specs.Events.{History, settings_after}
+use Rattle.roff_layout.specs.Fitting.{Word}
+use Rattle.roff_layout.specs.Lines.{Finished}
+use Rattle.roff_layout.specs.Words.{begun_gap, blanks, ends_sentence, has_open_word, is_empty, line_end_gap, line_glyphs, open_glyphs, open_word, words}
+use Rattle.roff_layout.specs.declared.event.Event.{Event}
+use Rattle.roff_layout.specs.declared.event.Event.TheVariants.{Print, Tab, WordEnd, Gap, LineEnd, Count, Break, Interrupt as Interrupted, Resume, Set}
+use Rattle.roff_layout.specs.declared.glyph.Glyph.{Glyph}
+use Rattle.roff_layout.specs.declared.glyph.Glyph.TheVariants.{Blanks}
+use Rattle.roff_layout.specs.Places.{has_line_glyph, tab_width}
+use Rattle.roff_layout.specs.Settings.{fills}
+use Rattle.roff_layout.specs.Happenings.{Places}
 use Rattle.roff_run.specs.Environments.{Environments, environments, is_same, number_behind, text_of}
 use Rattle.roff_run.specs.Layouts.{happens}
 use Rattle.roff_run.specs.PageEvents.{PageEvent, PageHistory, PastEvent}

@@ -2,7 +2,7 @@
 use Rattle.std.specs.Prelude.{if◌then◌else◌, ◌==◌, ◌≡◌, ℕ, ◌+◌, ◌≤◌, true, false, List, [], ◌∷◌, ◌++◌, decimal, length, map, fold, ⊤}
 use Rattle.roff_num.specs.declared.limits.Limits.{Limits}
 use Rattle.roff_num.specs.declared.short_name.ShortName.{ShortName}
-use Rattle.roff_arguments.specs.Arguments.{Arguments, arguments_read, is_behind_quote, no_arguments, settled, with_unit}
+use Rattle.roff_input.specs.Arguments.{Arguments, arguments_read, is_behind_quote, no_arguments, settled, with_unit}
 use Rattle.roff_escape.specs.declared.open_escape.CopyUnit.{CopyUnit}
 use Rattle.roff_escape.specs.declared.open_escape.CopyUnit.TheVariants.{Byte, Kept}
 use Rattle.roff_source.specs.Bytes.{backslash, dot, tab}

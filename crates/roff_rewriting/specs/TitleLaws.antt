@@ -1,13 +1,13 @@
 -- Laws of titles: what a line with three parts places, and the columns at which they stand (manual, section 14).
 use Rattle.std.specs.Prelude.{◌≡◌, ℕ, ◌+◌, ◌-◌, ◌/◌, ◌≤◌, max, Bool, true, false, ◌&&◌, List, [], ◌∷◌, ◌++◌, length, map, take, drop, nat_le, All, Option, None, Some, option_map, ℤ, FitsSigned, if◌then◌else◌, ◌==◌}
 use Rattle.std.specs.Int.{w32}
-use Rattle.roff_lines.specs.Events.{settings_after}
-use Rattle.roff_lines.specs.Words.{is_empty}
+use Rattle.roff_layout.specs.Events.{settings_after}
+use Rattle.roff_layout.specs.Words.{is_empty}
 use Rattle.roff_num.specs.ShortNames.{name_bytes}
 use Rattle.roff_num.specs.RegisterText.{register_text}
 use Rattle.roff_num.specs.declared.limits.Limits.{Limits}
 use Rattle.roff_num.specs.declared.short_name.ShortName.{ShortName}
-use Rattle.roff_pages.specs.Puts.{puts}
+use Rattle.roff_layout.specs.Puts.{puts}
 use Rattle.roff_source.specs.Bytes.{backslash, blank}
 use Rattle.roff_source.specs.Tape.{Tape, OneByte, items_then}
 use Rattle.roff_store.specs.Named.{Named}

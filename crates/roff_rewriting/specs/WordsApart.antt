@@ -4,16 +4,16 @@ use Rattle.std.specs.List.{flat_map}
 use Rattle.roff_num.specs.declared.limits.Limits.{Limits}
 use Rattle.roff_num.specs.declared.short_name.ShortName.{ShortName}
 use Rattle.roff_input.specs.Input.{Ahead, DoAhead}
-use Rattle.roff_lines.specs.Events.{History}
-use Rattle.roff_lines.specs.declared.event.Event.{Event}
-use Rattle.roff_lines.specs.declared.event.Event.TheVariants.{Print, Tab, WordEnd, Gap, LineEnd, Break}
-use Rattle.roff_lines.specs.Fitting.{Word}
-use Rattle.roff_lines.specs.Lines.{Finished}
-use Rattle.roff_lines.specs.Places.{tab_width}
-use Rattle.roff_lines.specs.Words.{has_open_word, open_glyphs, open_word, words}
-use Rattle.roff_lines.specs.declared.glyph.Glyph.{Glyph}
-use Rattle.roff_lines.specs.declared.glyph.Glyph.TheVariants.{Blanks}
-use Rattle.roff_pages.specs.Happenings.{Places}
+use Rattle.roff_layout.specs.Events.{History}
+use Rattle.roff_layout.specs.declared.event.Event.{Event}
+use Rattle.roff_layout.specs.declared.event.Event.TheVariants.{Print, Tab, WordEnd, Gap, LineEnd, Break}
+use Rattle.roff_layout.specs.Fitting.{Word}
+use Rattle.roff_layout.specs.Lines.{Finished}
+use Rattle.roff_layout.specs.Places.{tab_width}
+use Rattle.roff_layout.specs.Words.{has_open_word, open_glyphs, open_word, words}
+use Rattle.roff_layout.specs.declared.glyph.Glyph.{Glyph}
+use Rattle.roff_layout.specs.declared.glyph.Glyph.TheVariants.{Blanks}
+use Rattle.roff_layout.specs.Happenings.{Places}
 use Rattle.roff_run.specs.Environments.{environments, text_of}
 use Rattle.roff_run.specs.declared.environment_number.EnvironmentNumber.{EnvironmentNumber}
 use Rattle.roff_run.specs.declared.event.PageEvent.TheVariants.{Text}

@@ -1,6 +1,6 @@
-//! The rules of reading as laws, of lines with escapes that are read as texts, of titles, and of the
-//! words around a macro that springs: facts about the definitions alone, as contracts of functions
-//! that do nothing.
+//! The rules of reading as laws, of lines with escapes that are read as texts, of titles, and of
+//! the words around a macro that springs: facts about the definitions alone, as contracts of
+//! functions that do nothing.
 #![tactic(auto)]
 
 pub mod call_laws;

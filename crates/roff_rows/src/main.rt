@@ -20,23 +20,33 @@ use std::rt::Files;
 use std::{env, fs};
 
 fn main(rt: HostRuntime) -> Result<ExitCode> {
-    let mut words = env::args(&rt)?;
-    let top = match words.nth(1) {
-        Some(folder) => folder,
-        None => String::from_str(rt.alloc(), ".")?,
-    };
-    let mut folders = Vec::new(rt.alloc());
-    for name in &names_in(&rt, format!(in rt.alloc(); "{top}/rows")?.as_str(), "")? {
-        folders.push(format!(in rt.alloc(); "rows/{name}")?)?;
-    }
-    folders.push(String::from_str(rt.alloc(), "examples")?)?;
+    let top = top_folder(&rt)?;
     let mut exit = ExitCode::SUCCESS;
-    for folder in &folders {
+    for folder in &folders_in(&rt, top.as_str())? {
         if !run_rows(&rt, top.as_str(), folder.as_str())? {
             exit = ExitCode::FAILURE;
         }
     }
     Ok(exit)
+}
+
+/// The folder that was given, or the current one.
+fn top_folder(rt: &HostRuntime) -> Result<String> {
+    match env::args(rt)?.nth(1) {
+        Some(folder) => Ok(folder),
+        None => Ok(String::from_str(rt.alloc(), ".")?),
+    }
+}
+
+/// The folders that have rows, by their paths below this one.
+fn folders_in<R: Files + AllocGlobal + Clone + Drop>(rt: &R, top: &str) -> Result<Vec<String>> {
+    let rows = format!(in rt.alloc(); "{top}/rows")?;
+    let mut folders = Vec::new(rt.alloc());
+    for name in &names_in(rt, rows.as_str(), "")? {
+        folders.push(format!(in rt.alloc(); "rows/{name}")?)?;
+    }
+    folders.push(String::from_str(rt.alloc(), "examples")?)?;
+    Ok(folders)
 }
 
 /// Runs the rows of a folder and prints how each went. Answers whether all of them hold.
@@ -45,19 +55,34 @@ fn run_rows<R: Files + Print + AllocGlobal + Clone + Drop>(
     top: &str,
     folder: &str,
 ) -> Result<bool> {
-    let mut all_hold = true;
     let path = format!(in rt.alloc(); "{top}/{folder}")?;
+    let mut all_hold = true;
     for name in &names_in(rt, path.as_str(), ".roff")? {
-        let row = Row::read(rt, format!(in rt.alloc(); "{path}/{name}")?.as_str())?;
-        match row.difference(rt.alloc()) {
-            None => println!(rt; "{folder}/{name}")?,
-            Some(what) => {
-                println!(rt; "{folder}/{name}: the {what} differs")?;
-                all_hold = false;
-            }
+        if !run_row(rt, path.as_str(), folder, name.as_str())? {
+            all_hold = false;
         }
     }
     Ok(all_hold)
+}
+
+/// Runs a row and prints how it went. Answers whether it holds.
+fn run_row<R: Files + Print + AllocGlobal>(
+    rt: &R,
+    path: &str,
+    folder: &str,
+    name: &str,
+) -> Result<bool> {
+    let row = Row::read(rt, format!(in rt.alloc(); "{path}/{name}")?.as_str())?;
+    match row.difference(rt.alloc()) {
+        None => {
+            println!(rt; "{folder}/{name}")?;
+            Ok(true)
+        }
+        Some(what) => {
+            println!(rt; "{folder}/{name}: the {what} differs")?;
+            Ok(false)
+        }
+    }
 }
 
 /// The names in a folder that have this ending, without it, sorted.

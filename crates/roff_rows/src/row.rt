@@ -23,24 +23,13 @@ pub struct Row {
 impl Row {
     /// Reads a row. Its files have this path, with endings of their own.
     pub fn read<R: Files + AllocGlobal>(rt: &R, path: &str) -> Result<Row> {
-        let alloc = rt.alloc();
-        let document = fs::read(rt, format!(in alloc; "{path}.roff")?)?;
-        let source = read_or(rt, format!(in alloc; "{path}.source")?, "")?;
-        let args = read_or(rt, format!(in alloc; "{path}.args")?, "nroff")?;
-        let mut words = vec![in alloc; String::from_str(alloc, "roff")?]?;
-        for word in str::from_utf8(&args)?.lines() {
-            words.push(String::from_str(alloc, word)?)?;
-        }
-        let output = read_or(rt, format!(in alloc; "{path}.txt")?, "")?;
-        let messages = read_or(rt, format!(in alloc; "{path}.messages")?, "")?;
-        let status = read_or(rt, format!(in alloc; "{path}.status")?, "0")?;
         Ok(Row {
-            document,
-            fails: str::from_utf8(&source)?.trim() == "fails",
-            words,
-            output,
-            messages,
-            status: str::from_utf8(&status)?.trim().parse::<u8>()?,
+            document: fs::read(rt, format!(in rt.alloc(); "{path}.roff")?)?,
+            fails: source_fails(rt, path)?,
+            words: words_of(rt, path)?,
+            output: read_or(rt, path, "txt", "")?,
+            messages: read_or(rt, path, "messages", "")?,
+            status: status_of(rt, path)?,
         })
     }
 
@@ -78,9 +67,37 @@ fn difference<W: AsSlice<u8>>(
     expected.difference(&stdout, &stderr, done.exit)
 }
 
-/// What a file has, or a text where there is no file.
-fn read_or<R: Files + AllocGlobal>(rt: &R, path: String, usual: &str) -> Result<Vec<u8>> {
-    match fs::read(rt, path) {
+/// Whether the source of a row fails behind the document.
+fn source_fails<R: Files + AllocGlobal>(rt: &R, path: &str) -> Result<bool> {
+    let source = read_or(rt, path, "source", "")?;
+    Ok(str::from_utf8(&source)?.trim() == "fails")
+}
+
+/// The words of a row's command line.
+fn words_of<R: Files + AllocGlobal>(rt: &R, path: &str) -> Result<Vec<String>> {
+    let args = read_or(rt, path, "args", "nroff")?;
+    let mut words = Vec::new(rt.alloc());
+    words.push(String::from_str(rt.alloc(), "roff")?)?;
+    for word in str::from_utf8(&args)?.lines() {
+        words.push(String::from_str(rt.alloc(), word)?)?;
+    }
+    Ok(words)
+}
+
+/// The status with which a row's run ends.
+fn status_of<R: Files + AllocGlobal>(rt: &R, path: &str) -> Result<u8> {
+    let status = read_or(rt, path, "status", "0")?;
+    Ok(str::from_utf8(&status)?.trim().parse::<u8>()?)
+}
+
+/// What a row's file with this ending has, or a text where there is no such file.
+fn read_or<R: Files + AllocGlobal>(
+    rt: &R,
+    path: &str,
+    ending: &str,
+    usual: &str,
+) -> Result<Vec<u8>> {
+    match fs::read(rt, format!(in rt.alloc(); "{path}.{ending}")?) {
         Ok(bytes) => Ok(bytes),
         Err(error) if error.kind() == io::ErrorKind::NotFound => {
             Ok(Vec::from_slice(rt.alloc(), usual.as_bytes())?)

@@ -8,7 +8,7 @@ use Rattle.roff_num.specs.declared.num.NumFault.{NumFault}
 use Rattle.roff_num.specs.declared.num.Scale.TheVariants.{Units}
 use Rattle.roff_num.specs.declared.short_name.ShortName.{ShortName}
 use Rattle.roff_num.specs.ShortNames.{name_bytes}
-use Rattle.roff_arguments.specs.Arguments.{Arguments, live_bytes, no_arguments}
+use Rattle.roff_input.specs.Arguments.{Arguments, live_bytes, no_arguments}
 use Rattle.roff_source.specs.Bytes.{blank}
 use Rattle.roff_source.specs.Tape.{Answer, Tape, Ended, Ends, Gives, OneByte, front}
 use Rattle.roff_input.specs.Input.{Ahead, ByteAhead, bytes_ahead}

@@ -6,7 +6,7 @@ use Rattle.std.proofs.lemmas.List.{length-append, length-drop}
 use Rattle.std.proofs.lemmas.List.Elements.{All-head, All-tail}
 use Rattle.roff_num.specs.declared.limit.Limit.TheVariants.{Bytes}
 use Rattle.roff_num.specs.declared.limits.Limits.{Limits}
-use Rattle.roff_arguments.specs.Arguments.{live_bytes, Arguments, no_arguments}
+use Rattle.roff_input.specs.Arguments.{live_bytes, Arguments, no_arguments}
 use Rattle.roff_escape.specs.OpenEscape.{OpenEscape}
 use Rattle.roff_input.specs.Input.{Ahead, ReturnAhead, bytes_ahead, counting, ends_ahead, item_taken, lines_taken, results_below}
 use Rattle.roff_rules.proofs.AskingLaws.{conditions_choose_their_branch, conditions_of_the_source_choose_their_branch, expressions_choose_their_branch, expressions_of_the_source_choose_their_branch}

@@ -3,7 +3,7 @@ use Rattle.std.proofs.Common.{◌≡◌, ℕ, ◌+◌, ◌≤◌, List, ◌∷�
 use Rattle.std.specs.Prelude.{All, map, reverse, take}
 use Rattle.std.proofs.Math.Seq.{take-nil}
 use Rattle.roff_num.specs.declared.limits.Limits.{Limits}
-use Rattle.roff_arguments.specs.Arguments.{Arguments, finished, no_arguments, only_kept, total_length}
+use Rattle.roff_input.specs.Arguments.{Arguments, finished, no_arguments, only_kept, total_length}
 use Rattle.roff_source.specs.Bytes.{blank, newline}
 use Rattle.roff_escape.specs.OpenEscape.{OpenEscape}
 use Rattle.roff_input.specs.Input.{ByteAhead, ReturnAhead, lines_taken}

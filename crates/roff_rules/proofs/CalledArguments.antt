@@ -7,16 +7,16 @@ use Rattle.std.proofs.lemmas.Bool.{eqb-true}
 use Rattle.std.proofs.lemmas.Bool.Decides.{nat_tests}
 use Rattle.std.proofs.lemmas.List.{append-nil, length-reverse, reverse-reverse}
 use Rattle.std.proofs.lemmas.List.Elements.{All-head, All-tail}
-use Rattle.roff_arguments.proofs.KeptArguments.{reverse-cons}
-use Rattle.roff_arguments.specs.Arguments.{Arguments, finished, held, kept_behind, only_kept, settled, total_length, with_argument_byte}
+use Rattle.roff_input.proofs.KeptArguments.{reverse-cons}
+use Rattle.roff_input.specs.Arguments.{Arguments, finished, held, kept_behind, only_kept, settled, total_length, with_argument_byte}
 use Rattle.roff_source.specs.Bytes.{backslash, blank, is_dropped, newline, quote}
 use Rattle.roff_escape.specs.OpenEscape.{Backslash}
 use Rattle.roff_escape.specs.OpenEscapes.{byte_read}
 use Rattle.roff_input.specs.Input.Calls.{calling_body}
 use Rattle.roff_input.specs.Input.Names.{body_named}
 use Rattle.roff_arguments.specs.Quoting.{quoted_byte, quoted_line}
-use Rattle.roff_arguments.specs.declared.arguments.Place.{Place}
-use Rattle.roff_arguments.specs.declared.arguments.Place.TheVariants.{BehindQuote, Between, InQuotes}
+use Rattle.roff_input.specs.declared.place.Place.{Place}
+use Rattle.roff_input.specs.declared.place.Place.TheVariants.{BehindQuote, Between, InQuotes}
 use Rattle.roff_escape.specs.declared.open_escape.CopyUnit.TheVariants.{Byte}
 use Rattle.roff_escape.specs.declared.open_escape.Found.TheVariants.{GoesOn, Unit as GivesUnit}
 use Rattle.roff_escape.specs.declared.open_escape.Surroundings.TheVariants.{Arguments as AboveArguments}

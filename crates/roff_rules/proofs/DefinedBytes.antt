@@ -5,7 +5,7 @@ use Rattle.std.proofs.Math.Seq.{drop-append_seam, get_or-append_seam, set-append
 use Rattle.std.proofs.lemmas.Bool.{eqb-false, eqb-true, ne_eqb}
 use Rattle.std.proofs.lemmas.List.{length-append}
 use Rattle.std.proofs.lemmas.List.Elements.{All-head, All-tail}
-use Rattle.roff_arguments.specs.Arguments.{Arguments, held}
+use Rattle.roff_input.specs.Arguments.{Arguments, held}
 use Rattle.roff_source.specs.Bytes.{backslash, is_dropped, newline}
 use Rattle.roff_escape.specs.OpenEscape.{OpenEscape, Backslash, unit_bytes}
 use Rattle.roff_escape.specs.OpenEscapes.{byte_read}

@@ -6,7 +6,7 @@ use Rattle.std.proofs.lemmas.List.{append-nil, length-append}
 use Rattle.std.proofs.lemmas.List.Edits.{remove-append_right}
 use Rattle.std.proofs.lemmas.List.Sums.{sum_by-append, sum_by-cons}
 use Rattle.roff_num.specs.declared.limits.Limits.{Limits}
-use Rattle.roff_arguments.specs.Arguments.{Arguments, held}
+use Rattle.roff_input.specs.Arguments.{Arguments, held}
 use Rattle.roff_source.specs.Bytes.{newline, backslash, dot, is_dropped, tab}
 use Rattle.roff_escape.specs.OpenEscape.{OpenEscape, Backslash, unit_bytes}
 use Rattle.roff_input.specs.Input.{lines_taken}

@@ -6,11 +6,11 @@ use Rattle.std.proofs.lemmas.List.{append-nil, length-append}
 use Rattle.std.proofs.lemmas.List.Elements.{All-head, All-tail}
 use Rattle.std.proofs.lemmas.List.Sums.{sum_by-append}
 use Rattle.roff_num.specs.declared.limits.Limits.{Limits}
-use Rattle.roff_arguments.specs.Arguments.{Arguments, held, no_arguments}
+use Rattle.roff_input.specs.Arguments.{Arguments, held, no_arguments}
 use Rattle.roff_source.specs.Bytes.{apostrophe, blank, dot, is_dropped}
 use Rattle.roff_source.specs.Tape.{Answer, Tape, Ended, Ends, front}
-use Rattle.roff_lines.specs.declared.event.Event.TheVariants.{Print, WordEnd, Break}
-use Rattle.roff_lines.specs.declared.glyph.Glyph.TheVariants.{Printed}
+use Rattle.roff_layout.specs.declared.event.Event.TheVariants.{Print, WordEnd, Break}
+use Rattle.roff_layout.specs.declared.glyph.Glyph.TheVariants.{Printed}
 use Rattle.roff_store.specs.Named.{Named}
 use Rattle.roff_store.specs.TextCalls.{DropOpen}
 use Rattle.roff_store.specs.Texts.{Entry}

@@ -3,7 +3,7 @@ use Rattle.std.proofs.Common.{◌≡◌, ℕ, ◌+◌, ◌<◌, true, List, ◌�
 use Rattle.std.specs.Prelude.{◌||◌, ◌==◌}
 use Rattle.std.proofs.lemmas.List.{append-nil}
 use Rattle.roff_num.specs.declared.limits.Limits.{Limits}
-use Rattle.roff_arguments.specs.Arguments.{Arguments}
+use Rattle.roff_input.specs.Arguments.{Arguments}
 use Rattle.roff_source.specs.Bytes.{newline, backslash, is_dropped}
 use Rattle.roff_escape.specs.EscapeLaws.{sign}
 use Rattle.roff_escape.specs.declared.escapes.NameUse.{NameUse}

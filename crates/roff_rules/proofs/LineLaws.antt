@@ -3,18 +3,18 @@ use Rattle.std.proofs.Common.{◌≡◌, ℕ, ◌-◌, Bool, true, false, List, 
 use Rattle.std.specs.Prelude.{All, IfSome, ◌&&◌, ◌||◌, not, if◌then◌else◌, ◌==◌}
 use Rattle.std.proofs.lemmas.List.Elements.{All-head, All-tail}
 use Rattle.roff_lines.proofs.Telling.{has_open_word-word, open_word-word, told_word, words-told, words-word}
-use Rattle.roff_lines.specs.Events.{History, settings_after}
-use Rattle.roff_lines.specs.declared.event.Event.TheVariants.{Gap, LineEnd, Count, Break, Interrupt, Print, Resume, Set, Tab, WordEnd}
-use Rattle.roff_lines.specs.Fitting.{Word, fits, last_line, line_indent}
-use Rattle.roff_lines.specs.Lines.{Finished, empty_line, line_laid_out, pending_line}
-use Rattle.roff_lines.specs.Places.{has_line_glyph}
-use Rattle.roff_lines.specs.Settings.{fills}
-use Rattle.roff_lines.specs.Telling.{bytes_told, glyphs_told, text_line}
-use Rattle.roff_lines.specs.Words.{blanks, ends_sentence, has_open_word, indent_by, is_closer, is_empty, is_sentence_mark, line_end_gap, line_glyphs, open_glyphs, open_word, words}
-use Rattle.roff_lines.specs.declared.glyph.Glyph.{Glyph}
-use Rattle.roff_lines.specs.declared.glyph.Glyph.TheVariants.{Printed}
-use Rattle.roff_lines.specs.declared.settings.Param.TheVariants.{Centring, TemporaryIndent}
-use Rattle.roff_lines.specs.declared.settings.Settings.{Settings}
+use Rattle.roff_layout.specs.Events.{History, settings_after}
+use Rattle.roff_layout.specs.declared.event.Event.TheVariants.{Gap, LineEnd, Count, Break, Interrupt, Print, Resume, Set, Tab, WordEnd}
+use Rattle.roff_layout.specs.Fitting.{Word, fits, last_line, line_indent}
+use Rattle.roff_layout.specs.Lines.{Finished, empty_line, line_laid_out, pending_line}
+use Rattle.roff_layout.specs.Places.{has_line_glyph}
+use Rattle.roff_layout.specs.Settings.{fills}
+use Rattle.roff_layout.specs.Telling.{bytes_told, glyphs_told, text_line}
+use Rattle.roff_layout.specs.Words.{blanks, ends_sentence, has_open_word, indent_by, is_closer, is_empty, is_sentence_mark, line_end_gap, line_glyphs, open_glyphs, open_word, words}
+use Rattle.roff_layout.specs.declared.glyph.Glyph.{Glyph}
+use Rattle.roff_layout.specs.declared.glyph.Glyph.TheVariants.{Printed}
+use Rattle.roff_layout.specs.declared.settings.Param.TheVariants.{Centring, TemporaryIndent}
+use Rattle.roff_layout.specs.declared.settings.Settings.{Settings}
 use Rattle.roff_rules.proofs.AskedHalves.{differs}
 use Rattle.roff_rules.specs.LineLaws.{CentredLinesStandInTheMiddle, LinesAreSpaced, NoOtherGlyphEndsASentence, OtherLinesHaveTheIndentInForce, SentencesAreTwoBlanksApart, SentencesEndAtTheirMarks, SoManyLinesAreCentred, TemporaryIndentsAreForOneLine, lines_told}
 

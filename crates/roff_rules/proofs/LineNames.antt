@@ -2,7 +2,7 @@
 use Rattle.std.proofs.Common.{◌≡◌, ℕ, ◌≤◌, Bool, true, false, List, ◌∷◌, length, Option, Some, None, refl, ap, ◌∙◌, arith, []}
 use Rattle.std.specs.Prelude.{All, sum_by, if◌then◌else◌}
 use Rattle.std.proofs.lemmas.List.Elements.{All-head, All-tail}
-use Rattle.roff_arguments.specs.Arguments.{Arguments, held}
+use Rattle.roff_input.specs.Arguments.{Arguments, held}
 use Rattle.roff_source.specs.Bytes.{blank, is_dropped, newline}
 use Rattle.roff_store.specs.Named.{Named}
 use Rattle.roff_store.specs.Texts.{Entry}

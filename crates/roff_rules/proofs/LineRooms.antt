@@ -2,7 +2,7 @@
 use Rattle.std.proofs.Common.{◌≡◌, ℕ, ◌+◌, ◌≤◌, List, [], ◌∷◌, length, refl, sym, subst, arith}
 use Rattle.std.specs.Prelude.{sum_by}
 use Rattle.roff_num.specs.declared.limits.Limits.{Limits}
-use Rattle.roff_arguments.specs.Arguments.{no_arguments}
+use Rattle.roff_input.specs.Arguments.{no_arguments}
 use Rattle.roff_rules.specs.CallLaws.{BeginsLine}
 use Rattle.roff_run.proofs.ItemsTaken.{Origin, ahead_at, tape_at}
 use Rattle.roff_run.proofs.PlainRuns.{HasRoom, HasRoom-behind, HasRoom-start, IsSmall, IsWithin-HasRoom, Most, behind_byte, is-run_at, run_at}

@@ -5,8 +5,8 @@ use Rattle.std.proofs.lemmas.List.{append-nil, reverse-append}
 use Rattle.std.proofs.lemmas.List.Elements.{All-head, All-tail}
 use Rattle.roff_num.specs.declared.short_name.ShortName.{ShortName}
 use Rattle.roff_num.specs.ShortNames.{name_bytes}
-use Rattle.roff_arguments.specs.Arguments.{Arguments, held, no_arguments, with_byte}
-use Rattle.roff_arguments.specs.declared.arguments.Place.TheVariants.{InPlain}
+use Rattle.roff_input.specs.Arguments.{Arguments, held, no_arguments, with_byte}
+use Rattle.roff_input.specs.declared.place.Place.TheVariants.{InPlain}
 use Rattle.roff_source.specs.Bytes.{blank, newline, backslash, is_dropped}
 use Rattle.roff_store.specs.Named.{Named}
 use Rattle.roff_store.specs.Texts.{Entry}
@@ -22,7 +22,7 @@ use Rattle.roff_run.specs.declared.line_state.LineState.TheVariants.{LineStart, 
 use Rattle.roff_run.specs.declared.request.Called.TheVariants.{Request as ARequest}
 use Rattle.roff_run.specs.declared.request.LineReading.{LineReading}
 use Rattle.roff_rules.proofs.CalledArguments.{most_of}
-use Rattle.roff_arguments.proofs.KeptArguments.{reverse-cons}
+use Rattle.roff_input.proofs.KeptArguments.{reverse-cons}
 use Rattle.roff_escape.specs.OpenEscapes.{byte_read}
 use Rattle.roff_input.specs.Input.{holding_plain}
 use Rattle.roff_escape.specs.declared.open_escape.CopyUnit.TheVariants.{Byte}

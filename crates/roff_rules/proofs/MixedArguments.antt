@@ -6,9 +6,9 @@ use Rattle.std.proofs.lemmas.Bool.{eqb-true}
 use Rattle.std.proofs.lemmas.List.{append-nil, reverse-append, reverse-reverse}
 use Rattle.std.proofs.lemmas.List.Sums.{fold-append}
 use Rattle.std.proofs.lemmas.List.Elements.{All-append, All-head, All-nil, All-tail}
-use Rattle.roff_arguments.specs.Arguments.{Arguments, arguments_read, no_arguments, with_argument_byte}
+use Rattle.roff_input.specs.Arguments.{Arguments, arguments_read, no_arguments, with_argument_byte}
 use Rattle.roff_arguments.specs.Quoting.{quoted, quoted_byte}
-use Rattle.roff_arguments.specs.declared.arguments.Place.TheVariants.{BehindQuote, InQuotes}
+use Rattle.roff_input.specs.declared.place.Place.TheVariants.{BehindQuote, InQuotes}
 use Rattle.roff_source.specs.Bytes.{blank, quote}
 use Rattle.roff_input.specs.Input.{lines_taken}
 use Rattle.roff_rules.proofs.QuotedArguments.{itself-quoted}

@@ -4,9 +4,9 @@ use Rattle.std.specs.Prelude.{fold, All, ◌||◌, reverse, if◌then◌else◌,
 use Rattle.std.specs.List.{flat_map}
 use Rattle.std.proofs.lemmas.List.{append-nil, reverse-reverse}
 use Rattle.std.proofs.lemmas.List.Elements.{All-nil, All-cons, All-head, All-tail, All-append}
-use Rattle.roff_arguments.proofs.KeptArguments.{only_kept-finished, only_kept-with_unit}
+use Rattle.roff_input.proofs.KeptArguments.{only_kept-finished, only_kept-with_unit}
 use Rattle.roff_arguments.proofs.QuotedArguments.{quoted_arguments_read_back}
-use Rattle.roff_arguments.specs.Arguments.{Arguments, no_arguments, with_argument_byte, finished, arguments_read, kept, only_kept}
+use Rattle.roff_input.specs.Arguments.{Arguments, no_arguments, with_argument_byte, finished, arguments_read, kept, only_kept}
 use Rattle.roff_input.specs.Input.Calls.{arguments_given}
 use Rattle.roff_source.specs.Bytes.{newline, blank, quote, backslash, is_dropped}
 use Rattle.roff_arguments.specs.Quoting.{quoted_byte, quoted, quoted_line}

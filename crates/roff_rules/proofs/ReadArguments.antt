@@ -5,11 +5,11 @@ use Rattle.std.proofs.Math.Seq.{take-append_seam}
 use Rattle.std.proofs.lemmas.Bool.{leb-true}
 use Rattle.std.proofs.lemmas.Bool.Decides.{nat_tests}
 use Rattle.std.proofs.lemmas.List.{length-reverse, reverse-append, take_all}
-use Rattle.roff_arguments.proofs.KeptArguments.{held-finished, held-only_kept, held-settled, held-with_argument_byte, total_length-reverse}
-use Rattle.roff_arguments.specs.Arguments.{Arguments, arguments_read, between, finished, held, only_kept, settled, total_length, with_argument_byte, with_whole}
-use Rattle.roff_arguments.specs.ArgumentTexts.Kept.{is_held}
-use Rattle.roff_arguments.specs.declared.arguments.Place.{Place}
-use Rattle.roff_arguments.specs.declared.arguments.Place.TheVariants.{Between, InPlain, InQuotes, BehindQuote}
+use Rattle.roff_input.proofs.KeptArguments.{held-finished, held-only_kept, held-settled, held-with_argument_byte, total_length-reverse}
+use Rattle.roff_input.specs.Arguments.{Arguments, arguments_read, between, finished, held, only_kept, settled, total_length, with_argument_byte, with_whole}
+use Rattle.roff_input.specs.Arguments.{is_held}
+use Rattle.roff_input.specs.declared.place.Place.{Place}
+use Rattle.roff_input.specs.declared.place.Place.TheVariants.{Between, InPlain, InQuotes, BehindQuote}
 use Rattle.roff_rules.proofs.CalledArguments.{arguments_at, call_byte, call_byte-full, hold, hold-few, only_kept-few, same-if}
 use Rattle.roff_source.specs.Bytes.{blank, quote}
 

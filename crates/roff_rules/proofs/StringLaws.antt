@@ -7,9 +7,9 @@ use Rattle.std.proofs.lemmas.List.Sums.{sum_by-append, sum_by-cons}
 use Rattle.roff_num.specs.declared.limits.Limits.{Limits}
 use Rattle.roff_num.specs.declared.short_name.ShortName.{ShortName}
 use Rattle.roff_num.specs.ShortNames.{name_at, name_bytes}
-use Rattle.roff_arguments.specs.Arguments.{Arguments, no_arguments, only_kept, settled, with_argument_byte}
-use Rattle.roff_arguments.specs.declared.arguments.Place.{Place}
-use Rattle.roff_arguments.specs.declared.arguments.Place.TheVariants.{Between, InPlain, InQuotes}
+use Rattle.roff_input.specs.Arguments.{Arguments, no_arguments, only_kept, settled, with_argument_byte}
+use Rattle.roff_input.specs.declared.place.Place.{Place}
+use Rattle.roff_input.specs.declared.place.Place.TheVariants.{Between, InPlain, InQuotes}
 use Rattle.roff_source.specs.Bytes.{backslash, blank, is_dropped, newline, quote}
 use Rattle.roff_escape.specs.EscapeLaws.{copied}
 use Rattle.roff_escape.specs.OpenEscape.{OpenEscape, Backslash, unit_bytes}

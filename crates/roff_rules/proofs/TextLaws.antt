@@ -6,10 +6,10 @@ use Rattle.std.proofs.lemmas.Bool.{ne_eqb}
 use Rattle.std.proofs.lemmas.List.{length-append}
 use Rattle.std.proofs.lemmas.List.Elements.{All-head, All-tail}
 use Rattle.roff_num.specs.declared.limits.Limits.{Limits}
-use Rattle.roff_arguments.specs.Arguments.{Arguments, no_arguments}
+use Rattle.roff_input.specs.Arguments.{Arguments, no_arguments}
 use Rattle.roff_source.specs.Bytes.{apostrophe, backslash, blank, dot, is_silent, is_text_byte, newline, tab}
-use Rattle.roff_lines.specs.declared.event.Event.TheVariants.{Print, WordEnd, Gap, LineEnd, Count, Break}
-use Rattle.roff_lines.specs.declared.glyph.Glyph.TheVariants.{Printed, Blanks}
+use Rattle.roff_layout.specs.declared.event.Event.TheVariants.{Print, WordEnd, Gap, LineEnd, Count, Break}
+use Rattle.roff_layout.specs.declared.glyph.Glyph.TheVariants.{Printed, Blanks}
 use Rattle.roff_escape.specs.OpenEscape.{OpenEscape, Backslash}
 use Rattle.roff_escape.specs.OpenEscapes.{byte_read}
 use Rattle.roff_escape.specs.declared.open_escape.CopyUnit.TheVariants.{Byte}

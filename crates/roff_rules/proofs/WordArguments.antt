@@ -5,8 +5,8 @@ use Rattle.std.specs.List.{flat_map}
 use Rattle.std.proofs.lemmas.List.{append-nil, reverse-reverse, reverse-append}
 use Rattle.std.proofs.lemmas.List.Elements.{All-append, All-cons, All-head, All-nil, All-tail}
 use Rattle.std.proofs.lemmas.List.Sums.{fold-append}
-use Rattle.roff_arguments.specs.Arguments.{Arguments, arguments_read, no_arguments, with_argument_byte}
-use Rattle.roff_arguments.specs.declared.arguments.Place.TheVariants.{Between, InPlain, InQuotes}
+use Rattle.roff_input.specs.Arguments.{Arguments, arguments_read, no_arguments, with_argument_byte}
+use Rattle.roff_input.specs.declared.place.Place.TheVariants.{Between, InPlain, InQuotes}
 use Rattle.roff_source.specs.Bytes.{backslash, blank, is_dropped, newline, quote}
 use Rattle.roff_rules.proofs.QuotedArguments.{gets-read}
 use Rattle.roff_rules.proofs.StringLaws.{behind_first, no_blank, no_quote, word-itself}

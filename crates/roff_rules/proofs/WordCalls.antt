@@ -5,8 +5,8 @@ use Rattle.std.proofs.lemmas.List.Elements.{All-append, All-head, All-tail}
 use Rattle.roff_num.specs.declared.limits.Limits.{Limits}
 use Rattle.roff_num.specs.declared.short_name.ShortName.{ShortName}
 use Rattle.roff_num.specs.ShortNames.{name_bytes}
-use Rattle.roff_arguments.specs.Arguments.{Arguments, held, no_arguments, total_length, with_argument_byte}
-use Rattle.roff_arguments.specs.declared.arguments.Place.TheVariants.{Between}
+use Rattle.roff_input.specs.Arguments.{Arguments, held, no_arguments, total_length, with_argument_byte}
+use Rattle.roff_input.specs.declared.place.Place.TheVariants.{Between}
 use Rattle.roff_source.specs.Bytes.{blank, newline}
 use Rattle.roff_store.specs.Named.{Named}
 use Rattle.roff_store.specs.Texts.{Entry}

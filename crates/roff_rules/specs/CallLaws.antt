@@ -1,7 +1,7 @@
 -- Laws of control lines that call a body, and of those whose names stand for nothing (manual, section 7).
 use Rattle.std.specs.Prelude.{◌≡◌, ℕ, ◌+◌, ◌≤◌, false, List, [], ◌∷◌, ◌++◌, length, map, take, All, Some, None, ◌==◌}
 use Rattle.roff_num.specs.declared.limits.Limits.{Limits}
-use Rattle.roff_arguments.specs.Arguments.{no_arguments}
+use Rattle.roff_input.specs.Arguments.{no_arguments}
 use Rattle.roff_source.specs.Bytes.{apostrophe, blank, dot, newline}
 use Rattle.roff_input.specs.Input.{Ahead, ByteAhead, ReturnAhead, lines_taken}
 use Rattle.roff_input.specs.Input.Calls.{called_text}

@@ -1,20 +1,20 @@
 -- Laws of lines: gaps behind sentences, lines that are centred, an indent for one line, and blank lines behind lines (manual,
 -- sections 4.1, 4.3 and 6).
 use Rattle.std.specs.Prelude.{◌≡◌, ℕ, ◌+◌, ◌-◌, ◌/◌, true, false, List, [], ◌∷◌, length, All, Some, None, IfSome, if◌then◌else◌, ◌==◌}
-use Rattle.roff_lines.specs.Events.{History, settings_after}
-use Rattle.roff_lines.specs.declared.event.Event.TheVariants.{LineEnd, Count, Print, Set, WordEnd}
-use Rattle.roff_lines.specs.Fitting.{Word, line_indent, line_text}
-use Rattle.roff_lines.specs.Glyphs.{gaps_in}
-use Rattle.roff_lines.specs.Lines.{Finished, finished, free_columns, pending_line}
-use Rattle.roff_lines.specs.Places.{has_line_glyph}
-use Rattle.roff_lines.specs.Settings.{fills}
-use Rattle.roff_lines.specs.Telling.{bytes_told, glyphs_told, text_line}
-use Rattle.roff_lines.specs.Words.{ends_sentence, has_open_word, is_closer, is_empty, is_sentence_mark, line_glyphs, open_word, temporary_indent, words}
-use Rattle.roff_lines.specs.declared.event.Event.{Event}
-use Rattle.roff_lines.specs.declared.glyph.Glyph.{Glyph}
-use Rattle.roff_lines.specs.declared.glyph.Glyph.TheVariants.{Printed}
-use Rattle.roff_lines.specs.declared.settings.Param.TheVariants.{Centring, Spacing, TemporaryIndent}
-use Rattle.roff_lines.specs.declared.settings.Settings.{Settings}
+use Rattle.roff_layout.specs.Events.{History, settings_after}
+use Rattle.roff_layout.specs.declared.event.Event.TheVariants.{LineEnd, Count, Print, Set, WordEnd}
+use Rattle.roff_layout.specs.Fitting.{Word, line_indent, line_text}
+use Rattle.roff_layout.specs.Glyphs.{gaps_in}
+use Rattle.roff_layout.specs.Lines.{Finished, finished, free_columns, pending_line}
+use Rattle.roff_layout.specs.Places.{has_line_glyph}
+use Rattle.roff_layout.specs.Settings.{fills}
+use Rattle.roff_layout.specs.Telling.{bytes_told, glyphs_told, text_line}
+use Rattle.roff_layout.specs.Words.{ends_sentence, has_open_word, is_closer, is_empty, is_sentence_mark, line_glyphs, open_word, temporary_indent, words}
+use Rattle.roff_layout.specs.declared.event.Event.{Event}
+use Rattle.roff_layout.specs.declared.glyph.Glyph.{Glyph}
+use Rattle.roff_layout.specs.declared.glyph.Glyph.TheVariants.{Printed}
+use Rattle.roff_layout.specs.declared.settings.Param.TheVariants.{Centring, Spacing, TemporaryIndent}
+use Rattle.roff_layout.specs.declared.settings.Settings.{Settings}
 
 -- Behind a line of the input with a glyph on it, where words are measured, the first word of the next line has a gap of two blanks
 -- in front where a sentence ends with that line, and of one where none does.

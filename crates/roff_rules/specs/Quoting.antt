@@ -1,6 +1,6 @@
 -- Arguments written in quotes, as a request gets them (manual, section 7.3).
 use Rattle.std.specs.Prelude.{◌≡◌, ℕ, Bool, List, [], ◌∷◌, ◌++◌, All}
-use Rattle.roff_arguments.specs.Arguments.{no_arguments, kept}
+use Rattle.roff_input.specs.Arguments.{no_arguments, kept}
 use Rattle.roff_source.specs.Bytes.{newline}
 use Rattle.roff_arguments.specs.Quoting.{quoted_line}
 use Rattle.roff_rules.specs.InterpolationLaws.{StandsForItself}

@@ -1,12 +1,12 @@
 -- Laws of texts that are measured, and of motions: a width is read in its digits, and a motion's columns count (manual,
 -- sections 2.3 and 11).
 use Rattle.std.specs.Prelude.{◌≡◌, ℕ, ◌+◌, ◌*◌, Bool, true, false, not, ◌||◌, List, [], ◌∷◌, ◌++◌, decimal, length, map, min, nat_lt, sum_by, All, IsTrue, Option, Some, None, ◌==◌, if◌then◌else◌}
-use Rattle.roff_lines.specs.Events.{History}
-use Rattle.roff_lines.specs.Lines.{pending_length}
-use Rattle.roff_lines.specs.Places.{tab_width}
-use Rattle.roff_lines.specs.Words.{begun_gap, blanks, has_open_word, is_empty, line_glyphs, words}
-use Rattle.roff_lines.specs.declared.event.Event.TheVariants.{Print, Tab}
-use Rattle.roff_lines.specs.declared.glyph.Glyph.TheVariants.{Blanks}
+use Rattle.roff_layout.specs.Events.{History}
+use Rattle.roff_layout.specs.Lines.{pending_length}
+use Rattle.roff_layout.specs.Places.{tab_width}
+use Rattle.roff_layout.specs.Words.{begun_gap, blanks, has_open_word, is_empty, line_glyphs, words}
+use Rattle.roff_layout.specs.declared.event.Event.TheVariants.{Print, Tab}
+use Rattle.roff_layout.specs.declared.glyph.Glyph.TheVariants.{Blanks}
 use Rattle.roff_num.specs.declared.limit.Limit.TheVariants.{Line}
 use Rattle.roff_num.specs.declared.limits.Limits.{Limits}
 use Rattle.roff_source.specs.Bytes.{newline, backslash, is_dropped}

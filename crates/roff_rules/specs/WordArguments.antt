@@ -1,7 +1,7 @@
 -- Arguments written as words, without quotes, as a request gets them (manual, section 7.3).
 use Rattle.std.specs.Prelude.{◌≡◌, ℕ, suc, Bool, List, [], ◌∷◌, ◌++◌, map, replicate, fold, All, IsTrue, ◌||◌, not, ◌==◌}
 use Rattle.std.specs.List.{flat_map}
-use Rattle.roff_arguments.specs.Arguments.{no_arguments, kept, with_argument_byte, arguments_read}
+use Rattle.roff_input.specs.Arguments.{no_arguments, kept, with_argument_byte, arguments_read}
 use Rattle.roff_source.specs.Bytes.{backslash, blank, is_dropped, newline}
 use Rattle.roff_rules.specs.Quoting.{given_taking, taking_all}
 use Rattle.roff_rules.specs.StringLaws.{IsOfWord}

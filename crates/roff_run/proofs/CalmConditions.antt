@@ -1,7 +1,7 @@
 -- Where a condition is read, what is done with an item sets the page's number at the most: nothing springs, and nothing is put back.
 use Rattle.std.proofs.Common.{ℕ, Bool, true, false, [], Some, None}
 use Rattle.std.specs.Prelude.{◌||◌, ◌&&◌, ◌==◌}
-use Rattle.roff_lines.specs.Words.{is_empty}
+use Rattle.roff_layout.specs.Words.{is_empty}
 use Rattle.roff_source.specs.Bytes.{tab, newline, blank, is_dropped}
 use Rattle.roff_escape.specs.OpenEscapes.{byte_read, reading_ended}
 use Rattle.roff_escape.specs.declared.open_escape.Found.{Found}

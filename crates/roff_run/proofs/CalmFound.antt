@@ -42,7 +42,7 @@ use Rattle.roff_run.specs.declared.request.LinesFor.{LinesFor}
 use Rattle.roff_run.specs.declared.request.LinesFor.TheVariants.{Macro, Nobody}
 use Rattle.roff_run.specs.declared.request.Request.{Request}
 use Rattle.roff_num.specs.declared.num.Num.{Num}
-use Rattle.roff_pages.specs.declared.layout_event.LayoutEvent.TheVariants.{Number}
+use Rattle.roff_layout.specs.declared.layout_event.LayoutEvent.TheVariants.{Number}
 use Rattle.roff_escape.specs.declared.escapes.NameUse.{NameUse}
 use Rattle.roff_escape.specs.declared.escapes.NameUse.TheVariants.{Register, Text as OfText, Argument, Character, Font, LeftOut as NameLeftOut}
 use Rattle.roff_run.specs.Reading.Escapes.{asking}

@@ -1,11 +1,11 @@
 -- What is given of the pages before a run: nothing is written of it, and it changes no environment.
 use Rattle.std.proofs.Common.{◌≡◌, not, ◌||◌, List, [], ◌∷◌, ◌++◌, ℕ, Option, Some, None, refl, ap, ◌∙◌, append-nil}
 use Rattle.roff_num.specs.declared.num.Num.{Num}
-use Rattle.roff_pages.proofs.PageBoxes.{either_none}
-use Rattle.roff_pages.specs.Happenings.{Happening, Does}
-use Rattle.roff_pages.specs.Layout.{Layout}
-use Rattle.roff_pages.specs.Stops.{is_diverted}
-use Rattle.roff_pages.specs.declared.layout_event.LayoutEvent.TheVariants.{ListPages, Next}
+use Rattle.roff_layout.proofs.DeviceText.{either_none}
+use Rattle.roff_layout.specs.Happenings.{Happening, Does}
+use Rattle.roff_layout.specs.Layout.{Layout}
+use Rattle.roff_layout.specs.Stops.{is_diverted}
+use Rattle.roff_layout.specs.declared.layout_event.LayoutEvent.TheVariants.{ListPages, Next}
 use Rattle.roff_run.specs.Environments.{PageHistory, environments, first_environments}
 use Rattle.roff_run.specs.Output.{layout_of, written}
 use Rattle.roff_run.specs.Starts.{first_page_numbered, pages_given, pages_listed}

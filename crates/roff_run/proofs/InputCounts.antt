@@ -5,10 +5,10 @@ use Rattle.std.proofs.lemmas.Bool.{le-ltb, ltb-false}
 use Rattle.roff_num.specs.declared.limit.Limit.{Limit}
 use Rattle.roff_num.specs.declared.limit.Limit.TheVariants.{Stack, Depth, Conditions, Line, Names, Store, Diversions}
 use Rattle.roff_num.specs.declared.limits.Limits.{Limits}
-use Rattle.roff_arguments.specs.Arguments.{held, settled, no_arguments}
+use Rattle.roff_input.specs.Arguments.{held, settled, no_arguments}
 use Rattle.roff_escape.specs.OpenEscape.{texts_held}
 use Rattle.roff_input.specs.Input.{Ahead, ByteAhead, FreeAhead, EndAhead, ReturnAhead, DoAhead, counting, item_taken, leaving, pushed, depth, result_count, bytes_ahead, ends_ahead, calls_behind, results_behind, results_below}
-use Rattle.roff_arguments.specs.Arguments.{live_bytes}
+use Rattle.roff_input.specs.Arguments.{live_bytes}
 use Rattle.roff_input.specs.Input.Names.{names_added, stored}
 use Rattle.roff_source.specs.Tape.{Answer, Gives, Ends, OneByte, OneNote}
 use Rattle.roff_input.specs.declared.looked.Looked.{Looked}
@@ -17,7 +17,7 @@ use Rattle.roff_input.specs.Unread.{Unread, IsWithin, taking, taking_answer, inp
 use Rattle.roff_input.specs.Shown.{Shown}
 use Rattle.roff_store.specs.Named.{Named}
 use Rattle.roff_store.specs.Texts.{Entry, bytes_in}
-use Rattle.roff_arguments.proofs.KeptArguments.{held-only_kept, held-settled}
+use Rattle.roff_input.proofs.KeptArguments.{held-only_kept, held-settled}
 use Rattle.roff_run.specs.Reading.Items.{PageInput}
 use Rattle.roff_run.specs.Reading.Units.{interrupted, settling}
 use Rattle.roff_run.specs.Registers.{AllRegisters}

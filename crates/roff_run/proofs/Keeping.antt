@@ -4,7 +4,7 @@
 -- half read, the end of the input, and the call of the last macro.
 use Rattle.std.proofs.Common.{◌≡◌, ℕ, ◌+◌, ◌*◌, ◌-◌, ◌≤◌, Bool, List, ◌∷◌, Option, Some, None, refl, sym, subst, arith, pos}
 use Rattle.std.specs.Prelude.{◌&&◌, ◌||◌, ◌==◌}
-use Rattle.roff_lines.specs.Words.{is_empty}
+use Rattle.roff_layout.specs.Words.{is_empty}
 use Rattle.roff_source.specs.Bytes.{tab, newline, blank, is_dropped}
 use Rattle.roff_escape.specs.OpenEscapes.{byte_read, reading_ended}
 use Rattle.roff_input.specs.Input.{choosing}

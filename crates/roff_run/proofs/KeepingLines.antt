@@ -30,7 +30,7 @@ use Rattle.roff_run.specs.Reading.Items.{PageInput, going_on}
 use Rattle.roff_run.specs.Reading.Messages.{message_unit}
 use Rattle.roff_run.specs.Reading.Strings.{name_read, string_begun, string_emptied, string_entered, string_grown, string_line_ended, string_name_behind, string_name_or_text, string_name_unit, string_unit}
 use Rattle.roff_run.specs.Reading.Units.{holding, interrupted, no_unit_found, settling}
-use Rattle.roff_arguments.specs.Arguments.{no_arguments}
+use Rattle.roff_input.specs.Arguments.{no_arguments}
 use Rattle.roff_store.specs.TextCalls.{Call, DropOpen, PushOpen, Enter}
 use Rattle.roff_store.specs.Texts.{newest}
 use Rattle.roff_run.specs.Registers.{Known}

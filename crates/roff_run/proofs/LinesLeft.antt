@@ -2,9 +2,9 @@
 use Rattle.std.proofs.Common.{◌≡◌, ◌≤◌, ◌+◌, ℕ, Bool, true, false, List, [], ◌∷◌, ◌++◌, Option, Some, None, refl, sym, ◌∙◌, ap, subst, arith}
 use Rattle.std.proofs.lemmas.List.{append-nil}
 use Rattle.std.specs.Prelude.{◌||◌, if◌then◌else◌}
-use Rattle.roff_lines.specs.Events.{is_interrupted}
-use Rattle.roff_lines.specs.declared.event.Event.{Event}
-use Rattle.roff_lines.specs.declared.event.Event.TheVariants.{Print, Tab, WordEnd, Gap, LineEnd, Count, Break, Interrupt as Interrupted, Resume, Set}
+use Rattle.roff_layout.specs.Events.{is_interrupted}
+use Rattle.roff_layout.specs.declared.event.Event.{Event}
+use Rattle.roff_layout.specs.declared.event.Event.TheVariants.{Print, Tab, WordEnd, Gap, LineEnd, Count, Break, Interrupt as Interrupted, Resume, Set}
 use Rattle.roff_run.specs.Environments.{environments, interrupted_line, line_left, text_of}
 use Rattle.roff_run.specs.Reading.Ends.{interrupted_end, is_left}
 use Rattle.roff_run.specs.Reading.TextLines.{blank_line, text_line_end}

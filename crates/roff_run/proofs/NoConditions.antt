@@ -3,8 +3,8 @@
 -- Each function f of reading has its lemma Over-f here, with a line for each of its cases.
 use Rattle.std.proofs.Common.{ℕ, Bool, true, false, List, Option, Some, None}
 use Rattle.std.specs.Prelude.{if◌then◌else◌, ◌==◌}
-use Rattle.roff_lines.specs.declared.glyph.Glyph.{Glyph}
-use Rattle.roff_lines.specs.declared.glyph.Glyph.TheVariants.{Blanks, Printed}
+use Rattle.roff_layout.specs.declared.glyph.Glyph.{Glyph}
+use Rattle.roff_layout.specs.declared.glyph.Glyph.TheVariants.{Blanks, Printed}
 use Rattle.roff_source.specs.Bytes.{tab, newline, blank, apostrophe, dot, is_silent}
 use Rattle.roff_escape.specs.Characters.{character}
 use Rattle.roff_escape.specs.Escapes.{escape_of}

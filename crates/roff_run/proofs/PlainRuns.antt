@@ -3,12 +3,12 @@ use Rattle.std.proofs.Common.{◌≡◌, ℕ, ◌+◌, ◌-◌, ◌≤◌, false
 use Rattle.std.specs.Prelude.{map, sum_by, if◌then◌else◌, ◌==◌}
 use Rattle.std.proofs.lemmas.List.{length-append}
 use Rattle.roff_num.specs.declared.limits.Limits.{Limits}
-use Rattle.roff_arguments.specs.Arguments.{Arguments, held}
+use Rattle.roff_input.specs.Arguments.{Arguments, held}
 use Rattle.roff_source.specs.Bytes.{newline}
 use Rattle.roff_escape.specs.OpenEscape.{OpenEscape, texts_held}
 use Rattle.roff_escape.specs.Waiting.{is_ended_by}
 use Rattle.roff_input.specs.Input.{Ahead, ByteAhead, bytes_ahead, ends_ahead, lines_taken}
-use Rattle.roff_arguments.specs.Arguments.{live_bytes}
+use Rattle.roff_input.specs.Arguments.{live_bytes}
 use Rattle.roff_source.specs.Tape.{Tape}
 use Rattle.roff_store.specs.Named.{Named}
 use Rattle.roff_store.specs.Texts.{Entry, bytes_in}

@@ -1,7 +1,7 @@
 -- Bytes that are printed, one after another.
 use Rattle.std.proofs.Common.{◌≡◌, ℕ, List, [], ◌∷◌, map, refl, ap}
-use Rattle.roff_lines.specs.declared.event.Event.TheVariants.{Print}
-use Rattle.roff_lines.specs.declared.glyph.Glyph.TheVariants.{Printed}
+use Rattle.roff_layout.specs.declared.event.Event.TheVariants.{Print}
+use Rattle.roff_layout.specs.declared.glyph.Glyph.TheVariants.{Printed}
 use Rattle.roff_run.specs.Requests.{PageEvent, Text}
 
 -- their events

@@ -3,8 +3,8 @@ use Rattle.std.proofs.Common.{◌≡◌, ℕ, Bool, true, false, List, [], ◌�
 use Rattle.std.specs.Prelude.{◌==◌, ◌||◌, ◌&&◌, not, nat_lt, if◌then◌else◌}
 use Rattle.std.specs.List.{AllByRecursion, list_any}
 use Rattle.std.proofs.lemmas.Bool.{cases_Bool, eqb-true}
-use Rattle.roff_lines.specs.declared.event.Event.TheVariants.{Print, WordEnd, Gap}
-use Rattle.roff_lines.specs.declared.glyph.Glyph.TheVariants.{Printed}
+use Rattle.roff_layout.specs.declared.event.Event.TheVariants.{Print, WordEnd, Gap}
+use Rattle.roff_layout.specs.declared.glyph.Glyph.TheVariants.{Printed}
 use Rattle.roff_source.specs.Bytes.{blank, backslash, is_silent, is_text_byte, newline, tab}
 use Rattle.roff_escape.specs.OpenEscape.{OpenEscape, Backslash}
 use Rattle.roff_escape.specs.OpenEscapes.{byte_read}

@@ -1,8 +1,8 @@
 -- What waits, and what ends it.
 use Rattle.std.proofs.Common.{◌≡◌, ℕ, ◌≤◌, Bool, true, false, List, [], ◌∷◌, length, Option, refl, ap, arith}
 use Rattle.std.specs.Prelude.{if◌then◌else◌}
-use Rattle.roff_arguments.specs.Arguments.{is_behind_quote}
-use Rattle.roff_arguments.specs.declared.arguments.Place.{Place}
+use Rattle.roff_input.specs.Arguments.{is_behind_quote}
+use Rattle.roff_input.specs.declared.place.Place.{Place}
 use Rattle.roff_escape.specs.Conditions.{ends_condition, is_decided}
 use Rattle.roff_escape.specs.OpenEscape.{OpenEscape, Backslash, Comment, Name, Size, Delimited, Width, Condition}
 use Rattle.roff_escape.specs.OpenEscapes.{reads_text, surroundings}

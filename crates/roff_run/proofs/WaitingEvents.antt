@@ -3,7 +3,7 @@
 -- Each function f of reading has its lemma Waits-f here, with a line for each of its cases.
 use Rattle.std.proofs.Common.{ℕ, Bool, true, false, List, Option, Some, None}
 use Rattle.std.specs.Prelude.{◌||◌, ◌&&◌, nat_le, ◌==◌}
-use Rattle.roff_lines.specs.Words.{is_empty}
+use Rattle.roff_layout.specs.Words.{is_empty}
 use Rattle.roff_num.specs.declared.short_name.ShortName.{ShortName}
 use Rattle.roff_num.specs.ShortNames.{name_at, name_or_none}
 use Rattle.roff_source.specs.Bytes.{tab, newline, blank, backslash, is_dropped, quote}

@@ -3,9 +3,9 @@
 -- Each function f of reading has its lemma Waits-f here, with a line for each of its cases.
 use Rattle.std.proofs.Common.{ℕ, Bool, true, false, List, [], ◌∷◌, ◌++◌, map, Option, Some, None}
 use Rattle.std.specs.Prelude.{option_map, find, bytes_eq, ◌||◌, if◌then◌else◌, ◌==◌}
-use Rattle.roff_lines.specs.declared.event.Event.TheVariants.{Print, WordEnd, LineEnd, Count, Break, Tab}
-use Rattle.roff_lines.specs.declared.glyph.Glyph.{Glyph}
-use Rattle.roff_lines.specs.declared.glyph.Glyph.TheVariants.{Blanks, Printed}
+use Rattle.roff_layout.specs.declared.event.Event.TheVariants.{Print, WordEnd, LineEnd, Count, Break, Tab}
+use Rattle.roff_layout.specs.declared.glyph.Glyph.{Glyph}
+use Rattle.roff_layout.specs.declared.glyph.Glyph.TheVariants.{Blanks, Printed}
 use Rattle.roff_source.specs.Bytes.{tab, newline, blank, apostrophe, dot, is_silent}
 use Rattle.std.specs.List.{AllByRecursion}
 use Rattle.roff_escape.specs.Characters.{Character as CharacterRow, character, characters}

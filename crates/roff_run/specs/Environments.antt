@@ -3,10 +3,10 @@
 --
 -- They stand in a ring: the one in force, the next behind it, and the last, with 0 behind 2.
 use Rattle.std.specs.Prelude.{ℕ, ◌-◌, Bool, true, false, List, [], ◌∷◌, nat_lt, Option, Some, None, if◌then◌else◌, ◌==◌}
-use Rattle.roff_lines.specs.Events.{History, is_interrupted}
-use Rattle.roff_lines.specs.Places.{has_line_glyph}
-use Rattle.roff_lines.specs.declared.event.Event.{Event}
-use Rattle.roff_lines.specs.declared.event.Event.TheVariants.{Count, Interrupt as IsInterrupted}
+use Rattle.roff_layout.specs.Events.{History, is_interrupted}
+use Rattle.roff_layout.specs.Places.{has_line_glyph}
+use Rattle.roff_layout.specs.declared.event.Event.{Event}
+use Rattle.roff_layout.specs.declared.event.Event.TheVariants.{Count, Interrupt as IsInterrupted}
 pub use Rattle.roff_run.specs.declared.environment_number.EnvironmentNumber.{EnvironmentNumber}
 pub use Rattle.roff_run.specs.declared.environment_number.EnvironmentNumber.TheVariants.{Zero, One, Two}
 pub use Rattle.roff_run.specs.PageEvents.{PageHistory}

@@ -1,15 +1,15 @@
 -- The layout of pages behind a history (manual, sections 3, 5.3 and 14).
 use Rattle.std.specs.Prelude.{[], ◌∷◌, Option, Some, None, option_map}
-use Rattle.roff_lines.specs.Events.{History, settings_after}
-use Rattle.roff_lines.specs.Lines.{finished}
+use Rattle.roff_layout.specs.Events.{History, settings_after}
+use Rattle.roff_layout.specs.Lines.{finished}
 use Rattle.roff_num.specs.RegisterText.{register_text}
-use Rattle.roff_pages.specs.Layout.{Layout, first_layout}
-use Rattle.roff_pages.specs.Happenings.{Happening, Does, Places, Titles}
-use Rattle.roff_pages.specs.Turning.{with_event as laid_behind}
+use Rattle.roff_layout.specs.Layout.{Layout, first_layout}
+use Rattle.roff_layout.specs.Happenings.{Happening, Does, Places, Titles}
+use Rattle.roff_layout.specs.Turning.{with_event as laid_behind}
 use Rattle.roff_run.specs.Environments.{text_of}
 use Rattle.roff_run.specs.PageEvents.{PageHistory, PastEvent, Text, Page, Title}
 use Rattle.roff_run.specs.TitleTexts.{TitleTold}
-use Rattle.roff_sinks.specs.Titles.{Title as PlacedTitle}
+use Rattle.roff_layout.specs.Titles.{Title as PlacedTitle}
 
 -- a title as it is placed: with the title length that is in force, and with this page's number
 abbrev pub placed : TitleTold → History → Layout → PlacedTitle

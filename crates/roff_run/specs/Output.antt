@@ -1,8 +1,8 @@
 -- What a history writes.
 use Rattle.std.specs.Prelude.{ℕ, List, [], ◌∷◌, ◌++◌, Option, Some, None}
-use Rattle.roff_pages.specs.Happenings.{Happening}
-use Rattle.roff_pages.specs.DeviceText.{device_text}
-use Rattle.roff_pages.specs.Layout.{Layout}
+use Rattle.roff_layout.specs.Happenings.{Happening}
+use Rattle.roff_layout.specs.DeviceText.{device_text}
+use Rattle.roff_layout.specs.Layout.{Layout}
 pub use Rattle.roff_run.specs.Environments.{text_of}
 pub use Rattle.roff_run.specs.PageEvents.{PageHistory, PastEvent}
 pub use Rattle.roff_run.specs.Layouts.{happens, layout_of}

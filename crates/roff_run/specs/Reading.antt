@@ -19,7 +19,7 @@ pub mod Found
 pub mod Ends
 pub mod Waiting
 use Rattle.std.specs.Prelude.{◌≡◌, ℕ, ◌&&◌, ◌||◌, Bool, true, false, Some, None, if◌then◌else◌, ◌==◌}
-use Rattle.roff_lines.specs.Words.{is_empty}
+use Rattle.roff_layout.specs.Words.{is_empty}
 use Rattle.roff_source.specs.Bytes.{tab, blank, is_dropped}
 use Rattle.roff_escape.specs.OpenEscapes.{byte_read, reading_ended}
 use Rattle.roff_run.specs.declared.line_state.LineState.{LineState}

@@ -2,7 +2,7 @@
 -- section 8 and the lists of registers before section 1). Beside them stands what else a run keeps: the macro that is read last,
 -- and what belongs to titles (section 14).
 use Rattle.std.specs.Prelude.{ℕ, ◌*◌, ◌%◌, ◌==◌, unsigned_abs, Bool, ◌&&◌, not, List, [], ◌∷◌, ℤ, pos, negsuc, bytes_eq, codes, find, fold, min, is_some, option_map, Option, Some, None, if◌then◌else◌}
-use Rattle.roff_lines.specs.declared.settings.Settings.{Settings}
+use Rattle.roff_layout.specs.declared.settings.Settings.{Settings}
 use Rattle.roff_num.specs.Ranges.{is_in_range}
 use Rattle.roff_num.specs.RegisterText.{register_text}
 use Rattle.roff_num.specs.declared.format.Format.{Format}
@@ -13,8 +13,8 @@ use Rattle.roff_store.specs.Named.{without_entry}
 use Rattle.roff_store.specs.Registers.{Registers, register_of, unset_register, next_value, with_setting, with_format, with_step}
 use Rattle.roff_num.specs.declared.direction.Direction.{Direction}
 use Rattle.roff_store.specs.declared.register.Register.{Register}
-use Rattle.roff_pages.specs.Layout.{Layout}
-use Rattle.roff_pages.specs.Queries.{nl, place_now, way_to_trap}
+use Rattle.roff_layout.specs.Layout.{Layout}
+use Rattle.roff_layout.specs.Queries.{nl, place_now, way_to_trap}
 use Rattle.roff_run.specs.declared.message.Message.{Message}
 use Rattle.roff_run.specs.declared.line_state.TextLine.{TextLine}
 use Rattle.roff_run.specs.declared.message.Message.TheVariants.{BadNumber}

@@ -2,7 +2,7 @@
 use Rattle.std.specs.Prelude.{ℕ, ◌+◌, Bool, true, false, List, [], ◌∷◌, ◌++◌, map, codes, slice_get, Option, Some, None, ◌&&◌}
 use Rattle.roff_store.specs.Named.{Named, entry_of}
 use Rattle.roff_store.specs.Texts.{Entry, Body, Request as RequestEntry}
-use Rattle.roff_lines.specs.declared.settings.Param.TheVariants.{Filling, Adjusting}
+use Rattle.roff_layout.specs.declared.settings.Param.TheVariants.{Filling, Adjusting}
 pub use Rattle.roff_run.specs.PageEvents.{PageEvent}
 pub use Rattle.roff_run.specs.declared.event.PageEvent.TheVariants.{Text, Interrupt, Environment, Back, InputTrap as SetsTrap, Page}
 pub use Rattle.roff_run.specs.Registers.{Known}

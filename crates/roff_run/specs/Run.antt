@@ -14,7 +14,7 @@ use Rattle.roff_input.specs.Input.Calls.{springing}
 use Rattle.roff_input.specs.Input.Names.{body_named}
 use Rattle.roff_source.specs.Tape.{Tape, Answer, OneByte, OneNote, Ended, Failed, Stopped, Gives, Ends, front, behind_front}
 use Rattle.roff_input.specs.Shown.{Sighted, SeesByte, SeesNothing, SeesNote, SeesEnding, seen_ahead}
-use Rattle.roff_arguments.specs.Arguments.{no_arguments}
+use Rattle.roff_input.specs.Arguments.{no_arguments}
 use Rattle.roff_escape.specs.OpenEscape.{OpenEscape}
 use Rattle.roff_run.specs.Messages.{told_line}
 use Rattle.roff_run.specs.Output.{layout_of, written}

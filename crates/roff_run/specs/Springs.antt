@@ -3,17 +3,17 @@
 -- A macro that springs is read before anything else is done: what was still to do of the same list is put back, and stands behind it.
 -- So do an event before which the first page began, and an eject whose page hasn't ended.
 use Rattle.std.specs.Prelude.{◌≡◌, ◌≤◌, Bool, true, false, not, ◌&&◌, ◌||◌, List, [], ◌∷◌, length, Option, Some, None, is_some, if◌then◌else◌}
-use Rattle.roff_lines.specs.Lines.{finished}
-use Rattle.roff_lines.specs.Words.{has_open_word}
-use Rattle.roff_lines.specs.declared.event.Event.TheVariants.{Break, Count, Gap, Interrupt as Interrupted, LineEnd, Print, Resume, Set, Tab, WordEnd}
+use Rattle.roff_layout.specs.Lines.{finished}
+use Rattle.roff_layout.specs.Words.{has_open_word}
+use Rattle.roff_layout.specs.declared.event.Event.TheVariants.{Break, Count, Gap, Interrupt as Interrupted, LineEnd, Print, Resume, Set, Tab, WordEnd}
 use Rattle.roff_num.specs.declared.short_name.ShortName.{ShortName}
 use Rattle.roff_run.specs.Environments.{environments, text_of, trap_reached}
-use Rattle.roff_pages.specs.declared.layout_event.LayoutEvent.{LayoutEvent}
-use Rattle.roff_pages.specs.declared.layout_event.LayoutEvent.TheVariants.{Begin, Space, Need, Eject, EjectOn, EjectTo}
-use Rattle.roff_pages.specs.Happenings.{Happening, Does}
-use Rattle.roff_pages.specs.Layout.{Layout}
-use Rattle.roff_pages.specs.Queries.{takes_text}
-use Rattle.roff_pages.specs.Springs.{goes_on, springs as springs_on_page}
+use Rattle.roff_layout.specs.declared.layout_event.LayoutEvent.{LayoutEvent}
+use Rattle.roff_layout.specs.declared.layout_event.LayoutEvent.TheVariants.{Begin, Space, Need, Eject, EjectOn, EjectTo}
+use Rattle.roff_layout.specs.Happenings.{Happening, Does}
+use Rattle.roff_layout.specs.Layout.{Layout}
+use Rattle.roff_layout.specs.Queries.{takes_text}
+use Rattle.roff_layout.specs.Springs.{goes_on, springs as springs_on_page}
 use Rattle.roff_run.specs.Layouts.{happens, layout_of}
 use Rattle.roff_run.specs.PageEvents.{PageEvent, PageHistory, PastEvent, Text, Page, Title}
 

@@ -1,6 +1,6 @@
 -- Stages of the reading: what bytes change that change only what is read.
 use Rattle.std.specs.Prelude.{◌≡◌, ℕ, ◌+◌, ◌≤◌, ◌==◌, ◌&&◌, Bool, false, if◌then◌else◌, List, [], ◌∷◌, length, min, nat_lt, not, sum_by, Option, None, Some}
-use Rattle.roff_arguments.specs.Arguments.{AreFewer, Arguments, held}
+use Rattle.roff_input.specs.Arguments.{AreFewer, Arguments, held}
 use Rattle.roff_source.specs.Bytes.{is_dropped, newline}
 use Rattle.roff_escape.specs.ConditionFronts.{TakesOn}
 use Rattle.roff_escape.specs.OpenEscape.{OpenEscape, texts_held}

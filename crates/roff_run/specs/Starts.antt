@@ -2,7 +2,7 @@
 -- and registers.
 use Rattle.std.specs.Prelude.{ℕ, List, [], ◌∷◌, ◌++◌, Option, Some, None, pos}
 use Rattle.roff_num.specs.declared.num.Num.{Num}
-use Rattle.roff_pages.specs.declared.layout_event.LayoutEvent.TheVariants.{ListPages, Next}
+use Rattle.roff_layout.specs.declared.layout_event.LayoutEvent.TheVariants.{ListPages, Next}
 use Rattle.roff_run.specs.Registers.{AllRegisters, Change, SetTo, changed_by}
 use Rattle.roff_run.specs.PageEvents.{PageHistory}
 use Rattle.roff_run.specs.Requests.Effects.{page_numbered}

@@ -1,7 +1,7 @@
 -- Bytes of a text line that stand behind a glyph: they are told, and what is read stays (manual, section 4.1).
 use Rattle.std.specs.Prelude.{◌≡◌, ℕ, List, [], ◌∷◌, if◌then◌else◌, ◌==◌}
-use Rattle.roff_lines.specs.declared.event.Event.TheVariants.{Print, WordEnd, Gap}
-use Rattle.roff_lines.specs.declared.glyph.Glyph.TheVariants.{Printed}
+use Rattle.roff_layout.specs.declared.event.Event.TheVariants.{Print, WordEnd, Gap}
+use Rattle.roff_layout.specs.declared.glyph.Glyph.TheVariants.{Printed}
 use Rattle.roff_run.specs.Environments.{PageHistory}
 use Rattle.roff_run.specs.Reading.{taking}
 use Rattle.roff_run.specs.Reading.Items.{PageInput, meaning_events}

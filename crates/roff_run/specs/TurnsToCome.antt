@@ -5,7 +5,7 @@ use Rattle.roff_input.specs.Input.{Ahead, ByteAhead, FreeAhead, EndAhead, Return
 use Rattle.roff_input.specs.Unread.{Unread}
 use Rattle.roff_escape.specs.declared.open_escape.ConditionPart.TheVariants.{Decided}
 use Rattle.roff_run.specs.Reading.Items.{PageInput}
-use Rattle.roff_lines.specs.declared.event.Event.TheVariants.{Interrupt as Interrupted, Resume}
+use Rattle.roff_layout.specs.declared.event.Event.TheVariants.{Interrupt as Interrupted, Resume}
 use Rattle.roff_run.specs.PageEvents.{PageEvent, PageHistory, Title}
 use Rattle.roff_run.specs.Registers.{AllRegisters}
 use Rattle.roff_run.specs.Requests.{Text, Page, SetsTrap}

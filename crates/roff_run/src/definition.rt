@@ -1,14 +1,15 @@
 //! The lines of a macro's definition, as they are copied, up to the one that ends it.
 
 ghost use Rattle.std.specs.Prelude.{◌≡◌, ◌∷◌, [], drop};
-ghost use Rattle.roff_run.specs.Definitions.{end_mark, ends_mark, front_of, line_from, line_with, matched_behind};
+ghost use Rattle.roff_run.specs.Definitions.{end_mark, ends_mark, front_of, line_from, line_with};
+ghost use Rattle.roff_run.specs.Definitions.{matched_behind};
 
 use arrayvec::ArrayVec;
 use roff_escape::CopyUnit;
 use roff_num::ShortName;
 
 /// What a line of a definition is, as far as it was read.
-#[derive(Clone, Copy, Debug, PartialEq, Eq)]
+#[derive(Clone, Copy)]
 pub enum DefinitionLine {
     /// It may be the last line: so many bytes of the mark stand in front, and nothing else.
     MayBeLast(u8),
@@ -53,7 +54,8 @@ impl EndMark {
         }
     }
 
-    /// What a unit makes of a line, behind so many bytes of the mark, if the line may be the last one.
+    /// What a unit makes of a line, behind so many bytes of the mark, if the line may be the last
+    /// one.
     pub fn line_with(&self, matched: Option<u8>, unit: CopyUnit) -> DefinitionLine
         ensures { result ≡ line_from self.now.bytes.items matched unit }
     {

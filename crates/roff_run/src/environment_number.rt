@@ -4,7 +4,7 @@ ghost use Rattle.std.specs.Prelude.{◌≡◌, ◌<◌};
 ghost use Rattle.roff_run.specs.Environments.{environment_numbered, is_same, number_behind};
 
 /// The number of an environment.
-#[derive(Clone, Copy, Debug, PartialEq, Eq)]
+#[derive(Clone, Copy)]
 pub enum EnvironmentNumber {
     /// That of the environment that is in force at first.
     Zero,

@@ -6,12 +6,11 @@ ghost use Rattle.roff_run.specs.Reading.TextLines.{leading_glyph};
 
 use crate::environment_number::EnvironmentNumber;
 use crate::title::WhichTitle;
-use roff_lines::{Event, Glyph};
+use roff_layout::{Event, Glyph, LayoutEvent};
 use roff_num::{Num, ShortName};
-use roff_pages::LayoutEvent;
 
 /// An input-line trap: a macro that springs behind so many text lines.
-#[derive(Clone, Copy, Debug, PartialEq, Eq)]
+#[derive(Clone, Copy)]
 pub struct InputTrap {
     /// How many text lines are still to come, the one that springs it among them; 1 at least.
     pub lines: u32,
@@ -21,7 +20,7 @@ pub struct InputTrap {
 
 /// What happens to the page. A title that is to be placed is told by where its text is kept; in
 /// `specs/` one that was placed is told by its text.
-#[derive(Clone, Copy, Debug, PartialEq, Eq)]
+#[derive(Clone, Copy)]
 pub enum PageEvent<T = WhichTitle> {
     /// Something happens to the text.
     Text(Event),
@@ -46,7 +45,7 @@ impl Default for PageEvent {
 }
 
 /// The events of something of a text line.
-#[derive(Clone, Copy, Debug, PartialEq, Eq)]
+#[derive(Clone, Copy)]
 pub enum LineEvents {
     /// None.
     Nothing,

@@ -1,5 +1,5 @@
-//! What a run of the formatter is: a machine of small steps over the unread input, as `specs/` has it.
-//! In code: the state of a line, the table of requests, events and messages.
+//! What a run of the formatter is: a machine of small steps over the unread input, as `specs/` has
+//! it. In code: the state of a line, the table of requests, events and messages.
 #![tactic(auto)]
 
 mod definition;

@@ -17,11 +17,11 @@ use crate::event::LineEvents;
 use crate::message::Message;
 use crate::request::Request;
 use roff_escape::Surroundings;
-use roff_lines::Glyph;
+use roff_layout::Glyph;
 use roff_num::{Name, ShortName};
 
 /// What is being read of a line.
-#[derive(Clone, Copy, Debug, PartialEq, Eq)]
+#[derive(Clone, Copy)]
 pub enum LineState {
     /// A line begins.
     LineStart,
@@ -101,7 +101,7 @@ pub enum LineState {
 }
 
 /// What is due before anything more is taken.
-#[derive(Clone, Copy, Debug, PartialEq, Eq)]
+#[derive(Clone, Copy)]
 pub enum Due {
     /// The text of a message is told.
     Tells {
@@ -113,7 +113,7 @@ pub enum Due {
 }
 
 /// What stands on a text line so far.
-#[derive(Clone, Copy, Debug, PartialEq, Eq)]
+#[derive(Clone, Copy)]
 pub struct TextLine {
     /// Whether a glyph does.
     pub has_glyph: bool,
@@ -163,8 +163,8 @@ impl LineState {
         }
     }
 
-    /// Whether a line is to end where the input does: one of which something was read, or one that was
-    /// interrupted, if one is to end.
+    /// Whether a line is to end where the input does: one of which something was read, or one that
+    /// was interrupted, if one is to end.
     pub fn is_unfinished(self, left: bool) -> bool
         ensures { (phase : Phase) (k : Known) → is_left phase k.interrupted ≡ left
             → result ≡ is_unfinished phase k self }

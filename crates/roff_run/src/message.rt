@@ -2,7 +2,8 @@
 
 ghost use Rattle.std.specs.Prelude.{◌≡◌, ◌+◌, ◌≤◌, ◌++◌, length, Some};
 ghost use Rattle.arrayvec.specs.ArrayVec.{array_vec_len};
-ghost use Rattle.roff_run.specs.Messages.{character_name, message_line, message_text, name_bytes, remark_message};
+ghost use Rattle.roff_run.specs.Messages.{character_name, message_line, message_text, name_bytes};
+ghost use Rattle.roff_run.specs.Messages.{remark_message};
 
 use arrayvec::ArrayVec;
 use itoa::Buffer;
@@ -10,7 +11,7 @@ use roff_escape::Remark;
 use roff_num::{Limit, Name};
 
 /// What a run reports.
-#[derive(Clone, Copy, Debug, PartialEq, Eq)]
+#[derive(Clone, Copy)]
 pub enum Message {
     /// A limit of this value stopped the run.
     LimitReached(Limit, u32),
@@ -37,7 +38,7 @@ pub enum Message {
 }
 
 /// The name of a character, as far as it was read: the first two bytes of it count.
-#[derive(Clone, Copy, Debug, PartialEq, Eq)]
+#[derive(Clone, Copy)]
 pub enum CharacterName {
     /// No byte.
     Nothing,

@@ -1,7 +1,7 @@
 //! How far a run has come with its input.
 
 /// How far a run has come with its input.
-#[derive(Clone, Copy, Debug, PartialEq, Eq)]
+#[derive(Clone, Copy)]
 pub enum Phase {
     /// The input is read.
     Reading,

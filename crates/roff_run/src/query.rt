@@ -1,7 +1,7 @@
 //! What read-only registers ask for (manual, section 8).
 
 /// What a read-only register asks for.
-#[derive(Clone, Copy, Debug, PartialEq, Eq)]
+#[derive(Clone, Copy)]
 pub enum Query {
     /// How many newlines were taken of the source.
     Newlines,

@@ -11,7 +11,7 @@ use Request::{LeftOut, WithoutEffect};
 use roff_num::ShortName;
 
 /// A request.
-#[derive(Clone, Copy, Debug, PartialEq, Eq)]
+#[derive(Clone, Copy)]
 pub enum Request {
     /// `ab`: a message, and the end of the run.
     Abort,
@@ -106,7 +106,7 @@ pub enum Request {
 }
 
 /// How the rest of a request's line is read.
-#[derive(Clone, Copy, Debug, PartialEq, Eq)]
+#[derive(Clone, Copy)]
 pub enum LineReading {
     /// As arguments, with blanks between them.
     ByArguments,
@@ -136,7 +136,7 @@ pub enum LineReading {
 }
 
 /// What gets the lines of a definition.
-#[derive(Clone, Copy, Debug, PartialEq, Eq)]
+#[derive(Clone, Copy)]
 pub enum LinesFor {
     /// A macro.
     Macro {
@@ -148,7 +148,7 @@ pub enum LinesFor {
 }
 
 /// What a line does that begins with a name.
-#[derive(Clone, Copy, Debug, PartialEq, Eq)]
+#[derive(Clone, Copy)]
 pub enum Called {
     /// It is a request's.
     Request(Request),
@@ -159,7 +159,7 @@ pub enum Called {
 }
 
 /// What is known of a request before it is called.
-#[derive(Clone, Copy, Debug, PartialEq, Eq)]
+#[derive(Clone, Copy)]
 pub struct Row {
     /// Its name.
     pub name: [u8; 2],

@@ -22,16 +22,17 @@ pub struct Start {
     /// range. Without any range all are.
     pub pages: ArrayVec<(Num, Num), 32>,
     /// The number registers that are set before anything is read, one after another: each with its
-    /// name, of one byte, and its value. One that the limit on names refuses ends the run, on line 1.
+    /// name, of one byte, and its value. One that the limit on names refuses ends the run, on line
+    /// 1.
     pub registers: ArrayVec<(u8, Num), 64>,
 }
 
 /// As many ranges of pages are given to a run as can be: 32.
-#[derive(Clone, Copy, Debug, PartialEq, Eq)]
+#[derive(Clone, Copy)]
 pub struct TooManyRanges;
 
 /// As many registers are given to a run as can be: 64.
-#[derive(Clone, Copy, Debug, PartialEq, Eq)]
+#[derive(Clone, Copy)]
 pub struct TooManyRegisters;
 
 impl Default for Start {

@@ -9,10 +9,10 @@ ghost use Rattle.roff_run.specs.declared.message.Message.{Message as MessageOf};
 
 use crate::event::LineEvents;
 
-/// What an item means: a message, if it reports one, and then its events, if it has some. It is small,
-/// as each byte has one: what most bytes of a text line do stands in it, and the reader keeps all
-/// else.
-#[derive(Clone, Copy, Debug, PartialEq, Eq)]
+/// What an item means: a message, if it reports one, and then its events, if it has some. It is
+/// small, as each byte has one: what most bytes of a text line do stands in it, and the reader
+/// keeps all else.
+#[derive(Clone, Copy)]
 pub enum Step {
     /// Nothing.
     Nothing,

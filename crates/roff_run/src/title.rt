@@ -1,7 +1,7 @@
 //! Titles: the part of one that is read, and which one is placed.
 
 /// The part of a title that is read, or whose bytes come next (manual, section 14).
-#[derive(Clone, Copy, Debug, PartialEq, Eq)]
+#[derive(Clone, Copy)]
 pub enum TitlePart {
     /// The part on the left.
     Left,
@@ -12,7 +12,7 @@ pub enum TitlePart {
 }
 
 /// Which title is placed.
-#[derive(Clone, Copy, Debug, PartialEq, Eq)]
+#[derive(Clone, Copy)]
 pub enum WhichTitle {
     /// The one that was read last.
     Read,

@@ -127,16 +127,24 @@ static ROWS: [Row; 8] = [
 #[test]
 fn documents_cut_behind_each_byte(rt: HostRuntime) -> Result<(), Fail> {
     for row in &ROWS {
-        let whole = formatted(rt.alloc(), row, None)?;
-        let name = row.name;
-        assert_eq!(rt;
-            whole.output.as_slice(),
-            row.output.as_bytes(),
-            "output of {name}"
-        );
-        assert_eq!(rt; whole.status, row.status, "status of {name}");
+        check_whole(&rt, rt.alloc(), row)?;
         check_cuts(&rt, rt.alloc(), row)?;
     }
+    Ok(())
+}
+
+/// Formats a whole document.
+fn check_whole(rt: &impl Abort, alloc: Global, row: &Row) -> Result<(), Fail> {
+    let given = formatted(alloc, row, None)?;
+    check_bytes(
+        rt,
+        given.output.as_slice(),
+        row.output.as_bytes(),
+        "output",
+        row,
+        NEVER,
+    );
+    check_status(rt, given.status, row.status, row, NEVER);
     Ok(())
 }
 
@@ -163,37 +171,73 @@ fn check_cut(
     count: usize,
     line: usize,
 ) -> Result<(), Fail> {
-    let name = row.name;
     let given = formatted(alloc, row, Some(count))?;
     let written = pieces_until(alloc, row.written, count)?;
-    let mut told = pieces_until(alloc, row.told, count)?;
-    let has_ended = row.ended_behind <= count;
-    if !has_ended {
-        let fault = format!(in alloc; "nroff: line {line}: read failed\n")?;
-        told.extend_from_slice(fault.as_bytes())?;
-    }
-    let status = if has_ended {
+    let told = messages_until(alloc, row, count, line)?;
+    check_bytes(
+        rt,
+        given.output.as_slice(),
+        written.as_slice(),
+        "output",
+        row,
+        count,
+    );
+    check_bytes(
+        rt,
+        given.messages.as_slice(),
+        told.as_slice(),
+        "messages",
+        row,
+        count,
+    );
+    check_status(rt, given.status, status_behind(row, count), row, count);
+    let begins = row.output.as_bytes().starts_with(given.output.as_slice());
+    assert!(rt; begins, "the output is no beginning");
+    Ok(())
+}
+
+/// Compares what was written or said for a document that is cut behind so many bytes.
+fn check_bytes(
+    rt: &impl Abort,
+    given: &[u8],
+    expected: &[u8],
+    what: &str,
+    row: &Row,
+    count: usize,
+) {
+    let name = row.name;
+    assert_eq!(rt; given, expected, "{what} of {name} cut behind {count}");
+}
+
+/// Compares how a run ended of a document that is cut behind so many bytes.
+fn check_status(rt: &impl Abort, given: Status, expected: Status, row: &Row, count: usize) {
+    let name = row.name;
+    assert_eq!(rt; given, expected, "status of {name} cut behind {count}");
+}
+
+/// How a document ends that is cut behind so many bytes.
+fn status_behind(row: &Row, count: usize) -> Status {
+    if row.ended_behind <= count {
         row.status
     } else {
         Status::Device
-    };
-    assert_eq!(rt;
-        given.output,
-        written,
-        "output of {name} cut behind {count}"
-    );
-    assert_eq!(rt;
-        given.messages,
-        told,
-        "messages of {name} cut behind {count}"
-    );
-    assert_eq!(rt; given.status, status, "status of {name} cut behind {count}");
-    let begins = row.output.as_bytes().starts_with(given.output.as_slice());
-    assert!(rt;
-        begins,
-        "output of {name} cut behind {count} is no beginning"
-    );
-    Ok(())
+    }
+}
+
+/// What is said of a document that is cut behind so many bytes, the last of which stands on this
+/// line.
+fn messages_until(
+    alloc: Global,
+    row: &Row,
+    count: usize,
+    line: usize,
+) -> Result<Vec<u8>, AllocError> {
+    let mut told = pieces_until(alloc, row.told, count)?;
+    if row.ended_behind > count {
+        let fault = format!(in alloc; "nroff: line {line}: read failed\n")?;
+        told.extend_from_slice(fault.as_bytes())?;
+    }
+    Ok(told)
 }
 
 /// The pieces that come behind no more than so many bytes, one after another.

@@ -1,6 +1,9 @@
 //! Devices in memory that fail, on `run`.
 
+use crate::documents::{check_bytes, check_status};
 use roff_tools::{Job, Limits, MemSink, MemSource, Start, Status, run};
+use std::alloc::Global;
+use std::process::Abort;
 use std::test::Fail;
 
 /// A document, after how many bytes its source fails, the room of the output and of the messages,
@@ -11,8 +14,8 @@ struct Row {
     source_fails_after: Option<usize>,
     output_capacity: usize,
     message_capacity: usize,
-    output: &'static [u8],
-    messages: &'static [u8],
+    output: &'static str,
+    messages: &'static str,
     status: Status,
 }
 
@@ -26,8 +29,8 @@ static ROWS: [Row; 5] = [
         source_fails_after: Some(8),
         output_capacity: AMPLE,
         message_capacity: AMPLE,
-        output: b"ab\n",
-        messages: b"nroff: line 3: read failed\n",
+        output: "ab\n",
+        messages: "nroff: line 3: read failed\n",
         status: Status::Device,
     },
     Row {
@@ -36,8 +39,8 @@ static ROWS: [Row; 5] = [
         source_fails_after: Some(14),
         output_capacity: AMPLE,
         message_capacity: AMPLE,
-        output: b"ab\n",
-        messages: b"",
+        output: "ab\n",
+        messages: "",
         status: Status::Done,
     },
     Row {
@@ -46,8 +49,8 @@ static ROWS: [Row; 5] = [
         source_fails_after: None,
         output_capacity: 4,
         message_capacity: AMPLE,
-        output: b"ab\nc",
-        messages: b"nroff: line 3: write failed\n",
+        output: "ab\nc",
+        messages: "nroff: line 3: write failed\n",
         status: Status::Device,
     },
     Row {
@@ -56,8 +59,8 @@ static ROWS: [Row; 5] = [
         source_fails_after: None,
         output_capacity: AMPLE,
         message_capacity: 12,
-        output: b"ab\n",
-        messages: b"nroff: line ",
+        output: "ab\n",
+        messages: "nroff: line ",
         status: Status::Device,
     },
     Row {
@@ -66,8 +69,8 @@ static ROWS: [Row; 5] = [
         source_fails_after: None,
         output_capacity: 4,
         message_capacity: 6,
-        output: b"ab\nc",
-        messages: b"nroff:",
+        output: "ab\nc",
+        messages: "nroff:",
         status: Status::Device,
     },
 ];
@@ -75,15 +78,20 @@ static ROWS: [Row; 5] = [
 #[test]
 fn failing_devices(rt: HostRuntime) -> Result<(), Fail> {
     for row in &ROWS {
-        let name = row.name;
-        let source = MemSource::new(row.input, row.source_fails_after);
-        let mut out = MemSink::new(rt.alloc(), row.output_capacity)?;
-        let mut err = MemSink::new(rt.alloc(), row.message_capacity)?;
-        let job = Job::Nroff(Limits::default(), Start::default());
-        let (status, _source) = run(rt.alloc(), job, source, &mut out, &mut err);
-        assert_eq!(rt; out.kept(), row.output, "output where {name}");
-        assert_eq!(rt; err.kept(), row.messages, "messages where {name}");
-        assert_eq!(rt; status?, row.status, "status where {name}");
+        check_row(&rt, rt.alloc(), row)?;
     }
+    Ok(())
+}
+
+/// Formats a row's document, and compares what was written and said, and how it ended.
+fn check_row(rt: &impl Abort, alloc: Global, row: &Row) -> Result<(), Fail> {
+    let source = MemSource::new(row.input, row.source_fails_after);
+    let mut out = MemSink::new(alloc, row.output_capacity)?;
+    let mut err = MemSink::new(alloc, row.message_capacity)?;
+    let job = Job::Nroff(Limits::default(), Start::default());
+    let (status, _source) = run(alloc, job, source, &mut out, &mut err);
+    check_bytes(rt, out.kept(), row.output, "output", row.name);
+    check_bytes(rt, err.kept(), row.messages, "messages", row.name);
+    check_status(rt, status?, row.status, row.name);
     Ok(())
 }

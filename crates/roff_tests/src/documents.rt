@@ -36,12 +36,32 @@ pub fn check(
         None,
         AMPLE,
     )?;
-    let output = str::from_utf8(given.output.as_slice());
-    let messages = str::from_utf8(given.messages.as_slice());
-    assert_eq!(rt; output, Ok(expected.output), "output of {document:?}");
-    assert_eq!(rt; messages, Ok(expected.messages), "messages of {document:?}");
-    assert_eq!(rt; given.status, expected.status, "status of {document:?}");
+    check_bytes(
+        rt,
+        given.output.as_slice(),
+        expected.output,
+        "output",
+        document,
+    );
+    check_bytes(
+        rt,
+        given.messages.as_slice(),
+        expected.messages,
+        "messages",
+        document,
+    );
+    check_status(rt, given.status, expected.status, document);
     Ok(())
+}
+
+/// Compares bytes that were written or said for a document.
+pub fn check_bytes(rt: &impl Abort, given: &[u8], expected: &str, what: &str, of: &str) {
+    assert_eq!(rt; str::from_utf8(given), Ok(expected), "{what} of {of:?}");
+}
+
+/// Compares how a run of a document ended.
+pub fn check_status(rt: &impl Abort, given: Status, expected: Status, of: &str) {
+    assert_eq!(rt; given, expected, "status of {of:?}");
 }
 
 /// Formats a document that only tells of something (`.tm`), and compares that.

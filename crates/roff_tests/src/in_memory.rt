@@ -1,5 +1,6 @@
 //! A whole run in memory, in room for just what it writes.
 
+use crate::documents::{check_bytes, check_status};
 use roff_tools::{Limits, Room, Start, Status, format_in_memory};
 use std::test::Fail;
 
@@ -13,11 +14,21 @@ fn whole_text_in_exact_room(rt: HostRuntime) -> Result<(), Fail> {
     };
     let limits = Limits::default();
     let formatted = format_in_memory(rt.alloc(), limits, Start::default(), SPREAD, None, room)?;
-    assert_eq!(rt;
+    let output = "a   bb   ccc\ndddd eeeee\n";
+    check_bytes(
+        &rt,
         formatted.output.as_slice(),
-        b"a   bb   ccc\ndddd eeeee\n".as_slice()
+        output,
+        "output",
+        "the text",
     );
-    assert_eq!(rt; formatted.messages.as_slice(), b"".as_slice());
-    assert_eq!(rt; formatted.status, Status::Done);
+    check_bytes(
+        &rt,
+        formatted.messages.as_slice(),
+        "",
+        "messages",
+        "the text",
+    );
+    check_status(&rt, formatted.status, Status::Done, "the text");
     Ok(())
 }

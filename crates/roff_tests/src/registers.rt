@@ -90,15 +90,17 @@ fn a_step_out_of_range_is_reported(rt: HostRuntime) -> Result<(), Fail> {
     check_told(&rt, rt.alloc(), ".tm \\n+(.i \\n+y\n", "0 0\n")
 }
 
+/// The number of a page, and what is told of it.
+const PAGE_NUMBERS: [(&str, &str); 4] = [
+    ("0", "0 even\n"),
+    ("2147483647", "2147483647 odd\n"),
+    ("0-2147483647-1", "-2147483648 even\n"),
+    ("0-1", "-1 odd\n"),
+];
+
 #[test]
 fn the_greatest_page_number_is_odd_and_the_least_even(rt: HostRuntime) -> Result<(), Fail> {
-    let rows = [
-        ("0", "0 even\n"),
-        ("2147483647", "2147483647 odd\n"),
-        ("0-2147483647-1", "-2147483648 even\n"),
-        ("0-1", "-1 odd\n"),
-    ];
-    for (value, told) in rows {
+    for (value, told) in &PAGE_NUMBERS {
         let document = format!(in rt.alloc();
             ".nr % {value}\n.if o .tm \\n% odd\n.if e .tm \\n% even\n"
         )?;

@@ -3,6 +3,7 @@
 
 use roff_tools::{Job, Limits, MemSink, MemSource, Start, Status, run};
 use std::alloc::{AllocError, Global};
+use std::process::Abort;
 use std::test::Fail;
 
 /// A document, what it writes and what it tells.
@@ -92,19 +93,16 @@ fn ended(room: usize, text: &str) -> Status {
     }
 }
 
+/// As many bytes of a text as have room.
+fn kept(text: &str, room: usize) -> &[u8] {
+    &text.as_bytes()[..text.len().min(room)]
+}
+
 #[test]
 fn outputs_of_each_capacity(rt: HostRuntime) -> Result<(), Fail> {
     for row in &ROWS {
-        let input = row.input;
         for room in 0..=row.output.len() {
-            let (status, out, _err) = given(rt.alloc(), row, room, AMPLE)?;
-            let kept = &row.output.as_bytes()[..row.output.len().min(room)];
-            assert_eq!(rt; out.kept(), kept, "output of {input:?} in {room}");
-            assert_eq!(rt;
-                status,
-                ended(room, row.output),
-                "end of {input:?} in {room}"
-            );
+            check_output(&rt, rt.alloc(), row, room)?;
         }
     }
     Ok(())
@@ -113,19 +111,46 @@ fn outputs_of_each_capacity(rt: HostRuntime) -> Result<(), Fail> {
 #[test]
 fn messages_of_each_capacity(rt: HostRuntime) -> Result<(), Fail> {
     for row in &ROWS {
-        let input = row.input;
         for room in 0..=row.messages.len() {
-            let (status, out, err) = given(rt.alloc(), row, AMPLE, room)?;
-            let kept = &row.messages.as_bytes()[..row.messages.len().min(room)];
-            assert_eq!(rt; err.kept(), kept, "messages of {input:?} in {room}");
-            assert_eq!(rt;
-                status,
-                ended(room, row.messages),
-                "end of {input:?} in {room}"
-            );
-            let begins = row.output.as_bytes().starts_with(out.kept());
-            assert!(rt; begins, "output of {input:?} in {room} is no beginning");
+            check_messages(&rt, rt.alloc(), row, room)?;
         }
     }
     Ok(())
+}
+
+/// Formats a row's document with room for so many bytes of output.
+fn check_output(rt: &impl Abort, alloc: Global, row: &Row, room: usize) -> Result<(), Fail> {
+    let (status, out, _err) = given(alloc, row, room, AMPLE)?;
+    check_bytes(rt, out.kept(), kept(row.output, room), "output", row, room);
+    check_status(rt, status, ended(room, row.output), row, room);
+    Ok(())
+}
+
+/// Formats a row's document with room for so many bytes of messages.
+fn check_messages(rt: &impl Abort, alloc: Global, row: &Row, room: usize) -> Result<(), Fail> {
+    let (status, out, err) = given(alloc, row, AMPLE, room)?;
+    check_bytes(
+        rt,
+        err.kept(),
+        kept(row.messages, room),
+        "messages",
+        row,
+        room,
+    );
+    check_status(rt, status, ended(room, row.messages), row, room);
+    let begins = row.output.as_bytes().starts_with(out.kept());
+    assert!(rt; begins, "the output is no beginning");
+    Ok(())
+}
+
+/// Compares what was kept of a row's output or messages.
+fn check_bytes(rt: &impl Abort, given: &[u8], expected: &[u8], what: &str, row: &Row, room: usize) {
+    let input = row.input;
+    assert_eq!(rt; given, expected, "{what} of {input:?} in {room}");
+}
+
+/// Compares how a row's run ended.
+fn check_status(rt: &impl Abort, given: Status, expected: Status, row: &Row, room: usize) {
+    let input = row.input;
+    assert_eq!(rt; given, expected, "end of {input:?} in {room}");
 }

@@ -6,7 +6,7 @@ ghost use Rattle.roff_tools.specs.Clauses.{exit_after, exit_number};
 use crate::Status;
 
 /// How the program ends.
-#[derive(Clone, Copy, Debug, PartialEq, Eq)]
+#[derive(Clone, Copy)]
 pub enum Exit {
     /// All is done.
     Done,

@@ -13,7 +13,7 @@ use std::alloc::{AllocError, Global};
 use tbl_core::TblLimits;
 
 /// Room, in bytes, for what a run writes and reports.
-#[derive(Clone, Copy, Debug, PartialEq, Eq)]
+#[derive(Clone, Copy)]
 pub struct Room {
     /// For the text.
     pub output: usize,
@@ -48,7 +48,8 @@ pub fn format_in_memory(
 ) -> Result<Formatted, AllocError>
     // With room for all of it, the definition's result, and nothing else.
     ensures whole { let t = tape_of_bytes text.now fail_at in
-        length (output_of limits start t) ≤ room.output → length (messages_of limits start t) ≤ room.messages →
+        length (output_of limits start t) ≤ room.output →
+        length (messages_of limits start t) ≤ room.messages →
         IfOk result (λ f. IsWholeResult limits start t f) }
 
     // With room for the messages, as many of the definition's first bytes as there is room for.
@@ -80,7 +81,8 @@ pub fn format_tables_in_memory(
 ) -> Result<Formatted, AllocError>
     // With room for all of it, the definition's result over what tables give, and nothing else.
     ensures whole { let t = yields tables.0 tables.1 at_start (tape_of_bytes text.now fail_at) in
-        length (output_of limits start t) ≤ room.output → length (messages_of limits start t) ≤ room.messages →
+        length (output_of limits start t) ≤ room.output →
+        length (messages_of limits start t) ≤ room.messages →
         IfOk result (λ f. IsWholeResult limits start t f) }
 
     // With room for the messages, as many of the definition's first bytes as there is room for.

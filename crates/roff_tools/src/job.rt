@@ -117,7 +117,8 @@ fn run_both<S: ByteSource, O: ByteSink, E: ByteSink>(
     out: &mut O,
     err: &mut E,
 ) -> (Result<Status, AllocError>, S)
-    ensures runs { IfOk result.0 (λ status. RunsBoth engine.limits engine.start limits line_length status
+    ensures runs { IfOk result.0 (λ status. RunsBoth
+        engine.limits engine.start limits line_length status
         (S.gives source) (S.gives result.1)
         (seen (S.failures source) (O.sunk out.old) (E.sunk err.old))
         (seen (S.failures result.1) (O.sunk out.new) (E.sunk err.new))) }

@@ -182,8 +182,8 @@ fn show<O: ByteSink, E: ByteSink>(shown: &clap::Error, out: &mut O, err: &mut E)
     }
 }
 
-/// Looks at the pages that are to be written, and at the registers that are to be set, and then runs
-/// the command over its files.
+/// Looks at the pages that are to be written, and at the registers that are to be set, and then
+/// runs the command over its files.
 fn perform<R, O, E>(
     rt: &R,
     request: Request<'_>,

@@ -21,6 +21,7 @@ use Rattle.roff_engine.specs.Interpreter.Performing.{Opens, going}
 use Rattle.roff_engine.specs.Running.Room.{FewFor}
 use Rattle.roff_run.specs.TurnsToCome.{most_left}
 use Rattle.roff_sinks.specs.Sinks.{Sunk}
+use Rattle.roff_sinks.specs.declared.sink.ByteSink as byte_sink
 use Rattle.roff_reader.specs.Reader.State.{fresh_reader}
 use Rattle.roff_reader.specs.Reader.Taken.{IsReady}
 use Rattle.roff_run.specs.Reading.Items.{PageUnread}
@@ -192,6 +193,12 @@ pub record TurnsBy (does : State → State) (gave gives : Tape → Type 0) (note
       → StepDoes does (items_then taken tape) old at.history at.messages → Continues t tape start behind r new
   pub falls : (t : Beginning) (tape : Tape) (start : Seen) → gives tape → (at : IsAt t (items_then taken tape) start now old)
       → StepDoes does (items_then taken tape) old at.history at.messages → OnOk r (turns_with new notes < turns_with old noted)
+
+-- the same over a source and sinks that were at one state and are at another
+abbrev pub TurnsOver : {S : Type 0} {O : Type 0} {E : Type 0} → byte_source.Ghosts S → byte_sink.Ghosts O → byte_sink.Ghosts E → (State → State) → S → S → O → O → E → E → Coded → Coded
+    → Result (Unit {0}) Status → Type 0
+TurnsOver s o e does was is out_was out_is err_was err_is old new r =
+    TurnsBy does (s.gives was) (s.gives is) (s.notes was) (s.notes is) old new (seen (s.failures was) (o.sunk out_was) (e.sunk err_was)) (seen (s.failures is) (o.sunk out_is) (e.sunk err_is)) r
 
 -- The run took items of its source, and goes on behind them, whatever the source may still give; no more turns are to come.
 pub record GoesPast (gave gives : Tape → Type 0) (noted notes : ℕ) (old new : Coded) (now behind : Seen) : Type 0 where

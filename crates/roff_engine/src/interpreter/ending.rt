@@ -78,7 +78,8 @@ impl Interpreter {
         unread: &mut Unread<PageEvent>,
     ) -> Result<Option<Sprung>, Halt>
         ensures { (out err : Sunk) → DoesTaking
-            (λ k. going_on (last_called self.old.reader.registers.all.last_macro unread.old.input) LineStart) []
+            (λ k. going_on (last_called self.old.reader.registers.all.last_macro unread.old.input)
+            LineStart) []
             self.old self.new unread.old unread.new (sinks out err) (sinks out err) result }
     {
         match self.reader.read_last_macro(unread) {

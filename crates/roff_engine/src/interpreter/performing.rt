@@ -13,8 +13,8 @@ use roff_run::{Message, PageEvent, Step, WhichTitle};
 use roff_sinks::ByteSink;
 
 impl Interpreter {
-    /// Does what an item means that ended on this line of the input: its message is reported, and then
-    /// its events are performed, up to one that springs a macro.
+    /// Does what an item means that ended on this line of the input: its message is reported, and
+    /// then its events are performed, up to one that springs a macro.
     #[inline(always)]
     pub(super) fn perform<O: ByteSink, E: ByteSink>(
         &mut self,
@@ -90,8 +90,8 @@ impl Interpreter {
         Ok(None)
     }
 
-    /// Performs the events of a step that has a name of its own, up to one that springs a macro: then
-    /// the reader keeps them.
+    /// Performs the events of a step that has a name of its own, up to one that springs a macro:
+    /// then the reader keeps them.
     #[inline(always)]
     pub(super) fn perform_line<O: ByteSink>(
         &mut self,

@@ -36,7 +36,8 @@ impl Running {
         }
     }
 
-    /// The end of the input: what is half read ends first, then an unfinished line, and then the phase.
+    /// The end of the input: what is half read ends first, then an unfinished line, and then the
+    /// phase.
     #[inline(never)]
     pub(super) fn end_input<O: ByteSink, E: ByteSink>(
         &mut self,
@@ -67,8 +68,9 @@ impl Running {
     /// Reads the last macro behind the input, if there is one.
     fn read_last_macro<E: ByteSink>(&mut self, err: &mut E) -> Result<(), Status>
         requires { self.old.phase ≡ Reading }
-        ensures { (failures : ℕ) (out : Sunk) → DoesItem self.old.unread.input.line (phase_ended Reading)
-            self.old self.new (seen failures out (E.sunk err.old)) (seen failures out (E.sunk err.new)) result }
+        ensures { (failures : ℕ) (out : Sunk)
+            → DoesItem self.old.unread.input.line (phase_ended Reading) self.old self.new
+            (seen failures out (E.sunk err.old)) (seen failures out (E.sunk err.new)) result }
     {
         let line = self.unread.line();
         self.phase = Phase::LastMacro;

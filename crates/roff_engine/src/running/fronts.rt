@@ -1,17 +1,29 @@
 //! Runs: bytes in front that do alike, and are taken together.
 
-ghost use Rattle.std.specs.Prelude.{◌≡◌, [], true, slice_index_or};
+ghost use Rattle.std.specs.Prelude.{◌≡◌, []};
 ghost use Rattle.roff_fronts.specs.Runs.{IsRun};
-ghost use Rattle.roff_scan.specs.declared.run_kind.RunKind.TheVariants.{Text as TextRun};
+ghost use Rattle.roff_scan.specs.declared.run_kind.RunKind.TheVariants.{Arguments as ArgumentsRun, Text as TextRun};
 
 use super::Running;
 use roff_fronts::{
-    RunKind, run_half_read, take_branch_blanks, take_run, take_string_front, take_string_name,
+    RunKind, run_half_read, take_arguments, take_branch_blanks, take_register, take_run,
+    take_string_front, take_string_name,
 };
 use roff_scan::ByteSource;
 
+/// What lies behind bytes that were told.
+#[derive(Clone, Copy)]
+enum Behind {
+    /// A backslash and the letter of a register.
+    Register,
+    /// Another backslash.
+    Escape,
+    /// Anything else, or nothing that is seen.
+    Other,
+}
+
 impl Running {
-    ghost use Rattle.roff_engine.specs.Running.Turning.{GoesPastOver};
+    ghost use Rattle.roff_engine.specs.Running.Turning.{GoesFurtherOver, GoesPastOver};
 
     /// Takes bytes that stand in front and do this; none of text, which are told.
     #[inline(always)]
@@ -59,36 +71,101 @@ impl Running {
         take_string_front(&mut self.interpreter.reader, &mut self.unread, source);
     }
 
-    /// Takes bytes of plain text together that stand in front, and tells them, and then reads the
-    /// front of an escape behind them.
+    /// Takes bytes together that stand in front and are held in arguments. Returns whether the escape of a
+    /// register may stand behind them.
     #[inline(always)]
-    pub(super) fn tell_line<S: ByteSource>(&mut self, source: &mut S)
-        requires { IsRun TextRun self.old.interpreter.reader.reading self.old.unread.input.escapes }
+    fn take_arguments<S: ByteSource>(&mut self, source: &mut S) -> bool
+        requires { IsRun ArgumentsRun self.old.interpreter.reader.reading
+            self.old.unread.input.escapes }
         ensures { GoesPastOver S.ByteSource source.old source.new self.old self.new }
     {
-        if self.tell_front(source)
-            && let Some(kind) = run_half_read(&self.interpreter.reader, &self.unread)
-        {
-            self.take_run(kind, source);
+        take_arguments(&self.interpreter.reader, &mut self.unread, source)
+    }
+
+    /// The same, and then takes the escape of a register behind them. Returns whether it took that.
+    #[inline(always)]
+    pub(super) fn hold_line<S: ByteSource>(&mut self, source: &mut S) -> bool
+        requires { IsRun ArgumentsRun self.old.interpreter.reader.reading
+            self.old.unread.input.escapes }
+        ensures { GoesFurtherOver result S.ByteSource source.old source.new self.old self.new }
+    {
+        if self.take_arguments(source) {
+            self.take_register(source)
+        } else {
+            false
         }
     }
 
+    /// Takes the escape of a register that stands whole in front, and puts its text there. Returns
+    /// whether it did.
+    #[inline(always)]
+    pub(super) fn take_register<S: ByteSource>(&mut self, source: &mut S) -> bool
+        ensures further { GoesFurtherOver result S.ByteSource source.old source.new
+            self.old self.new }
+        ensures half { self.new.unread.input.escapes ≡ self.old.unread.input.escapes }
+        ensures reads { self.new.interpreter ≡ self.old.interpreter }
+    {
+        take_register(
+            &self.limits,
+            &self.interpreter.reader,
+            &self.interpreter.formatter.composer,
+            &mut self.unread,
+            source,
+        )
+    }
+
+    /// Takes bytes of plain text together that stand in front, and tells them, and then takes the escape
+    /// of a register behind them, or reads the front of another one. Returns whether it took a whole one.
+    #[inline(always)]
+    pub(super) fn tell_line<S: ByteSource>(&mut self, source: &mut S) -> bool
+        requires { IsRun TextRun self.old.interpreter.reader.reading self.old.unread.input.escapes }
+        ensures { GoesFurtherOver result S.ByteSource source.old source.new self.old self.new }
+    {
+        match self.tell_front(source) {
+            Behind::Other => false,
+            Behind::Escape => self.read_escape(source),
+            Behind::Register => self.read_register(source),
+        }
+    }
+
+    /// Reads the front of an escape, as far as one stands in front. It took no whole one.
+    #[inline(always)]
+    fn read_escape<S: ByteSource>(&mut self, source: &mut S) -> bool
+        ensures { GoesFurtherOver result S.ByteSource source.old source.new self.old self.new }
+    {
+        if let Some(kind) = run_half_read(&self.interpreter.reader, &self.unread) {
+            self.take_run(kind, source);
+        }
+        false
+    }
+
+    /// Takes the escape of a register in front, or reads the front of one. Returns whether it took a
+    /// whole one.
+    #[inline(always)]
+    fn read_register<S: ByteSource>(&mut self, source: &mut S) -> bool
+        ensures { GoesFurtherOver result S.ByteSource source.old source.new self.old self.new }
+    {
+        if self.take_register(source) {
+            return true;
+        }
+        self.read_escape(source)
+    }
+
     /// Takes bytes of plain text together that stand in front, and tells them: as many as no limit
-    /// refuses, and none that finishes a line. Returns whether a backslash lies behind them, as far as
-    /// is seen.
+    /// refuses, and none that finishes a line. Returns what lies behind them, as far as is seen.
     #[inline(never)]
-    fn tell_front<S: ByteSource>(&mut self, source: &mut S) -> bool
+    fn tell_front<S: ByteSource>(&mut self, source: &mut S) -> Behind
         requires { IsRun TextRun self.old.interpreter.reader.reading self.old.unread.input.escapes }
         ensures { GoesPastOver S.ByteSource source.old source.new self.old self.new }
     {
         let front = self.unread.front(source);
         if !begins_above_controls(front) {
-            return false;
+            return Behind::Other;
         }
         let count = self.interpreter.formatter.text_front(front);
-        let meets_escape = has_backslash_at(front, count);
+        let behind = behind_text(front, count);
         self.unread.pass(source, count);
-        meets_escape
+        behind
     }
 }
 
@@ -101,10 +178,29 @@ fn begins_above_controls(bytes: &[u8]) -> bool {
     }
 }
 
-/// Whether a backslash stands at this place of some bytes.
+/// What stands at this place of some bytes.
 #[inline(always)]
-fn has_backslash_at(bytes: &[u8], place: usize) -> bool
-    ensures { result ≡ true → slice_index_or bytes.now place 0 ≡ 92 }
-{
-    place < bytes.len() && bytes[place] == b'\\'
+fn behind_text(bytes: &[u8], place: usize) -> Behind {
+    if place >= bytes.len() {
+        return Behind::Other;
+    }
+    if bytes[place] != b'\\' {
+        return Behind::Other;
+    }
+    if begins_register(bytes, place) {
+        return Behind::Register;
+    }
+    Behind::Escape
+}
+
+/// Whether the escape of a register may begin at this place of some bytes: a backslash and its letter.
+#[inline(always)]
+pub(super) fn begins_register(bytes: &[u8], place: usize) -> bool {
+    if place >= bytes.len() {
+        return false;
+    }
+    if bytes[place] != b'\\' {
+        return false;
+    }
+    bytes.len() - place > 1 && bytes[place + 1] == b'n'
 }

@@ -13,7 +13,7 @@ use roff_sinks::ByteSink;
 
 impl Running {
     ghost use Rattle.roff_engine.specs.Running.Room.{SeesOn};
-    ghost use Rattle.roff_engine.specs.Running.Turning.{DoesItem, TurnsBy};
+    ghost use Rattle.roff_engine.specs.Running.Turning.{DoesItem, TurnsOver};
 
     /// The same where something is half read: it takes the item in front, or waits for a byte, or a
     /// condition that is read decides.
@@ -24,11 +24,8 @@ impl Running {
         out: &mut O,
         err: &mut E,
     ) -> Result<(), Status>
-        ensures { TurnsBy (λ s. item_read self.old.limits s)
-            (S.gives source.old) (S.gives source.new) (S.notes source.old) (S.notes source.new)
-            self.old self.new
-            (seen (S.failures source.old) (O.sunk out.old) (E.sunk err.old))
-            (seen (S.failures source.new) (O.sunk out.new) (E.sunk err.new)) result }
+        ensures { TurnsOver S.ByteSource O.ByteSink E.ByteSink (λ s. item_read self.old.limits s)
+            source.old source.new out.old out.new err.old err.new self.old self.new result }
     {
         match self.interpreter.reader.waiting(&self.unread) {
             Waiting::Takes => self.turn_in_front(source, out, err),
@@ -37,8 +34,8 @@ impl Running {
         }
     }
 
-    /// What is half read waits: what stands in front stays, and ends it, or is taken. Most often it is a
-    /// byte that is taken.
+    /// What is half read waits: what stands in front stays, and ends it, or is taken. Most often it
+    /// is a byte that is taken.
     #[inline(never)]
     fn turn_waiting<S: ByteSource, O: ByteSink, E: ByteSink>(
         &mut self,
@@ -46,11 +43,9 @@ impl Running {
         out: &mut O,
         err: &mut E,
     ) -> Result<(), Status>
-        ensures { TurnsBy (λ s. awaited self.old.limits (seen_ahead s.input.ahead) s)
-            (S.gives source.old) (S.gives source.new) (S.notes source.old) (S.notes source.new)
-            self.old self.new
-            (seen (S.failures source.old) (O.sunk out.old) (E.sunk err.old))
-            (seen (S.failures source.new) (O.sunk out.new) (E.sunk err.new)) result }
+        ensures { TurnsOver S.ByteSource O.ByteSink E.ByteSink
+            (λ s. awaited self.old.limits (seen_ahead s.input.ahead) s)
+            source.old source.new out.old out.new err.old err.new self.old self.new result }
     {
         let line = self.unread.line();
         match self.unread.take_waiting(source) {
@@ -67,11 +62,9 @@ impl Running {
         out: &mut O,
         err: &mut E,
     ) -> Result<(), Status>
-        ensures { TurnsBy (λ s. awaited self.old.limits (seen_ahead s.input.ahead) s)
-            (S.gives source.old) (S.gives source.new) (S.notes source.old) (S.notes source.new)
-            self.old self.new
-            (seen (S.failures source.old) (O.sunk out.old) (E.sunk err.old))
-            (seen (S.failures source.new) (O.sunk out.new) (E.sunk err.new)) result }
+        ensures { TurnsOver S.ByteSource O.ByteSink E.ByteSink
+            (λ s. awaited self.old.limits (seen_ahead s.input.ahead) s)
+            source.old source.new out.old out.new err.old err.new self.old self.new result }
     {
         match self.unread.look_ahead(source) {
             Some(byte) => self.turn_seeing(byte, source, out, err),
@@ -90,11 +83,9 @@ impl Running {
     ) -> Result<(), Status>
         requires { Looks (S.gives source.old) (S.gives source.old)
             self.old.unread self.old.unread (SeesByte byte) }
-        ensures { TurnsBy (λ s. awaited self.old.limits (seen_ahead s.input.ahead) s)
-            (S.gives source.old) (S.gives source.new) (S.notes source.old) (S.notes source.new)
-            self.old self.new
-            (seen (S.failures source.old) (O.sunk out.old) (E.sunk err.old))
-            (seen (S.failures source.new) (O.sunk out.new) (E.sunk err.new)) result }
+        ensures { TurnsOver S.ByteSource O.ByteSink E.ByteSink
+            (λ s. awaited self.old.limits (seen_ahead s.input.ahead) s)
+            source.old source.new out.old out.new err.old err.new self.old self.new result }
     {
         if self.unread.is_ended_by(Some(byte)) {
             return self.end_escape(out, err);
@@ -110,11 +101,9 @@ impl Running {
         out: &mut O,
         err: &mut E,
     ) -> Result<(), Status>
-        ensures { TurnsBy (λ s. awaited self.old.limits (seen_ahead s.input.ahead) s)
-            (S.gives source.old) (S.gives source.new) (S.notes source.old) (S.notes source.new)
-            self.old self.new
-            (seen (S.failures source.old) (O.sunk out.old) (E.sunk err.old))
-            (seen (S.failures source.new) (O.sunk out.new) (E.sunk err.new)) result }
+        ensures { TurnsOver S.ByteSource O.ByteSink E.ByteSink
+            (λ s. awaited self.old.limits (seen_ahead s.input.ahead) s)
+            source.old source.new out.old out.new err.old err.new self.old self.new result }
     {
         let seen = match self.unread.look(source) {
             Sight::Byte(byte) => Some(byte),
@@ -139,11 +128,9 @@ impl Running {
         err: &mut E,
     ) -> Result<(), Status>
         requires { SeesOn self.old.unread.input }
-        ensures { TurnsBy (λ s. in_front_taken self.old.limits s.input.ahead s)
-            (S.gives source.old) (S.gives source.new) (S.notes source.old) (S.notes source.new)
-            self.old self.new
-            (seen (S.failures source.old) (O.sunk out.old) (E.sunk err.old))
-            (seen (S.failures source.new) (O.sunk out.new) (E.sunk err.new)) result }
+        ensures { TurnsOver S.ByteSource O.ByteSink E.ByteSink
+            (λ s. in_front_taken self.old.limits s.input.ahead s)
+            source.old source.new out.old out.new err.old err.new self.old self.new result }
     {
         if self.unread.pass_end() {
             return Ok(());

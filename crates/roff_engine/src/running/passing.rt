@@ -33,8 +33,8 @@ impl Running {
         }
     }
 
-    /// Takes the front of a control line at once, if it stands in front, and then bytes behind it, or
-    /// takes the end of a call. Returns whether a line begins behind them.
+    /// Takes the front of a control line at once, if it stands in front, and then bytes behind it,
+    /// or takes the end of a call. Returns whether a line begins behind them.
     #[inline(never)]
     fn pass_control_line<S: ByteSource>(&mut self, source: &mut S) -> bool
         requires begins { BeginsControl self.old.interpreter.reader.reading }
@@ -63,8 +63,8 @@ impl Running {
         }
     }
 
-    /// What [`pass_line`](Running::pass_line) does. A function of its own, as what it does in place is
-    /// then put into place too.
+    /// What [`pass_line`](Running::pass_line) does. A function of its own, as what it does in place
+    /// is then put into place too.
     #[inline(never)]
     fn pass_behind_front<S: ByteSource>(&mut self, source: &mut S) -> bool
         ensures { GoesFurtherOver result S.ByteSource source.old source.new self.old self.new }
@@ -132,13 +132,29 @@ impl Running {
     {
         match kind {
             RunKind::Dropped { within_block } => self.pass_dropped(within_block, source),
-            RunKind::Text => {
-                self.tell_line(source);
+            RunKind::Condition => self.pass_condition(source),
+            _ => {
+                if self.take_bytes(kind, source) {
+                    return true;
+                }
                 self.pass_end()
             }
+        }
+    }
+
+    /// Takes bytes in front that do this, and the escape of a register behind those of text or of
+    /// arguments. Returns whether it took that.
+    #[inline(always)]
+    fn take_bytes<S: ByteSource>(&mut self, kind: RunKind, source: &mut S) -> bool
+        requires { IsRun kind self.old.interpreter.reader.reading self.old.unread.input.escapes }
+        ensures { GoesFurtherOver result S.ByteSource source.old source.new self.old self.new }
+    {
+        match kind {
+            RunKind::Text => self.tell_line(source),
+            RunKind::Arguments => self.hold_line(source),
             _ => {
                 self.take_run(kind, source);
-                self.pass_end()
+                false
             }
         }
     }

@@ -40,8 +40,8 @@ impl Running {
         }
     }
 
-    /// Leaves the input, and reads what all ends of bodies lead back to. As the run closes nothing is
-    /// left, and a line begins.
+    /// Leaves the input, and reads what all ends of bodies lead back to. As the run closes nothing
+    /// is left, and a line begins.
     fn leave_input(&mut self)
         requires { due self.old.interpreter.reader.reading ≡ Some Leaves }
         ensures { LeavesInput self.old self.new }
@@ -54,8 +54,8 @@ impl Running {
         }
     }
 
-    /// Drops what stands ahead of the source, of which nothing more is taken, and reads what all ends of
-    /// bodies lead back to.
+    /// Drops what stands ahead of the source, of which nothing more is taken, and reads what all
+    /// ends of bodies lead back to.
     fn drop_ahead(&mut self)
         requires { self.old.interpreter.reader.reading ≡ LineStart }
         ensures { DropsAhead self.old self.new }

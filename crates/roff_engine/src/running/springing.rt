@@ -6,7 +6,7 @@ ghost use Rattle.roff_formatter.specs.Formatter.Sprung.{event_going_on, left_beh
 
 use super::Running;
 use roff_formatter::{Halt, Sprung};
-use roff_pages::LayoutEvent;
+use roff_layout::LayoutEvent;
 use roff_run::{PageEvent, Status};
 use roff_sinks::ByteSink;
 
@@ -48,8 +48,8 @@ impl Running {
         }
     }
 
-    /// Puts the events back that are left of those that the reader keeps: the last one first. An eject
-    /// in front of them may go on.
+    /// Puts the events back that are left of those that the reader keeps: the last one first. An
+    /// eject in front of them may go on.
     fn put_left_back(&mut self, sprung: Sprung)
         ensures { PutsBack (left_behind sprung self.old.interpreter.reader.meaning.events)
             self.old self.new }
@@ -66,8 +66,8 @@ impl Running {
         }
     }
 
-    /// Puts the events back that the reader keeps, from an index on: the last one first. A title among
-    /// them is kept.
+    /// Puts the events back that the reader keeps, from an index on: the last one first. A title
+    /// among them is kept.
     fn put_back(&mut self, first: usize)
         ensures { PutsBack (drop first self.old.interpreter.reader.meaning.events)
             self.old self.new }

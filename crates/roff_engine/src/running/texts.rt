@@ -9,15 +9,16 @@ ghost use Rattle.roff_run.specs.Run.{byte_taken, item_read};
 ghost use Rattle.roff_run.specs.declared.line_state.LineState.TheVariants.{Text as InText};
 
 use super::Running;
+use super::fronts::begins_register;
 use roff_run::{LineState, Status, TextLine};
 use roff_scan::ByteSource;
 use roff_sinks::ByteSink;
 
 impl Running {
-    ghost use Rattle.roff_engine.specs.Running.Turning.{DoesItem, TellsOver, TurnsBy};
+    ghost use Rattle.roff_engine.specs.Running.Turning.{DoesItem, TellsOver, TurnsOver};
 
-    /// Takes the item in front on this text line, where nothing is half read: most often a byte that
-    /// stands ready.
+    /// Takes the item in front on this text line, where nothing is half read: most often a byte
+    /// that stands ready.
     #[inline(always)]
     pub(super) fn turn_text<S: ByteSource, O: ByteSink, E: ByteSink>(
         &mut self,
@@ -28,11 +29,8 @@ impl Running {
     ) -> Result<(), Status>
         requires line { self.old.interpreter.reader.reading ≡ InText line }
         requires none_half { self.old.unread.input.escapes ≡ [] }
-        ensures { TurnsBy (λ s. item_read self.old.limits s)
-            (S.gives source.old) (S.gives source.new) (S.notes source.old) (S.notes source.new)
-            self.old self.new
-            (seen (S.failures source.old) (O.sunk out.old) (E.sunk err.old))
-            (seen (S.failures source.new) (O.sunk out.new) (E.sunk err.new)) result }
+        ensures { TurnsOver S.ByteSource O.ByteSink E.ByteSink (λ s. item_read self.old.limits s)
+            source.old source.new out.old out.new err.old err.new self.old self.new result }
     {
         let line_before = self.unread.line();
         match self.unread.take_ready(source) {
@@ -92,8 +90,8 @@ impl Running {
         }
     }
 
-    /// Tells bytes of plain text that stand in front where a line begins, if no interrupted one goes on:
-    /// as many as no limit refuses, and none that finishes a line.
+    /// Tells bytes of plain text that stand in front where a line begins, if no interrupted one
+    /// goes on: as many as no limit refuses, and none that finishes a line.
     #[inline(always)]
     pub(super) fn tell_beginning<S: ByteSource>(&mut self, source: &mut S)
         requires none_due { due self.old.interpreter.reader.reading ≡ None }
@@ -103,14 +101,28 @@ impl Running {
         ensures past { TellsOver S.ByteSource source.old source.new self.old self.new }
     {
         match self.interpreter.reader.reading() {
-            LineState::LineStart => self.begin_text(source),
+            LineState::LineStart => self.begin_text_line(source),
             _ => {}
         }
     }
 
-    /// The same where a line begins.
+    /// The same where a line begins, and then takes the escape of a register behind them.
     #[inline(always)]
-    fn begin_text<S: ByteSource>(&mut self, source: &mut S)
+    fn begin_text_line<S: ByteSource>(&mut self, source: &mut S)
+        requires begins { self.old.interpreter.reader.reading ≡ LineStart }
+        requires none_half { self.old.unread.input.escapes ≡ [] }
+        ensures none_due { due self.new.interpreter.reader.reading ≡ None }
+        ensures none_half { self.new.unread.input.escapes ≡ [] }
+        ensures past { TellsOver S.ByteSource source.old source.new self.old self.new }
+    {
+        if self.begin_text(source) {
+            let _ = self.take_register(source);
+        }
+    }
+
+    /// The same where a line begins. Returns whether the escape of a register may stand behind them.
+    #[inline(always)]
+    fn begin_text<S: ByteSource>(&mut self, source: &mut S) -> bool
         requires begins { self.old.interpreter.reader.reading ≡ LineStart }
         requires none_half { self.old.unread.input.escapes ≡ [] }
         ensures none_due { due self.new.interpreter.reader.reading ≡ None }
@@ -119,14 +131,14 @@ impl Running {
     {
         let environments = &self.interpreter.formatter.composer.environments;
         match environments.interrupted_line() {
-            Some(_) => {}
+            Some(_) => false,
             None => self.begin_line(source),
         }
     }
 
     /// The same where no interrupted line goes on.
     #[inline(always)]
-    fn begin_line<S: ByteSource>(&mut self, source: &mut S)
+    fn begin_line<S: ByteSource>(&mut self, source: &mut S) -> bool
         requires begins { self.old.interpreter.reader.reading ≡ LineStart }
         requires none_half { self.old.unread.input.escapes ≡ [] }
         requires none_goes_on { (l : LimitsOf) (h : PageHistory)
@@ -137,12 +149,16 @@ impl Running {
     {
         let front = self.unread.front(source);
         if !begin_with_text(front) {
-            return;
+            return false;
         }
         let count = self.interpreter.formatter.text_front(front);
+        let meets_register = begins_register(front, count);
         self.unread.pass(source, count);
         if count > 0 {
             self.interpreter.reader.go_on(LineState::Text(BEHIND_GLYPH));
+            meets_register
+        } else {
+            false
         }
     }
 }

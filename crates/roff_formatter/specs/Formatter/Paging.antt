@@ -3,17 +3,17 @@ use Rattle.std.specs.Prelude.{◌≡◌, ◌≤◌, Bool, true, false, Option, S
 use Rattle.roff_num.specs.declared.limit.Limit.TheVariants.{Output as OutputLimit}
 use Rattle.roff_num.specs.declared.limits.Limits.{Limits}
 use Rattle.roff_num.specs.declared.short_name.ShortName.{ShortName}
-use Rattle.roff_lines.specs.Lines.{Finished}
-use Rattle.roff_pages.specs.Happenings.{Happening, Does, Places}
-use Rattle.roff_pages.specs.Layout.{Layout}
+use Rattle.roff_layout.specs.Lines.{Finished}
+use Rattle.roff_layout.specs.Happenings.{Happening, Does, Places}
+use Rattle.roff_layout.specs.Layout.{Layout}
 use Rattle.roff_pages.specs.Pages.Kept.{Kept}
 use Rattle.roff_pages.specs.Pages.Printing.{DidTo}
 use Rattle.roff_pages.specs.Pages.Stands.{Happens, SameLimits, StandsAs}
-use Rattle.roff_pages.specs.Happenings.{is_eject_event}
-use Rattle.roff_pages.specs.Queries.{nl}
-use Rattle.roff_pages.specs.Springs.{is_on_top, springs as springs_on_page}
-use Rattle.roff_pages.specs.declared.layout_event.LayoutEvent.{LayoutEvent}
-use Rattle.roff_pages.specs.declared.layout_event.LayoutEvent.TheVariants.{Begin}
+use Rattle.roff_layout.specs.Happenings.{is_eject_event}
+use Rattle.roff_layout.specs.Queries.{nl}
+use Rattle.roff_layout.specs.Springs.{is_on_top, springs as springs_on_page}
+use Rattle.roff_layout.specs.declared.layout_event.LayoutEvent.{LayoutEvent}
+use Rattle.roff_layout.specs.declared.layout_event.LayoutEvent.TheVariants.{Begin}
 use Rattle.roff_composer.specs.Composer.Standing.{StandFor}
 use Rattle.roff_formatter.specs.declared.formatter.Formatter.{Formatter}
 use Rattle.roff_formatter.specs.declared.halt.Halt.{Halt}

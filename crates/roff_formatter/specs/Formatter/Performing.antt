@@ -14,8 +14,8 @@ use Rattle.roff_sinks.specs.Devices.{Seen, seen}
 use Rattle.roff_run.specs.Output.{text_of}
 use Rattle.roff_run.specs.Environments.{interrupted_line}
 use Rattle.roff_run.specs.Springs.{next, own_word_end, word_end_of}
-use Rattle.roff_lines.specs.Words.{has_open_word}
-use Rattle.roff_lines.specs.declared.event.Event.TheVariants.{WordEnd}
+use Rattle.roff_layout.specs.Words.{has_open_word}
+use Rattle.roff_layout.specs.declared.event.Event.TheVariants.{WordEnd}
 use Rattle.roff_run.specs.declared.status.Status.TheVariants.{Done}
 use Rattle.roff_formatter.specs.Formatter.Sprung.{IsAmong, behind_sprung, first_left, left_behind, most_back}
 use Rattle.roff_run.specs.TurnsToCome.{most_left}

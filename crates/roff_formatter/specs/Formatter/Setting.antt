@@ -2,14 +2,14 @@
 use Rattle.std.specs.Prelude.{◌≡◌, ◌≤◌, ◌<◌, ◌+◌, Bool, true, false, not, length, Option, None, Result, Ok, Err}
 use Rattle.roff_num.specs.declared.limit.Limit.{Limit}
 use Rattle.roff_num.specs.declared.limit.Limit.TheVariants.{Traps, Diversions}
-use Rattle.roff_pages.specs.Happenings.{Does}
+use Rattle.roff_layout.specs.Happenings.{Does}
 use Rattle.roff_pages.specs.Pages.Kept.{Kept}
-use Rattle.roff_pages.specs.Layout.{Layout}
+use Rattle.roff_layout.specs.Layout.{Layout}
 use Rattle.roff_pages.specs.Pages.Stands.{Happens, StandsAs}
-use Rattle.roff_pages.specs.Springs.{springs as springs_on_page}
-use Rattle.roff_pages.specs.Turning.{with_trap}
-use Rattle.roff_pages.specs.declared.layout_event.LayoutEvent.{LayoutEvent}
-use Rattle.roff_pages.specs.declared.layout_event.LayoutEvent.TheVariants.{Begin, Space, Need, Eject, EjectTo, EjectOn, EjectLast, Plant, Uproot, MoveTrap, RemoveTrap, DiversionTrap, NoDiversionTrap, Divert, EndDivert}
+use Rattle.roff_layout.specs.Springs.{springs as springs_on_page}
+use Rattle.roff_layout.specs.Turning.{with_trap}
+use Rattle.roff_layout.specs.declared.layout_event.LayoutEvent.{LayoutEvent}
+use Rattle.roff_layout.specs.declared.layout_event.LayoutEvent.TheVariants.{Begin, Space, Need, Eject, EjectTo, EjectOn, EjectLast, Plant, Uproot, MoveTrap, RemoveTrap, DiversionTrap, NoDiversionTrap, Divert, EndDivert}
 use Rattle.roff_formatter.specs.Formatter.Paging.{PutsOnPage, ejects_still}
 use Rattle.roff_formatter.specs.Formatter.Sprung.{left_going_on, sprung_by}
 use Rattle.roff_formatter.specs.declared.sprung.Sprung.{Sprung}

@@ -1,7 +1,7 @@
 -- What an event sprang, and what is left of the events of a step.
 use Rattle.std.specs.Prelude.{◌≤◌, ℕ, ◌+◌, Bool, true, false, List, [], ◌∷◌, ◌++◌, drop, length, Option, Some, None, Result, Ok, Err, if◌then◌else◌}
 use Rattle.roff_num.specs.declared.short_name.ShortName.{ShortName}
-use Rattle.roff_pages.specs.declared.layout_event.LayoutEvent.TheVariants.{Number}
+use Rattle.roff_layout.specs.declared.layout_event.LayoutEvent.TheVariants.{Number}
 use Rattle.roff_run.specs.Run.{State, sprung_at}
 use Rattle.roff_run.specs.PageEvents.{PageEvent}
 use Rattle.roff_run.specs.declared.event.PageEvent.TheVariants.{Page}

@@ -2,8 +2,8 @@
 use Rattle.std.specs.Prelude.{◌≡◌, ℕ, ◌+◌, ◌<◌, ◌≤◌, true, List, length, take}
 use Rattle.std.specs.List.{AllByRecursion}
 use Rattle.roff_num.specs.declared.limits.Limits.{Limits}
-use Rattle.roff_lines.specs.Telling.{QuietlyTold}
-use Rattle.roff_pages.specs.Queries.{takes_text}
+use Rattle.roff_layout.specs.Telling.{QuietlyTold}
+use Rattle.roff_layout.specs.Queries.{takes_text}
 use Rattle.roff_source.specs.Bytes.{is_text_byte}
 use Rattle.roff_run.specs.Environments.{PageHistory, text_of}
 use Rattle.roff_composer.specs.Composer.Standing.{StandFor}

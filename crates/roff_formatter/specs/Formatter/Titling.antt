@@ -2,7 +2,7 @@
 use Rattle.std.specs.Prelude.{ℕ, List}
 use Rattle.roff_formatter.specs.declared.formatter.Formatter.{Formatter}
 use Rattle.roff_run.specs.TitleTexts.{TitleText}
-use Rattle.roff_sinks.specs.Titles.{Title}
+use Rattle.roff_layout.specs.Titles.{Title}
 
 -- its text, with the title length of the environment in force, and this number of the page
 abbrev pub title_at : Formatter → TitleText → List ℕ → Title

@@ -8,7 +8,7 @@ ghost use Rattle.roff_formatter.specs.Clauses.{Back, Environment, Interrupt, Set
 use super::Formatter;
 use crate::halt::Halt;
 use crate::sprung::Sprung;
-use roff_lines::{Event, Glyph};
+use roff_layout::{Event, Glyph};
 use roff_run::{EnvironmentNumber, InputTrap, Step};
 use roff_sinks::ByteSink;
 

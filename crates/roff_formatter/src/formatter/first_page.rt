@@ -9,9 +9,8 @@ ghost use Rattle.roff_run.specs.Springs.{is_paged, needs_page};
 ghost use Rattle.roff_run.specs.PageEvents.{PageEvent};
 
 use super::Formatter;
-use roff_lines::Event;
+use roff_layout::{Event, LayoutEvent};
 use roff_num::ShortName;
-use roff_pages::LayoutEvent;
 
 impl Formatter {
     /// Begins the first page in front of an event that needs one, unless text may be taken. Returns

@@ -1,21 +1,22 @@
 //! The events of pages.
 
 ghost use Rattle.std.specs.Prelude.{◌≡◌, [], ◌∷◌, true};
-ghost use Rattle.roff_pages.specs.Happenings.{Does};
-ghost use Rattle.roff_pages.specs.Layout.{Layout};
+ghost use Rattle.roff_layout.specs.Happenings.{Does};
+ghost use Rattle.roff_layout.specs.Layout.{Layout};
 ghost use Rattle.roff_pages.specs.Pages.Stands.{StandsAs};
 ghost use Rattle.roff_formatter.specs.Formatter.Paging.{ejects_still};
 ghost use Rattle.roff_formatter.specs.Formatter.Setting.{halted_within, may_put};
-ghost use Rattle.roff_pages.specs.Springs.{is_on_top};
+ghost use Rattle.roff_layout.specs.Springs.{is_on_top};
 ghost use Rattle.roff_formatter.specs.Clauses.{DoesOnPage, IsOfTraps, PutsBy, PutsNothing};
 ghost use Rattle.roff_formatter.specs.Clauses.{Page, PerformsEvents, SetsOnPage, halted_by};
-ghost use Rattle.roff_pages.specs.declared.layout_event.LayoutEvent.TheVariants.{Need, Space};
+ghost use Rattle.roff_layout.specs.declared.layout_event.LayoutEvent.TheVariants.{Need, Space};
 
 use super::Formatter;
 use crate::halt::Halt;
 use crate::sprung::{Sprung, left_going_on};
+use roff_layout::LayoutEvent;
 use roff_num::{Limit, ShortName};
-use roff_pages::{LayoutEvent, PageFault, Pages};
+use roff_pages::{PageFault, Pages};
 use roff_sinks::ByteSink;
 
 impl Formatter {

@@ -3,9 +3,9 @@
 ghost use Rattle.std.specs.Prelude.{[], ◌∷◌, ◌++◌, option_map};
 ghost use Rattle.roff_run.specs.Reading.TextLines.{blank_line, leading_glyph};
 ghost use Rattle.roff_formatter.specs.Clauses.{finished_of, Gap, Print, WordEnd, LineEnd, Break};
-ghost use Rattle.roff_lines.specs.declared.event.Event.TheVariants.{Count};
-ghost use Rattle.roff_pages.specs.Happenings.{Places};
-ghost use Rattle.roff_pages.specs.declared.layout_event.LayoutEvent.TheVariants.{Space};
+ghost use Rattle.roff_layout.specs.declared.event.Event.TheVariants.{Count};
+ghost use Rattle.roff_layout.specs.Happenings.{Places};
+ghost use Rattle.roff_layout.specs.declared.layout_event.LayoutEvent.TheVariants.{Space};
 ghost use Rattle.roff_formatter.specs.Clauses.{EndsOpenWord, EndsWordFirst};
 ghost use Rattle.roff_formatter.specs.Clauses.{PerformsEvents, PerformsOne};
 ghost use Rattle.roff_formatter.specs.Clauses.{PutsFinished, PutsOnPage};
@@ -15,7 +15,7 @@ use super::Formatter;
 use super::paging::done_on;
 use crate::halt::Halt;
 use crate::sprung::{Sprung, further};
-use roff_lines::{Event, Glyph, Line};
+use roff_layout::{Event, Glyph, Line};
 use roff_pages::Pages;
 use roff_sinks::ByteSink;
 

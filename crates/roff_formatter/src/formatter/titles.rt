@@ -1,14 +1,14 @@
 //! Titles that are placed.
 
 ghost use Rattle.std.specs.Prelude.{◌≡◌, ◌+◌, ◌<◌, ◌≤◌, ◌^◌, length};
-ghost use Rattle.roff_lines.specs.Glyphs.{text_width};
+ghost use Rattle.roff_layout.specs.Glyphs.{text_width};
 ghost use Rattle.roff_num.specs.RegisterText.{register_text};
-ghost use Rattle.roff_pages.specs.Happenings.{Titles};
-ghost use Rattle.roff_pages.specs.Layout.{Layout};
+ghost use Rattle.roff_layout.specs.Happenings.{Titles};
+ghost use Rattle.roff_layout.specs.Layout.{Layout};
 ghost use Rattle.roff_pages.specs.Pages.Stands.{StandsAs};
 ghost use Rattle.roff_sinks.specs.TitleLeft.{title_of};
 ghost use Rattle.roff_sinks.specs.TitleParts.{HasNoBlank};
-ghost use Rattle.roff_sinks.specs.Titles.{part_text};
+ghost use Rattle.roff_layout.specs.Titles.{part_text};
 ghost use Rattle.roff_formatter.specs.Clauses.{PerformsTitle, PlacesTitle, PutsOnPage};
 ghost use Rattle.roff_formatter.specs.Formatter.Titling.{title_at};
 

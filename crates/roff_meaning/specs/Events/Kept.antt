@@ -1,8 +1,8 @@
 -- What the code keeps of the events of a request.
-use Rattle.std.specs.Prelude.{List, if◌then◌else◌}
+use Rattle.std.specs.Prelude.{List}
 use Rattle.roff_meaning.specs.declared.events.RequestedEvents.TheInside.{Inside}
 use Rattle.roff_run.specs.PageEvents.{PageEvent}
-use Rattle.roff_meaning.specs.Events.{around_break, request_events, stops_set}
+use Rattle.roff_meaning.specs.Events.{around_break, stops_or_few}
 
 -- the events, in order
 pub record Told : Type 0 where
@@ -11,5 +11,5 @@ pub record Told : Type 0 where
 -- what the fields keep: one in front of a break, if there is one, and behind it, if there is one, those of stops, or a few
 abbrev pub told_by : Inside → Told
 told_by e = record {
-  items = around_break e.before e.breaks (if e.sets_stops then stops_set e.stops.items else request_events e.behind);
+  items = around_break e.before e.breaks (stops_or_few e.sets_stops e.stops.items e.behind);
 }

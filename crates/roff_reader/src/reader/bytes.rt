@@ -2,12 +2,14 @@
 
 ghost use Rattle.std.specs.Prelude.{◌≡◌, ◌==◌, [], ◌∷◌, Ok, false, true};
 ghost use Rattle.roff_source.specs.Bytes.{backslash};
-ghost use Rattle.roff_lines.specs.declared.event.Event.TheVariants.{Gap, Print, WordEnd};
-ghost use Rattle.roff_lines.specs.declared.glyph.Glyph.TheVariants.{Printed};
+ghost use Rattle.roff_layout.specs.declared.event.Event.TheVariants.{Gap, Print, WordEnd};
+ghost use Rattle.roff_layout.specs.declared.glyph.Glyph.TheVariants.{Printed};
 ghost use Rattle.roff_run.specs.declared.event.PageEvent.TheVariants.{Text};
-ghost use Rattle.roff_run.specs.declared.line_state.LineState.TheVariants.{Text as InText, Title as InTitle};
+ghost use Rattle.roff_run.specs.declared.line_state.LineState.TheVariants.{Text as InText};
+ghost use Rattle.roff_run.specs.declared.line_state.LineState.TheVariants.{Title as InTitle};
 ghost use Rattle.roff_run.specs.Registers.{Known};
-ghost use Rattle.roff_reader.specs.Clauses.{ComposerOf, PageUnread, TakesAs, meaning_events, taking};
+ghost use Rattle.roff_reader.specs.Clauses.{ComposerOf, PageUnread, TakesAs, meaning_events};
+ghost use Rattle.roff_reader.specs.Clauses.{taking};
 ghost use Rattle.roff_reader.specs.Clauses.{undropped_taking};
 ghost use Rattle.roff_escape.specs.OpenEscapes.{byte_read};
 ghost use Rattle.roff_run.specs.Reading.Found.{place_in, read_in};
@@ -80,6 +82,14 @@ impl Reader {
                 self.read_unit(breaks, request, unit, composer, unread)
             }
             LineState::Calling { name } => self.read_unit_of_call(name, unit, unread),
+            LineState::StringName { appends } => {
+                self.read_unit_of_string_name(appends, unit, unread)
+            }
+            LineState::StringText {
+                name,
+                appends,
+                is_front,
+            } => self.read_unit_of_string(name, appends, is_front, unit, unread),
             LineState::Title { delimiter } => {
                 if byte == delimiter {
                     return Ok(self.end_title_part(delimiter));

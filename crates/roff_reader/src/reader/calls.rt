@@ -41,7 +41,8 @@ impl Reader {
         Ok(self.read_on(LineState::Calling { name }))
     }
 
-    /// The last macro is read behind the input, if there is one, as the body of a call without arguments.
+    /// The last macro is read behind the input, if there is one, as the body of a call without
+    /// arguments.
     ///
     /// # Errors
     ///

@@ -3,7 +3,8 @@
 ghost use Rattle.std.specs.Prelude.{◌≡◌, true, false, Ok};
 ghost use Rattle.roff_reader.specs.Clauses.{ComposerOf, escape_ended};
 ghost use Rattle.roff_run.specs.declared.step.Step.TheVariants.{Nothing};
-ghost use Rattle.roff_reader.specs.Clauses.{TakesAs, condition_found, decided, is_so, condition_begun};
+ghost use Rattle.roff_reader.specs.Clauses.{TakesAs, condition_found, decided, is_so};
+ghost use Rattle.roff_reader.specs.Clauses.{condition_begun};
 
 use super::Reader;
 use roff_composer::{Composer, at_start, is_so};
@@ -58,8 +59,8 @@ impl Reader {
         }
     }
 
-    /// Ends the expression of a condition, if it is read and is a number, or decides a condition that
-    /// asks nothing more. Whether there was one; else nothing happens.
+    /// Ends the expression of a condition, if it is read and is a number, or decides a condition
+    /// that asks nothing more. Whether there was one; else nothing happens.
     #[inline(always)]
     pub(super) fn ends_quietly(&mut self, unread: &mut Unread<PageEvent>) -> bool
         ensures ends { result ≡ true → (es : ComposerOf)

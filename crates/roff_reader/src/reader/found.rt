@@ -7,7 +7,8 @@ ghost use Rattle.roff_run.specs.Reading.Collecting.{collected, unit_taking};
 ghost use Rattle.roff_run.specs.Reading.Found.{found_in, place_in};
 ghost use Rattle.roff_run.specs.Reading.Items.{read_by};
 ghost use Rattle.roff_run.specs.Reading.Units.{unit_in};
-ghost use Rattle.roff_reader.specs.Clauses.{AllRegisters, PageHistory, PageInput, StandFor, TakesAs};
+ghost use Rattle.roff_reader.specs.Clauses.{AllRegisters, PageHistory, PageInput, StandFor};
+ghost use Rattle.roff_reader.specs.Clauses.{TakesAs};
 ghost use Rattle.roff_reader.specs.Clauses.{known_at};
 
 use super::Reader;
@@ -86,6 +87,7 @@ impl Reader {
             _ => Ok(Step::Nothing),
         }
     }
+
     /// The same of a byte behind a name, where a line collects units from here on.
     pub(super) fn read_from(
         &mut self,

@@ -1,11 +1,12 @@
-//! Bytes above what is half read, where that is often: in conditions, arguments and text lines. Most
-//! often such a byte gives nothing yet, or is held.
+//! Bytes above what is half read, where that is often: in conditions, arguments and text lines.
+//! Most often such a byte gives nothing yet, or is held.
 
 ghost use Rattle.roff_escape.specs.OpenEscapes.{byte_read};
 ghost use Rattle.roff_reader.specs.Clauses.{TakesAs, condition_found};
 ghost use Rattle.roff_run.specs.Reading.Found.{found_in, place_in, read_in};
 ghost use Rattle.roff_run.specs.declared.line_state.LineState.TheVariants.{Arguments as InArguments};
-ghost use Rattle.roff_run.specs.declared.line_state.LineState.TheVariants.{Deciding, Text as InText};
+ghost use Rattle.roff_run.specs.declared.line_state.LineState.TheVariants.{Deciding};
+ghost use Rattle.roff_run.specs.declared.line_state.LineState.TheVariants.{Text as InText};
 
 use super::Reader;
 use roff_composer::{Composer, on_line};

@@ -5,11 +5,17 @@ ghost use Rattle.std.specs.Option.{option_to_list};
 ghost use Rattle.roff_reader.specs.Clauses.{TakesAs};
 ghost use Rattle.roff_reader.specs.Clauses.{interpolating};
 ghost use Rattle.roff_run.specs.Events.Steps.{events_of, messages_of};
+ghost use Rattle.roff_composer.specs.Composer.Standing.{StandFor};
+ghost use Rattle.roff_num.specs.ShortNames.{name_bytes};
+ghost use Rattle.roff_num.specs.declared.limits.Limits.{Limits};
+ghost use Rattle.roff_run.specs.Environments.{PageHistory};
+ghost use Rattle.roff_run.specs.Registers.{text_of_register};
 ghost use Rattle.roff_run.specs.Requests.Effects.{page_numbered};
+ghost use Rattle.roff_run.specs.Run.{known_at};
 
 use super::Reader;
 use roff_composer::Composer;
-use roff_num::{Direction, Limit, Name, Num};
+use roff_num::{Direction, Limit, Name, Num, NumText, ShortName};
 use roff_obeying::facts;
 use roff_run::{LineEvents, Message, PageEvent, Step};
 use roff_scan::Unread;
@@ -61,5 +67,20 @@ impl Reader {
         let text = self.registers.text(name, facts(composer, unread));
         unread.push(&text)?;
         Ok(Step::Nothing)
+    }
+
+    /// The text of the register of a name, as it is read in the place of its escape.
+    #[inline(always)]
+    pub fn register_text(
+        &self,
+        name: ShortName,
+        composer: &Composer,
+        unread: &Unread<PageEvent>,
+    ) -> NumText
+        ensures { (l : Limits) (h : PageHistory) → StandFor l h composer.now
+            → result.items ≡ text_of_register
+            (known_at h self.now.registers.all unread.now.input) (name_bytes name) }
+    {
+        self.registers.text(&name.name(), facts(composer, unread))
     }
 }

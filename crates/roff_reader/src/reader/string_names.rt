@@ -1,7 +1,7 @@
 //! The names of strings that are defined.
 
 ghost use Rattle.std.specs.Prelude.{◌≢◌, Some};
-ghost use Rattle.roff_arguments.specs.declared.arguments.Place.TheVariants.{BehindQuote};
+ghost use Rattle.roff_input.specs.declared.place.Place.TheVariants.{BehindQuote};
 ghost use Rattle.roff_escape.specs.declared.open_escape.CopyUnit.TheVariants.{Byte};
 ghost use Rattle.roff_reader.specs.Clauses.{ComposerOf, TakesAs, arguments_given};
 ghost use Rattle.roff_reader.specs.Clauses.{name_read};

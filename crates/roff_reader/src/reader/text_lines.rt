@@ -10,7 +10,8 @@ ghost use Rattle.roff_run.specs.Registers.{Known};
 ghost use Rattle.roff_source.specs.Bytes.{newline};
 ghost use Rattle.roff_reader.specs.Clauses.{ComposerOf, PageUnread, TakesAs, beginning_found};
 ghost use Rattle.roff_reader.specs.Clauses.{first_escape, first_name};
-ghost use Rattle.roff_reader.specs.Clauses.{PageInput, first_taking, going_on, going_on_told, line_begun};
+ghost use Rattle.roff_reader.specs.Clauses.{PageInput, first_taking, going_on, going_on_told};
+ghost use Rattle.roff_reader.specs.Clauses.{line_begun};
 ghost use Rattle.roff_reader.specs.Clauses.{name_taking, text_found};
 
 use super::Reader;
@@ -132,8 +133,8 @@ impl Reader {
         }
     }
 
-    /// The name behind an escape where a line begins, or a branch: what is read in the escape's place
-    /// leaves it there.
+    /// The name behind an escape where a line begins, or a branch: what is read in the escape's
+    /// place leaves it there.
     fn begin_with_name(
         &mut self,
         purpose: NameUse,
@@ -193,7 +194,8 @@ impl Reader {
     #[inline(never)]
     fn go_on_with(&mut self, line: TextLine, byte: u8) -> Step
         ensures { (es : ComposerOf) (u : PageUnread)
-            → TakesAs (λ k. behind_events (going_on_told (Some line)) (text_taking u.input line byte))
+            → TakesAs
+            (λ k. behind_events (going_on_told (Some line)) (text_taking u.input line byte))
             es self.old self.new u u (Ok result) }
     {
         let (reading, step) = line.taking(byte);
@@ -227,7 +229,8 @@ impl Reader {
     }
 }
 
-/// What is read behind a backslash and a newline where a line begins, or a branch: that begins still.
+/// What is read behind a backslash and a newline where a line begins, or a branch: that begins
+/// still.
 fn behind_newline(at: LineState) -> LineState
     ensures { (k : Known) (i : PageInput) → first_escape k i at newline ≡ going_on i result }
 {

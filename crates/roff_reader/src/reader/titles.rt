@@ -18,7 +18,7 @@ ghost use Rattle.roff_reader.specs.Reader.Titles.{ReadsTitle};
 
 use super::Reader;
 use roff_composer::{Composer, TitleText};
-use roff_lines::UNPADDABLE;
+use roff_layout::UNPADDABLE;
 use roff_num::{Format, Limit, Name};
 use roff_run::{
     CharacterName, LineState, Message, PageEvent, Request, Step, TitlePart, WhichTitle,
@@ -30,8 +30,8 @@ use roff_scan::{
 use roff_sinks::PAGE_NUMBER;
 
 impl Reader {
-    /// A unit in front of the parts: the first one that is no blank is the delimiter; of an escape that
-    /// is kept it is the backslash, and its second byte is one of the left part.
+    /// A unit in front of the parts: the first one that is no blank is the delimiter; of an escape
+    /// that is kept it is the backslash, and its second byte is one of the left part.
     pub(super) fn read_unit_in_front(
         &mut self,
         unit: CopyUnit,
@@ -150,8 +150,8 @@ impl Reader {
         }
     }
 
-    /// Takes bytes of a part together that stand in front, and stand for the page number, a blank or
-    /// themselves.
+    /// Takes bytes of a part together that stand in front, and stand for the page number, a blank
+    /// or themselves.
     #[inline(always)]
     pub fn take_title_front<S: ByteSource>(
         &mut self,

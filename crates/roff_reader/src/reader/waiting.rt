@@ -25,8 +25,8 @@ impl Reader {
         }
     }
 
-    /// Whether it waits for a byte, where nothing is half read: behind a dot or apostrophe for the name,
-    /// behind its first byte for the second, and behind a quote for another one.
+    /// Whether it waits for a byte, where nothing is half read: behind a dot or apostrophe for the
+    /// name, behind its first byte for the second, and behind a quote for another one.
     #[inline(always)]
     #[tactic(auto, using(crate::proofs::WaitingAlone::without_half))]
     pub fn waits_alone(&self, unread: &Unread<PageEvent>) -> bool
@@ -44,8 +44,8 @@ impl Reader {
         }
     }
 
-    /// Whether the item in front is taken next, whatever it is: nothing is due, and nothing is waited
-    /// for.
+    /// Whether the item in front is taken next, whatever it is: nothing is due, and nothing is
+    /// waited for.
     #[inline(always)]
     pub fn takes_any(&self, unread: &Unread<PageEvent>) -> bool
         ensures none_due { result ≡ true → due self.now.reading ≡ None }

@@ -1,8 +1,8 @@
 -- Bytes of a title's part that are read at once (manual, section 14).
 use Rattle.std.specs.Prelude.{◌≡◌, ℕ, ◌<◌, ◌≤◌, ◌==◌, ◌⊎◌, Bool, true, false, not, ◌&&◌, List, length, map, nat_le, slice_index_or, take, Option, if◌then◌else◌}
 use Rattle.std.specs.List.{AllByRecursion}
-use Rattle.roff_lines.specs.Glyphs.{glyph_blank}
-use Rattle.roff_sinks.specs.Titles.{page_mark}
+use Rattle.roff_layout.specs.Glyphs.{glyph_blank}
+use Rattle.roff_layout.specs.Titles.{page_mark}
 use Rattle.roff_run.specs.Reading.Titles.{is_page_character}
 use Rattle.roff_run.specs.Registers.{TitleGets}
 use Rattle.roff_run.specs.Registers.Capped.{Capped, with_change}

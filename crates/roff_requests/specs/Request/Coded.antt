@@ -15,13 +15,13 @@ use Rattle.roff_requests.specs.declared.requests.numbering.Numbers.{Numbers}
 use Rattle.roff_requests.specs.declared.requests.effects.RequestFacts.{RequestFacts}
 use Rattle.roff_meaning.specs.Events.{stops_set}
 use Rattle.roff_composer.specs.Environments.Standing.{StandBy}
-use Rattle.roff_lines.specs.Words.{is_empty}
+use Rattle.roff_layout.specs.Words.{is_empty}
 use Rattle.roff_num.specs.declared.limits.Limits.{Limits}
 use Rattle.roff_run.specs.Environments.{PageHistory, environments}
-use Rattle.roff_pages.specs.Layout.{Layout}
+use Rattle.roff_layout.specs.Layout.{Layout}
 use Rattle.roff_pages.specs.Pages.Stands.{StandsAs}
 use Rattle.roff_pages.specs.Pages.Counted.{counted}
-use Rattle.roff_pages.specs.Queries.{is_diverting, place_now}
+use Rattle.roff_layout.specs.Queries.{is_diverting, place_now}
 use Rattle.roff_run.specs.Registers.{Known, Change, Remove, page_name, value_in_force}
 use Rattle.roff_requests.specs.Registers.Coded.{change_of}
 use Rattle.roff_store.specs.TextCalls.{Call, Rename}

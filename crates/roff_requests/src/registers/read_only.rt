@@ -12,7 +12,7 @@ use roff_num::Name;
 use roff_run::Query;
 
 /// A read-only register.
-#[derive(Clone, Copy, Debug, PartialEq, Eq)]
+#[derive(Clone, Copy)]
 struct ReadOnly {
     /// Its name.
     name: [u8; 2],

@@ -1,16 +1,17 @@
 //! What is kept of titles: the one that is read, one that waits, and the page number's character.
 
 ghost use Rattle.std.specs.Prelude.{◌≡◌, ◌∷◌, [], Ok, replicate};
-ghost use Rattle.roff_lines.specs.Glyphs.{glyph_blank};
+ghost use Rattle.roff_layout.specs.Glyphs.{glyph_blank};
 ghost use Rattle.roff_requests.specs.Registers.Fronts.{AddsFront, is_plain, kept_byte};
 ghost use Rattle.roff_run.specs.Reading.Titles.{is_page_character};
 ghost use Rattle.roff_run.specs.Titles.{title_of, with_title_kept};
 ghost use Rattle.roff_run.specs.Registers.{CharacterIs, PartEnds, TitleBegins, TitleGets};
-ghost use Rattle.roff_run.specs.Registers.Capped.{admitted, title_admitted, title_after, with_change};
+ghost use Rattle.roff_run.specs.Registers.Capped.{admitted, title_admitted, title_after};
+ghost use Rattle.roff_run.specs.Registers.Capped.{with_change};
 
 use super::RunRegisters;
 use roff_composer::TitleText;
-use roff_lines::UNPADDABLE;
+use roff_layout::UNPADDABLE;
 use roff_num::{Format, Limit};
 use roff_run::{TitlePart, WhichTitle};
 use roff_sinks::PAGE_NUMBER;
@@ -90,7 +91,8 @@ impl RunRegisters {
     }
 
     /// The first of these bytes are read of it, up to one that is the delimiter, or doesn't stand
-    /// for the page number, a blank or itself, and no more than a title may have. How many they are.
+    /// for the page number, a blank or itself, and no more than a title may have. How many they
+    /// are.
     #[tactic(auto, using(crate::proofs::TitleFronts::plain_one_more, crate::proofs::TitleFronts::added_one_more))]
     pub fn add_front_to_title(&mut self, front: &[u8], delimiter: u8) -> usize
         ensures adds { AddsFront front.now delimiter result self.old self.new }

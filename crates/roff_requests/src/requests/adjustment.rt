@@ -7,7 +7,7 @@ ghost use Rattle.roff_run.specs.Requests.Adjustment.{adjust, centre, mode_named,
 
 use crate::number::value_in;
 use crate::requests::Response;
-use roff_lines::{AdjustMode, Event, Param};
+use roff_layout::{AdjustMode, Event, Param};
 use roff_num::Scale;
 use roff_run::PageEvent;
 

@@ -1,25 +1,25 @@
 //! What a request may ask of the run, and what it does.
 
 ghost use Rattle.std.specs.Prelude.{◌≡◌, ◌∷◌, ℕ, List, [], not};
-ghost use Rattle.roff_lines.specs.Words.{is_empty};
+ghost use Rattle.roff_layout.specs.Words.{is_empty};
 ghost use Rattle.roff_num.specs.declared.limits.Limits.{Limits};
 ghost use Rattle.roff_composer.specs.Environments.Standing.{StandBy};
 ghost use Rattle.roff_run.specs.Environments.{PageHistory, environments};
 ghost use Rattle.roff_pages.specs.Pages.Stands.{StandsAs};
-ghost use Rattle.roff_pages.specs.Layout.{Layout};
+ghost use Rattle.roff_layout.specs.Layout.{Layout};
 ghost use Rattle.roff_pages.specs.Pages.Counted.{counted};
-ghost use Rattle.roff_pages.specs.Queries.{place_now};
+ghost use Rattle.roff_layout.specs.Queries.{place_now};
 ghost use Rattle.roff_run.specs.Registers.{Known, place_down};
 ghost use Rattle.roff_requests.specs.Request.Coded.{KnowsPages, calls_of, changes_of, response_of};
 ghost use Rattle.roff_run.specs.declared.event.PageEvent.TheVariants.{Page};
-ghost use Rattle.roff_run.specs.Requests.Effects.{Obeyed, Ignored, bad_format, bad_number, happens, left_out, no_such_environment, nothing, setting};
+ghost use Rattle.roff_run.specs.Requests.Effects.{Obeyed, Ignored, bad_format, bad_number, happens};
+ghost use Rattle.roff_run.specs.Requests.Effects.{left_out, no_such_environment, nothing, setting};
 
 use crate::number::LINE;
 use crate::registers::Change;
 use roff_composer::Composer;
-use roff_lines::{Event, Param, Settings};
+use roff_layout::{Event, LayoutEvent, Param, Settings};
 use roff_num::{Name, Num};
-use roff_pages::LayoutEvent;
 use roff_run::{Message, PageEvent};
 
 /// What a request may ask of the run.
@@ -27,13 +27,13 @@ use roff_run::{Message, PageEvent};
 pub struct RequestFacts<'a> {
     /// The environments and the pages.
     pub composer: &'a Composer,
-    /// The value of the register that the first argument names, if it names one and the request asks
-    /// for it.
+    /// The value of the register that the first argument names, if it names one and the request
+    /// asks for it.
     pub in_force: Num,
 }
 
 /// What one may ask of the pages.
-#[derive(Clone, Copy, Debug)]
+#[derive(Clone, Copy)]
 pub(crate) struct PageFacts {
     /// The place where text goes, in lines.
     pub place: u64,

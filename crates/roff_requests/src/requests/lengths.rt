@@ -4,11 +4,12 @@ ghost use Rattle.std.specs.Prelude.{◌≡◌, ℕ, List, slice_get};
 ghost use Rattle.std.specs.Option.{option_copied};
 ghost use Rattle.roff_run.specs.Registers.{Known};
 ghost use Rattle.roff_requests.specs.Request.Coded.{response_of};
-ghost use Rattle.roff_run.specs.Requests.Lengths.{indent, length_set, length_wanted, line_length, temporary_indent, title_length};
+ghost use Rattle.roff_run.specs.Requests.Lengths.{indent, length_set, length_wanted, line_length};
+ghost use Rattle.roff_run.specs.Requests.Lengths.{temporary_indent, title_length};
 
 use crate::number::{rounded_to_columns, value_beside};
 use crate::requests::Response;
-use roff_lines::{Param, Settings};
+use roff_layout::{Param, Settings};
 use roff_num::{NumFault, Scale};
 
 /// The basic units of a column.

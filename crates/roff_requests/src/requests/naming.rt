@@ -36,7 +36,8 @@ pub(super) fn end_macro(first: Option<&[u8]>) -> Response
 
 /// The name that an argument gives, if it is there and gives one.
 pub(super) fn name_in(argument: Option<&[u8]>) -> Option<ShortName>
-    ensures { (index : ℕ) (as_given : List (List ℕ)) → option_copied argument.entry ≡ slice_get as_given index
+    ensures { (index : ℕ) (as_given : List (List ℕ))
+        → option_copied argument.entry ≡ slice_get as_given index
         → result ≡ name_or_none (name_at index as_given) }
 {
     match argument {

@@ -3,11 +3,13 @@
 ghost use Rattle.std.specs.Prelude.{◌≡◌, ℕ, List, drop, slice_get};
 ghost use Rattle.std.specs.Option.{option_copied};
 ghost use Rattle.roff_run.specs.Registers.{Known};
-ghost use Rattle.roff_requests.specs.Request.Coded.{GivesFirst, KnowsOf, response_of, register_named, set_by};
+ghost use Rattle.roff_requests.specs.Request.Coded.{GivesFirst, KnowsOf, response_of};
+ghost use Rattle.roff_requests.specs.Request.Coded.{register_named, set_by};
 ghost use Rattle.roff_num.specs.declared.num.Scale.TheVariants.{Units};
 ghost use Rattle.roff_run.specs.Numbers.{value_beside};
 ghost use Rattle.roff_run.specs.declared.request.Request.TheVariants.{NumberRegister};
-ghost use Rattle.roff_run.specs.Requests.Numbering.{assign_format, format_as, increment_given, name_given, set_register, set_to};
+ghost use Rattle.roff_run.specs.Requests.Numbering.{assign_format, format_as, increment_given};
+ghost use Rattle.roff_run.specs.Requests.Numbering.{name_given, set_register, set_to};
 
 use crate::number::{value_beside, value_in};
 use crate::registers::{Change, is_page};
@@ -16,7 +18,7 @@ use roff_num::{Format, Name, Num, NumFault, Scale, read_format};
 use roff_run::name_given;
 
 /// A register's value and increment.
-#[derive(Clone, Copy, Debug, PartialEq, Eq)]
+#[derive(Clone, Copy)]
 pub struct Numbers {
     /// The value.
     pub value: Num,

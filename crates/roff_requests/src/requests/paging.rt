@@ -2,19 +2,20 @@
 
 ghost use Rattle.std.specs.Prelude.{◌≡◌, ◌^◌, ℕ, List, min, slice_get};
 ghost use Rattle.std.specs.Option.{option_copied};
-ghost use Rattle.roff_pages.specs.Layout.{Layout};
-ghost use Rattle.roff_pages.specs.Queries.{is_diverting};
+ghost use Rattle.roff_layout.specs.Layout.{Layout};
+ghost use Rattle.roff_layout.specs.Queries.{is_diverting};
 ghost use Rattle.roff_run.specs.Registers.{Known};
 ghost use Rattle.roff_requests.specs.Request.Coded.{KnowsPages, response_of};
 ghost use Rattle.roff_run.specs.Requests.Paging.{begin_page, ejected, ejected_by, ejected_to};
-ghost use Rattle.roff_run.specs.Requests.Paging.{lines_on_page, lines_set, next_numbered, page_ejected};
+ghost use Rattle.roff_run.specs.Requests.Paging.{lines_on_page, lines_set, next_numbered};
+ghost use Rattle.roff_run.specs.Requests.Paging.{page_ejected};
 ghost use Rattle.roff_run.specs.Requests.Paging.{page_length, page_number, page_offset};
 
 use super::lengths::length_wanted;
 use crate::number::{LINE, height_beside, lines_in, value_beside};
 use crate::requests::{PageFacts, Response};
+use roff_layout::LayoutEvent;
 use roff_num::{Num, NumFault, Scale};
-use roff_pages::LayoutEvent;
 use roff_run::{Message, PageEvent};
 
 /// The page length where none is given, in lines: 11 inches.
@@ -97,8 +98,8 @@ fn next_numbered(number: Result<i32, NumFault>) -> Response
     }
 }
 
-/// `bp`: the page is ejected, where no diversion is open; the next one gets the number that is given.
-/// A sign in front adds to that of the page in force, or takes from it.
+/// `bp`: the page is ejected, where no diversion is open; the next one gets the number that is
+/// given. A sign in front adds to that of the page in force, or takes from it.
 pub(super) fn begin_page(known: PageFacts, argument: Option<&[u8]>) -> Response
     ensures { (k : Known) (as_given : List (List ℕ)) → KnowsPages k.layout known
         → option_copied argument.entry ≡ slice_get as_given 0

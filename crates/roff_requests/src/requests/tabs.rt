@@ -38,7 +38,8 @@ pub fn tab_stops(given: ArgumentList<'_>) -> Option<Stops>
     Some(stops)
 }
 
-/// Where a stop lies, in basic units before it is rounded: behind a `+` it counts from the one before.
+/// Where a stop lies, in basic units before it is rounded: behind a `+` it counts from the one
+/// before.
 fn stop_place(before: i32, text: &[u8]) -> Result<i32, NumFault>
     ensures { result ≡ stop_place before text.now }
 {
@@ -48,8 +49,8 @@ fn stop_place(before: i32, text: &[u8]) -> Result<i32, NumFault>
     }
 }
 
-/// The column of a stop at a place in basic units; one below 0 lies at the line's beginning, as it is
-/// behind no place.
+/// The column of a stop at a place in basic units; one below 0 lies at the line's beginning, as it
+/// is behind no place.
 fn column_of(place: i32) -> u32
     ensures { result ≡ at_least_zero place / 24 }
 {

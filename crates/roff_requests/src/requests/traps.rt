@@ -4,18 +4,19 @@ ghost use Rattle.std.specs.Prelude.{◌≡◌, ℕ, List, Ok, slice_get};
 ghost use Rattle.std.specs.Option.{option_copied};
 ghost use Rattle.roff_num.specs.Steps.{followed};
 ghost use Rattle.roff_pages.specs.Pages.Counted.{counted};
-ghost use Rattle.roff_pages.specs.Queries.{place_now};
+ghost use Rattle.roff_layout.specs.Queries.{place_now};
 ghost use Rattle.roff_requests.specs.Request.Coded.{KnowsPages, response_of};
 ghost use Rattle.roff_run.specs.Numbers.{rounded_in_range};
 ghost use Rattle.roff_run.specs.Registers.{Known};
-ghost use Rattle.roff_run.specs.Requests.Traps.{change_trap, in_lines, moved, moved_to, place_given};
+ghost use Rattle.roff_run.specs.Requests.Traps.{change_trap, in_lines, moved, moved_to};
+ghost use Rattle.roff_run.specs.Requests.Traps.{place_given};
 ghost use Rattle.roff_run.specs.Requests.Traps.{plant_trap, planted};
 
 use crate::number::{LINE, height_in, rounded_to_lines};
 use crate::requests::naming::name_in;
 use crate::requests::{PageFacts, Response};
+use roff_layout::{LayoutEvent, Trap};
 use roff_num::{NumFault, ShortName};
-use roff_pages::{LayoutEvent, Trap};
 
 /// `wh`: a macro springs at a place on each page. Without a name the first trap that was planted at
 /// that place goes, and without a place it is ignored.
@@ -42,8 +43,8 @@ fn planted(name: Option<ShortName>, place: Result<i32, NumFault>) -> Response
     }
 }
 
-/// `ch`: the first trap of a name is moved to a place; without a place it goes, and without a name it
-/// is ignored.
+/// `ch`: the first trap of a name is moved to a place; without a place it goes, and without a name
+/// it is ignored.
 pub(super) fn change_trap(known: PageFacts, first: Option<&[u8]>, second: Option<&[u8]>) -> Response
     ensures { (k : Known) (as_given : List (List ℕ)) → KnowsPages k.layout known
         → option_copied first.entry ≡ slice_get as_given 0

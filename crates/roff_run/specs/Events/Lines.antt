@@ -1,8 +1,8 @@
 -- The events of something of a text line, as the code tells them.
 use Rattle.std.specs.Prelude.{ℕ, List, [], ◌∷◌, ◌++◌, map}
-use Rattle.roff_lines.specs.declared.event.Event.TheVariants.{Break as PageBreak, Count, Gap as PageGap, LineEnd as PageLineEnd, Print as PagePrint, Tab as PageTab, WordEnd}
-use Rattle.roff_lines.specs.declared.glyph.Glyph.TheVariants.{Blanks, Printed}
-use Rattle.roff_pages.specs.declared.layout_event.LayoutEvent.TheVariants.{Close, EjectLast, Number}
+use Rattle.roff_layout.specs.declared.event.Event.TheVariants.{Break as PageBreak, Count, Gap as PageGap, LineEnd as PageLineEnd, Print as PagePrint, Tab as PageTab, WordEnd}
+use Rattle.roff_layout.specs.declared.glyph.Glyph.TheVariants.{Blanks, Printed}
+use Rattle.roff_layout.specs.declared.layout_event.LayoutEvent.TheVariants.{Close, EjectLast, Number}
 use Rattle.roff_run.specs.Reading.TextLines.{blank_line, leading_glyph}
 use Rattle.roff_run.specs.declared.event.LineEvents.{LineEvents}
 use Rattle.roff_run.specs.declared.event.LineEvents.TheVariants.{Nothing, LineEnd, Break, BlankLine, Closing, Number as GetsNumber, Gap, Interrupt, Tab, Leading, Printed as PrintedByte, Blanks as PrintedBlanks, Two, Three, Four}

@@ -1,7 +1,7 @@
 -- What a step means: its messages and its events.
 use Rattle.std.specs.Prelude.{List, [], ◌∷◌, ◌++◌, Option}
 use Rattle.std.specs.Option.{option_to_list}
-use Rattle.roff_lines.specs.declared.event.Event.TheVariants.{Break as PageBreak, Count, Gap as PageGap, LineEnd as PageLineEnd, Tab as PageTab, WordEnd}
+use Rattle.roff_layout.specs.declared.event.Event.TheVariants.{Break as PageBreak, Count, Gap as PageGap, LineEnd as PageLineEnd, Tab as PageTab, WordEnd}
 use Rattle.roff_run.specs.Events.Lines.{print_event}
 use Rattle.roff_run.specs.Reading.TextLines.{blank_line, leading_glyph}
 use Rattle.roff_run.specs.PageEvents.{PageEvent}

@@ -1,6 +1,6 @@
 -- The arguments of requests, and the end of a request's line (manual, sections 1.1 and 7.3).
 use Rattle.std.specs.Prelude.{Bool, List, [], ◌∷◌, if◌then◌else◌, ◌==◌}
-use Rattle.roff_arguments.specs.Arguments.{no_arguments}
+use Rattle.roff_input.specs.Arguments.{no_arguments}
 use Rattle.roff_source.specs.Bytes.{newline}
 use Rattle.roff_input.specs.Input.Names.{calling}
 use Rattle.roff_input.specs.Input.Calls.{arguments_given}

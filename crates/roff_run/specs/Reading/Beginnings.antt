@@ -1,6 +1,6 @@
 -- Where a line begins, or a branch: control lines and text lines (manual, sections 1.1, 4.2 and 16).
 use Rattle.std.specs.Prelude.{ℕ, true, false, List, [], ◌∷◌, Some, None, Option, if◌then◌else◌, ◌==◌}
-use Rattle.roff_lines.specs.declared.event.Event.TheVariants.{Resume}
+use Rattle.roff_layout.specs.declared.event.Event.TheVariants.{Resume}
 use Rattle.roff_source.specs.Bytes.{newline, blank, apostrophe, dot}
 use Rattle.roff_input.specs.Input.{holding_text}
 use Rattle.roff_escape.specs.declared.escapes.NameUse.{NameUse}

@@ -1,6 +1,6 @@
 -- The lines by which macros are defined, or that are ignored, and where their text begins (manual, section 7.1).
 use Rattle.std.specs.Prelude.{ℕ, Bool, false, List, [], ◌∷◌, Some, None, Option}
-use Rattle.roff_arguments.specs.Arguments.{no_arguments}
+use Rattle.roff_input.specs.Arguments.{no_arguments}
 use Rattle.roff_input.specs.Input.Names.{adding, dropping}
 use Rattle.roff_input.specs.Input.Names.{adding, dropping}
 use Rattle.roff_run.specs.Reading.Items.{PageInput, Taking, going_on}

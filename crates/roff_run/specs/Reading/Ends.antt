@@ -1,6 +1,6 @@
 -- What is due before anything more is taken, and the end of the input (manual, section 20).
 use Rattle.std.specs.Prelude.{Bool, true, false, is_some, List, [], ◌∷◌, Some, None, Option}
-use Rattle.roff_lines.specs.declared.event.Event.TheVariants.{Resume}
+use Rattle.roff_layout.specs.declared.event.Event.TheVariants.{Resume}
 use Rattle.roff_source.specs.Bytes.{newline}
 use Rattle.roff_input.specs.Input.Calls.{arguments_given}
 use Rattle.roff_run.specs.Reading.{undropped_taking}

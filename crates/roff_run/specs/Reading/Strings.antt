@@ -1,6 +1,6 @@
 -- The strings that lines define: their names and their texts (manual, section 7).
 use Rattle.std.specs.Prelude.{Bool, true, false, ◌&&◌, reverse, Some, None, Option, if◌then◌else◌, ◌==◌, []}
-use Rattle.roff_arguments.specs.Arguments.{no_arguments}
+use Rattle.roff_input.specs.Arguments.{no_arguments}
 use Rattle.roff_source.specs.Bytes.{newline, blank, quote}
 use Rattle.roff_escape.specs.OpenEscape.{unit_bytes}
 use Rattle.roff_input.specs.Input.Names.{texts_of, calling, adding, entering}

@@ -1,8 +1,8 @@
 -- Text lines: glyphs, blanks, tabs and escapes (manual, sections 4.1, 4.2, 9.1, 10.1 and 11.1).
 use Rattle.std.specs.Prelude.{ℕ, ℤ, pos, ◌+◌, true, false, ◌||◌, List, [], ◌∷◌, ◌++◌, map, min, Some, None, Option, if◌then◌else◌, ◌==◌}
-use Rattle.roff_lines.specs.declared.event.Event.TheVariants.{Print, Tab, WordEnd, Gap, LineEnd, Count, Break}
-use Rattle.roff_lines.specs.declared.glyph.Glyph.{Glyph}
-use Rattle.roff_lines.specs.declared.glyph.Glyph.TheVariants.{Printed, Blanks}
+use Rattle.roff_layout.specs.declared.event.Event.TheVariants.{Print, Tab, WordEnd, Gap, LineEnd, Count, Break}
+use Rattle.roff_layout.specs.declared.glyph.Glyph.{Glyph}
+use Rattle.roff_layout.specs.declared.glyph.Glyph.TheVariants.{Printed, Blanks}
 use Rattle.roff_source.specs.Bytes.{tab, newline, blank, backslash, is_silent}
 use Rattle.roff_escape.specs.Characters.{character}
 use Rattle.roff_escape.specs.Escapes.{escape_of}
@@ -18,7 +18,7 @@ use Rattle.roff_escape.specs.declared.open_escape.Found.TheVariants.{GoesOn, Uni
 use Rattle.roff_escape.specs.declared.open_escape.Remark.{Remark}
 use Rattle.roff_escape.specs.declared.open_escape.Surroundings.{Surroundings}
 use Rattle.roff_escape.specs.declared.open_escape.Surroundings.TheVariants.{Text as AboveText}
-use Rattle.roff_pages.specs.declared.layout_event.LayoutEvent.TheVariants.{Space}
+use Rattle.roff_layout.specs.declared.layout_event.LayoutEvent.TheVariants.{Space}
 use Rattle.roff_run.specs.Messages.{character_name, remark_messages}
 use Rattle.roff_run.specs.declared.message.Message.{Message}
 use Rattle.roff_run.specs.declared.message.Message.TheVariants.{LeftOut, UnknownCharacter}

@@ -3,8 +3,8 @@
 -- A part is read as text is, but for the delimiter, which comes before all else, and the page number's character, which comes
 -- behind escapes. Behind the last delimiter the line is read as arguments.
 use Rattle.std.specs.Prelude.{ℕ, Bool, false, ◌||◌, List, [], ◌∷◌, replicate, Option, Some, None, if◌then◌else◌, ◌==◌}
-use Rattle.roff_lines.specs.Glyphs.{glyph_blank}
-use Rattle.roff_sinks.specs.Titles.{page_mark}
+use Rattle.roff_layout.specs.Glyphs.{glyph_blank}
+use Rattle.roff_layout.specs.Titles.{page_mark}
 use Rattle.roff_source.specs.Bytes.{tab, newline, blank, backslash, is_silent}
 use Rattle.roff_escape.specs.Characters.{character}
 use Rattle.roff_escape.specs.Escapes.{escape_of}

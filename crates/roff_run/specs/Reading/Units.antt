@@ -1,6 +1,6 @@
 -- The units of the lines that collect them, and what was found there that is none (manual, section 7.3).
 use Rattle.std.specs.Prelude.{Some, None, Option}
-use Rattle.roff_arguments.specs.Arguments.{Arguments, with_unit, settled, only_kept}
+use Rattle.roff_input.specs.Arguments.{Arguments, with_unit, settled, only_kept}
 use Rattle.roff_input.specs.Input.{holding_text}
 use Rattle.roff_escape.specs.declared.open_escape.CopyUnit.{CopyUnit}
 use Rattle.roff_escape.specs.declared.open_escape.CopyUnit.TheVariants.{Kept}

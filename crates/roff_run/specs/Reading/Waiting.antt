@@ -1,7 +1,7 @@
 -- What is read waits for a byte where that decides what becomes of it (manual, sections 1.1, 7.2, 7.3 and 10.1).
 use Rattle.std.specs.Prelude.{pos, List, [], ◌∷◌, if◌then◌else◌}
-use Rattle.roff_arguments.specs.Arguments.{is_behind_quote}
-use Rattle.roff_arguments.specs.declared.arguments.Place.{Place}
+use Rattle.roff_input.specs.Arguments.{is_behind_quote}
+use Rattle.roff_input.specs.declared.place.Place.{Place}
 use Rattle.roff_escape.specs.OpenEscape.{OpenEscape}
 use Rattle.roff_escape.specs.Waiting.{waiting_of}
 use Rattle.roff_escape.specs.declared.open_escape.Surroundings.{Surroundings}

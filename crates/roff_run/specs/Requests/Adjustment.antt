@@ -1,9 +1,9 @@
 -- Adjusting and centring (manual, section 4).
 use Rattle.std.specs.Prelude.{ℕ, ℤ, true, List, [], ◌∷◌, Option, Some, None, Result, Ok, Err, if◌then◌else◌, ◌==◌}
-use Rattle.roff_lines.specs.declared.event.Event.TheVariants.{Set}
-use Rattle.roff_lines.specs.declared.settings.AdjustMode.{AdjustMode}
-use Rattle.roff_lines.specs.declared.settings.AdjustMode.TheVariants.{Left, Right, Centre, Both}
-use Rattle.roff_lines.specs.declared.settings.Param.TheVariants.{Adjusting, Mode, Centring}
+use Rattle.roff_layout.specs.declared.event.Event.TheVariants.{Set}
+use Rattle.roff_layout.specs.declared.settings.AdjustMode.{AdjustMode}
+use Rattle.roff_layout.specs.declared.settings.AdjustMode.TheVariants.{Left, Right, Centre, Both}
+use Rattle.roff_layout.specs.declared.settings.Param.TheVariants.{Adjusting, Mode, Centring}
 use Rattle.roff_num.specs.declared.num.NumFault.{NumFault}
 use Rattle.roff_num.specs.declared.num.Scale.TheVariants.{Units}
 use Rattle.roff_run.specs.Numbers.{value_in, at_least_zero}

@@ -1,9 +1,9 @@
 -- What a request does, and what that means for the registers and the page.
 use Rattle.std.specs.Prelude.{ℕ, Bool, List, [], ◌∷◌, Option, Some, None, if◌then◌else◌}
-use Rattle.roff_lines.specs.declared.event.Event.TheVariants.{WordEnd, Break, Set}
-use Rattle.roff_lines.specs.declared.settings.Param.{Param}
+use Rattle.roff_layout.specs.declared.event.Event.TheVariants.{WordEnd, Break, Set}
+use Rattle.roff_layout.specs.declared.settings.Param.{Param}
 use Rattle.roff_num.specs.declared.num.Num.{Num}
-use Rattle.roff_pages.specs.declared.layout_event.LayoutEvent.TheVariants.{Number}
+use Rattle.roff_layout.specs.declared.layout_event.LayoutEvent.TheVariants.{Number}
 use Rattle.roff_run.specs.PageEvents.{PageEvent}
 use Rattle.roff_run.specs.declared.event.PageEvent.{PageEvent as PageEventOf}
 use Rattle.roff_run.specs.declared.event.PageEvent.TheVariants.{Text, Page}

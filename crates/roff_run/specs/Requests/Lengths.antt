@@ -1,7 +1,7 @@
 -- The line length, the indent, the indent of one line (manual, section 6), and the title length (section 14).
 use Rattle.std.specs.Prelude.{ℕ, ◌/◌, pos, List, [], ◌∷◌, Result, Ok, Err}
-use Rattle.roff_lines.specs.declared.settings.Param.{Param}
-use Rattle.roff_lines.specs.declared.settings.Param.TheVariants.{LineLength, Indent, TemporaryIndent, TitleLength}
+use Rattle.roff_layout.specs.declared.settings.Param.{Param}
+use Rattle.roff_layout.specs.declared.settings.Param.TheVariants.{LineLength, Indent, TemporaryIndent, TitleLength}
 use Rattle.roff_num.specs.Steps.{followed}
 use Rattle.roff_num.specs.declared.num.NumFault.{NumFault}
 use Rattle.roff_num.specs.declared.num.Scale.TheVariants.{Columns}

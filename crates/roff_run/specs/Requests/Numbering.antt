@@ -5,7 +5,7 @@ use Rattle.roff_num.specs.declared.format.Format.{Format}
 use Rattle.roff_num.specs.declared.num.Num.{Num}
 use Rattle.roff_num.specs.declared.num.NumFault.{NumFault}
 use Rattle.roff_num.specs.declared.num.Scale.TheVariants.{Units}
-use Rattle.roff_arguments.specs.Arguments.{has_byte}
+use Rattle.roff_input.specs.Arguments.{has_byte}
 use Rattle.roff_run.specs.Numbers.{value_in, value_beside}
 use Rattle.roff_run.specs.Registers.{Known, SetTo, FormatAs, Remove, is_page, value_in_force}
 use Rattle.roff_run.specs.Requests.Effects.{Response, Ignored, Obeyed, changing, bad_number, bad_format, page_numbered}

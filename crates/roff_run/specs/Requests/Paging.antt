@@ -4,9 +4,9 @@ use Rattle.roff_num.specs.Steps.{followed}
 use Rattle.roff_num.specs.declared.num.Num.{Num}
 use Rattle.roff_num.specs.declared.num.NumFault.{NumFault}
 use Rattle.roff_num.specs.declared.num.Scale.TheVariants.{Units}
-use Rattle.roff_pages.specs.Layout.{Layout}
-use Rattle.roff_pages.specs.Queries.{is_diverting}
-use Rattle.roff_pages.specs.declared.layout_event.LayoutEvent.TheVariants.{Eject, EjectTo, Length, Next, Offset}
+use Rattle.roff_layout.specs.Layout.{Layout}
+use Rattle.roff_layout.specs.Queries.{is_diverting}
+use Rattle.roff_layout.specs.declared.layout_event.LayoutEvent.TheVariants.{Eject, EjectTo, Length, Next, Offset}
 use Rattle.roff_run.specs.Numbers.{at_least_zero, height_beside, rounded_in_range, value_beside}
 use Rattle.roff_run.specs.Registers.{Known, in_heights, place_down}
 use Rattle.roff_run.specs.declared.event.PageEvent.TheVariants.{Page}

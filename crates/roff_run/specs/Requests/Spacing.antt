@@ -1,12 +1,12 @@
 -- Blank lines, lines that are needed, no-space mode, and the spacing of lines (manual, sections 3 and 5).
 use Rattle.std.specs.Prelude.{ℕ, ◌/◌, Bool, ℤ, pos, negsuc, List, [], ◌∷◌, max, Result, Ok, Err}
-use Rattle.roff_lines.specs.declared.settings.Param.TheVariants.{Spacing}
+use Rattle.roff_layout.specs.declared.settings.Param.TheVariants.{Spacing}
 use Rattle.roff_num.specs.Steps.{followed}
 use Rattle.roff_num.specs.declared.num.NumFault.{NumFault}
 use Rattle.roff_num.specs.declared.num.Scale.TheVariants.{Units}
 use Rattle.roff_run.specs.Numbers.{height_in, value_in, rounded_in_range, at_least_zero}
 use Rattle.roff_run.specs.Registers.{Known, place_down}
-use Rattle.roff_pages.specs.declared.layout_event.LayoutEvent.TheVariants.{Need, NoSpace, Space}
+use Rattle.roff_layout.specs.declared.layout_event.LayoutEvent.TheVariants.{Need, NoSpace, Space}
 use Rattle.roff_run.specs.declared.event.PageEvent.TheVariants.{Page}
 use Rattle.roff_run.specs.declared.message.Message.TheVariants.{BackwardMotion}
 use Rattle.roff_run.specs.Requests.Effects.{Response, happens, setting, bad_number}

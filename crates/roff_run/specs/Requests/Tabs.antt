@@ -1,7 +1,7 @@
 -- Tab stops (manual, section 9).
 use Rattle.std.specs.Prelude.{ℕ, ◌/◌, ℤ, pos, ◌+ℤ◌, ◌==◌, if◌then◌else◌, List, [], ◌∷◌, map, take, Result, Ok, Err}
-use Rattle.roff_lines.specs.declared.event.Event.TheVariants.{Set}
-use Rattle.roff_lines.specs.declared.settings.Param.TheVariants.{NoStops, Stop}
+use Rattle.roff_layout.specs.declared.event.Event.TheVariants.{Set}
+use Rattle.roff_layout.specs.declared.settings.Param.TheVariants.{NoStops, Stop}
 use Rattle.roff_num.specs.Ranges.{in_range}
 use Rattle.roff_num.specs.Steps.{followed}
 use Rattle.roff_num.specs.declared.num.NumFault.{NumFault}

@@ -4,7 +4,7 @@ use Rattle.roff_num.specs.ShortNames.{name_at, name_or_none}
 use Rattle.roff_num.specs.Steps.{followed}
 use Rattle.roff_num.specs.declared.num.NumFault.{NumFault}
 use Rattle.roff_num.specs.declared.short_name.ShortName.{ShortName}
-use Rattle.roff_pages.specs.declared.layout_event.LayoutEvent.TheVariants.{MoveTrap, Plant, RemoveTrap, Uproot}
+use Rattle.roff_layout.specs.declared.layout_event.LayoutEvent.TheVariants.{MoveTrap, Plant, RemoveTrap, Uproot}
 use Rattle.roff_run.specs.Numbers.{height_in, rounded_in_range}
 use Rattle.roff_run.specs.Registers.{Known, place_down}
 use Rattle.roff_run.specs.declared.event.PageEvent.TheVariants.{Page}

@@ -1,6 +1,6 @@
 -- What an event or a step makes grow, and the first limit that a count is above.
 use Rattle.std.specs.Prelude.{ℕ, ◌+◌, ◌-◌, Bool, List, [], ◌∷◌, ◌++◌, length, nat_lt, Option, Some, None, if◌then◌else◌}
-use Rattle.roff_lines.specs.Lines.{pending_length}
+use Rattle.roff_layout.specs.Lines.{pending_length}
 use Rattle.roff_num.specs.LimitValues.{value_of}
 use Rattle.roff_num.specs.declared.limit.Limit.{Limit}
 use Rattle.roff_num.specs.declared.limit.Limit.TheVariants.{Names, Stack, Depth, Line, Conditions, Store, Diversions, Environments as EnvironmentsLimit, Output, Traps}
@@ -8,12 +8,12 @@ use Rattle.roff_num.specs.declared.limits.Limits.{Limits}
 use Rattle.roff_input.specs.Input.Names.{names_added, stored}
 use Rattle.roff_input.specs.Input.{pushed, depth, result_count}
 use Rattle.roff_run.specs.Environments.{environments}
-use Rattle.roff_pages.specs.Happenings.{Happening, Does}
-use Rattle.roff_pages.specs.Layout.{Layout}
-use Rattle.roff_pages.specs.Turning.{with_trap}
-use Rattle.roff_pages.specs.declared.layout_event.LayoutEvent.{LayoutEvent}
-use Rattle.roff_pages.specs.declared.layout_event.LayoutEvent.TheVariants.{Divert, Plant}
-use Rattle.roff_pages.specs.DeviceText.{device_text}
+use Rattle.roff_layout.specs.Happenings.{Happening, Does}
+use Rattle.roff_layout.specs.Layout.{Layout}
+use Rattle.roff_layout.specs.Turning.{with_trap}
+use Rattle.roff_layout.specs.declared.layout_event.LayoutEvent.{LayoutEvent}
+use Rattle.roff_layout.specs.declared.layout_event.LayoutEvent.TheVariants.{Divert, Plant}
+use Rattle.roff_layout.specs.DeviceText.{device_text}
 use Rattle.roff_run.specs.Output.{happens, layout_of, text_of, written}
 use Rattle.roff_run.specs.PageEvents.{PageHistory, PastEvent, Title}
 use Rattle.roff_run.specs.Reading.Items.{PageInput}

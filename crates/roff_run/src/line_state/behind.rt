@@ -11,7 +11,8 @@ ghost use Rattle.roff_run.specs.Reading.Branches.{skipping_taking};
 ghost use Rattle.roff_run.specs.Reading.Returns.{back_of, behind_return, flag, gone_back_to};
 ghost use Rattle.roff_run.specs.Reading.Returns.{leading_back, line_of};
 ghost use Rattle.roff_run.specs.Registers.{Known};
-ghost use Rattle.roff_run.specs.declared.line_state.LineState.TheVariants.{Control as BehindControl, Text as InText};
+ghost use Rattle.roff_run.specs.declared.line_state.LineState.TheVariants.{Control as BehindControl};
+ghost use Rattle.roff_run.specs.declared.line_state.LineState.TheVariants.{Text as InText};
 
 use super::{LineState, TextLine, ends_name};
 use crate::request::LineReading;
@@ -52,7 +53,8 @@ impl LineState {
     /// and closed.
     #[inline(always)]
     pub fn behind_skipped(opened: u32, closed: u32, behind: bool, byte: u8) -> LineState
-        ensures { (i : PageInput) → skipping_taking i opened closed behind byte ≡ going_on i result }
+        ensures { (i : PageInput)
+            → skipping_taking i opened closed behind byte ≡ going_on i result }
     {
         if behind {
             return LineState::Skipping {
@@ -88,8 +90,8 @@ impl LineState {
         }
     }
 
-    /// The number by which this is gone back to behind a body that springs where it is read: that of a
-    /// line's beginning, but of a branch and a text line.
+    /// The number by which this is gone back to behind a body that springs where it is read: that
+    /// of a line's beginning, but of a branch and a text line.
     pub fn back(self) -> u8
         ensures { result ≡ back_of self }
     {
@@ -129,8 +131,8 @@ impl LineState {
 }
 
 impl TextLine {
-    /// The number by which it is gone back to. An event stands behind the first of its leading blanks
-    /// alone.
+    /// The number by which it is gone back to. An event stands behind the first of its leading
+    /// blanks alone.
     fn number(self) -> u8
         ensures { result ≡ back_of (InText self) }
     {

@@ -1,14 +1,16 @@
 //! What the bytes and escapes of a text line do.
 
 ghost use Rattle.std.specs.Prelude.{◌≡◌, ◌≤◌, ◌++◌, List, [], Option, length, map, true};
-ghost use Rattle.roff_lines.specs.declared.glyph.Glyph.TheVariants.{Printed};
+ghost use Rattle.roff_layout.specs.declared.glyph.Glyph.TheVariants.{Printed};
 ghost use Rattle.roff_run.specs.Reading.Items.{PageInput};
 ghost use Rattle.roff_run.specs.Reading.TextLines.{brace_taking, character_taking, escape_taking};
 ghost use Rattle.roff_run.specs.Reading.TextLines.{glyph_taking, glyphs_taking, blank_taking};
-ghost use Rattle.roff_run.specs.Reading.TextLines.{leading_blank_events, leading_glyph, left_out_taking};
+ghost use Rattle.roff_run.specs.Reading.TextLines.{leading_blank_events, leading_glyph};
+ghost use Rattle.roff_run.specs.Reading.TextLines.{left_out_taking};
 ghost use Rattle.roff_run.specs.Reading.Items.{meaning_events};
 ghost use Rattle.roff_run.specs.Reading.TextLines.{motion_taking, other_taking, told_taking};
-ghost use Rattle.roff_run.specs.Reading.TextLines.{text_line_end, text_taking, interrupt_taking, tab_taking};
+ghost use Rattle.roff_run.specs.Reading.TextLines.{text_line_end, text_taking, interrupt_taking};
+ghost use Rattle.roff_run.specs.Reading.TextLines.{tab_taking};
 ghost use Rattle.std.specs.Option.{option_to_list};
 ghost use Rattle.roff_run.specs.Messages.{remark_messages};
 ghost use Rattle.roff_run.specs.Events.Lines.{line_events, print_event};
@@ -24,7 +26,7 @@ use crate::event::LineEvents;
 use crate::message::{CharacterName, Message};
 use crate::step::Step;
 use roff_escape::{Escape, Remark, TextUse, character, escape_of};
-use roff_lines::Glyph;
+use roff_layout::Glyph;
 use roff_num::Name;
 use roff_source::is_silent;
 

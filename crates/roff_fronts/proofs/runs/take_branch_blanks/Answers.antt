@@ -1,6 +1,8 @@
-use Rattle.std.proofs.Common.{◌∙◌, sym}
+use Rattle.std.proofs.Common.{◌∙◌, refl, subst, sym}
 use Rattle.roff_fronts.proofs.BlankRuns.{reads-branch_blanks}
-use Rattle.roff_fronts.proofs.RunsRead.{reads-none}
+use Rattle.roff_fronts.proofs.RunsRead.{reads-none, takes-ready}
+use Rattle.roff_fronts.specs.Runs.{TakesReady, branch_blanks, ready_allowed}
+use Rattle.roff_run.specs.declared.line_state.LineState.{LineState}
 use Rattle.roff_fronts.proofs.runs.take_branch_blanks.Goals as goal
 
 pub returns-in-Branch-clause-past : goal.returns-in-Branch-clause-past
@@ -12,3 +14,9 @@ returns-in-Branch-clause-none_half g c = c.take_run.ensures.takes.half_read ∙ 
 
 pub returns-in_default-clause-past : goal.returns-in_default-clause-past
 returns-in_default-clause-past g c = reads-none _ c.args.reader.now c.args.unread.now c.stays_within-in_default.ensures
+
+pub returns-in-Branch-clause-whole : goal.returns-in-Branch-clause-whole
+returns-in-Branch-clause-whole g c =
+    let u = c.args.unread.now in
+    subst (λ (reading : LineState). TakesReady (branch_blanks reading (ready_allowed u (g.S.ByteSource.ready c.args.source.now))) u c.take_run.new.self)
+    (sym (sym c.reading.ensures ∙ c.in-Branch.is)) (takes-ready _ _ _ _ _ u c.take_run.new.self c.take_run.ensures.takes refl)

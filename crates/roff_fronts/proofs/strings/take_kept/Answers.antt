@@ -1,4 +1,5 @@
-use Rattle.std.proofs.Common.{arith, rules}
+use Rattle.std.proofs.Common.{arith, refl, rules}
+use Rattle.roff_fronts.proofs.RunsRead.{takes-ready}
 use Rattle.roff_fronts.proofs.StringFronts.{reads-no_text, reads-text}
 use Rattle.roff_fronts.proofs.strings.take_kept.Goals as goal
 
@@ -11,3 +12,9 @@ returns-then-count-gt0-clause-past g c =
 pub returns-else-count-gt0-clause-past : goal.returns-else-count-gt0-clause-past
 returns-else-count-gt0-clause-past g c =
     reads-no_text _ _ _ _ _ _ c.take_run-count.ensures.takes c.args.reader.now (omega (arith, c.if-count-gt0.false)) c.stays_within.ensures
+
+pub returns-then-count-gt0-clause-whole : goal.returns-then-count-gt0-clause-whole
+returns-then-count-gt0-clause-whole g c = takes-ready _ _ _ _ _ _ _ c.take_run-count.ensures.takes refl
+
+pub returns-else-count-gt0-clause-whole : goal.returns-else-count-gt0-clause-whole
+returns-else-count-gt0-clause-whole g c = takes-ready _ _ _ _ _ _ _ c.take_run-count.ensures.takes refl

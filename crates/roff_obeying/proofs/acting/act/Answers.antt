@@ -1,6 +1,6 @@
 use Rattle.std.proofs.Common.{◌≡◌, ◌∙◌, ◌&&◌, Bool, true, false, List, [], ◌∷◌, ap, refl, sym}
-use Rattle.roff_lines.specs.declared.event.Event.TheVariants.{Set}
-use Rattle.roff_lines.specs.declared.settings.Param.TheVariants.{Adjusting, Filling}
+use Rattle.roff_layout.specs.declared.event.Event.TheVariants.{Set}
+use Rattle.roff_layout.specs.declared.settings.Param.TheVariants.{Adjusting, Filling}
 use Rattle.roff_run.specs.PageEvents.{PageEvent}
 use Rattle.roff_run.specs.Requests.Effects.{behind_break}
 use Rattle.roff_run.specs.declared.event.PageEvent.TheVariants.{Text}

@@ -1,5 +1,5 @@
 use Rattle.std.proofs.Common.{◌≡◌, replicate}
-use Rattle.roff_lines.specs.Glyphs.{glyph_blank}
+use Rattle.roff_layout.specs.Glyphs.{glyph_blank}
 use Rattle.roff_run.specs.TitleTexts.{with_bytes}
 use Rattle.roff_composer.proofs.title_text.TitleText.add_blanks.Given as goal
 

@@ -1,6 +1,6 @@
 use Rattle.std.proofs.Common.{◌≡◌, ◌++◌, [], ◌∷◌, List, Ok, Some, None, refl, rules, ap, arith}
 use Rattle.std.specs.Prelude.{drop}
-use Rattle.roff_lines.specs.declared.event.Event.TheVariants.{Break, WordEnd}
+use Rattle.roff_layout.specs.declared.event.Event.TheVariants.{Break, WordEnd}
 use Rattle.roff_run.specs.Environments.{interrupted_line}
 use Rattle.roff_run.specs.PageEvents.{PageEvent}
 use Rattle.roff_run.specs.TurnsToCome.{lines_left, most_left}
@@ -15,7 +15,7 @@ pub returns-in-Ok-None : goal.returns-in-Ok-None
 returns-in-Ok-None g c =
     let events = c.args.self.now.reader.meaning.events in
     let others : List PageEvent = drop 2 events in
-    let begins : events ≡ Text WordEnd ∷ Text Break ∷ others = c.begins_with_break.ensures (search rules) in record {
+    let begins : events ≡ Text WordEnd ∷ Text Break ∷ others = c.begins_with_break.ensures.begins (search rules) in record {
       all = λ l t before failures err s h rest stood same reached.
           let is : c.perform_step.result ≡ Ok None = search rules in
           let did = performed_quietly l t before _ s (Text WordEnd ∷ Text Break ∷ []) h _ (others ++ rest) c.perform_step.result _ is
@@ -37,7 +37,7 @@ pub returns-in-Ok-Some : goal.returns-in-Ok-Some
 returns-in-Ok-Some g c =
     let events = c.args.self.now.reader.meaning.events in
     let others : List PageEvent = drop 2 events in
-    let begins : events ≡ Text WordEnd ∷ Text Break ∷ others = c.begins_with_break.ensures (search rules) in record {
+    let begins : events ≡ Text WordEnd ∷ Text Break ∷ others = c.begins_with_break.ensures.begins (search rules) in record {
       all = λ l t before failures err s h rest stood same reached.
           let is : c.perform_step.result ≡ Ok (Some c.in-Ok-Some.sprung) = search rules in
           let did = performed_sprung l t before _ s (Text WordEnd ∷ Text Break ∷ []) h _ (others ++ rest) c.perform_step.result c.in-Ok-Some.sprung _ is
@@ -50,7 +50,7 @@ pub returns-in-Err : goal.returns-in-Err
 returns-in-Err g c =
     let events = c.args.self.now.reader.meaning.events in
     let others : List PageEvent = drop 2 events in
-    let begins : events ≡ Text WordEnd ∷ Text Break ∷ others = c.begins_with_break.ensures (search rules) in record {
+    let begins : events ≡ Text WordEnd ∷ Text Break ∷ others = c.begins_with_break.ensures.begins (search rules) in record {
       all = λ l t before failures err s h rest stood same reached.
           c.in-Err.ensures.performs l t before failures err s h (others ++ rest) stood (refl, (refl, tt)) (rw begins at reached);
       reader = record { reading = refl; registers = refl };

@@ -1,6 +1,6 @@
 use Rattle.std.proofs.Common.{[], ◌∷◌, arith, rules}
-use Rattle.roff_lines.specs.declared.event.Event.TheVariants.{Break, WordEnd}
-use Rattle.roff_pages.specs.declared.layout_event.LayoutEvent.TheVariants.{Space}
+use Rattle.roff_layout.specs.declared.event.Event.TheVariants.{Break, WordEnd}
+use Rattle.roff_layout.specs.declared.layout_event.LayoutEvent.TheVariants.{Space}
 use Rattle.roff_run.specs.declared.event.PageEvent.TheVariants.{Page, Text}
 use Rattle.roff_formatter.proofs.Performed.{performs_both, performs_first_halted, performs_first_sprung}
 use Rattle.roff_formatter.proofs.formatter.Formatter.blank_line.Goals as goal

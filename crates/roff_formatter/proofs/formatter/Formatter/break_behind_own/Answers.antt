@@ -1,5 +1,5 @@
 use Rattle.std.proofs.Common.{refl, rules}
-use Rattle.roff_lines.specs.declared.event.Event.TheVariants.{Break}
+use Rattle.roff_layout.specs.declared.event.Event.TheVariants.{Break}
 use Rattle.roff_run.specs.declared.event.PageEvent.TheVariants.{Text}
 use Rattle.roff_formatter.proofs.Springing.{own_halted, own_sprung, own_then}
 use Rattle.roff_formatter.proofs.formatter.Formatter.break_behind_own.Goals as goal

@@ -1,5 +1,5 @@
 use Rattle.std.proofs.Common.{refl}
-use Rattle.roff_lines.specs.declared.event.Event.TheVariants.{Break}
+use Rattle.roff_layout.specs.declared.event.Event.TheVariants.{Break}
 use Rattle.roff_run.specs.Output.{text_of}
 use Rattle.roff_run.specs.declared.event.PageEvent.TheVariants.{Text}
 use Rattle.roff_formatter.proofs.DoneEvents.{lines_behind, text_put_here}

@@ -1,5 +1,5 @@
 use Rattle.std.proofs.Common.{[], ◌∷◌, arith, rules}
-use Rattle.roff_lines.specs.declared.event.Event.TheVariants.{Count, LineEnd}
+use Rattle.roff_layout.specs.declared.event.Event.TheVariants.{Count, LineEnd}
 use Rattle.roff_run.specs.declared.event.PageEvent.TheVariants.{Text}
 use Rattle.roff_formatter.proofs.Performed.{performs_both, performs_first_halted, performs_first_sprung}
 use Rattle.roff_formatter.proofs.formatter.Formatter.end_and_count.Goals as goal

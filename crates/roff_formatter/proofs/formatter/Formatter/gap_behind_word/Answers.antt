@@ -1,5 +1,5 @@
 use Rattle.std.proofs.Common.{[], ◌∷◌, arith, refl, rules, Ok, None}
-use Rattle.roff_lines.specs.declared.event.Event.TheVariants.{Gap, WordEnd}
+use Rattle.roff_layout.specs.declared.event.Event.TheVariants.{Gap, WordEnd}
 use Rattle.roff_run.specs.declared.event.PageEvent.TheVariants.{Text}
 use Rattle.roff_formatter.proofs.DoneEvents.{lines_behind, text_changes_only}
 use Rattle.roff_formatter.proofs.Performed.{performs_both, performs_first_halted, performs_first_sprung}

@@ -1,7 +1,7 @@
 use Rattle.std.proofs.Common.{◌∙◌, ◌≡◌, ap, rules, sym}
 use Rattle.std.specs.Prelude.{is_some}
-use Rattle.roff_lines.specs.Lines.{finished}
-use Rattle.roff_lines.specs.declared.event.Event.TheVariants.{Break}
+use Rattle.roff_layout.specs.Lines.{finished}
+use Rattle.roff_layout.specs.declared.event.Event.TheVariants.{Break}
 use Rattle.roff_run.specs.Output.{layout_of, text_of}
 use Rattle.roff_formatter.proofs.FirstPages.{closes, needs-finishing}
 use Rattle.roff_formatter.proofs.formatter.Formatter.needs_page_for.Goals as goal

@@ -1,5 +1,5 @@
 use Rattle.std.proofs.Common.{rules, refl}
-use Rattle.roff_lines.specs.declared.event.Event.TheVariants.{Count, Print, Tab, WordEnd, Interrupt, Resume, Set}
+use Rattle.roff_layout.specs.declared.event.Event.TheVariants.{Count, Print, Tab, WordEnd, Interrupt, Resume, Set}
 use Rattle.roff_run.specs.declared.event.PageEvent.TheVariants.{Text}
 use Rattle.roff_formatter.proofs.DoneEvents.{lines_behind, text_changes_only}
 use Rattle.roff_formatter.proofs.Springing.{one_alone}

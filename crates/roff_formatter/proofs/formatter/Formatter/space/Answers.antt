@@ -1,5 +1,5 @@
 use Rattle.std.proofs.Common.{refl, rules, sym, false}
-use Rattle.roff_pages.specs.declared.layout_event.LayoutEvent.TheVariants.{Space}
+use Rattle.roff_layout.specs.declared.layout_event.LayoutEvent.TheVariants.{Space}
 use Rattle.roff_run.specs.declared.event.PageEvent.TheVariants.{Page}
 use Rattle.roff_formatter.proofs.DoneEvents.{page_only}
 use Rattle.roff_formatter.proofs.DoneFirst.{only_page}

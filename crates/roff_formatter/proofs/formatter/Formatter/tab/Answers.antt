@@ -1,6 +1,6 @@
 use Rattle.std.proofs.Common.{refl, rules, ◌≡◌}
 use Rattle.roff_num.specs.declared.limit.Limit.TheVariants.{Line}
-use Rattle.roff_lines.specs.declared.event.Event.TheVariants.{Tab}
+use Rattle.roff_layout.specs.declared.event.Event.TheVariants.{Tab}
 use Rattle.roff_run.specs.Output.{text_of}
 use Rattle.roff_run.specs.declared.event.PageEvent.TheVariants.{Text}
 use Rattle.roff_formatter.proofs.DoneEvents.{lines_behind, text_changes_here, text_stopped_here}

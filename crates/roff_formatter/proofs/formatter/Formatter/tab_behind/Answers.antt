@@ -1,6 +1,6 @@
 use Rattle.std.proofs.Common.{◌≡◌, ◌==◌, ◌++◌, Bool, true, false, if◌then◌else◌, [], ◌∷◌, Ok, Err, Some, arith, rules, subst, sym}
-use Rattle.roff_lines.specs.declared.event.Event.TheVariants.{Print, Tab}
-use Rattle.roff_lines.specs.declared.glyph.Glyph.TheVariants.{Blanks}
+use Rattle.roff_layout.specs.declared.event.Event.TheVariants.{Print, Tab}
+use Rattle.roff_layout.specs.declared.glyph.Glyph.TheVariants.{Blanks}
 use Rattle.roff_run.specs.declared.event.PageEvent.TheVariants.{Text}
 use Rattle.roff_formatter.specs.Formatter.Performing.{PerformsEvents}
 use Rattle.roff_formatter.proofs.Performed.{performs_both, performs_first_halted, performs_first_sprung}

@@ -1,5 +1,5 @@
 use Rattle.std.proofs.Common.{◌∙◌, ap, refl}
-use Rattle.roff_pages.specs.declared.layout_event.LayoutEvent.TheVariants.{ListPages, Close, Length, Offset, Next, Number, NoSpace}
+use Rattle.roff_layout.specs.declared.layout_event.LayoutEvent.TheVariants.{ListPages, Close, Length, Offset, Next, Number, NoSpace}
 use Rattle.roff_formatter.specs.Formatter.Sprung.{sprung_by}
 use Rattle.roff_formatter.proofs.Quiet.{sets_quietly}
 use Rattle.roff_formatter.proofs.formatter.paging.set_on_page.Goals as goal

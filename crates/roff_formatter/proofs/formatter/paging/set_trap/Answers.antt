@@ -1,7 +1,7 @@
 use Rattle.std.proofs.Common.{refl, rules}
 use Rattle.std.proofs.lemmas.Int.{to_z-of_z}
 use Rattle.std.proofs.Common.{rules, w32}
-use Rattle.roff_pages.specs.declared.layout_event.LayoutEvent.TheVariants.{Uproot, MoveTrap, RemoveTrap, DiversionTrap, NoDiversionTrap, EndDivert}
+use Rattle.roff_layout.specs.declared.layout_event.LayoutEvent.TheVariants.{Uproot, MoveTrap, RemoveTrap, DiversionTrap, NoDiversionTrap, EndDivert}
 use Rattle.roff_formatter.proofs.Quiet.{diverts_within, plants_within, sets_quietly}
 use Rattle.roff_formatter.proofs.formatter.paging.set_trap.Goals as goal
 

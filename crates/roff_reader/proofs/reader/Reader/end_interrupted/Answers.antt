@@ -1,5 +1,5 @@
 use Rattle.std.proofs.Common.{◌≡◌, List, ◌∷◌, [], Option, None, Some, Ok, refl, sym, ap, ◌∙◌}
-use Rattle.roff_lines.specs.declared.event.Event.TheVariants.{Resume}
+use Rattle.roff_layout.specs.declared.event.Event.TheVariants.{Resume}
 use Rattle.std.specs.Option.{option_to_list}
 use Rattle.roff_run.specs.Events.Steps.{messages_of}
 use Rattle.roff_meaning.specs.Meaning.{MeaningKept}

@@ -13,41 +13,19 @@ use Rattle.roff_reader.proofs.LinesTaken.{TakesAs-last_line, TakesAs-no_last_lin
 use Rattle.roff_reader.proofs.reader.Reader.end_line_of_input.Goals as goal
 
 pub returns-in-LineStart : goal.returns-in-LineStart
-returns-in-LineStart c =
-    let u = c.args.unread.now in
-    let done = c.end_interrupted in
-    let is : c.args.self.now.reading ≡ LineStart = search rules in
-    TakesAs-where (λ k r. end_taking k r u.input) LineStart c.args.composer.now c.args.self.now done.new.self u u (Ok done.result) is (done.ensures u)
+returns-in-LineStart c = TakesAs-where (λ k r. end_taking k r c.args.unread.now.input) LineStart _ c.args.self.now _ _ _ _ (search rules) (c.end_interrupted.ensures c.args.unread.now)
 
 pub returns-in-Dropped : goal.returns-in-Dropped
-returns-in-Dropped c =
-    let u = c.args.unread.now in
-    let done = c.end_interrupted-in-Dropped in
-    let is : c.args.self.now.reading ≡ Dropped = search rules in
-    TakesAs-where (λ k r. end_taking k r u.input) Dropped c.args.composer.now c.args.self.now done.new.self u u (Ok done.result) is (done.ensures u)
+returns-in-Dropped c = TakesAs-where (λ k r. end_taking k r c.args.unread.now.input) Dropped _ c.args.self.now _ _ _ _ (search rules) (c.end_interrupted-in-Dropped.ensures c.args.unread.now)
 
 pub returns-in-Exiting : goal.returns-in-Exiting
-returns-in-Exiting c =
-    let u = c.args.unread.now in
-    let done = c.end_interrupted-in-Exiting in
-    let is : c.args.self.now.reading ≡ Exiting = search rules in
-    TakesAs-where (λ k r. end_taking k r u.input) Exiting c.args.composer.now c.args.self.now done.new.self u u (Ok done.result) is (done.ensures u)
+returns-in-Exiting c = TakesAs-where (λ k r. end_taking k r c.args.unread.now.input) Exiting _ c.args.self.now _ _ _ _ (search rules) (c.end_interrupted-in-Exiting.ensures c.args.unread.now)
 
 pub returns-in-Deciding : goal.returns-in-Deciding
-returns-in-Deciding c =
-    let u = c.args.unread.now in
-    let done = c.end_interrupted-in-Deciding in
-    let place = Deciding c.in-Deciding.keeps in
-    let is : c.args.self.now.reading ≡ place = search rules in
-    TakesAs-where (λ k r. end_taking k r u.input) place c.args.composer.now c.args.self.now done.new.self u u (Ok done.result) is (done.ensures u)
+returns-in-Deciding c = TakesAs-where (λ k r. end_taking k r c.args.unread.now.input) (Deciding c.in-Deciding.keeps) _ c.args.self.now _ _ _ _ (search rules) (c.end_interrupted-in-Deciding.ensures c.args.unread.now)
 
 pub returns-in-Told : goal.returns-in-Told
-returns-in-Told c =
-    let u = c.args.unread.now in
-    let done = c.end_interrupted-in-Told in
-    let place = Told c.in-Told.aborts in
-    let is : c.args.self.now.reading ≡ place = search rules in
-    TakesAs-where (λ k r. end_taking k r u.input) place c.args.composer.now c.args.self.now done.new.self u u (Ok done.result) is (done.ensures u)
+returns-in-Told c = TakesAs-where (λ k r. end_taking k r c.args.unread.now.input) (Told c.in-Told.aborts) _ c.args.self.now _ _ _ _ (search rules) (c.end_interrupted-in-Told.ensures c.args.unread.now)
 
 pub returns-in-Defining : goal.returns-in-Defining
 returns-in-Defining c =
@@ -60,36 +38,16 @@ returns-in-Defining c =
     TakesAs-where (λ k r. end_taking k r u.input) place es old done.new.self u done.new.unread (Ok done.result) is (done.ensures es)
 
 pub returns-in-Title : goal.returns-in-Title
-returns-in-Title c =
-    let u = c.args.unread.now in
-    let done = c.obey in
-    let place = InTitle c.in-Title.delimiter in
-    let is : c.args.self.now.reading ≡ place = search rules in
-    TakesAs-where (λ k r. end_taking k r u.input) place c.args.composer.now c.args.self.now done.new.self u done.new.unread done.result is done.ensures
+returns-in-Title c = TakesAs-where (λ k r. end_taking k r c.args.unread.now.input) (InTitle c.in-Title.delimiter) _ c.args.self.now _ _ _ _ (search rules) c.obey.ensures
 
 pub returns-in-Braced : goal.returns-in-Braced
-returns-in-Braced c =
-    let u = c.args.unread.now in
-    let done = c.end_interrupted-in-Braced in
-    let place = Braced in
-    let is : c.args.self.now.reading ≡ place = search rules in
-    TakesAs-where (λ k r. end_taking k r u.input) place c.args.composer.now c.args.self.now done.new.self u u (Ok done.result) is (done.ensures u)
+returns-in-Braced c = TakesAs-where (λ k r. end_taking k r c.args.unread.now.input) Braced _ c.args.self.now _ _ _ _ (search rules) (c.end_interrupted-in-Braced.ensures c.args.unread.now)
 
 pub returns-in-Control : goal.returns-in-Control
-returns-in-Control c =
-    let u = c.args.unread.now in
-    let done = c.end_interrupted-in-Control in
-    let place = Control c.in-Control.breaks in
-    let is : c.args.self.now.reading ≡ place = search rules in
-    TakesAs-where (λ k r. end_taking k r u.input) place c.args.composer.now c.args.self.now done.new.self u u (Ok done.result) is (done.ensures u)
+returns-in-Control c = TakesAs-where (λ k r. end_taking k r c.args.unread.now.input) (Control c.in-Control.breaks) _ c.args.self.now _ _ _ _ (search rules) (c.end_interrupted-in-Control.ensures c.args.unread.now)
 
 pub returns-in-Skipping : goal.returns-in-Skipping
-returns-in-Skipping c =
-    let u = c.args.unread.now in
-    let done = c.end_interrupted-in-Skipping in
-    let place = Skipping c.in-Skipping.opened c.in-Skipping.closed c.in-Skipping.behind in
-    let is : c.args.self.now.reading ≡ place = search rules in
-    TakesAs-where (λ k r. end_taking k r u.input) place c.args.composer.now c.args.self.now done.new.self u u (Ok done.result) is (done.ensures u)
+returns-in-Skipping c = TakesAs-where (λ k r. end_taking k r c.args.unread.now.input) (Skipping c.in-Skipping.opened c.in-Skipping.closed c.in-Skipping.behind) _ c.args.self.now _ _ _ _ (search rules) (c.end_interrupted-in-Skipping.ensures c.args.unread.now)
 
 pub returns-in_ok-end_string_line-in-StringName : goal.returns-in_ok-end_string_line-in-StringName
 returns-in_ok-end_string_line-in-StringName c =

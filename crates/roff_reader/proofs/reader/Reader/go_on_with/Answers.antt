@@ -1,7 +1,7 @@
 use Rattle.std.proofs.Common.{◌≡◌, ◌∙◌, List, [], ◌∷◌, Some, ap}
 use Rattle.std.specs.Option.{option_to_list}
 use Rattle.roff_run.specs.Events.Steps.{events_of, messages_of}
-use Rattle.roff_lines.specs.declared.event.Event.TheVariants.{Resume}
+use Rattle.roff_layout.specs.declared.event.Event.TheVariants.{Resume}
 use Rattle.roff_run.specs.Reading.Beginnings.{going_on_told}
 use Rattle.roff_run.specs.Reading.Items.{Taking, behind_events}
 use Rattle.roff_run.specs.Reading.TextLines.{text_taking}

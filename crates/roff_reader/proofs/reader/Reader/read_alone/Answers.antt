@@ -7,9 +7,10 @@ use Rattle.roff_run.specs.Reading.Arguments.{unit_found}
 use Rattle.roff_run.specs.Reading.Beginnings.{first_taking}
 use Rattle.roff_run.specs.Reading.Calls.{call_unit}
 use Rattle.roff_run.specs.Reading.Items.{meaning_events}
+use Rattle.roff_run.specs.Reading.Strings.{string_name_unit, string_unit}
 use Rattle.roff_run.specs.Reading.Titles.{title_byte}
 use Rattle.roff_run.specs.declared.line_state.LineState.{LineState}
-use Rattle.roff_run.specs.declared.line_state.LineState.TheVariants.{Arguments as InArguments, Calling, LineStart, Text as InText, Title as InTitle}
+use Rattle.roff_run.specs.declared.line_state.LineState.TheVariants.{Arguments as InArguments, Calling, LineStart, StringName, StringText, Text as InText, Title as InTitle}
 use Rattle.roff_run.specs.declared.step.Step.{Step}
 use Rattle.roff_reader.proofs.TakesAs.{TakesAs-as, TakesAs-where}
 use Rattle.roff_reader.proofs.Strings.{other}
@@ -69,6 +70,33 @@ returns-in-Calling c =
     let is : old.reading ≡ place = search rules in
     TakesAs-where (λ k r. undropped_taking k r u.input b) place es old done.new.self u done.new.unread done.result is
     (TakesAs-as (λ k. call_unit u.input c.in-Calling.name (Byte b)) (λ k. undropped_taking k place u.input b) es old done.new.self u done.new.unread done.result
+    (λ k. plain-found k place u.input b c.requires.none_half c.requires.no_escape) (done.ensures es))
+
+pub returns-in-StringName : goal.returns-in-StringName
+returns-in-StringName c =
+    let es = c.args.composer.now in
+    let old = c.args.self.now in
+    let u = c.args.unread.now in
+    let b = c.args.byte in
+    let done = c.read_unit_of_string_name in
+    let place : LineState = StringName c.in-StringName.appends in
+    let is : old.reading ≡ place = search rules in
+    TakesAs-where (λ k r. undropped_taking k r u.input b) place es old done.new.self u done.new.unread done.result is
+    (TakesAs-as (λ k. string_name_unit u.input c.in-StringName.appends (Byte b)) (λ k. undropped_taking k place u.input b) es old done.new.self u done.new.unread done.result
+    (λ k. plain-found k place u.input b c.requires.none_half c.requires.no_escape) (done.ensures es))
+
+pub returns-in-StringText : goal.returns-in-StringText
+returns-in-StringText c =
+    let es = c.args.composer.now in
+    let old = c.args.self.now in
+    let u = c.args.unread.now in
+    let b = c.args.byte in
+    let done = c.read_unit_of_string in
+    let at = c.in-StringText in
+    let place : LineState = StringText at.name at.appends at.is_front in
+    let is : old.reading ≡ place = search rules in
+    TakesAs-where (λ k r. undropped_taking k r u.input b) place es old done.new.self u done.new.unread done.result is
+    (TakesAs-as (λ k. string_unit u.input at.name at.appends at.is_front (Byte b)) (λ k. undropped_taking k place u.input b) es old done.new.self u done.new.unread done.result
     (λ k. plain-found k place u.input b c.requires.none_half c.requires.no_escape) (done.ensures es))
 
 pub returns-then-byte-delimiter : goal.returns-then-byte-delimiter

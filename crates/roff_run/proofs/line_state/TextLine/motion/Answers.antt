@@ -3,7 +3,7 @@ use Rattle.std.specs.Option.{option_to_list}
 use Rattle.roff_run.specs.Reading.Items.{Taking}
 use Rattle.roff_run.specs.Reading.TextLines.{glyph_taking}
 use Rattle.roff_run.specs.declared.message.Message.{Message}
-use Rattle.roff_lines.specs.declared.glyph.Glyph.TheVariants.{Blanks}
+use Rattle.roff_layout.specs.declared.glyph.Glyph.TheVariants.{Blanks}
 use Rattle.roff_run.proofs.line_state.TextLine.motion.Goals as goal
 
 pub returns : goal.returns

@@ -1,0 +1,100 @@
+-- Registers that are read at once, where their escapes stand whole in front (manual, section 8).
+use Rattle.std.specs.Prelude.{◌≡◌, ℕ, ◌<◌, ◌≤◌, ◌==◌, ◌++◌, true, false, List, [], ◌∷◌, length, take, Option, Some, None}
+use Rattle.roff_input.specs.Arguments.{Arguments, held}
+use Rattle.roff_composer.specs.Composer.Standing.{StandFor}
+use Rattle.roff_composer.specs.declared.composer.Composer.{Composer as ComposerOf}
+use Rattle.roff_escape.specs.OpenEscape.{OpenEscape}
+use Rattle.roff_escape.specs.OpenEscapes.{byte_read}
+use Rattle.roff_escape.specs.Waiting.{is_ended_by}
+use Rattle.roff_escape.specs.declared.escapes.NameUse.TheVariants.{Register}
+use Rattle.roff_escape.specs.declared.open_escape.Found.TheVariants.{Asks, GoesOn}
+use Rattle.roff_escape.specs.declared.open_escape.Surroundings.{Surroundings}
+use Rattle.roff_input.specs.Input.{pushing}
+use Rattle.roff_input.specs.Unread.{IsWithin}
+use Rattle.roff_num.specs.declared.limits.Limits.{Limits}
+use Rattle.roff_num.specs.declared.short_name.ShortName.{ShortName}
+use Rattle.roff_reader.specs.Reader.State.{ReaderState}
+use Rattle.roff_run.specs.Environments.{PageHistory}
+use Rattle.roff_run.specs.Reading.{taking}
+use Rattle.roff_run.specs.Reading.Ends.{due}
+use Rattle.roff_run.specs.Reading.Items.{PageInput, PageUnread, going_on}
+use Rattle.roff_run.specs.Reading.Units.{interrupted, settled_for}
+use Rattle.roff_run.specs.Registers.{Known, text_of_register}
+use Rattle.roff_run.specs.Run.{known_at}
+use Rattle.roff_run.specs.Stages.{Stage, Turned, held_at, input_at, stage_of}
+use Rattle.roff_run.specs.TurnsToCome.{turns_to_come}
+use Rattle.roff_run.specs.declared.line_state.LineState.{LineState}
+use Rattle.roff_scan.specs.Unread.Calls.{PassesFront}
+use Rattle.roff_source.specs.Bytes.{is_argument_byte, is_dropped}
+use Rattle.roff_source.specs.Tape.{Tape}
+use Rattle.roff_store.specs.Named.{Named}
+use Rattle.roff_store.specs.Texts.{Entry}
+
+-- the bytes of the escape that reads the register of a name
+abbrev pub escape_behind : ℕ → Option ℕ → List ℕ
+escape_behind first None = 92 ∷ 110 ∷ first ∷ []
+escape_behind first (Some second) = 92 ∷ 110 ∷ 40 ∷ first ∷ second ∷ []
+
+abbrev pub register_escape : ShortName → List ℕ
+register_escape name = escape_behind name.first name.second
+
+-- a name of one byte is neither a sign nor a parenthesis, and each byte is one that isn't dropped, no backslash and no newline
+abbrev pub IsNameOf : ℕ → Option ℕ → Type 0
+IsNameOf first None =
+    (is_argument_byte first ≡ true) × ((first == 40) ≡ false) × ((first == 43) ≡ false) × ((first == 45) ≡ false)
+IsNameOf first (Some second) = (is_argument_byte first ≡ true) × (is_argument_byte second ≡ true)
+
+abbrev pub IsRegisterName : ShortName → Type 0
+IsRegisterName name = IsNameOf name.first name.second
+
+-- bytes begin with the escape that reads the register of a name
+pub record BeginsRegister (bytes : List ℕ) (name : ShortName) : Type 0 where
+  pub named : IsRegisterName name
+  pub among : length (register_escape name) ≤ length bytes
+  pub is : take (length (register_escape name)) bytes ≡ register_escape name
+
+-- Where this is read, a byte that gives nothing yet changes only what is half read, once no quote follows the one before; and behind
+-- the name of a register its text is read in its escape's place.
+pub record ReadsNames (reading : LineState) : Type 0 where
+  pub none_due : due reading ≡ None
+  pub goes_on : (k : Known) (i : PageInput) (b : ℕ) (next : List OpenEscape) → is_dropped b ≡ false
+      → ((base : Surroundings) → byte_read base i.escapes b ≡ (GoesOn, next))
+      → taking k reading i b ≡ going_on (record (interrupted reading i) { escapes = next }) reading
+  pub asks : (k : Known) (i : PageInput) (b : ℕ) (rest : List OpenEscape) (name : List ℕ) → is_dropped b ≡ false
+      → ((base : Surroundings) → byte_read base i.escapes b ≡ (Asks (Register None) (Some name), rest))
+      → taking k reading i b ≡ going_on (pushing (text_of_register k name) (record (interrupted reading i) { escapes = rest })) reading
+  pub twice : (a : Arguments) → settled_for reading (settled_for reading a) ≡ settled_for reading a
+  pub same_held : (a : Arguments) → held (settled_for reading a) ≡ held a
+
+-- the stage behind the escape of a register, as far as bytes change it: no quote follows the one before
+abbrev pub settled_at : Stage → Stage
+settled_at p = record p { arguments = settled_for p.reading p.arguments }
+
+-- These bytes lead to where the text of the register of a name is put in front: all but the last one from stage to stage.
+pub record AsksRegister (names : Named Entry) (p : Stage) (bytes name : List ℕ) : Type 0 where
+  pub front : List ℕ
+  pub last : ℕ
+  pub is : bytes ≡ front ++ last ∷ []
+  pub there : Stage
+  pub turned : Turned names p front there
+  pub none_due : due there.reading ≡ None
+  pub stays : is_ended_by there.escapes (Some last) ≡ false
+  pub held : held_at there ≤ held_at p
+  pub texts : there.texts ≡ p.texts
+  pub asks : (k : Known) (i : PageInput) → taking k there.reading (input_at names there i) last
+      ≡ going_on (pushing (text_of_register k name) (input_at names (settled_at p) i)) p.reading
+
+-- The escape of a register that stood whole in front was taken at once, and its text is in front, if the limits are these. No more
+-- turns are to come, however that is.
+pub record PutsRegister (l : Limits) (gave gives : Tape → Type 0) (r : ReaderState) (es : ComposerOf) (before after : PageUnread) : Type 0 where
+  pub bytes : List ℕ
+  pub name : List ℕ
+  pub text : List ℕ
+  pub passed : PageUnread
+  pub asked : AsksRegister before.input.names (stage_of r.reading before.input) bytes name
+  pub passes : PassesFront gave gives bytes before passed
+  pub text_is : (limits : Limits) (h : PageHistory) → StandFor limits h es → text ≡ text_of_register (known_at h r.registers.all passed.input) name
+  pub put : before.limits ≡ l → after ≡ record passed { input = pushing text (interrupted r.reading passed.input) }
+  pub fewer : turns_to_come after < turns_to_come before
+  pub half : after.input.escapes ≡ before.input.escapes
+  pub within : IsWithin after
