@@ -19,7 +19,7 @@ sys.dont_write_bytecode = True
 import built
 
 CRATE = "pages_bench"
-BELOW = ("roff_num", "roff_lines", "roff_sinks", "roff_pages")
+BELOW = ("roff_num", "roff_layout", "roff_lines", "roff_sinks", "roff_pages")
 PROGRAM = built.program_of(CRATE)
 
 FEW, MANY = 1_000, 21_000

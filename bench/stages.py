@@ -51,6 +51,7 @@ STAGES = {
     ],
     "formatter": ["roff_engine", "roff_formatter"],
     "environment": [
+        "roff_layout",
         "roff_lines",
         "roff_composer",
         "roff_formatter::formatter::Formatter::end_word",
