@@ -1,6 +1,7 @@
 //! What stands ahead of the source: pushed texts, events put back, and bytes in front again.
 
-ghost use Rattle.std.specs.Prelude.{false, true, ◌≡◌, ◌+◌, ◌<◌, ◌≤◌, ◌^◌, [], ◌∷◌, ◌++◌, map, reverse};
+ghost use Rattle.std.specs.Prelude.{false, true, ◌≡◌, ◌+◌, ◌<◌, ◌≤◌, ◌^◌, [], ◌∷◌, ◌++◌, map};
+ghost use Rattle.std.specs.Prelude.{reverse};
 ghost use Rattle.std.specs.Prelude.{length, IfOk, Some, option_map, vec_len, vec_capacity, ℕ};
 ghost use Rattle.roff_ahead.specs.PushedTexts.Held.{most_marks, most_used};
 ghost use Rattle.roff_ahead.specs.PushedTexts.Standing.{standing, items_of, item_of, is_byte_next};
@@ -234,7 +235,8 @@ impl<E: Copy> PushedTexts<E> {
         self.take_known()
     }
 
-    /// The same where the caller knows what it is: that is put into place, and nothing is asked twice.
+    /// The same where the caller knows what it is: that is put into place, and nothing is asked
+    /// twice.
     #[inline(always)]
     pub fn take_known(&mut self) -> PushedItem<E>
         requires { is_none_ahead self.old.ahead ≡ false }

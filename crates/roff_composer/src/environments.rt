@@ -6,7 +6,8 @@ ghost use Rattle.roff_layout.specs.Words.{is_empty};
 ghost use Rattle.roff_run.specs.Environments.{PageHistory, environments, fresh_environment};
 ghost use Rattle.roff_run.specs.Environments.{gone_back, interrupted_line, switched_to, turned};
 ghost use Rattle.roff_layout.specs.declared.event.Event.TheVariants.{Count};
-ghost use Rattle.roff_run.specs.Environments.{turned_to, turned_unless, with_event, with_input_trap};
+ghost use Rattle.roff_run.specs.Environments.{turned_to, turned_unless, with_event};
+ghost use Rattle.roff_run.specs.Environments.{with_input_trap};
 ghost use Rattle.roff_run.specs.Environments.{counted_down, trap_reached, with_interruption};
 ghost use Rattle.roff_run.specs.Springs.{springs};
 ghost use Rattle.roff_run.specs.declared.event.PageEvent.TheVariants.{Text};
@@ -30,7 +31,8 @@ pub struct Environment {
     pub input_trap: Option<InputTrap>,
 }
 
-/// The numbers of the environments that were left for others and aren't gone back to, up to a limit.
+/// The numbers of the environments that were left for others and aren't gone back to, up to a
+/// limit.
 ///
 /// All its memory is reserved as it is made.
 #[derive(Drop)]
@@ -220,7 +222,8 @@ impl Environments {
     ///
     /// # Errors
     ///
-    /// [`Limit::Environments`] if more would be left than may; the environments are then as they were.
+    /// [`Limit::Environments`] if more would be left than may; the environments are then as they
+    /// were.
     pub fn switch_to(&mut self, number: EnvironmentNumber) -> Result<(), Limit>
         ensures stands { OnOk result (Becomes (switched_to number) self.old self.new) }
         ensures limit { (l : LimitsOf) (h : PageHistory) → StandBy l (environments h) self.old

@@ -77,8 +77,8 @@ impl Sprung {
     }
 }
 
-/// What was done of some events, where so many others were performed in front of them, if so many can
-/// be told.
+/// What was done of some events, where so many others were performed in front of them, if so many
+/// can be told.
 #[inline(always)]
 pub(crate) fn further(done: Result<Option<Sprung>, Halt>, count: u8) -> Result<Option<Sprung>, Halt>
     ensures { HasFew done count → result ≡ further_by count done }

@@ -8,12 +8,13 @@ use Rattle.std.specs.Simd.Lanes.{chunk, mask_l, top, zip2}
 use Rattle.std.proofs.Math.Arith.{mod-mul}
 use Rattle.std.proofs.Math.Nat.{mod-one, one-le-pow, zero-mod, pow-zero, pow-suc}
 use Rattle.std.proofs.Math.Seq.{take-add}
-use Rattle.std.proofs.lemmas.Simd.{first_set_mask_l, get_or-chunk, get_or-zip2, length-chunk, length-zip2, map-map, mask_l-mod, ones-mask_l, zip2_of_maps, zip2_splat, zip2_splat_left}
+use Rattle.std.proofs.lemmas.Simd.{get_or-chunk, get_or-zip2, length-chunk, length-zip2, map-map, ones-mask_l, zip2_of_maps, zip2_splat, zip2_splat_left}
 use Rattle.std.proofs.lemmas.Bool.{and_parts, eqb-true, not-true, not-false, or_parts}
 use Rattle.std.proofs.lemmas.Bool.Decides.{nat_tests}
 use Rattle.std.proofs.lemmas.List.{get_or-take, get_or-drop, length-drop, length-map, length-take, take-take}
 use Rattle.std.proofs.lemmas.List.Sums.{prefix_len-le-length, prefix_len_passes, prefix_len_stops, sum_by-append, sum_by-cons}
 use Rattle.roff_num.specs.Widths.{byte_width}
+use Rattle.roff_num.proofs.Masks.{first_lane, mask_l-lanes}
 use Rattle.roff_layout.specs.Glyphs.{gap_blank, gaps_in, text_width}
 use Rattle.roff_lines.specs.Env.Tells.{GoesOn, IsRun}
 use Rattle.roff_lines.proofs.WordRuns.{IsRun-more}
@@ -34,12 +35,6 @@ half-mod b n power twice some is =
     ∙ ap₂ (λ high low. high % power * 2 + low) (half b n).0 (half b n).1 ∙ omega arith
 
 module _ {X : Type 0} (p : X → Bool) where
-  -- the lowest bit that is set is that of the first lane of which the test holds
-  pub first_lane : (v : List X) (n r m : ℕ) → length v ≡ n → n ≤ 64 → r ≡ (if m == 0 then n else trailing_zeros w64 m) → m ≡ mask_l (map p v)
-      → r ≡ prefix_len (λ x. not (p x)) v
-  first_lane v n r m long few found mask =
-      found ∙ ap (λ k. if k == 0 then n else trailing_zeros w64 k) mask ∙ first_set_mask_l p v n long few
-
   -- the first bits are those of the first lanes
   pub mask_l-take : (n : ℕ) (v : List X) → mask_l (map p v) % 2 ^ n ≡ mask_l (map p (take n v))
   mask_l-take zero v = ap (λ k. mask_l (map p v) % k) (pow-zero 2) ∙ mod-one (mask_l (map p v))
@@ -197,13 +192,6 @@ last-blank bytes start count mask front within few whole in_front =
           gaps_in-take_add bytes start last ∙ ap (λ n. gaps_in (take start bytes) + n) (count-front p bytes start count mask front within few whole in_front)
           ∙ sym (gaps_in-take_add bytes start count);
     })
-
--- the mask of lanes that were computed of v one by one
-pub mask_l-lanes : {X : Type 0} (f : X → ℕ) (v : List X) (z : List ℕ) → length v ≤ 64 → z ≡ map f v
-    → mask_l (map (top 7) z) % 2 ^ 64 ≡ mask_l (map (λ x. top 7 (f x)) v)
-mask_l-lanes f v z few lanes =
-    ap (λ (xs : List ℕ). mask_l (map (top 7) xs) % 2 ^ 64) lanes ∙ ap (λ (bs : List Bool). mask_l bs % 2 ^ 64) (map-map (top 7) f v)
-    ∙ mask_l-mod (map (λ x. top 7 (f x)) v) 64 (omega (arith, length-map v (λ x. top 7 (f x)), few))
 
 -- a lane of two comparisons
 abbrev either_lane : Bool → Bool → ℕ

@@ -1,32 +1,17 @@
 //! Sixteen bytes of a text in one step.
 
 ghost use Rattle.std.specs.Prelude.{◌≡◌, ◌+◌, ◌-◌, ◌<◌, ◌≤◌, ◌^◌, ◌%◌, length, take, drop, map};
-ghost use Rattle.std.specs.Prelude.{nat_lt, if◌then◌else◌, ◌==◌, slice_index_or};
-ghost use Rattle.std.specs.Int.{w64, trailing_zeros};
+ghost use Rattle.std.specs.Prelude.{nat_lt, ◌==◌, slice_index_or};
 ghost use Rattle.std.specs.List.{prefix_len};
 ghost use Rattle.std.specs.Simd.Lanes.{chunk, mask_l};
 ghost use Rattle.roff_layout.specs.Glyphs.{gap_blank, gaps_in, text_width};
 ghost use Rattle.roff_lines.specs.Env.Tells.{GoesOn, IsRun};
 
+use roff_num::lanes::{STEP, first_set};
 use std::simd::prelude::*;
 
-/// How many bytes are looked at in one step.
-pub const STEP: usize = 16;
-
-/// How many are where a text hasn't so many left.
+/// How many bytes are looked at where a text hasn't those of a step left.
 pub const HALF_STEP: usize = 8;
-
-/// The place of the lowest bit of a mask that is set, or behind all where none of so many is.
-#[inline(always)]
-fn first_set(mask: u64, lanes: usize) -> usize
-    ensures { result ≡ (if mask == 0 then lanes else trailing_zeros w64 mask) }
-{
-    if mask == 0 {
-        lanes
-    } else {
-        mask.trailing_zeros() as usize
-    }
-}
 
 /// How many bytes of a step, from its first, are above the blank.
 #[inline(always)]

@@ -18,6 +18,7 @@ mod words;
 
 pub use env::Env;
 pub use fill::{Word, fill_words};
-pub use lanes::{HALF_STEP, STEP, glyphs_of_half_step, glyphs_of_step};
+pub use lanes::{HALF_STEP, glyphs_of_half_step, glyphs_of_step};
+pub use roff_num::lanes::STEP;
 pub use title::place_title;
 pub use words::count_of_glyphs;

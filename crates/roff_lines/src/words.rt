@@ -5,9 +5,8 @@ ghost use Rattle.roff_lines.specs.Clauses.{gaps_in, text_width};
 ghost use Rattle.roff_lines.specs.GlyphsInFront.{glyphs_in_front};
 ghost use Rattle.roff_lines.specs.Env.Tells.{GoesOn, IsRun, WholeWords};
 
-use crate::lanes::{
-    STEP, behind_last_blank, gaps_of_step, glyphs_of_step, run_of_step, width_of_step,
-};
+use crate::lanes::{behind_last_blank, gaps_of_step, glyphs_of_step, run_of_step, width_of_step};
+use roff_num::lanes::STEP;
 use roff_num::width_of_byte;
 
 /// How many bytes in front are whole words with a blank behind each, whose bytes are characters by

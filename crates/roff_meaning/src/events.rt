@@ -61,8 +61,8 @@ impl RequestedEvents {
         }
     }
 
-    /// Keeps one in front of a break, if there is one, those of the break, if there is one, and these
-    /// behind it.
+    /// Keeps one in front of a break, if there is one, those of the break, if there is one, and
+    /// these behind it.
     pub fn keep(&mut self, before: Option<PageEvent>, breaks: bool, behind: RequestEvents)
         ensures { self.new.items ≡ around_break before breaks (request_events behind) }
     {
@@ -72,8 +72,8 @@ impl RequestedEvents {
         self.sets_stops = false;
     }
 
-    /// Keeps those of a break, if there is one, and behind it those that set these stops in place of
-    /// those in force.
+    /// Keeps those of a break, if there is one, and behind it those that set these stops in place
+    /// of those in force.
     pub fn keep_stops(&mut self, breaks: bool, stops: Stops)
         ensures { self.new.items ≡ behind_break breaks (stops_set stops.items) }
     {

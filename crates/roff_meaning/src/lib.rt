@@ -1,4 +1,5 @@
-//! What an item means where that isn't told by the name of its step: a message and events, as code keeps them.
+//! What an item means where that isn't told by the name of its step: a message and events, as code
+//! keeps them.
 #![tactic(auto)]
 
 mod events;

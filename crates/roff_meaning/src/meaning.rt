@@ -14,8 +14,8 @@ use roff_layout::Event;
 use roff_run::{LineEvents, Message, PageEvent};
 use std::marker::Model;
 
-/// A message, if there is one, and events: those of a text line, which may go on with an interrupted
-/// one, or those of a request.
+/// A message, if there is one, and events: those of a text line, which may go on with an
+/// interrupted one, or those of a request.
 #[derive(Drop)]
 pub struct Meaning {
     message: Option<Message>,
@@ -62,8 +62,8 @@ impl Meaning {
         self.is_request = false;
     }
 
-    /// Keeps a message, if there is one, and the events of a request: one in front of its break, if there
-    /// is one, those of the break, if it breaks, and these behind it.
+    /// Keeps a message, if there is one, and the events of a request: one in front of its break, if
+    /// there is one, those of the break, if it breaks, and these behind it.
     pub fn keep_request(
         &mut self,
         message: Option<Message>,
@@ -81,8 +81,8 @@ impl Meaning {
         self.is_request = true;
     }
 
-    /// Keeps the events of a break, if there is one, and behind it those that set these stops in place
-    /// of those in force.
+    /// Keeps the events of a break, if there is one, and behind it those that set these stops in
+    /// place of those in force.
     pub fn keep_stops(&mut self, breaks: bool, stops: ArrayVec<u32, 32>)
         ensures { self.new
             ≡ record { message = None; events = behind_break breaks (stops_set stops.items) } }

@@ -12,3 +12,4 @@ pub mod Comings
 pub mod LeftFold
 pub mod DefaultTexts
 pub mod SmallNumbers
+pub mod Masks

@@ -7,6 +7,7 @@ mod direction;
 mod evaluation;
 mod expression;
 mod format;
+pub mod lanes;
 pub mod laws;
 mod limit;
 mod limits;

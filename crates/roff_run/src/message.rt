@@ -4,6 +4,7 @@ ghost use Rattle.std.specs.Prelude.{◌≡◌, ◌+◌, ◌≤◌, ◌++◌, len
 ghost use Rattle.arrayvec.specs.ArrayVec.{array_vec_len};
 ghost use Rattle.roff_run.specs.Messages.{character_name, message_line, message_text, name_bytes};
 ghost use Rattle.roff_run.specs.Messages.{remark_message};
+ghost use Rattle.roff_run.specs.declared.message.Message.TheVariants.{LimitReached};
 
 use arrayvec::ArrayVec;
 use itoa::Buffer;
@@ -72,13 +73,7 @@ impl Message {
         ensures room { array_vec_len text.new ≤ array_vec_len text.old + 40 }
     {
         match self {
-            Message::LimitReached(limit, value) => {
-                append(text, b"limit ");
-                append(text, limit.name().as_bytes());
-                append(text, b" (");
-                append(text, Buffer::new().format(value).as_bytes());
-                append(text, b") reached");
-            }
+            Message::LimitReached(limit, value) => say_limit(limit, value, text),
             Message::BadNumber => append(text, b"bad number"),
             Message::BadFormat => append(text, b"bad format"),
             Message::PageTooShort => append(text, b"page length too small"),
@@ -140,6 +135,21 @@ impl CharacterName {
             CharacterName::Two(bytes) => append(text, &bytes),
         }
     }
+}
+
+/// Adds what is said of a limit of this value.
+#[inline(always)]
+fn say_limit(limit: Limit, value: u32, text: &mut MessageLine)
+    requires { array_vec_len text.old ≤ 64 }
+    ensures said { text.new.items
+        ≡ text.old.items ++ message_text (LimitReached limit value) }
+    ensures room { array_vec_len text.new ≤ array_vec_len text.old + 40 }
+{
+    append(text, b"limit ");
+    append(text, limit.name().as_bytes());
+    append(text, b" (");
+    append(text, Buffer::new().format(value).as_bytes());
+    append(text, b") reached");
 }
 
 /// Adds bytes.

@@ -2,16 +2,17 @@
 use Rattle.std.proofs.Common.{◌≡◌, ◌==◌, ℕ, Bool, true, false, not, ◌||◌, List, Option, Some, None, inl, inr, length, map, take_while, refl, sym, ap, subst, arith, ◌∙◌, zero, suc, ◌+◌, ◌^◌, ◌%◌, ◌≤◌, ◌<◌, [], ◌∷◌, take, drop, get_or, cond, eqb, ltb, bit_or, replicate}
 use Rattle.std.specs.Int.{w64, trailing_zeros}
 use Rattle.std.specs.Simd.Lanes.{chunk, mask_l, top, zip2}
-use Rattle.std.proofs.lemmas.Simd.{first_set_mask_l, map-map, mask_l-mod, zip2_of_maps, zip2_splat}
+use Rattle.std.proofs.lemmas.Simd.{zip2_of_maps, zip2_splat}
 use Rattle.std.proofs.lemmas.Bool.{cases_Bool, cases_lt}
 use Rattle.std.specs.Prelude.{unwrap_or, if◌then◌else◌}
 use Rattle.std.proofs.Math.Bool.{or-false, cond}
 use Rattle.std.proofs.lemmas.List.Folds.{length-prefix_len}
 use Rattle.std.proofs.lemmas.List.Sums.{prefix_len-le-length, prefix_len_is, prefix_len-drop_all, prefix_len-drop_no, prefix_len-drop_yes, take_while-cons}
 use Rattle.memchr.specs.Find.{IsFirstByte, is_byte, is_byte2}
+use Rattle.roff_num.proofs.Masks.{first_lane, mask_l-lanes}
 use Rattle.roff_source.specs.Bytes.{backslash, newline, is_passed, is_text_byte}
 use Rattle.std.specs.List.{prefix_len, AllByRecursion}
-use Rattle.std.proofs.lemmas.List.{length-drop, length-map}
+use Rattle.std.proofs.lemmas.List.{length-drop}
 
 -- a byte that isn't found
 not_found : (t : Bool) → (t ≡ true → ⊥) → not t ≡ true
@@ -139,16 +140,14 @@ ending-mask v long =
     let others =
     zip2_of_maps bit_or _ _ v (zip2_splat (λ a b. cond (eqb a b) 255 0) v 16 127 long) (zip2_splat (λ a b. cond (eqb a b) 255 0) v 16 92 long) in
     let lanes = zip2_of_maps bit_or _ _ v (zip2_splat (λ a b. cond (ltb a b) 255 0) v 16 32 long) others in
-    ap (λ (xs : List ℕ). mask_l (map (top 7) xs) % 2 ^ 64) lanes ∙ ap (λ (bs : List Bool). mask_l bs % 2 ^ 64) (map-map (top 7) ending_lane v)
-    ∙ mask_l-mod (map (λ b. top 7 (ending_lane b)) v) 64 (omega (arith, length-map v (λ b. top 7 (ending_lane b)), long))
+    mask_l-lanes ending_lane v _ (omega (arith, long)) lanes
 
 -- the text of a step is told by the lowest bit of it that is set
 pub first-ending : (v : List ℕ) (r m : ℕ) → length v ≡ 16 → r ≡ (if m == 0 then 16 else trailing_zeros w64 m)
     → m ≡ mask_l (map (λ b. top 7 (ending_lane b)) v) → r ≡ prefix_len is_text_byte v
 first-ending v r m long found mask =
     let is : (b : ℕ) → not (top 7 (ending_lane b)) ≡ is_text_byte b = λ b. ap not (lane-top (ltb b 32) (eqb b 127) (eqb b 92)) in
-    found ∙ ap (λ k. if k == 0 then 16 else trailing_zeros w64 k) mask
-    ∙ first_set_mask_l (λ b. top 7 (ending_lane b)) v 16 long (omega arith) ∙ (λ i. prefix_len (λ b. is b i) v)
+    first_lane (λ b. top 7 (ending_lane b)) v 16 r m long (omega arith) found mask ∙ (λ i. prefix_len (λ b. is b i) v)
 
 -- as many as stand in front, where none more does
 text-all : (bytes : List ℕ) (count more : ℕ) → more ≡ 0 → count + more ≡ prefix_len is_text_byte bytes → count ≡ length (take_while is_text_byte bytes)

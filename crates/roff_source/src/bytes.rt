@@ -1,14 +1,14 @@
 //! Kinds of bytes, and runs of them.
 
 ghost use Rattle.std.specs.Prelude.{◌≡◌, ◌==◌, ◌≤◌, ◌<◌, ◌+◌, ◌^◌, count_by, length, take};
-ghost use Rattle.std.specs.Prelude.{take_while, if◌then◌else◌};
-ghost use Rattle.std.specs.Int.{w64, trailing_zeros};
+ghost use Rattle.std.specs.Prelude.{take_while};
 ghost use Rattle.std.specs.List.{prefix_len};
 ghost use Rattle.std.specs.Simd.Lanes.{chunk};
 ghost use Rattle.roff_source.specs.Bytes.{is_argument_byte};
 ghost use Rattle.roff_source.specs.Bytes.{is_dropped, is_passed, is_silent, is_text_byte, newline};
 
 use memchr::{memchr, memchr2};
+use roff_num::lanes::{STEP, first_set};
 use std::simd::prelude::*;
 
 /// Whether a byte stands in the input and prints nothing: STX, ETX, ENQ, ACK and BEL.
@@ -57,9 +57,6 @@ fn is_text_byte(byte: u8) -> bool
     byte >= 32 && byte != 127 && byte != b'\\'
 }
 
-/// How many bytes are looked at in one step.
-const STEP: usize = 16;
-
 /// How many of these bytes are plain text, up to the first that is a control byte, DEL or a
 /// backslash. The last step is that of the last bytes, of which some may have been looked at.
 #[inline(always)]
@@ -105,19 +102,7 @@ fn text_of_step(bytes: &[u8], start: usize) -> usize
     let step = u8x16::from_slice(&bytes[start..]);
     let control = step.simd_lt(u8x16::splat(b' '));
     let other = step.simd_eq(u8x16::splat(127)) | step.simd_eq(u8x16::splat(b'\\'));
-    first_set((control | other).to_bitmask())
-}
-
-/// The place of the lowest bit of a step's mask that is set, or behind the step where none is.
-#[inline(always)]
-fn first_set(mask: u64) -> usize
-    ensures { result ≡ (if mask == 0 then 16 else trailing_zeros w64 mask) }
-{
-    if mask == 0 {
-        STEP
-    } else {
-        mask.trailing_zeros() as usize
-    }
+    first_set((control | other).to_bitmask(), STEP)
 }
 
 /// The first of these bytes, so many at most.

@@ -53,8 +53,8 @@ impl<E: Copy> InputAhead<E> {
         }
     }
 
-    /// Bytes of a body in front, as they lie together, or a byte of a text; none where anything else is
-    /// in front.
+    /// Bytes of a body in front, as they lie together, or a byte of a text; none where anything
+    /// else is in front.
     #[inline(always)]
     pub fn front(&self) -> &[u8]
         ensures { result.now ≡ take (length result.now) (leading self.now.ahead) }

@@ -39,8 +39,8 @@ impl Formatter {
         }
     }
 
-    /// Performs an event of the text, and before it the end of an open word, where that comes before
-    /// it.
+    /// Performs an event of the text, and before it the end of an open word, where that comes
+    /// before it.
     ///
     /// # Errors
     ///

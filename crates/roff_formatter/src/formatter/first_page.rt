@@ -71,8 +71,8 @@ impl Formatter {
         None
     }
 
-    /// Whether an event of the text needs a page: a glyph or tab; a break, before the closing phase;
-    /// and what finishes a line.
+    /// Whether an event of the text needs a page: a glyph or tab; a break, before the closing
+    /// phase; and what finishes a line.
     fn needs_page_for(&self, event: Event) -> bool
         ensures { (l : LimitsOf) (h : PageHistory) → StandFor l h self.now.composer
             → result ≡ needs_page h (Text event) }

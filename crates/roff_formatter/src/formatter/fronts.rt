@@ -6,8 +6,8 @@ ghost use Rattle.roff_formatter.specs.Formatter.Telling.{TellsFront};
 use super::Formatter;
 use roff_source::text_in_front;
 
-/// So many bytes of a text line are told at once at the most: more than most lines have, so that few
-/// are looked at that aren't told.
+/// So many bytes of a text line are told at once at the most: more than most lines have, so that
+/// few are looked at that aren't told.
 const MOST_AT_ONCE: usize = 128;
 
 impl Formatter {

@@ -74,8 +74,8 @@ fn do_on_page<O: ByteSink>(
     left_going_on(done, ejects_still(pages, event))
 }
 
-/// Whether an event is an eject, and the page that it ejects hasn't ended: where that ended, the next
-/// one begins at its top.
+/// Whether an event is an eject, and the page that it ejects hasn't ended: where that ended, the
+/// next one begins at its top.
 fn ejects_still(pages: &Pages, event: LayoutEvent) -> bool
     ensures { (L : Layout) → StandsAs L pages.now → result ≡ ejects_still event L }
 {

@@ -4,7 +4,9 @@
 ghost use Rattle.roff_escape.specs.OpenEscapes.{byte_read};
 ghost use Rattle.roff_reader.specs.Clauses.{TakesAs, condition_found};
 ghost use Rattle.roff_run.specs.Reading.Found.{found_in, place_in, read_in};
-ghost use Rattle.roff_run.specs.declared.line_state.LineState.TheVariants.{Arguments as InArguments};
+ghost use Rattle.roff_run.specs.declared.line_state.LineState.TheVariants.{
+  Arguments as InArguments,
+};
 ghost use Rattle.roff_run.specs.declared.line_state.LineState.TheVariants.{Deciding};
 ghost use Rattle.roff_run.specs.declared.line_state.LineState.TheVariants.{Text as InText};
 

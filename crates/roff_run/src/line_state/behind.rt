@@ -11,7 +11,9 @@ ghost use Rattle.roff_run.specs.Reading.Branches.{skipping_taking};
 ghost use Rattle.roff_run.specs.Reading.Returns.{back_of, behind_return, flag, gone_back_to};
 ghost use Rattle.roff_run.specs.Reading.Returns.{leading_back, line_of};
 ghost use Rattle.roff_run.specs.Registers.{Known};
-ghost use Rattle.roff_run.specs.declared.line_state.LineState.TheVariants.{Control as BehindControl};
+ghost use Rattle.roff_run.specs.declared.line_state.LineState.TheVariants.{
+  Control as BehindControl,
+};
 ghost use Rattle.roff_run.specs.declared.line_state.LineState.TheVariants.{Text as InText};
 
 use super::{LineState, TextLine, ends_name};

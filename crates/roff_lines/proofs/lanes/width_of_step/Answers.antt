@@ -1,7 +1,8 @@
 use Rattle.std.proofs.Common.{ℕ, List, leb, ltb, cond, bit_or, take, drop, arith, sym, ◌∙◌}
 use Rattle.std.specs.Simd.Lanes.{chunk, top}
 use Rattle.std.proofs.lemmas.Simd.{length-chunk, zip2_of_maps, zip2_splat, zip2_splat_left}
-use Rattle.roff_lines.proofs.Steps.{mask_l-lanes, ones-front, text_width-lanes, wide_lane}
+use Rattle.roff_num.proofs.Masks.{mask_l-lanes}
+use Rattle.roff_lines.proofs.Steps.{ones-front, text_width-lanes, wide_lane}
 use Rattle.roff_lines.proofs.lanes.width_of_step.Goals as goal
 
 pub returns : goal.returns
