@@ -147,7 +147,7 @@ module _ {E : Type 0} (ready : List ℕ) (u : Unread E) where
       })
 
     module _ (some : 1 ≤ count) (none : is_none_ahead u.input.ahead ≡ true) where
-      source : (u.input.ahead ≡ []) × ((u.looked ≡ Nothing) × (next_bytes u.input.ahead u.looked ready ≡ ready))
+      pub source : (u.input.ahead ≡ []) × ((u.looked ≡ Nothing) × (next_bytes u.input.ahead u.looked ready ≡ ready))
       source = next-source u.input.ahead u.looked ready count none some front.among
 
       -- they stand ready

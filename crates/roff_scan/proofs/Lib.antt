@@ -17,3 +17,4 @@ pub mod PushedFronts
 pub mod Newlines
 pub mod TextEnds
 pub mod Sound
+pub mod LinesHeld

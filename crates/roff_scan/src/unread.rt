@@ -7,6 +7,7 @@ mod arguments;
 mod calls;
 mod first_arguments;
 mod fronts;
+mod lines;
 mod names;
 mod open_escapes;
 mod pushed;
@@ -15,6 +16,7 @@ mod runs;
 mod skipped;
 mod taken;
 
+pub use lines::BehindHeld;
 use roff_ahead::InputAhead;
 use roff_arguments::{ArgumentTexts, Calls};
 use roff_escape::OpenEscapes;
@@ -87,6 +89,14 @@ impl<E: Copy> Unread<E> {
         ensures { IsWithin self.now }
     {
         let _ = &self.limits;
+    }
+
+    /// The limits that it is within.
+    #[inline(always)]
+    pub fn limits(&self) -> &Limits
+        ensures { result.now ≡ self.now.limits }
+    {
+        &self.limits
     }
 
     /// How much was taken: bytes, ends of texts, events put back.

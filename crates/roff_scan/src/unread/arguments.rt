@@ -1,10 +1,13 @@
 //! The arguments of the line that is being read.
 
-ghost use Rattle.roff_input.specs.Arguments.{is_behind_quote, with_unit, settled, finished};
+ghost use Rattle.roff_input.specs.Arguments.{bytes_held, is_behind_quote, with_unit, settled};
+ghost use Rattle.roff_input.specs.Arguments.{finished};
 ghost use Rattle.roff_arguments.specs.ArgumentList.{listed};
-ghost use Rattle.std.specs.Prelude.{reverse, ◌≡◌};
-ghost use Rattle.roff_input.specs.Input.{holding_plain, with_arguments, without_arguments};
-ghost use Rattle.roff_input.specs.Input.{beginning_line};
+ghost use Rattle.roff_source.specs.Bytes.{is_argument_byte};
+ghost use Rattle.std.specs.List.{AllByRecursion};
+ghost use Rattle.std.specs.Prelude.{reverse, ◌≡◌, ◌+◌, ◌≤◌, length, take, true};
+ghost use Rattle.roff_input.specs.Input.{holding_plain, pushed, with_arguments};
+ghost use Rattle.roff_input.specs.Input.{beginning_line, without_arguments};
 
 use super::Unread;
 use roff_arguments::{ArgumentList, bytes_of};
@@ -60,6 +63,22 @@ impl<E: Copy> Unread<E> {
         }
         self.arguments.take_plain(unit);
         Ok(())
+    }
+
+    /// Holds the first bytes of a text in arguments, up to one that isn't held as it is read. Returns
+    /// how many. They aren't counted as taken.
+    #[inline(always)]
+    pub fn hold_bytes(&mut self, text: &[u8]) -> usize
+        requires { pushed self.old.input + length text.now ≤ self.old.limits.stack }
+        ensures few { result ≤ length text.now }
+        ensures plain { AllByRecursion (λ b. is_argument_byte b ≡ true) (take result text.now) }
+        ensures holds { self.new ≡ record self.old {
+          input = record self.old.input {
+            arguments = bytes_held (take result text.now) self.old.input.arguments;
+          };
+        } }
+    {
+        self.arguments.take_front(text, None)
     }
 
     /// The argument that is being read, as far as it is.

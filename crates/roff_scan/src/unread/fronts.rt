@@ -15,9 +15,9 @@ impl<E: Copy> Unread<E> {
     ghost use Rattle.roff_scan.specs.Unread.Calls.{PassesSource};
     ghost use Rattle.roff_input.specs.Unread.{asks_to_take};
 
-    /// Bytes that stand in front, as they lie together: of a body ahead, one of a text ahead, or where
-    /// nothing is ahead and no byte was looked at, those of the source that stand ready; no more than
-    /// the limit on bytes allows. Whether anything is half read isn't looked at.
+    /// Bytes that stand in front, as they lie together: of a body ahead, one of a text ahead, or
+    /// where nothing is ahead and no byte was looked at, those of the source that stand ready; no
+    /// more than the limit on bytes allows. Whether anything is half read isn't looked at.
     #[inline]
     pub fn front<'a, S: ByteSource>(&'a self, source: &'a S) -> &'a [u8]
         ensures bytes { result.now
@@ -111,8 +111,9 @@ impl<E: Copy> Unread<E> {
     }
 }
 
-/// Bytes that stand in front, as they lie together, so many at the most: of a body ahead, one of a text
-/// ahead, or where nothing is ahead and no byte was looked at, those of the source that stand ready.
+/// Bytes that stand in front, as they lie together, so many at the most: of a body ahead, one of a
+/// text ahead, or where nothing is ahead and no byte was looked at, those of the source that stand
+/// ready.
 #[inline]
 pub(super) fn front_of<'a, E: Copy, S: ByteSource>(
     input_ahead: &'a InputAhead<E>,

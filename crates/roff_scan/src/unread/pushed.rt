@@ -1,13 +1,16 @@
 //! Texts, bodies and events that are put in front.
 
-ghost use Rattle.std.specs.Prelude.{true, false, ◌≡◌, ◌+◌, ◌<◌, ◌≤◌, length};
+ghost use Rattle.std.specs.Prelude.{true, false, ◌≡◌, ◌+◌, ◌<◌, ◌≤◌, [], drop, length};
+ghost use Rattle.roff_input.specs.Arguments.{is_behind_quote};
 ghost use Rattle.roff_input.specs.Input.{leaving, outermost_back, events_ahead, frees_ahead};
-ghost use Rattle.roff_input.specs.Input.{most_events, most_frees, depth, pushing, putting_back};
+ghost use Rattle.roff_input.specs.Input.{most_events, most_frees, depth, pushed, pushing};
+ghost use Rattle.roff_input.specs.Input.{putting_back};
 ghost use Rattle.roff_input.specs.Input.{freeing};
 ghost use Rattle.roff_input.specs.Input.Names.{body_named};
 
 use super::Unread;
 use super::results::drop_results;
+use roff_arguments::ArgumentTexts;
 use roff_num::{Limit, Name};
 
 impl<E: Copy> Unread<E> {
@@ -39,6 +42,38 @@ impl<E: Copy> Unread<E> {
         }
         self.input_ahead.push(text);
         Ok(())
+    }
+
+    /// Puts a text in front of which so many bytes were read already, each at its cost. Where that is all
+    /// of it, and no quote is waited for, its end is taken too. Returns whether it was.
+    #[inline(always)]
+    pub fn push_read(&mut self, text: &[u8], count: usize) -> bool
+        requires among { count ≤ length text.now }
+        requires bytes { self.old.input.charge + length text.now < self.old.limits.bytes }
+        requires stack { pushed self.old.input + length (drop count text.now)
+            ≤ self.old.limits.stack }
+        requires shallow { depth self.old.input < self.old.limits.depth }
+        ensures whole { result ≡ true → drop count text.now ≡ [] }
+        ensures quote { result ≡ true
+            → is_behind_quote self.old.input.arguments.place ≡ false }
+        ensures ended { result ≡ true → self.new ≡ record self.old {
+          input = record self.old.input { charge = self.old.input.charge + count + 1 };
+        } }
+        ensures rest { result ≡ false → self.new ≡ record self.old {
+          input = pushing (drop count text.now)
+              (record self.old.input { charge = self.old.input.charge + count });
+        } }
+    {
+        // the invariant is known where a field is named
+        let _ = &self.limits;
+        let (_, rest) = text.split_at(count);
+        self.charge += count as u32;
+        if is_whole(rest, &self.arguments) {
+            self.charge += 1;
+            return true;
+        }
+        let _ = self.push(rest);
+        false
     }
 
     /// Puts the body of a name and its end in front, as it is now: it is read where it lies,
@@ -98,4 +133,13 @@ impl<E: Copy> Unread<E> {
         drop_results(&mut self.results, 1);
         back
     }
+}
+
+/// Whether nothing is left of a text, and no quote is waited for behind it.
+#[inline(always)]
+fn is_whole(rest: &[u8], arguments: &ArgumentTexts) -> bool
+    ensures none { result ≡ true → rest.now ≡ [] }
+    ensures quote { result ≡ true → is_behind_quote arguments.now.arguments.place ≡ false }
+{
+    rest.is_empty() && !arguments.is_behind_quote()
 }
