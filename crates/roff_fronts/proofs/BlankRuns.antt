@@ -114,7 +114,7 @@ reads-blanks gave gives ready line behind count old new before after none_half i
     (ap (λ (r : ReaderState). r.registers) came) (ap (λ (r : ReaderState). r.meaning) came) within
 
 -- a blank where a branch begins is passed over
-passes-blank : (b : ℕ) → (b == blank) ≡ true → Ignores Branch b
+pub passes-blank : (b : ℕ) → (b == blank) ≡ true → Ignores Branch b
 passes-blank b is = λ k i none_half.
     subst (λ (c : ℕ). taking k Branch i c ≡ going_on i Branch) (sym (eqb-true b blank is))
     (ap (λ (half : List OpenEscape). read_in k Branch i (byte_read (at_start k) half 32)) none_half

@@ -106,7 +106,7 @@ turns-called names a texts breaks first second there belongs leads k i =
     ∙ leads here
 
 -- a name of two bytes behind a dot or apostrophe
-turned-named : (names : Named Entry) (reading there : LineState) (breaks : Bool) (first second : ℕ) (a : Arguments) (texts : List (List ℕ)) → due reading ≡ None
+pub turned-named : (names : Named Entry) (reading there : LineState) (breaks : Bool) (first second : ℕ) (a : Arguments) (texts : List (List ℕ)) → due reading ≡ None
     → BeginsControl reading → BelongsToName first → BelongsToName second
     → LeadsTo (λ i. behind_called i breaks (called_by (record { first = first; second = Some second }) names)) there
     → Turned names (stage_with reading [] a texts) (control_byte breaks ∷ first ∷ second ∷ []) (stage_with there (half_begun (is_deciding there) []) a texts)

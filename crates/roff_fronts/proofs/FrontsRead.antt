@@ -18,4 +18,4 @@ pub two-read : (names : Named Entry) (bytes : List ℕ) (front : ControlFront) �
 two-read names bytes front fronts reads =
     let mark : ℕ = control_byte front.breaks in
     second-true (mark == dot || mark == apostrophe) (is_front_read names front.first front.second)
-    (subst (λ (all : List ℕ). reads_front names all ≡ true) fronts.1 reads)
+    (subst (λ (all : List ℕ). reads_front names all ≡ true) fronts.are reads)

@@ -1,5 +1,5 @@
 -- Bytes behind a request's name, or that of a body, are held in the arguments of the line, one after another.
-use Rattle.std.proofs.Common.{◌≡◌, ℕ, ◌==◌, ◌≤◌, Bool, true, false, not, ◌||◌, List, [], ◌∷◌, Option, None, Some, refl, sym, ap, subst, ◌∙◌, arith}
+use Rattle.std.proofs.Common.{◌≡◌, ℕ, ◌==◌, ◌≤◌, Bool, true, false, not, ◌||◌, List, [], ◌∷◌, Option, None, Some, refl, rules, sym, ap, subst, ◌∙◌, arith}
 use Rattle.std.specs.Prelude.{if◌then◌else◌}
 use Rattle.std.specs.List.{AllByRecursion}
 use Rattle.roff_input.proofs.KeptArguments.{held-only_kept, held-with_argument_byte}
@@ -18,7 +18,8 @@ use Rattle.roff_run.specs.Reading.Items.{going_on}
 use Rattle.roff_run.specs.Reading.Units.{settling}
 use Rattle.roff_run.specs.Stages.{Here, HoldsIfFewer, Onward, Stage, Turned, input_at}
 use Rattle.roff_run.specs.declared.line_state.LineState.{LineState}
-use Rattle.roff_run.specs.declared.line_state.LineState.TheVariants.{Calling}
+use Rattle.roff_run.specs.declared.line_state.LineState.TheVariants.{Arguments as InArguments, Calling}
+use Rattle.roff_run.specs.declared.request.Request.{Request}
 use Rattle.roff_num.specs.declared.short_name.ShortName.{ShortName}
 
 -- a byte that is held as it is read is none of three kinds
@@ -41,6 +42,10 @@ holds_call name b plain = λ k i none_half few.
 
 pub holds_call_where : (reading : LineState) (name : ShortName) → reading ≡ Calling name → (b : ℕ) → is_argument_byte b ≡ true → HoldsIfFewer (Some 8) reading b
 holds_call_where reading name is b plain = subst (λ (r : LineState). HoldsIfFewer (Some 8) r b) (sym is) (holds_call name b plain)
+
+-- and behind that of a request, however many are
+pub holds_request : (breaks : Bool) (request : Request) (b : ℕ) → is_argument_byte b ≡ true → HoldsIfFewer None (InArguments breaks request) b
+holds_request breaks request b plain = λ k i none_half few. search rules
 
 -- where this is read
 abbrev pub stage_with : LineState → List OpenEscape → List (List ℕ) → Arguments → Stage

@@ -9,9 +9,12 @@ pub mod NameFronts
 pub mod ConditionRuns
 pub mod TakenRuns
 pub mod ControlFronts
+pub mod LinesRead
 mod FrontsRead
 pub mod LineEnds
 pub mod StringFronts
 pub mod RegisterNames
 pub mod RegistersPut
+pub mod RegistersHeld
 pub mod PuttingRuns
+pub mod ConstantConditions

@@ -2,7 +2,7 @@
 use Rattle.std.proofs.Common.{◌≡◌, ℕ, ◌==◌, Bool, true, false, List, [], ◌∷◌, Option, Some, None, refl, ap, ◌∙◌, arith}
 use Rattle.std.specs.Prelude.{if◌then◌else◌}
 use Rattle.roff_input.proofs.Settling.{held-only_kept-settled, settled-only_kept}
-use Rattle.roff_input.specs.Arguments.{Arguments, held}
+use Rattle.roff_input.specs.Arguments.{Arguments}
 use Rattle.roff_escape.specs.EscapeFronts.{ReadsOn}
 use Rattle.roff_escape.specs.OpenEscape.{OpenEscape, Backslash, Name, Reads}
 use Rattle.roff_escape.specs.OpenEscapes.{byte_read}
@@ -10,6 +10,7 @@ use Rattle.roff_escape.specs.declared.escapes.NameUse.TheVariants.{Register}
 use Rattle.roff_escape.specs.declared.open_escape.Found.TheVariants.{Asks, GoesOn}
 use Rattle.roff_escape.specs.declared.open_escape.NamePart.TheVariants.{First, Nothing, Opened}
 use Rattle.roff_escape.specs.declared.open_escape.Surroundings.{Surroundings}
+use Rattle.roff_escape.specs.declared.open_escape.Waiting.TheVariants.{Takes, Waits}
 use Rattle.roff_input.specs.Input.{pushing}
 use Rattle.roff_num.specs.ShortNames.{name_bytes}
 use Rattle.roff_run.specs.Reading.{taking, undropped_taking}
@@ -42,6 +43,7 @@ reads_names-text line = record {
       undropped k (InText line) i b stands ∙ ap (λ (r : Reads). read_in k (InText line) i r) (goes (place_in k (InText line)));
   twice = λ a. refl;
   same_held = λ a. refl;
+  takes = λ place none. refl;
 }
 
 -- and so do arguments
@@ -54,6 +56,7 @@ reads_names-arguments breaks request =
       asks = λ k i b rest name stands goes. undropped k reading i b stands ∙ ap (λ (r : Reads). read_in k reading i r) (goes (place_in k reading));
       twice = λ a. settled-only_kept a;
       same_held = λ a. held-only_kept-settled a;
+      takes = λ place none. ap (λ (c : Bool). if c then Waits else Takes) none;
     }
 
 -- what a byte of a name is none of

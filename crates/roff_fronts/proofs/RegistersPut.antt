@@ -1,14 +1,14 @@
 -- A register's escape that was taken at once, and its text in front.
-use Rattle.std.proofs.Common.{◌≡◌, ℕ, ◌+◌, ◌-◌, ◌<◌, ◌≤◌, ◌==◌, List, [], ◌∷◌, ◌++◌, length, map, take, Option, Some, None, Result, refl, sym, ap, subst, ◌∙◌, arith}
+use Rattle.std.proofs.Common.{◌≡◌, ℕ, ◌+◌, ◌<◌, ◌≤◌, ◌==◌, Bool, true, false, not, List, [], ◌∷◌, ◌++◌, length, map, take, Option, Some, None, refl, sym, ap, subst, ◌∙◌, arith}
 use Rattle.std.specs.Prelude.{IfSome}
+use Rattle.std.proofs.lemmas.Bool.{ne_eqb}
 use Rattle.roff_composer.specs.Composer.Standing.{StandFor}
 use Rattle.roff_composer.specs.declared.composer.Composer.{Composer as ComposerOf}
 use Rattle.roff_escape.specs.OpenEscape.{OpenEscape}
 use Rattle.roff_input.proofs.Counts.{bytes_ahead-bytes, ends_ahead-bytes}
-use Rattle.roff_input.specs.Input.{Ahead, ByteAhead, EndAhead, bytes_ahead, counting, depth, ends_ahead, lines_taken, pushed, pushing}
-use Rattle.roff_input.specs.Unread.{IsWithin, changing, input_refusal, unless_passed}
+use Rattle.roff_input.specs.Input.{Ahead, ByteAhead, EndAhead, bytes_ahead, counting, depth, ends_ahead, lines_taken, pushed}
+use Rattle.roff_input.specs.Unread.{IsWithin}
 use Rattle.roff_num.specs.ShortNames.{name_bytes}
-use Rattle.roff_num.specs.declared.limit.Limit.{Limit}
 use Rattle.roff_num.specs.declared.limits.Limits.{Limits}
 use Rattle.roff_num.specs.declared.short_name.ShortName.{ShortName}
 use Rattle.roff_reader.specs.Reader.State.{ReaderState}
@@ -20,13 +20,15 @@ use Rattle.roff_run.specs.Registers.{text_of_register}
 use Rattle.roff_run.specs.Run.{known_at}
 use Rattle.roff_run.specs.TurnsToCome.{free_ahead, turns_to_come}
 use Rattle.roff_run.specs.PageEvents.{PageEvent}
-use Rattle.roff_scan.proofs.Changing.{push_within}
+use Rattle.roff_run.specs.declared.line_state.LineState.{LineState}
+use Rattle.roff_scan.proofs.Changing.{IsWithin-pushing}
 use Rattle.roff_scan.proofs.PassingAhead.{bytes_taken-is}
-use Rattle.roff_scan.specs.Unread.Calls.{NoNewline, OfSource, OfTexts, PassesFront}
+use Rattle.roff_scan.specs.Unread.Calls.{IsFront, NoNewline, OfSource, OfTexts, PassesFront, front_bytes}
 use Rattle.roff_source.specs.Bytes.{backslash, is_dropped, newline}
 use Rattle.roff_source.specs.Tape.{Tape}
-use Rattle.roff_fronts.specs.Registers.{AsksRegister, BeginsRegister, IsNameOf, IsRegisterName, PutsRegister, ReadsNames, escape_behind, register_escape}
+use Rattle.roff_fronts.specs.Registers.{AsksRegister, BeginsRegister, IsNameOf, IsRegisterAhead, IsRegisterName, PutsRegister, ReadsNames, escape_behind, register_escape, with_text}
 use Rattle.roff_fronts.proofs.HeldRuns.{none_of_three}
+use Rattle.roff_fronts.proofs.RunsRead.{first_of_front, passed-charge}
 use Rattle.roff_fronts.proofs.RegisterNames.{asks_register}
 
 -- no newline is in such an escape
@@ -100,61 +102,61 @@ leaves gave gives bytes before passed some (OfTexts passes) =
       half = refl;
     })
 
--- no more turns are to come where a text was put in front, or a limit refused it
-turns-pushed : (refusal : Option Limit) (text : List ℕ) (u : PageUnread) → turns_to_come (unless_passed refusal (pushing text u.input) u).1 ≤ turns_to_come u
-turns-pushed None text u = let free = free_ahead-bytes text (EndAhead ∷ u.input.ahead) in omega (arith, free)
-turns-pushed (Some limit) text u = omega arith
+-- no more turns are to come where a text was put in front
+turns-pushed : (text : List ℕ) (u : PageUnread) → turns_to_come (with_text text u) ≤ turns_to_come u
+turns-pushed text u = let free = free_ahead-bytes text (EndAhead ∷ u.input.ahead) in omega (arith, free)
 
--- and what is half read stays
-half-pushed : (refusal : Option Limit) (text : List ℕ) (u : PageUnread) → (unless_passed refusal (pushing text u.input) u).1.input.escapes ≡ u.input.escapes
-half-pushed None text u = refl
-half-pushed (Some limit) text u = refl
-
--- an escape has some bytes
+-- an escape has some bytes, and few
 some_bytes : (first : ℕ) (second : Option ℕ) → 1 ≤ length (escape_behind first second)
 some_bytes first None = omega arith
 some_bytes first (Some second) = omega arith
 
--- the escape was taken, and its register's text put in front
-pub puts_register : (l : Limits) (gave gives : Tape → Type 0) (r : ReaderState) (es : ComposerOf) (before passed settled after : PageUnread) (name : ShortName) (text : List ℕ) (result : Result (Unit {0}) Limit)
-    → IsNameOf name.first name.second → ReadsNames r.reading → before.input.escapes ≡ []
-    → PassesFront gave gives (escape_behind name.first name.second) before passed
-    → settled ≡ record passed { input = interrupted r.reading passed.input } → IsWithin settled
-    → ((limits : Limits) (h : PageHistory) → StandFor limits h es → text ≡ text_of_register (known_at h r.registers.all settled.input) (name_bytes name))
-    → length text ≤ 48 → pushed before.input + 48 ≤ l.stack → depth before.input < l.depth
-    → (result, after) ≡ changing (pushing text settled.input) settled → IsWithin after → PutsRegister l gave gives r es before after
-puts_register l gave gives r es before passed settled after name text result named reads none_half passes is_settled fits text_is few room shallow change within =
-    let i : PageInput = before.input in
-    let bytes : List ℕ = escape_behind name.first name.second in
-    let left : Leaves before passed = leaves gave gives bytes before passed (some_bytes name.first name.second) passes in
-    let there : PageUnread = record passed { input = interrupted r.reading passed.input } in
-    let changed : (result, after) ≡ changing (pushing text there.input) there =
-    subst (λ (u : PageUnread). (result, after) ≡ changing (pushing text u.input) u) is_settled change in
-    let fits_there : IsWithin there = subst (λ (u : PageUnread). IsWithin u) is_settled fits in
-    let no_more = NoMore-interrupted r.reading passed.input in
-    let is_after : after ≡ (changing (pushing text there.input) there).1 = ap (λ (p : Result (Unit {0}) Limit × PageUnread). p.1) changed in
-    let turns : turns_to_come after ≤ turns_to_come passed =
-    subst (λ (u : PageUnread). turns_to_come u ≤ turns_to_come there) (sym is_after) (turns-pushed (input_refusal there.limits (pushing text there.input)) text there) in
-    record {
-      bytes = bytes;
-      name = name_bytes name;
-      text = text;
-      passed = passed;
-      asked = subst (λ (half : List OpenEscape). AsksRegister i.names (record { reading = r.reading; escapes = half; arguments = i.arguments; texts = i.open_texts }) bytes (name_bytes name)) (sym none_half)
-          (asks_register i.names r.reading reads i.arguments i.open_texts name.first name.second named);
-      passes = passes;
-      text_is = λ limits h stands. subst (λ (u : PageUnread). text ≡ text_of_register (known_at h r.registers.all u.input) (name_bytes name)) is_settled (text_is limits h stands);
-      put = λ same.
-          let limits : there.limits ≡ l = left.same ∙ same in
-          is_after
-          ∙ ap (λ (p : Result (Unit {0}) Limit × PageUnread). p.1)
-          (push_within there text fits_there (pushed there.input) refl
-          (omega (arith, few, room, no_more.bytes, left.less, ap (λ (m : Limits). m.stack) limits))
-          (omega (arith, shallow, no_more.texts, left.fewer, ap (λ (m : Limits). m.depth) limits)));
-      fewer = omega (arith, turns, left.turns);
-      half = ap (λ (u : PageUnread). u.input.escapes) is_after ∙ half-pushed (input_refusal there.limits (pushing text there.input)) text there ∙ left.half;
-      within = within;
-    }
+few_bytes : (first : ℕ) (second : Option ℕ) → length (escape_behind first second) ≤ 5
+few_bytes first None = omega arith
+few_bytes first (Some second) = omega arith
+
+module _ (gave gives : Tape → Type 0) (ready : List ℕ) (reading : LineState) (before passed settled : PageUnread) (name : ShortName) (text : List ℕ)
+    (ahead : IsRegisterAhead name reading ready before) (passes : PassesFront gave gives (register_escape name) before passed)
+    (is_settled : settled ≡ record passed { input = interrupted reading passed.input }) (few : length text ≤ 48) where
+  left : Leaves before passed
+  left = leaves gave gives (register_escape name) before passed (some_bytes name.first name.second) passes
+
+  abbrev there : PageUnread
+  there = record passed { input = interrupted reading passed.input }
+
+  -- the limit on bytes has room for what is read of the text
+  pub room_behind : settled.input.charge + length text < settled.limits.bytes
+  room_behind =
+      let charge = passed-charge gave gives (register_escape name) before passed passes in
+      subst (λ (u : PageUnread). u.input.charge + length text < u.limits.bytes) (sym is_settled)
+      (omega (arith, charge, few_bytes name.first name.second, few, ahead.bytes, ap (λ (m : Limits). m.bytes) left.same))
+
+  -- the escape was taken, and its register's text would be in front
+  pub puts_register : (r : ReaderState) (es : ComposerOf) → r.reading ≡ reading → IsWithin settled
+      → ((limits : Limits) (h : PageHistory) → StandFor limits h es → text ≡ text_of_register (known_at h r.registers.all settled.input) (name_bytes name))
+      → PutsRegister gave gives r es before (with_text text settled)
+  puts_register r es is_reading fits text_is =
+      let i : PageInput = before.input in
+      let fits_there : IsWithin there = subst IsWithin is_settled fits in
+      let no_more = NoMore-interrupted reading passed.input in
+      let turns = turns-pushed text there in
+      let put : PutsRegister gave gives r es before (with_text text there) = record {
+        bytes = register_escape name;
+        name = name_bytes name;
+        text = text;
+        passed = passed;
+        asked = subst (λ (half : List OpenEscape). AsksRegister i.names (record { reading = r.reading; escapes = half; arguments = i.arguments; texts = i.open_texts }) (register_escape name) (name_bytes name)) (sym ahead.none_half)
+            (asks_register i.names r.reading (subst ReadsNames (sym is_reading) ahead.reads) i.arguments i.open_texts name.first name.second ahead.named);
+        passes = passes;
+        text_is = λ limits h stands. subst (λ (u : PageUnread). text ≡ text_of_register (known_at h r.registers.all u.input) (name_bytes name)) is_settled (text_is limits h stands);
+        put = ap (λ (reads : LineState). with_text text (record passed { input = interrupted reads passed.input })) (sym is_reading);
+        fewer = omega (arith, turns, left.turns);
+        half = left.half;
+        within = IsWithin-pushing there text fits_there (pushed there.input) refl
+            (omega (arith, few, ahead.room, no_more.bytes, left.less, ap (λ (m : Limits). m.stack) left.same))
+            (omega (arith, ahead.shallow, no_more.texts, left.fewer, ap (λ (m : Limits). m.depth) left.same));
+      } in
+      subst (λ (u : PageUnread). PutsRegister gave gives r es before (with_text text u)) (sym is_settled) put
 
 -- bytes begin with the escape of a name of two bytes, or of one
 pub begins_long : (r : Option ShortName) (first second : ℕ) (rest : List ℕ) → IfSome r (λ name. IsRegisterName name × (name ≡ record { first = first; second = Some second }))
@@ -178,3 +180,28 @@ begins_short (Some name) first rest is =
       among = subst (λ (n : ShortName). length (register_escape n) ≤ length bytes) (sym is.1) (omega arith);
       is = subst (λ (n : ShortName). take (length (register_escape n)) bytes ≡ register_escape n) (sym is.1) refl;
     }
+
+-- nothing is half read
+pub none_open : (half : List OpenEscape) → not (length half == 0) ≡ false → half ≡ []
+none_open [] is = refl
+none_open (first ∷ others) is =
+    let some : (length (first ∷ others) == 0) ≡ false = ne_eqb (length (first ∷ others)) 0 (λ none. omega (arith, none)) in
+    let wrong : true ≡ false = sym (ap (λ (c : Bool). not c) some) ∙ is in
+    absurd (cc)
+
+-- where bytes in front begin with the escape of a name, and the limits have room, it is read at once
+pub is_register_ahead : (found : Option ShortName) (bytes ready : List ℕ) (reading : LineState) (u : PageUnread) → IfSome found (λ name. BeginsRegister bytes name)
+    → bytes ≡ front_bytes (length bytes) ready u → IsFront (length bytes) ready u → ReadsNames reading → u.input.escapes ≡ []
+    → pushed u.input + 48 ≤ u.limits.stack → depth u.input < u.limits.depth → u.input.charge + 54 ≤ u.limits.bytes
+    → IfSome found (λ name. IsRegisterAhead name reading ready u)
+is_register_ahead None bytes ready reading u begins stood front reads none_half room shallow charge = tt
+is_register_ahead (Some name) bytes ready reading u begins stood front reads none_half room shallow charge = record {
+  named = begins.named;
+  reads = reads;
+  none_half = none_half;
+  front = record { among = omega (arith, begins.among, front.among); within = omega (arith, begins.among, front.within) };
+  is = sym (first_of_front bytes (length (register_escape name)) ready u stood begins.among) ∙ begins.is;
+  room = room;
+  shallow = shallow;
+  bytes = charge;
+}

@@ -1,22 +1,25 @@
 -- The front of a control line, up to its name: what its bytes lead to.
-use Rattle.std.specs.Prelude.{◌≡◌, ◌==◌, ◌||◌, ◌&&◌, not, nat_lt, ℕ, Bool, true, false, if◌then◌else◌, List, [], ◌∷◌, length, Some}
+use Rattle.std.specs.Prelude.{◌≡◌, ◌==◌, ◌||◌, ◌&&◌, not, nat_lt, ℕ, Bool, true, false, if◌then◌else◌, List, [], ◌∷◌, length, Some, None}
 use Rattle.roff_source.specs.Bytes.{apostrophe, backslash, blank, dot}
 use Rattle.roff_scan.specs.Unread.Calls.{IsFront, front_bytes}
+use Rattle.roff_scan.specs.Unread.Lines.{StandsNewline, begins_with_newline}
 use Rattle.roff_run.specs.Reading.Items.{PageUnread}
 use Rattle.roff_run.specs.Reading.{taking}
 use Rattle.roff_run.specs.Reading.Items.{PageInput, going_on}
 use Rattle.roff_input.specs.declared.place.Place.{Place}
-use Rattle.roff_num.specs.declared.short_name.ShortName.{ShortName}
 use Rattle.roff_store.specs.Named.{Named}
 use Rattle.roff_store.specs.Texts.{Entry}
-use Rattle.roff_names.specs.NamesRead.{reads_other_branch}
+use Rattle.roff_names.specs.NamesRead.{LeadsTo, is_deciding, reads_other_branch}
+use Rattle.roff_scan.specs.declared.unread.lines.BehindHeld.{BehindHeld}
+use Rattle.roff_run.specs.Reading.ControlLines.{BelongsToName, behind_called}
+use Rattle.roff_run.specs.Reading.Ends.{due}
 use Rattle.roff_run.specs.Requests.{called_by}
 use Rattle.roff_escape.specs.declared.open_escape.Waiting.TheVariants.{Takes}
 use Rattle.roff_run.specs.Reading.Waiting.{line_waits}
 use Rattle.roff_run.specs.Registers.{Known}
 use Rattle.roff_fronts.specs.declared.control.ControlFront.{ControlFront}
 use Rattle.roff_fronts.specs.declared.control.ControlRead.{ControlRead}
-use Rattle.roff_fronts.specs.declared.control.ControlRead.TheVariants.{Nothing, Front, WholeLine}
+use Rattle.roff_fronts.specs.declared.control.ControlRead.TheVariants.{Nothing, Front, Condition, Decided, Held, HeldToRegister, HeldToEnd}
 use Rattle.roff_run.specs.declared.line_state.LineState.{LineState}
 use Rattle.roff_run.specs.declared.line_state.LineState.TheVariants.{Control}
 
@@ -34,9 +37,11 @@ BeginsControl reading =
 abbrev pub TakesAtBeginning : LineState → Type 0
 TakesAtBeginning reading = (place : Place) → line_waits reading place ≡ Takes
 
--- these bytes begin with those of a control line's front
-abbrev pub Fronts : List ℕ → ControlFront → Type 0
-Fronts bytes front = (rest : List ℕ) × (bytes ≡ control_byte front.breaks ∷ front.first ∷ front.second ∷ rest)
+-- these bytes begin with those of a control line's front, behind which a newline is next or isn't
+pub record Fronts (bytes : List ℕ) (front : ControlFront) : Type 0 where
+  pub rest : List ℕ
+  pub are : bytes ≡ control_byte front.breaks ∷ front.first ∷ front.second ∷ rest
+  pub ends : front.ends ≡ begins_with_newline rest
 
 -- these bytes stand in front
 pub record StandsReady (bytes ready : List ℕ) (u : PageUnread) : Type 0 where
@@ -47,7 +52,49 @@ pub record StandsReady (bytes ready : List ℕ) (u : PageUnread) : Type 0 where
 abbrev pub is_read : ControlRead → Bool
 is_read Nothing = false
 is_read Front = true
-is_read WholeLine = true
+is_read Condition = true
+is_read Decided = true
+is_read Held = true
+is_read HeldToRegister = true
+is_read HeldToEnd = true
+
+-- whether its bytes were read past: no newline was taken behind them, and no condition decided
+abbrev pub is_past : ControlRead → Bool
+is_past Nothing = false
+is_past Front = true
+is_past Condition = true
+is_past Decided = false
+is_past Held = true
+is_past HeldToRegister = true
+is_past HeldToEnd = false
+
+-- what was read of one, by what stands behind the bytes that were held in its arguments
+abbrev pub read_to : BehindHeld → ControlRead
+read_to BehindHeld.Newline = HeldToEnd
+read_to BehindHeld.Register = HeldToRegister
+read_to BehindHeld.Other = Held
+
+-- the same of a line that calls a body, where no register is read at once
+abbrev pub read_for_call : BehindHeld → ControlRead
+read_for_call BehindHeld.Newline = HeldToEnd
+read_for_call BehindHeld.Register = Held
+read_for_call BehindHeld.Other = Held
+
+-- behind a name arguments are read: nothing is due there, and what was read of the name begins nothing that is half read
+abbrev pub HoldsArguments : LineState → Type 0
+HoldsArguments reading = (due reading ≡ None) × (is_deciding reading ≡ false)
+
+-- A name of two bytes stands in front, behind its dot or apostrophe, where a control line may begin, and behind it this is read. The
+-- newline that ends the line is next, or isn't looked at.
+pub record StandsName (front : ControlFront) (there reading : LineState) (ready : List ℕ) (u : PageUnread) : Type 0 where
+  pub stands : StandsReady (control_byte front.breaks ∷ front.first ∷ front.second ∷ []) ready u
+  pub begins : BeginsControl reading
+  pub none_due : due reading ≡ None
+  pub none_half : u.input.escapes ≡ []
+  pub first : BelongsToName front.first
+  pub second : BelongsToName front.second
+  pub leads : LeadsTo (λ i. behind_called i front.breaks (called_by (record { first = front.first; second = Some front.second }) u.input.names)) there
+  pub ends : front.ends ≡ true → StandsNewline 3 ready u
 
 -- whether a byte belongs to a name behind a dot or apostrophe, and prints something
 abbrev pub prints_in_name : ℕ → Bool

@@ -3,3 +3,4 @@ pub mod Stages
 pub mod ControlFronts
 pub mod StringFronts
 pub mod Registers
+pub mod Conditions

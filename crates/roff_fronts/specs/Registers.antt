@@ -1,6 +1,7 @@
 -- Registers that are read at once, where their escapes stand whole in front (manual, section 8).
-use Rattle.std.specs.Prelude.{◌≡◌, ℕ, ◌<◌, ◌≤◌, ◌==◌, ◌++◌, true, false, List, [], ◌∷◌, length, take, Option, Some, None}
-use Rattle.roff_input.specs.Arguments.{Arguments, held}
+use Rattle.std.specs.Prelude.{◌≡◌, ℕ, ◌+◌, ◌<◌, ◌≤◌, ◌==◌, ◌++◌, Bool, true, false, List, [], ◌∷◌, length, take, Option, Some, None}
+use Rattle.roff_input.specs.Arguments.{Arguments, held, is_behind_quote}
+use Rattle.roff_input.specs.declared.place.Place.{Place}
 use Rattle.roff_composer.specs.Composer.Standing.{StandFor}
 use Rattle.roff_composer.specs.declared.composer.Composer.{Composer as ComposerOf}
 use Rattle.roff_escape.specs.OpenEscape.{OpenEscape}
@@ -9,7 +10,8 @@ use Rattle.roff_escape.specs.Waiting.{is_ended_by}
 use Rattle.roff_escape.specs.declared.escapes.NameUse.TheVariants.{Register}
 use Rattle.roff_escape.specs.declared.open_escape.Found.TheVariants.{Asks, GoesOn}
 use Rattle.roff_escape.specs.declared.open_escape.Surroundings.{Surroundings}
-use Rattle.roff_input.specs.Input.{pushing}
+use Rattle.roff_escape.specs.declared.open_escape.Waiting.TheVariants.{Takes}
+use Rattle.roff_input.specs.Input.{depth, pushed, pushing}
 use Rattle.roff_input.specs.Unread.{IsWithin}
 use Rattle.roff_num.specs.declared.limits.Limits.{Limits}
 use Rattle.roff_num.specs.declared.short_name.ShortName.{ShortName}
@@ -19,14 +21,16 @@ use Rattle.roff_run.specs.Reading.{taking}
 use Rattle.roff_run.specs.Reading.Ends.{due}
 use Rattle.roff_run.specs.Reading.Items.{PageInput, PageUnread, going_on}
 use Rattle.roff_run.specs.Reading.Units.{interrupted, settled_for}
+use Rattle.roff_run.specs.Reading.Waiting.{line_waits, waiting_in}
 use Rattle.roff_run.specs.Registers.{Known, text_of_register}
 use Rattle.roff_run.specs.Run.{known_at}
 use Rattle.roff_run.specs.Stages.{Stage, Turned, held_at, input_at, stage_of}
 use Rattle.roff_run.specs.TurnsToCome.{turns_to_come}
 use Rattle.roff_run.specs.declared.line_state.LineState.{LineState}
-use Rattle.roff_scan.specs.Unread.Calls.{PassesFront}
+use Rattle.roff_scan.specs.Unread.Calls.{IsFront, PassesEnd, PassesFront, front_bytes}
 use Rattle.roff_source.specs.Bytes.{is_argument_byte, is_dropped}
 use Rattle.roff_source.specs.Tape.{Tape}
+use Rattle.roff_fronts.specs.Stages.{ReadsPast}
 use Rattle.roff_store.specs.Named.{Named}
 use Rattle.roff_store.specs.Texts.{Entry}
 
@@ -54,7 +58,7 @@ pub record BeginsRegister (bytes : List ℕ) (name : ShortName) : Type 0 where
   pub is : take (length (register_escape name)) bytes ≡ register_escape name
 
 -- Where this is read, a byte that gives nothing yet changes only what is half read, once no quote follows the one before; and behind
--- the name of a register its text is read in its escape's place.
+-- the name of a register its text is read in its escape's place. Nothing is waited for but a quote behind one.
 pub record ReadsNames (reading : LineState) : Type 0 where
   pub none_due : due reading ≡ None
   pub goes_on : (k : Known) (i : PageInput) (b : ℕ) (next : List OpenEscape) → is_dropped b ≡ false
@@ -65,6 +69,7 @@ pub record ReadsNames (reading : LineState) : Type 0 where
       → taking k reading i b ≡ going_on (pushing (text_of_register k name) (record (interrupted reading i) { escapes = rest })) reading
   pub twice : (a : Arguments) → settled_for reading (settled_for reading a) ≡ settled_for reading a
   pub same_held : (a : Arguments) → held (settled_for reading a) ≡ held a
+  pub takes : (place : Place) → is_behind_quote place ≡ false → line_waits reading place ≡ Takes
 
 -- the stage behind the escape of a register, as far as bytes change it: no quote follows the one before
 abbrev pub settled_at : Stage → Stage
@@ -84,9 +89,24 @@ pub record AsksRegister (names : Named Entry) (p : Stage) (bytes name : List ℕ
   pub asks : (k : Known) (i : PageInput) → taking k there.reading (input_at names there i) last
       ≡ going_on (pushing (text_of_register k name) (input_at names (settled_at p) i)) p.reading
 
--- The escape of a register that stood whole in front was taken at once, and its text is in front, if the limits are these. No more
--- turns are to come, however that is.
-pub record PutsRegister (l : Limits) (gave gives : Tape → Type 0) (r : ReaderState) (es : ComposerOf) (before after : PageUnread) : Type 0 where
+-- an input with a text in front
+abbrev pub with_text : List ℕ → PageUnread → PageUnread
+with_text text u = record u { input = pushing text u.input }
+
+-- The escape of the register of a name stands whole in front, where it is read at once: nothing is half read, and the limits have room
+-- for its bytes, for the text of any number, and for what is read of that.
+pub record IsRegisterAhead (name : ShortName) (reading : LineState) (ready : List ℕ) (u : PageUnread) : Type 0 where
+  pub named : IsRegisterName name
+  pub reads : ReadsNames reading
+  pub none_half : u.input.escapes ≡ []
+  pub front : IsFront (length (register_escape name)) ready u
+  pub is : front_bytes (length (register_escape name)) ready u ≡ register_escape name
+  pub room : pushed u.input + 48 ≤ u.limits.stack
+  pub shallow : depth u.input < u.limits.depth
+  pub bytes : u.input.charge + 54 ≤ u.limits.bytes
+
+-- The escape of a register that stood whole in front was taken at once, and its text is in front. Fewer turns are to come.
+pub record PutsRegister (gave gives : Tape → Type 0) (r : ReaderState) (es : ComposerOf) (before after : PageUnread) : Type 0 where
   pub bytes : List ℕ
   pub name : List ℕ
   pub text : List ℕ
@@ -94,7 +114,20 @@ pub record PutsRegister (l : Limits) (gave gives : Tape → Type 0) (r : ReaderS
   pub asked : AsksRegister before.input.names (stage_of r.reading before.input) bytes name
   pub passes : PassesFront gave gives bytes before passed
   pub text_is : (limits : Limits) (h : PageHistory) → StandFor limits h es → text ≡ text_of_register (known_at h r.registers.all passed.input) name
-  pub put : before.limits ≡ l → after ≡ record passed { input = pushing text (interrupted r.reading passed.input) }
+  pub put : after ≡ with_text text (record passed { input = interrupted r.reading passed.input })
   pub fewer : turns_to_come after < turns_to_come before
   pub half : after.input.escapes ≡ before.input.escapes
   pub within : IsWithin after
+
+-- The same, and behind it bytes of the text were read past, and the end of that too, if it is said.
+pub record HoldsRegister (gave gives : Tape → Type 0) (r : ReaderState) (es : ComposerOf) (before after : PageUnread) : Type 0 where
+  pub put : PageUnread
+  pub puts : PutsRegister gave gives r es before put
+  pub read : PageUnread
+  pub past : ReadsPast gives gives r r put read
+  pub is_ended : Bool
+  pub takes : is_ended ≡ true → waiting_in r.reading read.input ≡ Takes
+  pub ends : is_ended ≡ true → PassesEnd read after
+  pub stays : is_ended ≡ false → after ≡ read
+  pub within : IsWithin after
+  pub half : after.input.escapes ≡ before.input.escapes

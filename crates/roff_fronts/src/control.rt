@@ -7,36 +7,55 @@ ghost use Rattle.roff_store.specs.Texts.{Entry};
 ghost use Rattle.roff_run.specs.Reading.ControlLines.{BelongsToName};
 ghost use Rattle.roff_reader.specs.Clauses.{due};
 ghost use Rattle.roff_fronts.specs.ControlFronts.{BeginsControl, Fronts, StandsReady, control_byte};
-ghost use Rattle.roff_fronts.specs.ControlFronts.{TakesAtBeginning, is_read};
+ghost use Rattle.roff_fronts.specs.ControlFronts.{HoldsArguments, StandsName, TakesAtBeginning};
+ghost use Rattle.roff_fronts.specs.ControlFronts.{is_past};
+ghost use Rattle.roff_fronts.specs.ControlFronts.{is_read, read_for_call, read_to};
+ghost use Rattle.roff_fronts.specs.Conditions.{DecidesAtOnce};
+ghost use Rattle.roff_fronts.specs.declared.control.ControlRead.TheVariants.{Condition, Decided};
+ghost use Rattle.roff_fronts.specs.declared.control.ControlRead.TheVariants.{HeldToEnd};
+ghost use Rattle.roff_fronts.specs.declared.control.ControlRead.TheVariants.{HeldToRegister};
+ghost use Rattle.roff_fronts.specs.Runs.{IsRun};
+ghost use Rattle.roff_scan.specs.declared.run_kind.RunKind.TheVariants.{Arguments};
+ghost use Rattle.roff_scan.specs.declared.run_kind.RunKind.TheVariants.{Condition as ConditionRun};
+ghost use Rattle.roff_scan.specs.Unread.Lines.{StandsNewline, begins_with_newline};
 ghost use Rattle.roff_fronts.specs.ControlFronts.{is_front_read, prints_in_name, reads_front};
-ghost use Rattle.roff_fronts.specs.Stages.{ReadsPast};
+ghost use Rattle.roff_fronts.specs.Stages.{ReadsLine, ReadsPast};
 ghost use Rattle.roff_scan.specs.Unread.Calls.{IsFront, NoNewline, PassesFront, front_bytes};
 
+use crate::conditions::read_condition;
 use roff_names::{begin_deciding, behind_called, called_by};
 use roff_num::ShortName;
-use roff_reader::Reader;
+use roff_reader::{CALL_ARGUMENTS, Reader};
 use roff_run::{LineState, PageEvent};
-use roff_scan::{ByteSource, Unread};
+use roff_scan::{BehindHeld, ByteSource, Unread};
 
 /// The first three bytes of a control line: the dot or apostrophe, by whether requests break behind
-/// it, and two more; and whether a newline was seen behind them.
+/// it, and two more; and whether a newline is next behind them.
 #[derive(Clone, Copy)]
-struct ControlFront {
-    breaks: bool,
-    first: u8,
-    second: u8,
-    ends: bool,
+pub(super) struct ControlFront {
+    pub(super) breaks: bool,
+    pub(super) first: u8,
+    pub(super) second: u8,
+    pub(super) ends: bool,
 }
 
-/// What was read of a control line's front.
+/// What was read of a control line.
 #[derive(Clone, Copy)]
 pub enum ControlRead {
     /// Nothing.
     Nothing,
     /// The bytes up to its name's end, or a dropped line's beginning.
     Front,
-    /// The same, where the newline is next.
-    WholeLine,
+    /// The same, where a condition is next.
+    Condition,
+    /// A condition too, and it decided: a branch begins, or is skipped.
+    Decided,
+    /// The bytes up to its name's end, and bytes behind it that are held in its arguments.
+    Held,
+    /// The same, where the escape of a register may stand behind them.
+    HeldToRegister,
+    /// The same up to its newline, which was taken too, and isn't read yet.
+    HeldToEnd,
 }
 
 /// Whether a control line may begin where nothing is half read: where a line or a branch begins.
@@ -67,7 +86,15 @@ pub fn read_control_front<S: ByteSource>(
     requires begins { BeginsControl reader.old.reading }
     requires none_due { due reader.old.reading ≡ None }
     requires none_half { unread.old.input.escapes ≡ [] }
-    ensures past { is_read result ≡ true → ReadsPast (S.gives source.old) (S.gives source.new)
+    ensures past { is_past result ≡ true → ReadsPast (S.gives source.old) (S.gives source.new)
+        reader.old reader.new unread.old unread.new }
+    ensures line { result ≡ HeldToEnd → ReadsLine (S.gives source.old) (S.gives source.new)
+        reader.old reader.new unread.old unread.new }
+    ensures register { result ≡ HeldToRegister
+        → IsRun Arguments reader.new.reading unread.new.input.escapes }
+    ensures condition { result ≡ Condition → IsRun ConditionRun reader.new.reading
+        unread.new.input.escapes }
+    ensures decides { result ≡ Decided → DecidesAtOnce (S.gives source.old) (S.gives source.new)
         reader.old reader.new unread.old unread.new }
     ensures unchanged { is_read result ≡ false
         → (reader.new ≡ reader.old) × (unread.new ≡ unread.old) × (source.new ≡ source.old) }
@@ -96,7 +123,16 @@ fn read_control<S: ByteSource>(
     requires none_half { unread.old.input.escapes ≡ [] }
     requires ready { StandsReady (control_byte front.breaks ∷ front.first ∷ front.second ∷ [])
         (S.ready source.old) unread.old }
-    ensures past { is_read result ≡ true → ReadsPast (S.gives source.old) (S.gives source.new)
+    requires ends { front.ends ≡ true → StandsNewline 3 (S.ready source.old) unread.old }
+    ensures past { is_past result ≡ true → ReadsPast (S.gives source.old) (S.gives source.new)
+        reader.old reader.new unread.old unread.new }
+    ensures line { result ≡ HeldToEnd → ReadsLine (S.gives source.old) (S.gives source.new)
+        reader.old reader.new unread.old unread.new }
+    ensures register { result ≡ HeldToRegister
+        → IsRun Arguments reader.new.reading unread.new.input.escapes }
+    ensures condition { result ≡ Condition → IsRun ConditionRun reader.new.reading
+        unread.new.input.escapes }
+    ensures decides { result ≡ Decided → DecidesAtOnce (S.gives source.old) (S.gives source.new)
         reader.old reader.new unread.old unread.new }
     ensures unchanged { is_read result ≡ false
         → (reader.new ≡ reader.old) × (unread.new ≡ unread.old) × (source.new ≡ source.old) }
@@ -120,13 +156,7 @@ fn read_control<S: ByteSource>(
     };
     match behind_called(front.breaks, called_by(name, unread)) {
         None => ControlRead::Nothing,
-        Some(reading) => {
-            take_front(unread, source, 3);
-            begin_deciding(reading, unread);
-            unread.stays_within();
-            reader.go_on(reading);
-            behind_front(reading, front.ends)
-        }
+        Some(reading) => read_behind_name(reader, front, reading, unread, source),
     }
 }
 
@@ -148,21 +178,106 @@ pub(super) fn take_front<S: ByteSource>(
     unread.pass(source, count);
 }
 
-/// What was read in front of this, by whether a newline is next: that of a dropped line is taken
-/// with the bytes before it.
+/// Takes a name with its dot or apostrophe, behind which this is read; then, where a request or a
+/// body is named, bytes that are held in the line's arguments, and the newline behind them.
 #[inline(always)]
-fn behind_front(reading: LineState, ends: bool) -> ControlRead
-    ensures { is_read result ≡ true }
+fn read_behind_name<S: ByteSource>(
+    reader: &mut Reader,
+    front: ControlFront,
+    reading: LineState,
+    unread: &mut Unread<PageEvent>,
+    source: &mut S,
+) -> ControlRead
+    requires { StandsName front reading reader.old.reading (S.ready source.old) unread.old }
+    ensures past { is_past result ≡ true → ReadsPast (S.gives source.old) (S.gives source.new)
+        reader.old reader.new unread.old unread.new }
+    ensures line { result ≡ HeldToEnd → ReadsLine (S.gives source.old) (S.gives source.new)
+        reader.old reader.new unread.old unread.new }
+    ensures register { result ≡ HeldToRegister
+        → IsRun Arguments reader.new.reading unread.new.input.escapes }
+    ensures condition { result ≡ Condition → IsRun ConditionRun reader.new.reading
+        unread.new.input.escapes }
+    ensures decides { result ≡ Decided → DecidesAtOnce (S.gives source.old) (S.gives source.new)
+        reader.old reader.new unread.old unread.new }
+    ensures read { is_read result ≡ true }
+    ensures notes { S.notes source.new ≤ S.notes source.old }
+    ensures failures { S.failures source.new ≡ S.failures source.old }
 {
     match reading {
-        LineState::Dropped => ControlRead::Front,
-        _ => {
-            if ends {
-                ControlRead::WholeLine
-            } else {
-                ControlRead::Front
+        LineState::Arguments { .. } => {
+            if front.ends {
+                return read_ended(reader, front, reading, unread, source);
             }
+            let behind = unread.hold_line(source, 3);
+            unread.stays_within();
+            reader.go_on(reading);
+            held_to(behind)
         }
+        LineState::Calling { .. } => {
+            if front.ends {
+                return read_ended(reader, front, reading, unread, source);
+            }
+            let behind = unread.hold_call(source, 3, CALL_ARGUMENTS - 1);
+            unread.stays_within();
+            reader.go_on(reading);
+            held_for_call(behind)
+        }
+        LineState::Deciding { keeps } => read_condition(reader, keeps, front, unread, source),
+        _ => {
+            take_front(unread, source, 3);
+            begin_deciding(reading, unread);
+            unread.stays_within();
+            reader.go_on(reading);
+            ControlRead::Front
+        }
+    }
+}
+
+/// The same where the newline is next, and nothing is held.
+#[inline(always)]
+fn read_ended<S: ByteSource>(
+    reader: &mut Reader,
+    front: ControlFront,
+    reading: LineState,
+    unread: &mut Unread<PageEvent>,
+    source: &mut S,
+) -> ControlRead
+    requires named { StandsName front reading reader.old.reading (S.ready source.old) unread.old }
+    requires ends { front.ends ≡ true }
+    requires holds { HoldsArguments reading }
+    ensures ended { result ≡ HeldToEnd }
+    ensures line { ReadsLine (S.gives source.old) (S.gives source.new)
+        reader.old reader.new unread.old unread.new }
+    ensures notes { S.notes source.new ≤ S.notes source.old }
+    ensures failures { S.failures source.new ≡ S.failures source.old }
+{
+    unread.stays_within();
+    unread.pass_line(source, 3);
+    reader.go_on(reading);
+    ControlRead::HeldToEnd
+}
+
+/// What was read of a control line, by what stands behind the bytes that were held.
+#[inline(always)]
+fn held_to(behind: BehindHeld) -> ControlRead
+    ensures { result ≡ read_to behind }
+{
+    match behind {
+        BehindHeld::Newline => ControlRead::HeldToEnd,
+        BehindHeld::Register => ControlRead::HeldToRegister,
+        BehindHeld::Other => ControlRead::Held,
+    }
+}
+
+/// The same of a line that calls a body, where no register is read at once.
+#[inline(always)]
+fn held_for_call(behind: BehindHeld) -> ControlRead
+    ensures { result ≡ read_for_call behind }
+{
+    match behind {
+        BehindHeld::Newline => ControlRead::HeldToEnd,
+        BehindHeld::Register => ControlRead::Held,
+        BehindHeld::Other => ControlRead::Held,
     }
 }
 
@@ -191,7 +306,9 @@ fn control_front(bytes: &[u8]) -> Option<ControlFront>
 
 /// Whether a newline is the first of these bytes.
 #[inline(always)]
-fn is_newline_next(bytes: &[u8]) -> bool {
+fn is_newline_next(bytes: &[u8]) -> bool
+    ensures { result ≡ begins_with_newline bytes.now }
+{
     matches!(bytes, [b'\n', ..])
 }
 

@@ -6,7 +6,8 @@ ghost use Rattle.roff_run.specs.declared.line_state.LineState.TheVariants.{Text 
 ghost use Rattle.roff_fronts.specs.Runs.{IsRun, KeepsReader, TakesReady};
 ghost use Rattle.roff_fronts.specs.Runs.{branch_blanks, ready_allowed};
 ghost use Rattle.roff_fronts.specs.Stages.{ReadsPast};
-ghost use Rattle.roff_scan.specs.declared.run_kind.RunKind.TheVariants.{Arguments, Blanks, Condition};
+ghost use Rattle.roff_scan.specs.declared.run_kind.RunKind.TheVariants.{Arguments, Blanks};
+ghost use Rattle.roff_scan.specs.declared.run_kind.RunKind.TheVariants.{Condition};
 
 use roff_reader::{CALL_ARGUMENTS, Reader};
 use roff_run::{LineState, PageEvent, TextLine};
@@ -130,8 +131,8 @@ fn take_staying<S: ByteSource>(
     unread.stays_within();
 }
 
-/// Takes bytes in front that are held in arguments. Returns whether the escape of a register may stand
-/// behind them.
+/// Takes bytes in front that are held in arguments. Returns whether the escape of a register may
+/// stand behind them.
 #[inline(always)]
 pub fn take_arguments<S: ByteSource>(
     reader: &Reader,
@@ -141,6 +142,7 @@ pub fn take_arguments<S: ByteSource>(
     requires { IsRun Arguments reader.now.reading unread.old.input.escapes }
     ensures past { ReadsPast (S.gives source.old) (S.gives source.new)
         reader.now reader.now unread.old unread.new }
+    ensures half { unread.new.input.escapes ≡ unread.old.input.escapes }
     ensures notes { S.notes source.new ≤ S.notes source.old }
     ensures failures { S.failures source.new ≡ S.failures source.old }
 {

@@ -1,7 +1,12 @@
 use Rattle.std.proofs.Common.{◌≡◌, true, false, List, ℕ, refl, subst, sym}
 use Rattle.roff_fronts.specs.ControlFronts.{reads_front}
 use Rattle.roff_fronts.proofs.FrontsRead.{two-read}
+use Rattle.roff_fronts.proofs.LinesRead.{ended-front}
 use Rattle.roff_fronts.proofs.control.read_control_front.Goals as goal
+
+pub read_control-requires-clause-ends : goal.read_control-requires-clause-ends
+read_control-requires-clause-ends g c =
+    ended-front c.in-Some.front c.front.result.now (g.S.ByteSource.ready c.args.source.now) c.args.unread.now c.in-Some.ensures.fronts c.front.ensures.bytes c.front.ensures.front
 
 pub returns-in-Some-clause-whole : goal.returns-in-Some-clause-whole
 returns-in-Some-clause-whole g c = λ asks reads.

@@ -1,0 +1,69 @@
+-- Conditions that are read at once, where they stand whole in front and decide (manual, section 16).
+use Rattle.std.specs.Prelude.{◌≡◌, ℕ, Bool, if◌then◌else◌, pos, int_lt, false, List, [], ◌∷◌, Some, Ok}
+use Rattle.roff_num.specs.Expressions.{value_at}
+use Rattle.roff_num.specs.declared.num.Num.{Num}
+use Rattle.roff_num.specs.declared.num.Scale.TheVariants.{Units}
+use Rattle.roff_source.specs.Bytes.{blank}
+use Rattle.roff_source.specs.Tape.{Tape}
+use Rattle.roff_escape.specs.OpenEscape.{Condition}
+use Rattle.roff_escape.specs.declared.open_escape.ConditionPart.TheVariants.{Expression}
+use Rattle.roff_input.specs.Shown.{SeesByte, seen_ahead}
+use Rattle.roff_reader.specs.Reader.State.{ReaderState}
+use Rattle.roff_run.specs.Reading.Branches.{branch_of}
+use Rattle.roff_run.specs.Reading.Items.{PageUnread}
+use Rattle.roff_run.specs.declared.line_state.LineState.TheVariants.{Deciding}
+use Rattle.roff_fronts.specs.ControlFronts.{control_byte}
+use Rattle.roff_fronts.specs.Stages.{ReadsPast}
+use Rattle.roff_fronts.specs.declared.conditions.BehindName.{BehindName}
+use Rattle.roff_fronts.specs.declared.conditions.BehindName.TheVariants.{Constant, Blank, Other}
+
+-- the digit of a condition that asks nothing, by whether it is so
+abbrev pub digit_of : Bool → ℕ
+digit_of so = if so then 49 else 48
+
+-- the bytes of a control line's front, and of a condition that asks nothing, between blanks
+abbrev pub constant_front : Bool → ℕ → ℕ → Bool → List ℕ
+constant_front breaks first second so = control_byte breaks ∷ first ∷ second ∷ blank ∷ digit_of so ∷ blank ∷ []
+
+-- behind the first three of these bytes stands a condition that asks nothing, between blanks, and whether it is so
+pub record AsksNothing (bytes : List ℕ) (so : Bool) : Type 0 where
+  pub mark : ℕ
+  pub first : ℕ
+  pub second : ℕ
+  pub rest : List ℕ
+  pub is : bytes ≡ mark ∷ first ∷ second ∷ blank ∷ digit_of so ∷ blank ∷ rest
+
+-- a blank does
+pub record HasBlank (bytes : List ℕ) : Type 0 where
+  pub mark : ℕ
+  pub first : ℕ
+  pub second : ℕ
+  pub rest : List ℕ
+  pub is : bytes ≡ mark ∷ first ∷ second ∷ blank ∷ rest
+
+-- what stands behind the first three of these bytes
+abbrev pub StandsBehind : List ℕ → BehindName → Type 0
+StandsBehind bytes (Constant so) = AsksNothing bytes so
+StandsBehind bytes Blank = HasBlank bytes
+StandsBehind bytes Other = Unit {0}
+
+-- what is unread, with nothing half read
+abbrev pub none_half : PageUnread → PageUnread
+none_half u = record u { input = record u.input { escapes = [] } }
+
+-- An expression that is a number is half read of a condition, and a blank stands in front, before which it ends; it decides, and bytes
+-- behind that were read past.
+pub record DecidesBehind (gives : Tape → Type 0) (old new : ReaderState) (before after : PageUnread) : Type 0 where
+  pub deciding : old.reading ≡ Deciding false
+  pub text : List ℕ
+  pub half : before.input.escapes ≡ Condition (Expression false) text ∷ []
+  pub sees : seen_ahead before.input.ahead ≡ Some (SeesByte blank)
+  pub value : Num × ℕ
+  pub is_number : value_at text 0 Units (Some (pos 0)) ≡ Ok value
+  pub behind : ReadsPast gives gives (record old { reading = branch_of (int_lt (pos 0) value.0.0) }) new (none_half before) after
+
+-- A control line's front was read at once, and a condition behind it, which decided.
+pub record DecidesAtOnce (gave gives : Tape → Type 0) (old new : ReaderState) (before after : PageUnread) : Type 0 where
+  pub between : PageUnread
+  pub past : ReadsPast gave gives old (record old { reading = Deciding false }) before between
+  pub decides : DecidesBehind gives (record old { reading = Deciding false }) new between after
