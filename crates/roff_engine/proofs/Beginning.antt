@@ -19,6 +19,8 @@ use Rattle.roff_input.specs.Input.{Ahead, ByteAhead, bytes_taken, counting, item
 use Rattle.roff_scan.specs.Unread.Calls.{NoNewline, OfSource, OfTexts, PassesFront, front_bytes}
 use Rattle.roff_scan.proofs.RunKinds.{no_newline_of}
 use Rattle.roff_fronts.proofs.RunsRead.{first_of_front}
+use Rattle.roff_fronts.specs.Runs.{IsRun}
+use Rattle.roff_scan.specs.declared.run_kind.RunKind.TheVariants.{Text as TextRun}
 use Rattle.roff_reader.specs.Reader.State.{ReaderState}
 use Rattle.roff_composer.proofs.ToldBytes.{layout-byte, quiet-byte}
 use Rattle.roff_composer.specs.Composer.Standing.{StandFor}
@@ -302,3 +304,13 @@ turns_behind gave mid gives noted kept notes old between new now halfway behind 
     less : (r : Result (Unit {0}) Status) (a b c : ℕ) → OnOk r (a < b) → b ≤ c → OnOk r (a < c)
     less (Ok done) a b c below within = omega (arith, below, within)
     less (Err status) a b c below within = tt
+
+-- behind a glyph bytes of plain text are told
+pub is_run-begun : (reading : LineState) (half : List OpenEscape) → reading ≡ behind_glyph → half ≡ [] → IsRun TextRun reading half
+is_run-begun reading half is none_half =
+    let line : TextLine = record { has_glyph = true; has_other = false; has_brace = false; leading = 0 } in
+    record {
+      does = λ b text. subst (λ (r : LineState). Prints r b) (sym is) (prints_text line refl refl b text);
+      half_read = none_half;
+      none_due = ap (λ (r : LineState). due r) is;
+    }

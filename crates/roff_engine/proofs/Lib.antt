@@ -27,6 +27,7 @@ pub mod Passing
 pub mod Turned
 pub mod PassingOn
 pub mod PassingEnds
+pub mod ComingFurther
 pub mod EndsAtOnce
 pub mod Telling
 pub mod Beginning
@@ -36,3 +37,6 @@ pub mod TitleRuns
 pub mod DueDone
 pub mod NamedSteps
 pub mod PutRegisters
+pub mod LinesSplit
+pub mod LinesEnded
+pub mod ConditionsAtOnce

@@ -1,7 +1,7 @@
 -- Runs that go past bytes: the run of the definition leads on, and the code is at its place behind them.
 use Rattle.std.proofs.Common.{◌≡◌, ℕ, ◌≤◌, List, [], ◌∷◌, ◌++◌, ◌∙◌, ap, map, refl, sym, subst, arith}
 use Rattle.std.specs.Io.KnownBytes.{Appends}
-use Rattle.roff_source.specs.Tape.{Tape, items_then}
+use Rattle.roff_source.specs.Tape.{Tape}
 use Rattle.roff_composer.specs.Composer.Standing.{StandFor}
 use Rattle.roff_run.specs.Output.{PageHistory, written}
 use Rattle.roff_reader.specs.Reader.Taken.{IsReady}
@@ -11,15 +11,13 @@ use Rattle.roff_run.proofs.PlainRuns.{behind_byte, behind_bytes}
 use Rattle.roff_engine.specs.Running.Room.{FewFor, decides_next}
 use Rattle.roff_engine.proofs.Fronts.{few-undecided}
 use Rattle.roff_run.specs.Run.{Leads, initial}
-use Rattle.roff_run.specs.declared.start.Start.{Start}
 use Rattle.roff_engine.specs.declared.interpreter.Interpreter.{Interpreter}
 use Rattle.roff_engine.specs.declared.running.Running.{Running as Coded}
 use Rattle.roff_input.specs.Input.{Ahead, ByteAhead}
 use Rattle.roff_input.specs.Input.Few.{AreFew, AreFewFrom}
 use Rattle.roff_input.proofs.FewEvents.{few-more}
 use Rattle.roff_engine.specs.Engine.Outcome.{Beginning, Seen}
-use Rattle.roff_engine.specs.Running.Turning.{GoesPast, GoesPastIf, HasCome, IsAt, state_at}
-use Rattle.roff_engine.proofs.Waiting.{items_then-append}
+use Rattle.roff_engine.specs.Running.Turning.{GoesPast, GoesPastIf, IsAt, state_at}
 use Rattle.roff_run.specs.PageEvents.{PageEvent}
 use Rattle.roff_run.proofs.ItemsTaken.{FromAhead, FromSource, Origin, ahead_at}
 use Rattle.roff_run.proofs.Leads.{Leads-trans}
@@ -64,18 +62,6 @@ goes_past_if-fewer P gave gives noted kept notes old new now behind less past = 
   before = past.before;
   past = past.past;
   turns = λ so. (let turns = past.turns so in omega (arith, turns, less));
-}
-
--- a run that has come so far has come behind what it went past
-pub come-past : {given : Start} {first gave gives : Tape → Type 0} (noted notes : ℕ) (start now behind : Seen) (old new : Coded) → HasCome given first gave start now old
-    → GoesPast gave gives noted notes old new now behind → HasCome given first gives start behind new
-come-past {given} {first} noted notes start now behind old new come goes = record {
-  taken = come.taken ++ goes.taken;
-  before = λ t may. subst first (sym (items_then-append come.taken goes.taken t)) (come.before (items_then goes.taken t) (goes.before t may));
-  at = λ t may.
-      let tape : Tape = items_then goes.taken t in
-      subst (λ (whole : Tape). IsAt (record { start = given; tape = whole }) t start behind new) (sym (items_then-append come.taken goes.taken t))
-      (goes.past (record { start = given; tape = items_then come.taken tape }) t start may (come.at tape (goes.before t may)));
 }
 
 -- behind bytes that stood in front few events do

@@ -1,5 +1,5 @@
 -- A run that goes past bytes, and then past more, goes past all of them; and one past a newline.
-use Rattle.std.proofs.Common.{◌≡◌, ◌≤◌, ℕ, ◌<◌, Bool, true, false, [], ◌∷◌, ◌++◌, None, refl, sym, ap, subst, ◌∙◌, arith}
+use Rattle.std.proofs.Common.{◌≡◌, ◌≤◌, ℕ, ◌<◌, Bool, true, false, [], ◌∷◌, ◌++◌, None, Ok, refl, sym, ap, subst, ◌∙◌, arith}
 use Rattle.roff_source.specs.Bytes.{newline}
 use Rattle.roff_source.specs.Tape.{Tape, items_then}
 use Rattle.roff_input.specs.Unread.{IsWithin}
@@ -7,6 +7,7 @@ use Rattle.roff_scan.specs.Unread.Calls.{OfSource, OfTexts, PassesFront}
 use Rattle.roff_reader.specs.Reader.State.{ReaderState}
 use Rattle.roff_run.specs.Reading.Items.{PageUnread}
 use Rattle.roff_run.specs.Reading.Ends.{due}
+use Rattle.roff_run.specs.Run.{State}
 use Rattle.roff_run.specs.Stages.{EndsLine}
 use Rattle.roff_fronts.specs.Stages.{ReadsPast}
 use Rattle.roff_run.specs.TurnsToCome.{begun, free_ahead, turns_to_come}
@@ -14,7 +15,7 @@ use Rattle.roff_run.specs.declared.line_state.LineState.TheVariants.{LineStart}
 use Rattle.roff_fronts.proofs.LineEnds.{reads-ended}
 use Rattle.roff_engine.specs.declared.running.Running.{Running as Coded}
 use Rattle.roff_engine.specs.Engine.Outcome.{Seen, seen}
-use Rattle.roff_engine.specs.Running.Turning.{GoesFurther, GoesPast, GoesPastIf, IsAt}
+use Rattle.roff_engine.specs.Running.Turning.{GoesFurther, GoesPast, GoesPastIf, IsAt, StandsForSome, StepDoes, TurnsBy, turns_with}
 use Rattle.roff_sinks.specs.Sinks.{Sunk}
 use Rattle.roff_engine.proofs.Turned.{goes_past_turned}
 use Rattle.roff_engine.proofs.TurnsLeft.{turns_of_run-fewer}
@@ -46,6 +47,39 @@ goes_past_if_both P gave mid gives noted kept notes old between new now halfway 
       second.past t tape start given (first.past t (items_then second.taken tape) start (second.before tape given)
       (subst (λ (whole : Tape). IsAt t whole start now old) (items_then-append first.taken second.taken tape) at));
   turns = λ is. let few = first.turns is in omega (arith, few, second.turns);
+}
+
+-- past bytes, whatever is known
+pub goes_past_known : (P : Type 0) (gave gives : Tape → Type 0) (noted notes : ℕ) (old new : Coded) (now behind : Seen) → GoesPast gave gives noted notes old new now behind
+    → GoesPastIf P gave gives noted notes old new now behind
+goes_past_known P gave gives noted notes old new now behind past = record {
+  limits = past.limits;
+  taken = past.taken;
+  before = past.before;
+  past = past.past;
+  turns = λ known. past.turns;
+}
+
+-- a turn, and then past bytes, is that turn
+pub turned_past : (does : State → State) (gave mid gives : Tape → Type 0) (noted kept notes : ℕ) (old between new : Coded) (now halfway behind : Seen)
+    → TurnsBy does gave mid noted kept old between now halfway (Ok tt) → GoesPastIf (StandsForSome between) mid gives kept notes between new halfway behind
+    → TurnsBy does gave gives noted notes old new now behind (Ok tt)
+turned_past does gave mid gives noted kept notes old between new now halfway behind first second = record {
+  limits = second.limits ∙ first.limits;
+  taken = first.taken ++ second.taken;
+  before = λ t given. subst gave (sym (items_then-append first.taken second.taken t)) (first.before (items_then second.taken t) (second.before t given));
+  turns = λ t tape start given.
+      let P : Tape → Type 0 = λ whole. (at : IsAt t whole start now old) → StepDoes does whole old at.history at.messages → IsAt t tape start behind new in
+      subst P (sym (items_then-append first.taken second.taken tape))
+      (λ at goes. second.past t tape start given (first.turns t (items_then second.taken tape) start (second.before tape given) at goes));
+  falls = λ t tape start given.
+      let P : Tape → Type 0 = λ whole. (at : IsAt t whole start now old) → StepDoes does whole old at.history at.messages → turns_with new notes < turns_with old noted in
+      subst P (sym (items_then-append first.taken second.taken tape))
+      (λ at goes.
+      let between_at = first.turns t (items_then second.taken tape) start (second.before tape given) at goes in
+      let less = first.falls t (items_then second.taken tape) start (second.before tape given) at goes in
+      let few = second.turns (between_at.history, between_at.stands) in
+      omega (arith, less, few));
 }
 
 -- past none

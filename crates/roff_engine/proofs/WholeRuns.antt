@@ -1,5 +1,5 @@
 -- A whole run of the code, turn by turn: each turn is a step of the definition.
-use Rattle.std.proofs.Common.{◌≡◌, ℕ, ◌<◌, true, false, List, [], ◌++◌, Option, None, Result, Ok, Err, refl, sym, ap, subst, ◌∙◌, arith}
+use Rattle.std.proofs.Common.{◌≡◌, ℕ, true, false, List, [], Option, None, Result, refl, sym, ap, subst, ◌∙◌, arith}
 use Rattle.std.specs.Prelude.{IsSome, nat_lt}
 use Rattle.std.proofs.lemmas.Bool.{le-ltb}
 use Rattle.roff_num.specs.declared.limits.Limits.{Limits}
@@ -26,11 +26,10 @@ use Rattle.roff_run.specs.declared.line_state.Due.{Due}
 use Rattle.roff_engine.specs.declared.running.Running.{Running as Coded}
 use Rattle.roff_engine.specs.Engine.Outcome.{Seen, Outcome, Runs, seen}
 use Rattle.roff_engine.specs.Interpreter.Performing.{going}
-use Rattle.roff_engine.specs.Running.Turning.{HasCome, IsAt, IsFresh, DoesDue, TurnsBy, state_at, turns_with}
+use Rattle.roff_engine.specs.Running.Turning.{HasCome, IsFresh, TurnsBy, state_at}
 use Rattle.roff_engine.specs.Running.Starting.{Begins, HasRoom}
 use Rattle.roff_engine.proofs.Fronts.{few-nothing}
 use Rattle.roff_sinks.proofs.Appending.{Appends-nothing}
-use Rattle.roff_engine.proofs.Waiting.{items_then-append}
 use Rattle.roff_run.proofs.Leads.{Leads-refl}
 
 -- a turn that does what a step does is one
@@ -140,63 +139,3 @@ ends_unread l given status gives now behind may ends = record {
   took = record { before = λ t given. given; some = may.tape; some_given = may.given };
   outcome = λ left given. ends left;
 }
-
--- behind another turn
-module _ {given : Start} {first old new : Tape → Type 0} (noted notes : ℕ) (start now behind : Seen) (run run_behind : Coded) (come : HasCome given first old start now run) where
-  -- it goes on
-  pub goes_on : TurnsBy (step run.limits) old new noted notes run run_behind now behind (Ok tt) → HasCome given first new start behind run_behind
-  goes_on turn = record {
-    taken = come.taken ++ turn.taken;
-    before = λ t may. subst first (sym (items_then-append come.taken turn.taken t)) (come.before (items_then turn.taken t) (turn.before t may));
-    at = λ t may.
-        let tape : Tape = items_then turn.taken t in
-        subst (λ (whole : Tape). IsAt (record { start = given; tape = whole }) t start behind run_behind) (sym (items_then-append come.taken turn.taken t))
-        (turn.turns (record { start = given; tape = items_then come.taken tape }) t start may (come.at tape (turn.before t may)) refl);
-  }
-
-  -- and fewer turns are to come
-  pub fewer_to_come : SomeTape new → TurnsBy (step run.limits) old new noted notes run run_behind now behind (Ok tt)
-      → turns_with run_behind notes < turns_with run noted
-  fewer_to_come may turn =
-      let tape : Tape = items_then turn.taken may.tape in
-      turn.falls (record { start = given; tape = items_then come.taken tape }) may.tape start may.given (come.at tape (turn.before may.tape may.given)) refl
-
-  -- or it has ended
-  pub has_ended : (l : Limits) (status : Status) → run.limits ≡ l → SomeTape new → TurnsBy (step run.limits) old new noted notes run run_behind now behind (Err status)
-      → Runs l given status first new start behind
-  has_ended l status limits may turn = record {
-    taken = come.taken ++ turn.taken;
-    took = record {
-      before = λ t given. subst first (sym (items_then-append come.taken turn.taken t)) (come.before (items_then turn.taken t) (turn.before t given));
-      some = may.tape;
-      some_given = may.given;
-    };
-    outcome = λ t may.
-        let tape : Tape = items_then turn.taken t in
-        let whole : Tape = items_then come.taken tape in
-        let own : Outcome run_behind.limits given whole t status start behind =
-        turn.turns (record { start = given; tape = whole }) t start may (come.at tape (turn.before t may)) refl in
-        subst (λ (whole : Tape). Outcome l given whole t status start behind) (sym (items_then-append come.taken turn.taken t))
-        (subst (λ (k : Limits). Outcome k given whole t status start behind) (turn.limits ∙ limits) own);
-  }
-
--- behind what is due
-module _ {given : Start} {first gives : Tape → Type 0} (start now behind : Seen) (run run_behind : Coded) (come : HasCome given first gives start now run) where
-  -- it goes on
-  pub due_done : DoesDue run run_behind now behind (Ok tt) → HasCome given first gives start behind run_behind
-  due_done does_due = record {
-    taken = come.taken;
-    before = come.before;
-    at = λ t may. does_due.does_due (record { start = given; tape = items_then come.taken t }) t start (come.at t may);
-  }
-
-  -- or it has ended
-  pub due_done_end : (l : Limits) (status : Status) → run.limits ≡ l → SomeTape gives → DoesDue run run_behind now behind (Err status) → Runs l given status first gives start behind
-  due_done_end l status limits may does_due = record {
-    taken = come.taken;
-    took = record { before = come.before; some = may.tape; some_given = may.given };
-    outcome = λ t may.
-        let whole : Tape = items_then come.taken t in
-        subst (λ (k : Limits). Outcome k given whole t status start behind) (does_due.limits ∙ limits)
-        (does_due.does_due (record { start = given; tape = whole }) t start (come.at t may));
-  }

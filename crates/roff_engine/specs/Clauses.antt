@@ -13,7 +13,7 @@ pub use Rattle.roff_run.specs.Reading.Ends.{due, end_taking}
 pub use Rattle.roff_run.specs.Reading.Waiting.{waiting_in}
 pub use Rattle.roff_run.specs.declared.line_state.Due.TheVariants.{Leaves, Tells}
 pub use Rattle.roff_run.specs.declared.line_state.LineState.TheVariants.{LineStart}
-pub use Rattle.roff_engine.specs.Running.Turning.{Halts, IsFresh}
+pub use Rattle.roff_engine.specs.Running.Turning.{Halts, IsFresh, falls_told, going_on}
 pub use Rattle.roff_sinks.specs.Sinks.{Puts, Sunk}
 pub use Rattle.roff_run.specs.declared.message.Message.TheVariants.{ReadFailed}
 pub use Rattle.roff_run.specs.declared.status.Status.TheVariants.{Device}

@@ -77,15 +77,11 @@ impl Engine {
         if let Err(status) = running.begin(&start, err) {
             return status;
         }
+        let mut is_told = false;
         loop {
-            if running.pass_over(source) {
-                continue;
-            }
-            if let Err(status) = running.do_due(err) {
-                return status;
-            }
-            if let Err(status) = running.turn(source, out, err) {
-                return status;
+            match running.step(is_told, source, out, err) {
+                Ok(told) => is_told = told,
+                Err(status) => return status,
             }
         }
     }

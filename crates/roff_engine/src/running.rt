@@ -1,9 +1,9 @@
 //! A run under way: what each item of the input does.
 
 ghost use Rattle.std.specs.Prelude.{◌≡◌, ℕ, [], None, IsOkUnless};
-ghost use Rattle.roff_run.specs.Run.{ahead_taken, byte_taken, in_front_taken, item_read, step};
+ghost use Rattle.roff_run.specs.Run.{ahead_taken, byte_taken, in_front_taken, item_read};
 ghost use Rattle.roff_input.specs.Input.{DoAhead};
-ghost use Rattle.roff_engine.specs.Clauses.{Puts, seen, due, Device};
+ghost use Rattle.roff_engine.specs.Clauses.{Puts, seen, due, Device, falls_told, going_on};
 
 mod conditions;
 mod ending;
@@ -33,25 +33,74 @@ pub(crate) struct Running {
 
 impl Running {
     ghost use Rattle.roff_engine.specs.Running.Room.{SeesOn};
-    ghost use Rattle.roff_engine.specs.Running.Turning.{DoesItem, TurnsOver};
+    ghost use Rattle.roff_engine.specs.Running.Turning.{ComesFurtherOver, DoesItem, TurnsOver};
 
-    /// Takes an item of the input, or ends what is half read; nothing is due. An `Err` is the
+    /// Takes bytes at once that stand in front, or else does what is due, and takes an item of the
+    /// input or ends what is half read. If the bytes in front were told, or a text line ended
+    /// before them, that is done at once. Returns whether that is so behind it. An `Err` is the
     /// status of a run that ended.
     #[inline(always)]
-    pub(crate) fn turn<S: ByteSource, O: ByteSink, E: ByteSink>(
+    pub(crate) fn step<S: ByteSource, O: ByteSink, E: ByteSink>(
         &mut self,
+        is_told: bool,
         source: &mut S,
         out: &mut O,
         err: &mut E,
-    ) -> Result<(), Status>
+    ) -> Result<bool, Status>
+        ensures { ComesFurtherOver S.ByteSource O.ByteSink E.ByteSink (falls_told is_told result)
+            source.old source.new out.old out.new err.old err.new
+            self.old self.new (going_on result) }
+    {
+        match self.pass_untold(is_told, source, out, err) {
+            Ok(passed) => {
+                if passed {
+                    Ok(false)
+                } else {
+                    self.do_due_and_turn(is_told, source, out, err)
+                }
+            }
+            Err(status) => Err(status),
+        }
+    }
+
+    /// Does what is due, and then takes an item of the input or ends what is half read.
+    #[inline(always)]
+    fn do_due_and_turn<S: ByteSource, O: ByteSink, E: ByteSink>(
+        &mut self,
+        is_told: bool,
+        source: &mut S,
+        out: &mut O,
+        err: &mut E,
+    ) -> Result<bool, Status>
+        ensures { ComesFurtherOver S.ByteSource O.ByteSink E.ByteSink (falls_told is_told result)
+            source.old source.new out.old out.new err.old err.new
+            self.old self.new (going_on result) }
+    {
+        match self.do_due(err) {
+            Ok(()) => self.turn(is_told, source, out, err),
+            Err(status) => Err(status),
+        }
+    }
+
+    /// Takes an item of the input, or ends what is half read; nothing is due. Behind a text line it
+    /// doesn't where a control line may begin. Returns whether bytes in front are told behind it.
+    #[inline(always)]
+    fn turn<S: ByteSource, O: ByteSink, E: ByteSink>(
+        &mut self,
+        is_told: bool,
+        source: &mut S,
+        out: &mut O,
+        err: &mut E,
+    ) -> Result<bool, Status>
         requires { due self.old.interpreter.reader.reading ≡ None }
-        ensures { TurnsOver S.ByteSource O.ByteSink E.ByteSink (step self.old.limits)
-            source.old source.new out.old out.new err.old err.new self.old self.new result }
+        ensures { ComesFurtherOver S.ByteSource O.ByteSink E.ByteSink (falls_told is_told result)
+            source.old source.new out.old out.new err.old err.new
+            self.old self.new (going_on result) }
     {
         if self.unread.has_open_escape() {
-            self.turn_half_read(source, out, err)
+            untold(self.turn_half_read(source, out, err))
         } else {
-            self.turn_beginning(source, out, err)
+            self.turn_beginning(is_told, source, out, err)
         }
     }
 
@@ -59,16 +108,21 @@ impl Running {
     #[inline(always)]
     fn turn_beginning<S: ByteSource, O: ByteSink, E: ByteSink>(
         &mut self,
+        is_told: bool,
         source: &mut S,
         out: &mut O,
         err: &mut E,
-    ) -> Result<(), Status>
+    ) -> Result<bool, Status>
         requires none_due { due self.old.interpreter.reader.reading ≡ None }
         requires none_half { self.old.unread.input.escapes ≡ [] }
-        ensures { TurnsOver S.ByteSource O.ByteSink E.ByteSink (step self.old.limits)
-            source.old source.new out.old out.new err.old err.new self.old self.new result }
+        ensures { ComesFurtherOver S.ByteSource O.ByteSink E.ByteSink (falls_told is_told result)
+            source.old source.new out.old out.new err.old err.new
+            self.old self.new (going_on result) }
     {
-        self.tell_beginning(source);
+        let may_be_control = self.tell_beginning(source);
+        if is_told & may_be_control {
+            return Ok(false);
+        }
         self.turn_alone(source, out, err)
     }
 
@@ -79,14 +133,16 @@ impl Running {
         source: &mut S,
         out: &mut O,
         err: &mut E,
-    ) -> Result<(), Status>
+    ) -> Result<bool, Status>
         requires none_half { self.old.unread.input.escapes ≡ [] }
         ensures { TurnsOver S.ByteSource O.ByteSink E.ByteSink (λ s. item_read self.old.limits s)
-            source.old source.new out.old out.new err.old err.new self.old self.new result }
+            source.old source.new out.old out.new err.old err.new
+            self.old self.new (going_on result) }
     {
         match self.interpreter.reader.reading() {
             LineState::Text(line) => self.turn_text(line, source, out, err),
-            _ => self.turn_other(source, out, err),
+            LineState::LineStart => self.turn_first(source, out, err),
+            _ => untold(self.turn_other(source, out, err)),
         }
     }
 
@@ -181,7 +237,7 @@ impl Running {
 
     /// Takes a byte; the byte before it stood on this line.
     #[inline(always)]
-    fn take<O: ByteSink, E: ByteSink>(
+    pub(super) fn take<O: ByteSink, E: ByteSink>(
         &mut self,
         byte: u8,
         line_before: u32,
@@ -217,6 +273,17 @@ impl Running {
             Ok(sprung) => self.go_on(sprung, err),
             Err(halt) => Err(self.halted(halt, line_before, line, err)),
         }
+    }
+}
+
+/// A run that goes on where no bytes in front are told, or that ended.
+#[inline(always)]
+pub(crate) fn untold(done: Result<(), Status>) -> Result<bool, Status>
+    ensures { going_on result ≡ done }
+{
+    match done {
+        Ok(()) => Ok(false),
+        Err(status) => Err(status),
     }
 }
 

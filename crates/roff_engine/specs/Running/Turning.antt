@@ -238,6 +238,43 @@ abbrev pub GoesFurtherOver : {S : Type 0} → Bool → byte_source.Ghosts S → 
 GoesFurtherOver begins g was is old new =
     (out err : Sunk) → GoesFurther begins (g.gives was) (g.gives is) (g.notes was) (g.notes is) old new (seen (g.failures was) out err) (seen (g.failures is) out err)
 
+-- no more turns are left than there were, and fewer if that is said
+abbrev pub AreLeft : Bool → ℕ → ℕ → Type 0
+AreLeft true left turns = left < turns
+AreLeft false left turns = left ≤ turns
+
+-- The run took items of its source, and goes on behind them or has ended, whatever the source may still give; where it goes on no more
+-- turns are to come, and fewer if that is said.
+pub record ComesFurther (fewer : Bool) (gave gives : Tape → Type 0) (noted notes : ℕ) (old new : Coded) (now behind : Seen) (r : Result (Unit {0}) Status) : Type 0 where
+  pub limits : new.limits ≡ old.limits
+  pub taken : List Item
+  pub before : (tape : Tape) → gives tape → gave (items_then taken tape)
+  pub comes : (t : Beginning) (tape : Tape) (start : Seen) → gives tape → IsAt t (items_then taken tape) start now old → Continues t tape start behind r new
+  pub turns : (t : Beginning) (tape : Tape) (start : Seen) → gives tape → IsAt t (items_then taken tape) start now old
+      → OnOk r (AreLeft fewer (turns_with new notes) (turns_with old noted))
+
+-- the same over a source and sinks that were at one state and are at another
+abbrev pub ComesFurtherOver : {S : Type 0} {O : Type 0} {E : Type 0} → byte_source.Ghosts S → byte_sink.Ghosts O → byte_sink.Ghosts E → Bool → S → S → O → O → E → E → Coded → Coded
+    → Result (Unit {0}) Status → Type 0
+ComesFurtherOver s o e fewer was is out_was out_is err_was err_is old new r =
+    ComesFurther fewer (s.gives was) (s.gives is) (s.notes was) (s.notes is) old new (seen (s.failures was) (o.sunk out_was) (e.sunk err_was)) (seen (s.failures is) (o.sunk out_is) (e.sunk err_is)) r
+
+-- what an answer tells that says whether fewer turns are to come: whether the run goes on
+abbrev pub going_on : Result Bool Status → Result (Unit {0}) Status
+going_on (Ok fewer) = Ok tt
+going_on (Err status) = Err status
+
+-- and whether they are
+abbrev pub says_fewer : Result Bool Status → Bool
+says_fewer (Ok fewer) = fewer
+says_fewer (Err status) = false
+
+-- Whether fewer turns are to come behind a step, by whether bytes were told before it, and are behind it: not where they were, and
+-- aren't.
+abbrev pub falls_told : Bool → Result Bool Status → Bool
+falls_told false r = true
+falls_told true r = says_fewer r
+
 -- The run of the code has come so far, over a source that might have given the tapes `old` and may now give
 -- the tapes `new`: it took items, and whatever may still come, it is at its place in the run over all of these.
 pub record HasCome (given : Start) (old new : Tape → Type 0) (start now : Seen) (run : Coded) : Type 0 where

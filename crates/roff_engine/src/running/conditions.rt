@@ -48,8 +48,9 @@ impl Running {
         take_run(&mut self.interpreter.reader, kind, &mut self.unread, source);
     }
 
-    /// Ends the expression that is read of a condition, if the byte that is seen ahead ends it; else
-    /// takes the end of a text, if that stands in front of the byte. Returns whether it took that.
+    /// Ends the expression that is read of a condition, if the byte that is seen ahead ends it;
+    /// else takes the end of a text, if that stands in front of the byte. Returns whether it took
+    /// that.
     #[inline(always)]
     fn pass_expression<S: ByteSource>(&mut self, source: &S) -> bool
         requires { IsRun ConditionRun self.old.interpreter.reader.reading

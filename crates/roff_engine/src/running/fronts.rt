@@ -1,19 +1,24 @@
 //! Runs: bytes in front that do alike, and are taken together.
 
-ghost use Rattle.std.specs.Prelude.{◌≡◌, []};
+ghost use Rattle.std.specs.Prelude.{◌≡◌, [], true};
+ghost use Rattle.roff_fronts.specs.Registers.{IsRegisterAhead};
 ghost use Rattle.roff_fronts.specs.Runs.{IsRun};
-ghost use Rattle.roff_scan.specs.declared.run_kind.RunKind.TheVariants.{Arguments as ArgumentsRun, Text as TextRun};
+ghost use Rattle.roff_scan.specs.declared.run_kind.RunKind.TheVariants.{Arguments as ArgumentsRun};
+ghost use Rattle.roff_scan.specs.declared.run_kind.RunKind.TheVariants.{Text as TextRun};
 
 use super::Running;
 use roff_fronts::{
-    RunKind, run_half_read, take_arguments, take_branch_blanks, take_register, take_run,
-    take_string_front, take_string_name,
+    RunKind, hold_register, pass_register, register_ahead, run_half_read, run_kind, take_arguments,
+    take_branch_blanks, take_run, take_string_front, take_string_name,
 };
+use roff_num::ShortName;
 use roff_scan::ByteSource;
 
 /// What lies behind bytes that were told.
 #[derive(Clone, Copy)]
-enum Behind {
+pub(super) enum Behind {
+    /// What wasn't looked at, as none was told.
+    Untold,
     /// A backslash and the letter of a register.
     Register,
     /// Another backslash.
@@ -71,42 +76,59 @@ impl Running {
         take_string_front(&mut self.interpreter.reader, &mut self.unread, source);
     }
 
-    /// Takes bytes together that stand in front and are held in arguments. Returns whether the escape of a
-    /// register may stand behind them.
+    /// Takes bytes together that stand in front and are held in arguments. Returns whether the
+    /// escape of a register may stand behind them.
     #[inline(always)]
     fn take_arguments<S: ByteSource>(&mut self, source: &mut S) -> bool
         requires { IsRun ArgumentsRun self.old.interpreter.reader.reading
             self.old.unread.input.escapes }
-        ensures { GoesPastOver S.ByteSource source.old source.new self.old self.new }
+        ensures past { GoesPastOver S.ByteSource source.old source.new self.old self.new }
+        ensures half { self.new.unread.input.escapes ≡ self.old.unread.input.escapes }
+        ensures reads { self.new.interpreter ≡ self.old.interpreter }
     {
         take_arguments(&self.interpreter.reader, &mut self.unread, source)
     }
 
-    /// The same, and then takes the escape of a register behind them. Returns whether it took that.
+    /// The same, and then takes the escape of a register behind them, and bytes behind that.
+    /// Returns whether it took one, and another may stand behind it.
     #[inline(always)]
     pub(super) fn hold_line<S: ByteSource>(&mut self, source: &mut S) -> bool
         requires { IsRun ArgumentsRun self.old.interpreter.reader.reading
             self.old.unread.input.escapes }
         ensures { GoesFurtherOver result S.ByteSource source.old source.new self.old self.new }
     {
-        if self.take_arguments(source) {
-            self.take_register(source)
-        } else {
-            false
+        if !self.take_arguments(source) {
+            return false;
         }
+        self.hold_on(source)
     }
 
-    /// Takes the escape of a register that stands whole in front, and puts its text there. Returns
-    /// whether it did.
+    /// Takes the escape of a register that stands whole in front of arguments, holds its text, and
+    /// takes bytes behind that. Returns whether it took one, and another may stand behind it.
     #[inline(always)]
-    pub(super) fn take_register<S: ByteSource>(&mut self, source: &mut S) -> bool
+    pub(super) fn hold_on<S: ByteSource>(&mut self, source: &mut S) -> bool
+        requires { IsRun ArgumentsRun self.old.interpreter.reader.reading
+            self.old.unread.input.escapes }
+        ensures { GoesFurtherOver result S.ByteSource source.old source.new self.old self.new }
+    {
+        if !self.hold_register(source) {
+            return false;
+        }
+        self.take_arguments(source)
+    }
+
+    /// Takes the escape of a register that stands whole in front of arguments, and holds its text.
+    /// Returns whether it did.
+    #[inline(always)]
+    fn hold_register<S: ByteSource>(&mut self, source: &mut S) -> bool
+        requires { IsRun ArgumentsRun self.old.interpreter.reader.reading
+            self.old.unread.input.escapes }
         ensures further { GoesFurtherOver result S.ByteSource source.old source.new
             self.old self.new }
         ensures half { self.new.unread.input.escapes ≡ self.old.unread.input.escapes }
         ensures reads { self.new.interpreter ≡ self.old.interpreter }
     {
-        take_register(
-            &self.limits,
+        hold_register(
             &self.interpreter.reader,
             &self.interpreter.formatter.composer,
             &mut self.unread,
@@ -114,17 +136,100 @@ impl Running {
         )
     }
 
-    /// Takes bytes of plain text together that stand in front, and tells them, and then takes the escape
-    /// of a register behind them, or reads the front of another one. Returns whether it took a whole one.
+    /// Takes the escape of a register that stands whole in front on a text line, and tells its
+    /// text. Returns whether it did.
+    #[inline(never)]
+    pub(super) fn tell_register<S: ByteSource>(&mut self, source: &mut S) -> bool
+        requires { IsRun TextRun self.old.interpreter.reader.reading self.old.unread.input.escapes }
+        ensures further { GoesFurtherOver result S.ByteSource source.old source.new
+            self.old self.new }
+        ensures half { self.new.unread.input.escapes ≡ self.old.unread.input.escapes }
+        ensures reads { self.new.interpreter.reader ≡ self.old.interpreter.reader }
+    {
+        match register_ahead(&self.interpreter.reader, &self.unread, source) {
+            Some(name) => {
+                self.tell_named(name, source);
+                true
+            }
+            None => false,
+        }
+    }
+
+    /// The same of this name, whose escape stands in front.
+    #[inline(always)]
+    fn tell_named<S: ByteSource>(&mut self, name: ShortName, source: &mut S)
+        requires run { IsRun TextRun self.old.interpreter.reader.reading
+            self.old.unread.input.escapes }
+        requires ahead { IsRegisterAhead name self.old.interpreter.reader.reading
+            (S.ready source.old) self.old.unread }
+        ensures further { GoesFurtherOver true S.ByteSource source.old source.new
+            self.old self.new }
+        ensures half { self.new.unread.input.escapes ≡ self.old.unread.input.escapes }
+        ensures reads { self.new.interpreter.reader ≡ self.old.interpreter.reader }
+    {
+        let text = pass_register(
+            &self.interpreter.reader,
+            name,
+            &self.interpreter.formatter.composer,
+            &mut self.unread,
+            source,
+        );
+        let bytes = text.as_slice();
+        let count = self.interpreter.formatter.text_front(bytes);
+        let _ = self.unread.push_read(bytes, count);
+        self.unread.stays_within();
+    }
+
+    /// Takes bytes of plain text together that stand in front, and tells them, and then takes the
+    /// escape of a register behind them, or reads the front of another one. Returns whether it took
+    /// a whole one.
     #[inline(always)]
     pub(super) fn tell_line<S: ByteSource>(&mut self, source: &mut S) -> bool
         requires { IsRun TextRun self.old.interpreter.reader.reading self.old.unread.input.escapes }
         ensures { GoesFurtherOver result S.ByteSource source.old source.new self.old self.new }
     {
         match self.tell_front(source) {
+            Behind::Untold => false,
             Behind::Other => false,
             Behind::Escape => self.read_escape(source),
             Behind::Register => self.read_register(source),
+        }
+    }
+
+    /// Tells bytes of plain text together that stand in front, if a text line goes on with them,
+    /// and takes or reads what [`tell_line`](Running::tell_line) does behind them; or takes leading
+    /// blanks. Returns whether it did, and no escape stands behind them.
+    #[inline(always)]
+    pub(super) fn tell_on<S: ByteSource>(&mut self, source: &mut S) -> bool
+        ensures { GoesPastOver S.ByteSource source.old source.new self.old self.new }
+    {
+        match run_kind(&self.interpreter.reader, &self.unread) {
+            Some(RunKind::Text) => self.tell_text(source),
+            Some(RunKind::Blanks) => {
+                self.take_run(RunKind::Blanks, source);
+                true
+            }
+            _ => false,
+        }
+    }
+
+    /// The same where a text line goes on.
+    #[inline(always)]
+    fn tell_text<S: ByteSource>(&mut self, source: &mut S) -> bool
+        requires { IsRun TextRun self.old.interpreter.reader.reading self.old.unread.input.escapes }
+        ensures { GoesPastOver S.ByteSource source.old source.new self.old self.new }
+    {
+        match self.tell_front(source) {
+            Behind::Untold => true,
+            Behind::Other => true,
+            Behind::Escape => {
+                let _ = self.read_escape(source);
+                false
+            }
+            Behind::Register => {
+                let _ = self.read_register(source);
+                false
+            }
         }
     }
 
@@ -139,16 +244,31 @@ impl Running {
         false
     }
 
-    /// Takes the escape of a register in front, or reads the front of one. Returns whether it took a
-    /// whole one.
+    /// Takes the escape of a register in front, or reads the front of one. Returns whether it took
+    /// a whole one.
     #[inline(always)]
     fn read_register<S: ByteSource>(&mut self, source: &mut S) -> bool
+        requires { IsRun TextRun self.old.interpreter.reader.reading self.old.unread.input.escapes }
         ensures { GoesFurtherOver result S.ByteSource source.old source.new self.old self.new }
     {
-        if self.take_register(source) {
-            return true;
+        if self.tell_register(source) {
+            return self.tell_rest(source);
         }
         self.read_escape(source)
+    }
+
+    /// Tells bytes of plain text that stand in front. Returns whether an escape stands behind them.
+    #[inline(always)]
+    fn tell_rest<S: ByteSource>(&mut self, source: &mut S) -> bool
+        requires { IsRun TextRun self.old.interpreter.reader.reading self.old.unread.input.escapes }
+        ensures { GoesPastOver S.ByteSource source.old source.new self.old self.new }
+    {
+        match self.tell_front(source) {
+            Behind::Untold => false,
+            Behind::Other => false,
+            Behind::Escape => true,
+            Behind::Register => true,
+        }
     }
 
     /// Takes bytes of plain text together that stand in front, and tells them: as many as no limit
@@ -156,7 +276,9 @@ impl Running {
     #[inline(never)]
     fn tell_front<S: ByteSource>(&mut self, source: &mut S) -> Behind
         requires { IsRun TextRun self.old.interpreter.reader.reading self.old.unread.input.escapes }
-        ensures { GoesPastOver S.ByteSource source.old source.new self.old self.new }
+        ensures past { GoesPastOver S.ByteSource source.old source.new self.old self.new }
+        ensures half { self.new.unread.input.escapes ≡ self.old.unread.input.escapes }
+        ensures reads { self.new.interpreter.reader ≡ self.old.interpreter.reader }
     {
         let front = self.unread.front(source);
         if !begins_above_controls(front) {
@@ -180,7 +302,7 @@ fn begins_above_controls(bytes: &[u8]) -> bool {
 
 /// What stands at this place of some bytes.
 #[inline(always)]
-fn behind_text(bytes: &[u8], place: usize) -> Behind {
+pub(super) fn behind_text(bytes: &[u8], place: usize) -> Behind {
     if place >= bytes.len() {
         return Behind::Other;
     }
@@ -193,9 +315,10 @@ fn behind_text(bytes: &[u8], place: usize) -> Behind {
     Behind::Escape
 }
 
-/// Whether the escape of a register may begin at this place of some bytes: a backslash and its letter.
+/// Whether the escape of a register may begin at this place of some bytes: a backslash and its
+/// letter.
 #[inline(always)]
-pub(super) fn begins_register(bytes: &[u8], place: usize) -> bool {
+fn begins_register(bytes: &[u8], place: usize) -> bool {
     if place >= bytes.len() {
         return false;
     }

@@ -1,6 +1,8 @@
 //! Bytes that are taken at once: those that change nothing, and fronts of control lines.
 
 ghost use Rattle.std.specs.Prelude.{◌≡◌, ℕ, [], true, false, None};
+ghost use Rattle.roff_source.specs.Bytes.{newline};
+ghost use Rattle.roff_run.specs.Run.{byte_taken};
 ghost use Rattle.roff_fronts.specs.ControlFronts.{BeginsControl, TakesAtBeginning};
 ghost use Rattle.roff_fronts.specs.Runs.{IsRun};
 ghost use Rattle.roff_scan.specs.declared.run_kind.RunKind.TheVariants.{Dropped as DroppedRun};
@@ -9,57 +11,123 @@ ghost use Rattle.roff_run.specs.Stages.{EndsLine};
 ghost use Rattle.roff_escape.specs.declared.open_escape.Waiting.TheVariants.{Takes};
 ghost use Rattle.roff_input.specs.Unread.{IsWithin};
 ghost use Rattle.roff_scan.specs.Unread.Calls.{PassesEnd, PassesReturn};
-ghost use Rattle.roff_engine.specs.Clauses.{due, waiting_in};
+ghost use Rattle.roff_engine.specs.Clauses.{due, seen, waiting_in};
 
 use super::Running;
 use roff_fronts::{
     ControlRead, RunKind, begins_apart, begins_control_line, read_control_front, run_kind, take_run,
 };
+use roff_run::Status;
 use roff_scan::ByteSource;
+use roff_sinks::ByteSink;
 
 impl Running {
+    ghost use Rattle.roff_engine.specs.Running.Turning.{ComesFurtherOver, DoesItem};
     ghost use Rattle.roff_engine.specs.Running.Turning.{GoesFurtherOver};
+    ghost use Rattle.roff_engine.specs.Running.Turning.{going_on, says_fewer};
 
-    /// Takes bytes at once that stand in front: those of a control line's front, and those that
+    /// What [`pass_over`](Running::pass_over) does, unless the bytes in front were told.
+    #[inline(always)]
+    pub(crate) fn pass_untold<S: ByteSource, O: ByteSink, E: ByteSink>(
+        &mut self,
+        is_told: bool,
+        source: &mut S,
+        out: &mut O,
+        err: &mut E,
+    ) -> Result<bool, Status>
+        ensures { ComesFurtherOver S.ByteSource O.ByteSink E.ByteSink (says_fewer result)
+            source.old source.new out.old out.new err.old err.new
+            self.old self.new (going_on result) }
+    {
+        if is_told {
+            return Ok(false);
+        }
+        self.pass_over(source, out, err)
+    }
+
+    /// Takes bytes at once that stand in front: those of a control line, and those that
     /// [`pass_line`](Running::pass_line) takes. Returns whether a line begins behind them.
     #[inline(always)]
-    pub(crate) fn pass_over<S: ByteSource>(&mut self, source: &mut S) -> bool
-        ensures { GoesFurtherOver result S.ByteSource source.old source.new self.old self.new }
+    fn pass_over<S: ByteSource, O: ByteSink, E: ByteSink>(
+        &mut self,
+        source: &mut S,
+        out: &mut O,
+        err: &mut E,
+    ) -> Result<bool, Status>
+        ensures { ComesFurtherOver S.ByteSource O.ByteSink E.ByteSink (says_fewer result)
+            source.old source.new out.old out.new err.old err.new
+            self.old self.new (going_on result) }
     {
         if begins_control_line(&self.interpreter.reader) && !self.unread.has_open_escape() {
-            self.pass_control_line(source)
+            self.pass_control_line(source, out, err)
         } else {
-            self.pass_line(source)
+            Ok(self.pass_line(source))
         }
     }
 
     /// Takes the front of a control line at once, if it stands in front, and then bytes behind it,
     /// or takes the end of a call. Returns whether a line begins behind them.
     #[inline(never)]
-    fn pass_control_line<S: ByteSource>(&mut self, source: &mut S) -> bool
+    fn pass_control_line<S: ByteSource, O: ByteSink, E: ByteSink>(
+        &mut self,
+        source: &mut S,
+        out: &mut O,
+        err: &mut E,
+    ) -> Result<bool, Status>
         requires begins { BeginsControl self.old.interpreter.reader.reading }
         requires none_due { due self.old.interpreter.reader.reading ≡ None }
         requires takes { TakesAtBeginning self.old.interpreter.reader.reading }
         requires none_half { self.old.unread.input.escapes ≡ [] }
-        ensures { GoesFurtherOver result S.ByteSource source.old source.new self.old self.new }
+        ensures { ComesFurtherOver S.ByteSource O.ByteSink E.ByteSink (says_fewer result)
+            source.old source.new out.old out.new err.old err.new
+            self.old self.new (going_on result) }
     {
         self.take_branch_blanks(source);
-        self.pass_control_front(source)
+        self.pass_control_front(source, out, err)
     }
 
     /// The same behind blanks where a branch begins.
     #[inline(always)]
-    fn pass_control_front<S: ByteSource>(&mut self, source: &mut S) -> bool
+    fn pass_control_front<S: ByteSource, O: ByteSink, E: ByteSink>(
+        &mut self,
+        source: &mut S,
+        out: &mut O,
+        err: &mut E,
+    ) -> Result<bool, Status>
         requires begins { BeginsControl self.old.interpreter.reader.reading }
         requires none_due { due self.old.interpreter.reader.reading ≡ None }
         requires takes { TakesAtBeginning self.old.interpreter.reader.reading }
         requires none_half { self.old.unread.input.escapes ≡ [] }
-        ensures { GoesFurtherOver result S.ByteSource source.old source.new self.old self.new }
+        ensures { ComesFurtherOver S.ByteSource O.ByteSink E.ByteSink (says_fewer result)
+            source.old source.new out.old out.new err.old err.new
+            self.old self.new (going_on result) }
     {
         match read_control_front(&mut self.interpreter.reader, &mut self.unread, source) {
-            ControlRead::Nothing => self.pass_return(),
-            ControlRead::Front => self.pass_behind_front(source),
-            ControlRead::WholeLine => false,
+            ControlRead::Nothing => Ok(self.pass_return()),
+            ControlRead::Front => Ok(self.pass_behind_front(source)),
+            ControlRead::Condition => Ok(self.pass_condition(source)),
+            ControlRead::Decided => Ok(true),
+            ControlRead::Held => Ok(self.pass_end()),
+            ControlRead::HeldToRegister => Ok(self.hold_on(source)),
+            ControlRead::HeldToEnd => self.end_control_line(out, err),
+        }
+    }
+
+    /// Ends a control line, whose newline was taken. Where the run goes on a line begins.
+    #[inline(never)]
+    fn end_control_line<O: ByteSink, E: ByteSink>(
+        &mut self,
+        out: &mut O,
+        err: &mut E,
+    ) -> Result<bool, Status>
+        ensures { (failures : ℕ) → DoesItem self.old.unread.input.line (byte_taken newline)
+            self.old self.new (seen failures (O.sunk out.old) (E.sunk err.old))
+            (seen failures (O.sunk out.new) (E.sunk err.new)) (going_on result) }
+    {
+        let line = self.unread.line();
+        match self.take(b'\n', line, out, err) {
+            Ok(()) => Ok(true),
+            Err(status) => Err(status),
         }
     }
 

@@ -1,4 +1,4 @@
-use Rattle.std.proofs.Common.{◌≡◌, ap, sym, subst, ◌∙◌, arith}
+use Rattle.std.proofs.Common.{◌≡◌, ap, sym, subst, ◌∙◌}
 use Rattle.std.specs.Prelude.{IsSome}
 use Rattle.roff_engine.specs.Engine.Outcome.{Runs, seen}
 use Rattle.roff_engine.specs.Engine.Setup.{Setup}
@@ -7,8 +7,8 @@ use Rattle.roff_engine.specs.declared.running.Running.{Running as Coded}
 use Rattle.roff_run.specs.Reading.Items.{PageUnread}
 use Rattle.roff_run.specs.Run.{initial}
 use Rattle.roff_input.specs.declared.looked.Looked.TheVariants.{Nothing}
-use Rattle.roff_engine.proofs.Passing.{come-past}
-use Rattle.roff_engine.proofs.WholeRuns.{HasRoom-fresh, due_done, due_done_end, ends_unread, fewer_to_come, goes_on, has_ended, initial-fresh, not_refused, started}
+use Rattle.roff_engine.proofs.ComingFurther.{come_further, come_left, come_to_end, told-fewer}
+use Rattle.roff_engine.proofs.WholeRuns.{HasRoom-fresh, ends_unread, initial-fresh, not_refused, started}
 use Rattle.roff_engine.proofs.engine.Engine.format.Goals as goal
 
 pub returns-in-Err-clause-runs : goal.returns-in-Err-clause-runs
@@ -24,8 +24,8 @@ returns-in-Err-clause-runs g c =
     (ends_unread _ _ c.in-Err.status _ _ _ (g.met.S.ByteSource.some c.args.source.now)
     (λ tape. c.in-Err.ensures.ends (HasRoom-fresh run fresh) unread tape (initial-fresh run c.self.inside.start c.self.invariant.2 fresh tape) failures out))
 
-pub loop-running-init : goal.loop-running-init
-loop-running-init g c =
+pub loop-told-init : goal.loop-told-init
+loop-told-init g c =
     let begins = c.in_default.ensures.begins in
     let come = started _ _ _ (g.S.ByteSource.failures c.args.source.now) (g.O.ByteSink.sunk c.args.out.now) (g.E.ByteSink.sunk c.args.err.now) (g.S.ByteSource.gives c.args.source.now)
     c.self.invariant.2 c.self.invariant.0 c.self.invariant.1 begins in
@@ -37,58 +37,23 @@ loop-running-init g c =
       limits = ap (λ (run : Coded). run.limits) begins.some.sets ∙ ap (λ (v : Setup). v.limits) c.self.view_is;
     }
 
-pub returns-in-Err-do_due-clause-runs : goal.returns-in-Err-do_due-clause-runs
-returns-in-Err-do_due-clause-runs g c =
-    let before = c.loop-running.invariant in
-    let past = (c.pass_over.ensures _ _).past in
-    due_done_end _ _ _ _ _ (come-past _ _ _ _ _ _ _ before.come past) _ c.in-Err-do_due.status (past.limits ∙ before.limits) (g.met.S.ByteSource.some c.pass_over.new.source)
-    (c.in-Err-do_due.ensures _ _)
+pub returns-in-Err-step-clause-runs : goal.returns-in-Err-step-clause-runs
+returns-in-Err-step-clause-runs g c =
+    let before = c.loop-told.invariant in
+    come_to_end _ _ _ _ _ _ _ before.come _ _ c.in-Err-step.status before.limits (g.met.S.ByteSource.some c.step.new.source) c.in-Err-step.ensures
 
-pub returns-in-Err-do_due-clause-unread : goal.returns-in-Err-do_due-clause-unread
-returns-in-Err-do_due-clause-unread g c = λ tape refused. absurd (not_refused _ c.begin.new.self c.self.inside.start c.self.invariant.2 c.self.invariant.1 c.in_default.ensures.begins tape
+pub returns-in-Err-step-clause-unread : goal.returns-in-Err-step-clause-unread
+returns-in-Err-step-clause-unread g c = λ tape refused. absurd (not_refused _ c.begin.new.self c.self.inside.start c.self.invariant.2 c.self.invariant.1 c.in_default.ensures.begins tape
     (subst (λ (v : Setup). IsSome (initial v.limits v.start tape).ended) (sym c.self.view_is) refused))
 
-pub returns-in-Err-turn-clause-runs : goal.returns-in-Err-turn-clause-runs
-returns-in-Err-turn-clause-runs g c =
-    let before = c.loop-running.invariant in
-    let past = (c.pass_over.ensures _ _).past in
-    let does_due = c.in_default-do_due.ensures _ _ in
-    has_ended _ _ _ _ _ _ _ (due_done _ _ _ _ _ (come-past _ _ _ _ _ _ _ before.come past) does_due) _ c.in-Err-turn.status (does_due.limits ∙ (past.limits ∙ before.limits))
-    (g.met.S.ByteSource.some c.turn.new.source) c.in-Err-turn.ensures
-
-pub returns-in-Err-turn-clause-unread : goal.returns-in-Err-turn-clause-unread
-returns-in-Err-turn-clause-unread g c = λ tape refused. absurd (not_refused _ c.begin.new.self c.self.inside.start c.self.invariant.2 c.self.invariant.1 c.in_default.ensures.begins tape
-    (subst (λ (v : Setup). IsSome (initial v.limits v.start tape).ended) (sym c.self.view_is) refused))
-
-pub turn-requires : goal.turn-requires
-turn-requires g c = (c.in_default-do_due.ensures 0 (g.O.ByteSink.sunk c.loop-running.out)).none_due
-
-pub loop-running-preserved : goal.loop-running-preserved
-loop-running-preserved g c =
-    let before = c.loop-running.invariant in
-    let past = (c.pass_over.ensures _ _).past in
-    let does_due = c.in_default-do_due.ensures _ _ in record {
-      come = goes_on _ _ _ _ _ _ _ (due_done _ _ _ _ _ (come-past _ _ _ _ _ _ _ before.come past) does_due) c.in_default-turn.ensures;
-      limits = c.in_default-turn.ensures.limits ∙ (does_due.limits ∙ (past.limits ∙ before.limits));
+pub loop-told-preserved : goal.loop-told-preserved
+loop-told-preserved g c =
+    let before = c.loop-told.invariant in record {
+      come = come_further _ _ _ _ _ _ _ before.come _ c.in-Ok.ensures;
+      limits = c.in-Ok.ensures.limits ∙ before.limits;
     }
 
-pub loop-running-smaller : goal.loop-running-smaller
-loop-running-smaller g c =
-    let past = (c.pass_over.ensures _ _).past in
-    let does_due = c.in_default-do_due.ensures _ _ in
-    let fewer = fewer_to_come _ _ _ _ _ _ _ (due_done _ _ _ _ _ (come-past _ _ _ _ _ _ _ c.loop-running.invariant.come past) does_due) (g.met.S.ByteSource.some c.turn.new.source) c.in_default-turn.ensures in
-    omega (arith, fewer, does_due.turns, past.turns)
-
-pub loop-running-preserved-then-pass_over : goal.loop-running-preserved-then-pass_over
-loop-running-preserved-then-pass_over g c =
-    let before = c.loop-running.invariant in
-    let past = (c.pass_over.ensures _ _).past in record {
-      come = come-past _ _ _ _ _ _ _ before.come past;
-      limits = past.limits ∙ before.limits;
-    }
-
-pub loop-running-smaller-then-pass_over : goal.loop-running-smaller-then-pass_over
-loop-running-smaller-then-pass_over g c =
-    let further = c.pass_over.ensures (g.O.ByteSink.sunk c.loop-running.out) (g.E.ByteSink.sunk c.loop-running.err) in
-    let fewer = further.fewer c.if-pass_over.true in
-    omega (arith, fewer)
+pub loop-told-smaller : goal.loop-told-smaller
+loop-told-smaller g c =
+    told-fewer c.loop-told.is_told c.in-Ok.told _ _
+    (come_left _ _ _ _ _ _ _ c.loop-told.invariant.come _ (g.met.S.ByteSource.some c.step.new.source) c.in-Ok.ensures)

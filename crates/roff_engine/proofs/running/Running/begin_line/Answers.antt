@@ -1,6 +1,7 @@
 use Rattle.std.proofs.Common.{ap, arith, sym, ◌∙◌}
 use Rattle.roff_run.specs.declared.line_state.LineState.{LineState}
-use Rattle.roff_engine.proofs.Beginning.{begun-none, begun-some, escapes-passed, goes_past_begun, no_newline}
+use Rattle.roff_reader.specs.Reader.State.{ReaderState}
+use Rattle.roff_engine.proofs.Beginning.{begun-none, begun-some, escapes-passed, goes_past_begun, is_run-begun, no_newline}
 use Rattle.roff_engine.proofs.running.Running.begin_line.Goals as goal
 
 pub pass-requires-clause-plain : goal.pass-requires-clause-plain
@@ -32,3 +33,8 @@ returns-then-count-gt0-clause-none_half g c = escapes-passed _ _ _ _ _ c.pass.en
 
 pub returns-else-count-gt0-clause-none_half : goal.returns-else-count-gt0-clause-none_half
 returns-else-count-gt0-clause-none_half g c = escapes-passed _ _ _ _ _ c.pass.ensures.passes ∙ c.requires.none_half
+
+pub returns-then-count-gt0-clause-prints : goal.returns-then-count-gt0-clause-prints
+returns-then-count-gt0-clause-prints g c = λ so.
+    is_run-begun _ _ (ap (λ (r : ReaderState). r.reading) c.go_on.ensures)
+    (escapes-passed _ _ _ _ _ c.pass.ensures.passes ∙ c.requires.none_half)

@@ -1,9 +1,16 @@
+use Rattle.std.proofs.Common.{ap}
+use Rattle.roff_scan.specs.declared.run_kind.RunKind.TheVariants.{Arguments}
+use Rattle.roff_engine.specs.declared.interpreter.Interpreter.{Interpreter}
 use Rattle.roff_engine.proofs.PassingOn.{goes_further_both, goes_further_none}
+use Rattle.roff_engine.proofs.PutRegisters.{run-kept}
 use Rattle.roff_engine.proofs.running.Running.hold_line.Goals as goal
 
-pub returns-then-take_arguments : goal.returns-then-take_arguments
-returns-then-take_arguments g c = λ out err.
-    goes_further_both _ _ _ _ _ _ _ _ _ _ _ _ _ (c.take_arguments.ensures out err) (c.take_register.ensures.further out err)
+pub hold_on-requires : goal.hold_on-requires
+hold_on-requires g c =
+    run-kept Arguments c.args.self.now c.take_arguments.new.self (ap (λ (i : Interpreter). i.reader.reading) c.take_arguments.ensures.reads) c.take_arguments.ensures.half c.requires
 
-pub returns-else-take_arguments : goal.returns-else-take_arguments
-returns-else-take_arguments g c = λ out err. goes_further_none _ _ _ _ _ _ _ _ (c.take_arguments.ensures out err)
+pub returns-then-not-take_arguments : goal.returns-then-not-take_arguments
+returns-then-not-take_arguments g c = λ out err. goes_further_none _ _ _ _ _ _ _ _ (c.take_arguments.ensures.past out err)
+
+pub returns : goal.returns
+returns g c = λ out err. goes_further_both _ _ _ _ _ _ _ _ _ _ _ _ _ (c.take_arguments.ensures.past out err) (c.hold_on.ensures out err)

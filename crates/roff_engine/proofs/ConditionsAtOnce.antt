@@ -1,0 +1,132 @@
+-- A condition that was read at once, and decided: the run has come behind it.
+use Rattle.std.proofs.Common.{◌≡◌, ℕ, ◌≤◌, Bool, true, false, List, [], ◌∷◌, Some, None, Result, refl, sym, ap, ◌∙◌, arith}
+use Rattle.std.specs.Prelude.{pos, int_lt}
+use Rattle.roff_num.specs.declared.num.Num.{Num}
+use Rattle.roff_num.specs.declared.num.NumFault.{NumFault}
+use Rattle.roff_source.specs.Bytes.{blank}
+use Rattle.roff_source.specs.Tape.{Tape}
+use Rattle.roff_sinks.specs.Sinks.{Sunk}
+use Rattle.roff_escape.specs.Conditions.{expression_valued}
+use Rattle.roff_escape.specs.OpenEscape.{Condition, OpenEscape, texts_held}
+use Rattle.roff_escape.specs.OpenEscapes.{reading_ended}
+use Rattle.roff_escape.specs.Waiting.{is_ended_by, waiting_of}
+use Rattle.roff_escape.specs.declared.open_escape.ConditionPart.TheVariants.{Decided}
+use Rattle.roff_escape.specs.declared.open_escape.Decision.TheVariants.{Is}
+use Rattle.roff_escape.specs.declared.open_escape.Found.TheVariants.{GoesOn}
+use Rattle.roff_escape.specs.declared.open_escape.Surroundings.{Surroundings}
+use Rattle.roff_escape.specs.declared.open_escape.Surroundings.TheVariants.{Copy as AboveCopy}
+use Rattle.roff_input.specs.Unread.{IsWithin, reading}
+use Rattle.roff_reader.specs.Reader.State.{ReaderState}
+use Rattle.roff_run.specs.Reading.Branches.{branch_of}
+use Rattle.roff_run.specs.Reading.Ends.{due}
+use Rattle.roff_run.specs.Reading.Items.{PageUnread}
+use Rattle.roff_run.specs.declared.line_state.LineState.{LineState}
+use Rattle.roff_run.specs.declared.line_state.LineState.TheVariants.{Deciding}
+use Rattle.roff_fronts.specs.Conditions.{DecidesAtOnce, DecidesBehind, none_half}
+use Rattle.roff_engine.specs.declared.running.Running.{Running as Coded}
+use Rattle.roff_engine.specs.Engine.Outcome.{Seen, seen}
+use Rattle.roff_engine.specs.Running.Turning.{GoesFurther, GoesPast}
+use Rattle.roff_engine.proofs.EndsAtOnce.{decides-reading, ends-decided, ends-expression, goes_further_decided, goes_past_expression, waits-reading}
+use Rattle.roff_engine.proofs.PassingOn.{goes_further_both, goes_past_both}
+use Rattle.roff_engine.proofs.Turned.{goes_past_turned}
+
+-- further, and then past more
+pub goes_further_then : (begins : Bool) (gave mid gives : Tape → Type 0) (noted kept notes : ℕ) (old between new : Coded) (now halfway behind : Seen)
+    → GoesFurther begins gave mid noted kept old between now halfway → GoesPast mid gives kept notes between new halfway behind
+    → GoesFurther begins gave gives noted notes old new now behind
+goes_further_then begins gave mid gives noted kept notes old between new now halfway behind first second = record {
+  past = goes_past_both gave mid gives noted kept notes old between new now halfway behind first.past second;
+  fewer = λ is. let less = first.fewer is in omega (arith, less, second.turns);
+}
+
+module _ (gives : Tape → Type 0) (notes failures : ℕ) (out err : Sunk) (old : Coded) (new : ReaderState) (after : PageUnread)
+    (d : DecidesBehind gives old.interpreter.reader new old.unread after) (within : IsWithin old.unread) where
+  abbrev u : PageUnread
+  u = old.unread
+
+  abbrev now : Seen
+  now = seen failures out err
+
+  -- whether it is so, and what is half read where it decides
+  abbrev so : Bool
+  so = int_lt (pos 0) d.value.0.0
+
+  abbrev deciding : PageUnread
+  deciding = record u { input = record u.input { escapes = Condition (Decided (Is so) None) d.text ∷ [] } }
+
+  -- the run there, and where it has decided
+  abbrev there : Coded
+  there = record old { unread = deciding }
+
+  abbrev decided : Coded
+  decided = record old {
+    unread = none_half u;
+    interpreter = record old.interpreter { reader = record old.interpreter.reader { reading = branch_of so } };
+  }
+
+  none_due : due old.interpreter.reader.reading ≡ None
+  none_due = ap (λ (r : LineState). due r) d.deciding
+
+  -- no more is held there, and then less
+  within-deciding : IsWithin deciding
+  within-deciding =
+      let held = ap texts_held d.half in
+      record {
+        charge = within.charge;
+        newlines = within.newlines;
+        pushed = omega (arith, within.pushed, held);
+        depth = within.depth;
+        results = within.results;
+        stored = within.stored;
+        names = within.names;
+        making = within.making;
+      }
+
+  within-decided : IsWithin (none_half u)
+  within-decided = record {
+    charge = within.charge;
+    newlines = within.newlines;
+    pushed = omega (arith, within.pushed);
+    depth = within.depth;
+    results = within.results;
+    stored = within.stored;
+    names = within.names;
+    making = within.making;
+  }
+
+  -- the expression ends
+  expression-ends : (base : Surroundings) → (GoesOn, deciding) ≡ reading (reading_ended base u.input.escapes) u
+  expression-ends base =
+      sym (ap (λ (half : List OpenEscape). reading (reading_ended base half) u) d.half
+      ∙ ap (λ (r : Result (Num × ℕ) NumFault). reading (expression_valued [] false None d.text r) u) d.is_number)
+
+  past-expression : GoesPast gives gives notes notes old there now now
+  past-expression =
+      goes_past_expression old there true blank none_due (waits-reading false old d.deciding (ap (waiting_of AboveCopy) d.half)) d.sees
+      (ap (λ (half : List OpenEscape). is_ended_by half (Some blank)) d.half)
+      (λ did. ends-expression false old deciding d.deciding expression-ends within-deciding) (λ not. absurd (cc)) gives notes now
+
+  -- and it decides
+  further-decided : GoesFurther true gives gives notes notes there decided now now
+  further-decided =
+      goes_further_decided there decided true none_due (λ did. decides-reading false there d.deciding refl)
+      (λ did. ends-decided so there (none_half u) d.deciding (λ base. refl) within-decided) (λ not. absurd (cc)) gives notes now
+
+  pub goes_further_behind : GoesFurther true gives gives notes notes old (record old { unread = after; interpreter = record old.interpreter { reader = new } }) now now
+  goes_further_behind =
+      let new_run : Coded = record old { unread = after; interpreter = record old.interpreter { reader = new } } in
+      goes_further_then true gives gives gives notes notes notes old decided new_run now now now
+      (goes_further_both true gives gives gives notes notes notes old there decided now now now past-expression further-decided)
+      (goes_past_turned gives gives notes notes failures failures out err decided after new d.behind (omega arith) refl)
+
+-- so the run goes past it
+pub goes_further_at_once : (gave gives : Tape → Type 0) (noted notes failed failures : ℕ) (out err : Sunk) (old : Coded) (after : PageUnread) (new : ReaderState)
+    → DecidesAtOnce gave gives old.interpreter.reader new old.unread after → notes ≤ noted → failures ≡ failed
+    → GoesFurther true gave gives noted notes old (record old { unread = after; interpreter = record old.interpreter { reader = new } }) (seen failed out err) (seen failures out err)
+goes_further_at_once gave gives noted notes failed failures out err old after new d fewer same =
+    let r : ReaderState = record old.interpreter.reader { reading = Deciding false } in
+    let between : Coded = record old { unread = d.between; interpreter = record old.interpreter { reader = r } } in
+    let new_run : Coded = record old { unread = after; interpreter = record old.interpreter { reader = new } } in
+    goes_further_both true gave gives gives noted notes notes old between new_run (seen failed out err) (seen failures out err) (seen failures out err)
+    (goes_past_turned gave gives noted notes failed failures out err old d.between r d.past fewer same)
+    (goes_further_behind gives notes failures out err between new after d.decides d.past.within)

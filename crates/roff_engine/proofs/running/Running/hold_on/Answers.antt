@@ -1,0 +1,17 @@
+use Rattle.std.proofs.Common.{ap}
+use Rattle.roff_scan.specs.declared.run_kind.RunKind.TheVariants.{Arguments}
+use Rattle.roff_engine.specs.declared.interpreter.Interpreter.{Interpreter}
+use Rattle.roff_engine.proofs.PassingOn.{goes_further_none}
+use Rattle.roff_engine.proofs.PutRegisters.{goes_further_on, run-kept}
+use Rattle.roff_engine.proofs.running.Running.hold_on.Goals as goal
+
+pub take_arguments-requires : goal.take_arguments-requires
+take_arguments-requires g c =
+    run-kept Arguments c.args.self.now c.hold_register.new.self (ap (λ (i : Interpreter). i.reader.reading) c.hold_register.ensures.reads) c.hold_register.ensures.half c.requires
+
+pub returns-then-not-hold_register : goal.returns-then-not-hold_register
+returns-then-not-hold_register g c = λ out err. goes_further_none _ _ _ _ _ _ _ _ (c.hold_register.ensures.further out err).past
+
+pub returns : goal.returns
+returns g c = λ out err.
+    goes_further_on _ _ _ _ _ _ _ _ _ _ _ _ _ _ c.if-not-hold_register.false (c.hold_register.ensures.further out err) (c.take_arguments.ensures.past out err)

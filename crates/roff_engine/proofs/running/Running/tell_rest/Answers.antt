@@ -1,0 +1,13 @@
+use Rattle.roff_engine.proofs.running.Running.tell_rest.Goals as goal
+
+pub returns-in-Untold : goal.returns-in-Untold
+returns-in-Untold g c = c.tell_front.ensures.past
+
+pub returns-in-Other : goal.returns-in-Other
+returns-in-Other g c = c.tell_front.ensures.past
+
+pub returns-in-Escape : goal.returns-in-Escape
+returns-in-Escape g c = c.tell_front.ensures.past
+
+pub returns-in-Register : goal.returns-in-Register
+returns-in-Register g c = c.tell_front.ensures.past
