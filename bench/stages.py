@@ -49,7 +49,7 @@ STAGES = {
         "roff_source",
         "roff_num",
     ],
-    "formatter": ["roff_engine", "roff_formatter"],
+    "formatter": ["roff_engine", "roff_interpreter", "roff_formatter"],
     "environment": [
         "roff_layout",
         "roff_lines",

@@ -8,22 +8,23 @@ use Rattle.roff_source.specs.Tape.{Tape}
 use Rattle.roff_input.specs.Looking.{is_closed, looked_then}
 use Rattle.roff_input.specs.declared.looked.Looked.{Looked}
 use Rattle.roff_input.specs.declared.looked.Looked.TheVariants.{Nothing, Byte, Closed}
-use Rattle.roff_engine.specs.declared.interpreter.Interpreter.{Interpreter}
+use Rattle.roff_interpreter.specs.declared.interpreter.Interpreter.{Interpreter}
 use Rattle.roff_formatter.specs.declared.halt.Halt.{Halt}
 use Rattle.roff_formatter.specs.declared.halt.Halt.TheVariants.{Limit as Limited, Refused, Over, Output, Messages}
 use Rattle.roff_engine.specs.declared.running.Running.{Running as Coded}
-use Rattle.roff_engine.specs.Engine.Outcome.{Beginning, Seen, IsLeftOf, Reaches, OutcomeOf, seen}
+use Rattle.roff_interpreter.specs.Outcome.{Beginning, Seen, IsLeftOf, Reaches, OutcomeOf, seen}
 use Rattle.roff_formatter.specs.Formatter.Performing.{acting}
-use Rattle.roff_engine.specs.Interpreter.Performing.{CameBehind, TakingDone, DoesTaking, Opens, going, sinks}
+use Rattle.roff_interpreter.specs.Performing.{CameBehind, TakingDone, DoesTaking, Opens, going, sinks}
 use Rattle.roff_run.specs.Springs.{AreFewBehind}
 use Rattle.roff_run.proofs.KeepingText.{StaysFew}
 use Rattle.roff_input.specs.Input.Few.{AreFewFrom}
 use Rattle.roff_formatter.specs.Formatter.Sprung.{most_back, rest_left}
 use Rattle.roff_run.specs.TurnsToCome.{most_left}
-use Rattle.roff_engine.specs.Running.Room.{FewFor}
+use Rattle.roff_interpreter.specs.Room.{FewFor}
 use Rattle.roff_engine.specs.Running.Springing.{GoesOn, IsBehind}
 use Rattle.roff_formatter.specs.declared.sprung.Sprung.{Sprung}
-use Rattle.roff_engine.specs.Running.Turning.{DoesItem, Halts, TookFrom, line_told, line_turns, lines_left_in, state_at, turns_at, turns_of_run}
+use Rattle.roff_engine.specs.Running.Turning.{DoesItem, TookFrom, line_turns, lines_left_in, state_at, turns_at, turns_of_run}
+use Rattle.roff_interpreter.specs.Halting.{Halts, line_told}
 use Rattle.roff_sinks.specs.Sinks.{Sunk}
 use Rattle.roff_composer.specs.Composer.Standing.{StandFor}
 use Rattle.roff_composer.specs.declared.composer.Composer.{Composer as ComposerOf}
@@ -42,10 +43,10 @@ use Rattle.roff_run.specs.declared.status.Status.{Status}
 use Rattle.roff_run.specs.declared.status.Status.TheVariants.{Done}
 use Rattle.roff_run.specs.Environments.{interrupted_line}
 use Rattle.roff_run.specs.TurnsToCome.{begun, lines_left, phases_left, turns_to_come, turns_within}
-use Rattle.roff_engine.proofs.Halting.{rest_over}
+use Rattle.roff_interpreter.proofs.Halting.{rest_over}
 use Rattle.roff_formatter.proofs.EventsLeft.{few-most}
-use Rattle.roff_engine.proofs.Fronts.{few-put_back}
-use Rattle.roff_engine.proofs.Room.{ends-within, room_left}
+use Rattle.roff_interpreter.proofs.Fronts.{few-put_back}
+use Rattle.roff_interpreter.proofs.Room.{ends-within, room_left}
 use Rattle.roff_engine.proofs.TurnsLeft.{line_turns-more, lines_left-stands}
 
 -- a tape is what is left of itself behind a byte that was looked at

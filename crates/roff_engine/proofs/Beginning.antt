@@ -53,7 +53,7 @@ use Rattle.roff_formatter.proofs.Telling.{all_by}
 use Rattle.roff_formatter.specs.Formatter.Telling.{TellsFront}
 use Rattle.roff_formatter.specs.declared.formatter.Formatter.{Formatter}
 use Rattle.roff_engine.specs.declared.running.Running.{Running as Coded}
-use Rattle.roff_engine.specs.Engine.Outcome.{Beginning, Seen, seen}
+use Rattle.roff_interpreter.specs.Outcome.{Beginning, Seen, seen}
 use Rattle.roff_run.specs.declared.status.Status.{Status}
 use Rattle.roff_run.specs.Reading.Ends.{due}
 use Rattle.roff_engine.specs.Running.Beginning.{BeginWithText, begins_text}

@@ -12,10 +12,11 @@ use Rattle.roff_run.specs.Registers.{Known}
 use Rattle.roff_run.specs.Run.{byte_taken}
 use Rattle.roff_run.specs.declared.status.Status.{Status}
 use Rattle.roff_sinks.specs.Sinks.{Sunk}
-use Rattle.roff_engine.specs.Engine.Outcome.{Beginning, OutcomeOf, Seen, seen}
-use Rattle.roff_engine.specs.Interpreter.Performing.{DoesTaking, sinks}
+use Rattle.roff_interpreter.specs.Outcome.{Beginning, OutcomeOf, Seen, seen}
+use Rattle.roff_interpreter.specs.Performing.{DoesTaking, sinks}
 use Rattle.roff_engine.specs.Running.Springing.{GoesOn}
-use Rattle.roff_engine.specs.Running.Turning.{DoesItem, Halts, line_told}
+use Rattle.roff_engine.specs.Running.Turning.{DoesItem}
+use Rattle.roff_interpreter.specs.Halting.{Halts, line_told}
 use Rattle.roff_engine.specs.declared.running.Running.{Running as Coded}
 use Rattle.roff_engine.proofs.Acting.{halted_acts, taking_acts}
 

@@ -8,7 +8,7 @@ use Rattle.roff_run.specs.Run.{step}
 use Rattle.roff_run.specs.declared.start.Start.{Start}
 use Rattle.roff_run.specs.declared.status.Status.{Status}
 use Rattle.roff_engine.specs.declared.running.Running.{Running as Coded}
-use Rattle.roff_engine.specs.Engine.Outcome.{Beginning, Outcome, Runs, Seen}
+use Rattle.roff_interpreter.specs.Outcome.{Beginning, Outcome, Runs, Seen}
 use Rattle.roff_engine.specs.Running.Turning.{AreLeft, ComesFurther, DoesDue, GoesFurther, GoesPastIf, HasCome, IsAt, StandsForSome, TurnsBy, falls_told, turns_of_run, turns_with}
 use Rattle.roff_engine.proofs.Waiting.{items_then-append}
 

@@ -24,7 +24,7 @@ use Rattle.roff_run.specs.declared.line_state.LineState.{LineState}
 use Rattle.roff_run.specs.declared.line_state.LineState.TheVariants.{Deciding}
 use Rattle.roff_fronts.specs.Conditions.{DecidesAtOnce, DecidesBehind, none_half}
 use Rattle.roff_engine.specs.declared.running.Running.{Running as Coded}
-use Rattle.roff_engine.specs.Engine.Outcome.{Seen, seen}
+use Rattle.roff_interpreter.specs.Outcome.{Seen, seen}
 use Rattle.roff_engine.specs.Running.Turning.{GoesFurther, GoesPast}
 use Rattle.roff_engine.proofs.EndsAtOnce.{decides-reading, ends-decided, ends-expression, goes_further_decided, goes_past_expression, waits-reading}
 use Rattle.roff_engine.proofs.PassingOn.{goes_further_both, goes_past_both}

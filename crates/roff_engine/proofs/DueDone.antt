@@ -23,18 +23,18 @@ use Rattle.roff_run.specs.declared.line_state.LineState.TheVariants.{LineStart, 
 use Rattle.roff_run.specs.declared.status.Status.TheVariants.{Aborted, Device}
 use Rattle.roff_run.proofs.InputCounts.{NoMore-leaving, NoMore-released, first_passed-no_more}
 use Rattle.roff_engine.specs.declared.running.Running.{Running as Coded}
-use Rattle.roff_engine.specs.Engine.Outcome.{Beginning, Seen, IsLeftOf, IsRest, MessagesFail, seen}
+use Rattle.roff_interpreter.specs.Outcome.{Beginning, Seen, IsLeftOf, IsRest, MessagesFail, seen}
 use Rattle.roff_engine.specs.Running.Turning.{IsAt, DoesDue, line_turns, lines_left_in, state_at}
 use Rattle.roff_sinks.specs.Sinks.{Sunk, Writes, Fails}
-use Rattle.roff_engine.proofs.Fronts.{few-nothing, few-over}
+use Rattle.roff_interpreter.proofs.Fronts.{few-nothing, few-over}
 use Rattle.roff_engine.proofs.Acting.{IsLeftOf-looked_then}
-use Rattle.roff_engine.proofs.Calls.{Leaves}
+use Rattle.roff_interpreter.proofs.Calls.{Leaves}
 use Rattle.roff_engine.proofs.Items.{lost, one_more}
 use Rattle.roff_engine.proofs.TurnsLeft.{lines_left_in-few}
 use Rattle.roff_input.specs.Looking.{closing, is_closed, looked_then}
 use Rattle.roff_input.specs.declared.looked.Looked.{Looked}
 use Rattle.roff_input.specs.declared.looked.Looked.TheVariants.{Nothing, Byte, Closed}
-use Rattle.roff_engine.specs.Interpreter.Performing.{going}
+use Rattle.roff_interpreter.specs.Performing.{going}
 use Rattle.roff_run.proofs.Leads.{Leads-to}
 
 -- where nothing is due the run stays as it is

@@ -12,8 +12,9 @@ use Rattle.roff_input.specs.declared.looked.Looked.TheVariants.{Nothing}
 use Rattle.roff_escape.specs.OpenEscape.{OpenEscape}
 use Rattle.roff_escape.specs.declared.open_escape.Surroundings.TheVariants.{Arguments as AboveArguments, Copy as AboveCopy, Text as AboveText}
 use Rattle.roff_engine.specs.declared.running.Running.{Running as Coded}
-use Rattle.roff_engine.specs.Engine.Outcome.{Seen, IsRest}
-use Rattle.roff_engine.specs.Running.Turning.{DoesItem, MayEnd, input_ends, state_at}
+use Rattle.roff_interpreter.specs.Outcome.{Seen, IsRest}
+use Rattle.roff_engine.specs.Running.Turning.{DoesItem, MayEnd, state_at}
+use Rattle.roff_interpreter.specs.Ending.{input_ends}
 use Rattle.roff_run.specs.Reading.{escape_ended}
 use Rattle.roff_run.specs.Reading.Beginnings.{at_start}
 use Rattle.roff_run.specs.Reading.Ends.{is_unfinished}

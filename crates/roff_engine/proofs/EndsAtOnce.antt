@@ -39,12 +39,12 @@ use Rattle.roff_run.proofs.ItemsTaken.{step-reads, taken_as-going_on}
 use Rattle.roff_run.proofs.TurnsToCome.{turns_within-escape_ended}
 use Rattle.roff_run.proofs.Waiting.{ended-deciding, length-is_ended_by}
 use Rattle.roff_engine.specs.declared.running.Running.{Running as Coded}
-use Rattle.roff_engine.specs.Engine.Outcome.{Beginning, Seen}
+use Rattle.roff_interpreter.specs.Outcome.{Beginning, Seen}
 use Rattle.roff_engine.specs.Running.EndsAtOnce.{EndsAtOnce}
-use Rattle.roff_engine.specs.Running.Room.{FewFor}
+use Rattle.roff_interpreter.specs.Room.{FewFor}
 use Rattle.roff_engine.specs.Running.Turning.{GoesFurther, GoesPast, IsAt, state_at, turns_left}
-use Rattle.roff_engine.proofs.EndsUnseen.{few-unseen}
-use Rattle.roff_engine.proofs.Fronts.{few-seen_ended}
+use Rattle.roff_interpreter.proofs.EndsUnseen.{few-unseen}
+use Rattle.roff_interpreter.proofs.Fronts.{few-seen_ended}
 use Rattle.roff_engine.proofs.Passing.{IsAt-leads}
 use Rattle.roff_engine.proofs.PassingOn.{goes_further_none, goes_past_none}
 use Rattle.roff_engine.proofs.TurnsLeft.{turns_of_run-fewer}

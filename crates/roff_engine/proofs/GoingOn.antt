@@ -4,7 +4,7 @@ use Rattle.std.specs.Prelude.{false, is_some, map, nat_lt}
 use Rattle.std.proofs.lemmas.Bool.{le-ltb}
 use Rattle.std.proofs.lemmas.Bool.Decides.{nat_tests}
 use Rattle.roff_input.specs.Input.{putting_all_back}
-use Rattle.roff_engine.specs.Running.Room.{FewFor}
+use Rattle.roff_interpreter.specs.Room.{FewFor}
 use Rattle.roff_input.proofs.FewEvents.{few-called}
 use Rattle.roff_input.specs.Input.Calls.{called_text}
 use Rattle.roff_input.specs.Input.Names.{body_named}
@@ -43,12 +43,13 @@ use Rattle.roff_run.specs.declared.status.Status.{Status}
 use Rattle.roff_formatter.specs.declared.halt.Halt.TheVariants.{Limit as Limited}
 use Rattle.roff_engine.specs.declared.running.Running.{Running as Coded}
 use Rattle.roff_formatter.specs.declared.sprung.Sprung.{Sprung}
-use Rattle.roff_engine.specs.Engine.Outcome.{Beginning, OutcomeOf, Reaches, Seen}
+use Rattle.roff_interpreter.specs.Outcome.{Beginning, OutcomeOf, Reaches, Seen}
 use Rattle.roff_formatter.specs.Formatter.Sprung.{left_behind}
 use Rattle.roff_engine.specs.Running.Springing.{GoesOn, IsBehind, PutsBack}
-use Rattle.roff_engine.specs.Running.Turning.{Halts, IsAt, line_turns, lines_left_in, state_at, turns_of_run}
+use Rattle.roff_interpreter.specs.Halting.{Halts}
+use Rattle.roff_engine.specs.Running.Turning.{IsAt, line_turns, lines_left_in, state_at, turns_of_run}
 use Rattle.roff_engine.proofs.Acting.{IsLeftOf-looked_then}
-use Rattle.roff_engine.proofs.Fronts.{few-none}
+use Rattle.roff_interpreter.proofs.Fronts.{few-none}
 use Rattle.roff_engine.proofs.PuttingBack.{is-back, with_back}
 use Rattle.roff_engine.proofs.TurnsLeft.{lines_left_in-few}
 

@@ -1,5 +1,5 @@
 -- What a run of the code has come to behind each item of its input, where the definition takes one step.
-use Rattle.std.proofs.Common.{◌≡◌, ℕ, ◌-◌, ◌≤◌, List, [], ◌∷◌, ◌++◌, Result, Ok, Err, None, inl, inr, refl, sym, ap, ◌∙◌, arith, append-nil}
+use Rattle.std.proofs.Common.{◌≡◌, ℕ, ◌≤◌, List, [], ◌∷◌, ◌++◌, Result, Ok, Err, None, inl, inr, refl, sym, ap, ◌∙◌, arith, append-nil}
 use Rattle.std.specs.Prelude.{IsOkUnless}
 use Rattle.roff_num.specs.declared.limit.Limit.{Limit}
 use Rattle.roff_num.specs.declared.limits.Limits.{Limits}
@@ -19,13 +19,14 @@ use Rattle.roff_run.specs.Registers.Capped.{Capped}
 use Rattle.roff_run.specs.Run.{State, ending_as, ending_with, initial, made, output, reported, step, stopped_by, unless_refused}
 use Rattle.roff_run.specs.Run.Counts.{counts_in, first_passed}
 use Rattle.roff_engine.specs.declared.running.Running.{Running as Coded}
-use Rattle.roff_engine.specs.Engine.Outcome.{Beginning, Seen, IsLeftOf, Reaches, MessagesFail, OutcomeOf, seen}
-use Rattle.roff_engine.specs.Running.Turning.{Continues, IsAt, LimitStops, TookFrom, state_at}
+use Rattle.roff_interpreter.specs.Outcome.{Beginning, Seen, IsLeftOf, Reaches, MessagesFail, OutcomeOf, seen}
+use Rattle.roff_engine.specs.Running.Turning.{Continues, IsAt, TookFrom, state_at}
+use Rattle.roff_interpreter.specs.Halting.{LimitStops}
 use Rattle.roff_sinks.specs.Sinks.{Sunk, Writes, Fails, Puts}
 use Rattle.roff_engine.proofs.Acting.{IsLeftOf-looked_then}
 use Rattle.roff_sinks.proofs.Appending.{Appends-append}
-use Rattle.roff_engine.specs.Running.Room.{FewFor}
-use Rattle.roff_engine.proofs.Calls.{EndsThere, Leaves}
+use Rattle.roff_interpreter.specs.Room.{FewFor}
+use Rattle.roff_interpreter.proofs.Calls.{EndsThere, Leaves}
 use Rattle.roff_formatter.proofs.Performed.{between, faults_of_err}
 use Rattle.roff_run.proofs.Leads.{Leads-to}
 

@@ -12,12 +12,12 @@ use Rattle.roff_run.specs.declared.status.Status.{Status}
 use Rattle.roff_reader.specs.Reader.State.{ReaderState}
 use Rattle.roff_fronts.specs.Stages.{ReadsLine, ReadsPast}
 use Rattle.roff_engine.specs.declared.running.Running.{Running as Coded}
-use Rattle.roff_engine.specs.Engine.Outcome.{Seen, seen}
+use Rattle.roff_interpreter.specs.Outcome.{Seen, seen}
 use Rattle.roff_engine.specs.Running.Turning.{ComesFurther, DoesItem, GoesPast, GoesPastIf, StandsForSome, TurnsBy}
 use Rattle.roff_sinks.specs.Sinks.{Sunk}
 use Rattle.roff_engine.proofs.Beginning.{turns_behind}
 use Rattle.roff_engine.proofs.ComingFurther.{comes_some, comes_turned}
-use Rattle.roff_engine.proofs.LinesSplit.{between, line-between, mid, passes-bytes, takes-newline, within-between}
+use Rattle.roff_interpreter.proofs.LinesSplit.{between, line-between, mid, passes-bytes, takes-newline, within-between}
 use Rattle.roff_engine.proofs.Turned.{goes_past_turned}
 use Rattle.roff_engine.proofs.WaitedBytes.{byte_alone}
 use Rattle.roff_engine.proofs.WholeRuns.{read_turn}

@@ -4,7 +4,7 @@ use Rattle.std.specs.Io.KnownBytes.{Appends}
 use Rattle.roff_num.specs.Faults.{Rises}
 use Rattle.roff_num.specs.Lists.{IsBeginning}
 use Rattle.roff_num.specs.declared.limits.Limits.{Limits}
-use Rattle.roff_engine.specs.Engine.Outcome.{Seen, AppendsBetween, Completes, IsRest, OutputFails, MessagesFail, StartFails}
+use Rattle.roff_interpreter.specs.Outcome.{Seen, AppendsBetween, Completes, IsRest, OutputFails, MessagesFail, StartFails}
 use Rattle.roff_engine.specs.Outcomes.{Gives, EachOutcomeGives}
 use Rattle.roff_run.specs.Results.{last_state, output_of, messages_of}
 use Rattle.roff_run.specs.Run.{State, initial, step, output, reported}

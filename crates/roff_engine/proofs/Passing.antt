@@ -8,15 +8,15 @@ use Rattle.roff_reader.specs.Reader.Taken.{IsReady}
 use Rattle.roff_run.specs.Reading.Items.{PageInput, PageUnread}
 use Rattle.roff_run.specs.declared.line_state.LineState.{LineState}
 use Rattle.roff_run.proofs.PlainRuns.{behind_byte, behind_bytes}
-use Rattle.roff_engine.specs.Running.Room.{FewFor, decides_next}
-use Rattle.roff_engine.proofs.Fronts.{few-undecided}
+use Rattle.roff_interpreter.specs.Room.{FewFor, decides_next}
+use Rattle.roff_interpreter.proofs.Fronts.{few-undecided}
 use Rattle.roff_run.specs.Run.{Leads, initial}
-use Rattle.roff_engine.specs.declared.interpreter.Interpreter.{Interpreter}
+use Rattle.roff_interpreter.specs.declared.interpreter.Interpreter.{Interpreter}
 use Rattle.roff_engine.specs.declared.running.Running.{Running as Coded}
 use Rattle.roff_input.specs.Input.{Ahead, ByteAhead}
 use Rattle.roff_input.specs.Input.Few.{AreFew, AreFewFrom}
 use Rattle.roff_input.proofs.FewEvents.{few-more}
-use Rattle.roff_engine.specs.Engine.Outcome.{Beginning, Seen}
+use Rattle.roff_interpreter.specs.Outcome.{Beginning, Seen}
 use Rattle.roff_engine.specs.Running.Turning.{GoesPast, GoesPastIf, IsAt, state_at}
 use Rattle.roff_run.specs.PageEvents.{PageEvent}
 use Rattle.roff_run.proofs.ItemsTaken.{FromAhead, FromSource, Origin, ahead_at}

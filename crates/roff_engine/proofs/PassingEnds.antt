@@ -32,14 +32,14 @@ use Rattle.roff_run.specs.declared.line_state.LineState.{LineState}
 use Rattle.roff_run.proofs.InputCounts.{IsWithin-allowed, first_passed-few_names}
 use Rattle.roff_run.proofs.ItemsTaken.{step-reads}
 use Rattle.roff_reader.proofs.TakesAs.{few_names, short_title}
-use Rattle.roff_engine.specs.declared.interpreter.Interpreter.{Interpreter}
+use Rattle.roff_interpreter.specs.declared.interpreter.Interpreter.{Interpreter}
 use Rattle.roff_engine.specs.declared.running.Running.{Running as Coded}
-use Rattle.roff_engine.specs.Engine.Outcome.{Beginning, Seen}
-use Rattle.roff_engine.specs.Running.Room.{FewFor}
+use Rattle.roff_interpreter.specs.Outcome.{Beginning, Seen}
+use Rattle.roff_interpreter.specs.Room.{FewFor}
 use Rattle.roff_engine.specs.Running.Turning.{GoesFurther, GoesPast, IsAt, state_at, turns_left}
 use Rattle.roff_engine.proofs.Passing.{IsAt-leads}
 use Rattle.roff_input.specs.Input.Few.{AreFew}
-use Rattle.roff_engine.proofs.Fronts.{few-sees, few-undecided}
+use Rattle.roff_interpreter.proofs.Fronts.{few-sees, few-undecided}
 use Rattle.roff_engine.proofs.Waiting.{takes-next}
 use Rattle.roff_engine.proofs.TurnsLeft.{turns_of_run-fewer}
 use Rattle.roff_engine.proofs.PassingOn.{goes_further_none, goes_past_none}

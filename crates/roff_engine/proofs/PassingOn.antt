@@ -9,12 +9,13 @@ use Rattle.roff_run.specs.Reading.Items.{PageUnread}
 use Rattle.roff_run.specs.Reading.Ends.{due}
 use Rattle.roff_run.specs.Run.{State}
 use Rattle.roff_run.specs.Stages.{EndsLine}
+use Rattle.roff_fronts.specs.DroppedLines.{LineBegun}
 use Rattle.roff_fronts.specs.Stages.{ReadsPast}
 use Rattle.roff_run.specs.TurnsToCome.{begun, free_ahead, turns_to_come}
 use Rattle.roff_run.specs.declared.line_state.LineState.TheVariants.{LineStart}
 use Rattle.roff_fronts.proofs.LineEnds.{reads-ended}
 use Rattle.roff_engine.specs.declared.running.Running.{Running as Coded}
-use Rattle.roff_engine.specs.Engine.Outcome.{Seen, seen}
+use Rattle.roff_interpreter.specs.Outcome.{Seen, seen}
 use Rattle.roff_engine.specs.Running.Turning.{GoesFurther, GoesPast, GoesPastIf, IsAt, StandsForSome, StepDoes, TurnsBy, turns_with}
 use Rattle.roff_sinks.specs.Sinks.{Sunk}
 use Rattle.roff_engine.proofs.Turned.{goes_past_turned}
@@ -124,19 +125,26 @@ fewer-newline gave gives before after (OfTexts passes) =
     let free = ap free_ahead passes.in_front in
     subst (λ (u : PageUnread). turns_to_come u < turns_to_come before) (sym passes.input) (omega (arith, passes.within, free))
 
--- past a newline behind which a line begins
+-- past bytes behind which a line begins
+pub goes_further_begun : (gave gives : Tape → Type 0) (noted notes failed failures : ℕ) (out err : Sunk) (old : Coded) (after : PageUnread) (r : ReaderState)
+    → ReadsPast gave gives old.interpreter.reader r old.unread after → LineBegun r old.unread after → notes ≤ noted → failures ≡ failed
+    → GoesFurther true gave gives noted notes old (record old { unread = after; interpreter = record old.interpreter { reader = r } }) (seen failed out err) (seen failures out err)
+goes_further_begun gave gives noted notes failed failures out err old after r past line fewer same_failures =
+    let none : begun r.reading ≡ 0 = ap begun line.begins in
+    record {
+      past = goes_past_turned gave gives noted notes failed failures out err old after r past fewer same_failures;
+      fewer = λ begins. (let behind = turns_of_run-fewer old (record old { unread = after; interpreter = record old.interpreter { reader = r } }) (omega (arith, line.fewer, none)) refl in
+          omega (arith, behind, fewer));
+    }
+
+-- past a newline behind which one does
 pub goes_further_ended : (gave gives : Tape → Type 0) (noted notes failed failures : ℕ) (out err : Sunk) (old : Coded) (after : PageUnread) (r : ReaderState)
     → r ≡ record old.interpreter.reader { reading = LineStart } → due old.interpreter.reader.reading ≡ None
     → EndsLine old.interpreter.reader.reading → old.unread.input.escapes ≡ [] → PassesFront gave gives (newline ∷ []) old.unread after → IsWithin after
     → notes ≤ noted → failures ≡ failed
     → GoesFurther true gave gives noted notes old (record old { unread = after; interpreter = record old.interpreter { reader = r } }) (seen failed out err) (seen failures out err)
 goes_further_ended gave gives noted notes failed failures out err old after r is none_due ends none_half passes within fewer same_failures =
-    let past : ReadsPast gave gives old.interpreter.reader r old.unread after =
-    reads-ended gave gives old.interpreter.reader r old.unread after none_due ends none_half passes within is in
-    let less : turns_to_come after < turns_to_come old.unread = fewer-newline gave gives old.unread after passes in
-    let none : begun r.reading ≡ 0 = ap (λ (there : ReaderState). begun there.reading) is in
-    record {
-      past = goes_past_turned gave gives noted notes failed failures out err old after r past fewer same_failures;
-      fewer = λ begins. (let behind = turns_of_run-fewer old (record old { unread = after; interpreter = record old.interpreter { reader = r } }) (omega (arith, less, none)) refl in
-          omega (arith, behind, fewer));
-    }
+    goes_further_begun gave gives noted notes failed failures out err old after r
+    (reads-ended gave gives old.interpreter.reader r old.unread after none_due ends none_half passes within is)
+    (record { begins = ap (λ (there : ReaderState). there.reading) is; fewer = fewer-newline gave gives old.unread after passes })
+    fewer same_failures

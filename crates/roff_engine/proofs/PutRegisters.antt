@@ -29,7 +29,7 @@ use Rattle.roff_fronts.specs.Runs.{IsRun}
 use Rattle.roff_fronts.proofs.RegistersHeld.{ReadsText, next_bytes-put, passes-end, passes-read, read}
 use Rattle.roff_formatter.specs.Formatter.Telling.{TellsFront}
 use Rattle.roff_formatter.specs.declared.formatter.Formatter.{Formatter}
-use Rattle.roff_engine.specs.declared.interpreter.Interpreter.{Interpreter}
+use Rattle.roff_interpreter.specs.declared.interpreter.Interpreter.{Interpreter}
 use Rattle.roff_input.specs.Arguments.{Arguments, is_behind_quote}
 use Rattle.roff_escape.specs.OpenEscape.{OpenEscape}
 use Rattle.roff_run.specs.Reading.Ends.{due}
@@ -39,10 +39,10 @@ use Rattle.roff_scan.specs.declared.run_kind.RunKind.TheVariants.{Text as TextRu
 use Rattle.roff_fronts.proofs.PuttingRuns.{input_put, leads-put}
 use Rattle.roff_fronts.proofs.TurnedRuns.{counted-bytes_taken}
 use Rattle.roff_engine.specs.declared.running.Running.{Running as Coded}
-use Rattle.roff_engine.specs.Engine.Outcome.{Beginning, Seen, seen}
+use Rattle.roff_interpreter.specs.Outcome.{Beginning, Seen, seen}
 use Rattle.roff_engine.specs.Running.Turning.{GoesFurther, GoesPast, IsAt, state_at}
 use Rattle.roff_sinks.specs.Sinks.{Sunk}
-use Rattle.roff_engine.proofs.Fronts.{few-none}
+use Rattle.roff_interpreter.proofs.Fronts.{few-none}
 use Rattle.roff_engine.proofs.Passing.{IsAt-leads, goes_past_fewer, none-read}
 use Rattle.roff_engine.proofs.PassingEnds.{goes_further_passed}
 use Rattle.roff_engine.proofs.PassingOn.{goes_further_none, goes_past_both, goes_past_kept}

@@ -10,9 +10,10 @@ use Rattle.roff_run.specs.declared.title.WhichTitle.TheVariants.{Read, Kept}
 use Rattle.roff_run.specs.Reading.Items.{PageUnread}
 use Rattle.roff_run.specs.Registers.{AllRegisters}
 use Rattle.roff_run.specs.Titles.{keeping, put_back, with_title_kept}
-use Rattle.roff_engine.specs.declared.interpreter.Interpreter.{Interpreter}
+use Rattle.roff_interpreter.specs.declared.interpreter.Interpreter.{Interpreter}
 use Rattle.roff_engine.specs.declared.running.Running.{Running as Coded}
-use Rattle.roff_engine.specs.Running.Springing.{HasRoom, PutsBack}
+use Rattle.roff_interpreter.specs.Room.{HasRoom}
+use Rattle.roff_engine.specs.Running.Springing.{PutsBack}
 use Rattle.roff_formatter.specs.Formatter.Sprung.{event_going_on, first_going_on, left_behind}
 use Rattle.roff_formatter.specs.declared.sprung.Sprung.{Sprung}
 use Rattle.roff_formatter.proofs.EventsLeft.{drop-at, drop-past, drop-past-next, going-none}

@@ -5,15 +5,16 @@ use Rattle.roff_num.specs.declared.limit.Limit.{Limit}
 use Rattle.roff_num.specs.declared.limit.Limit.TheVariants.{Names}
 use Rattle.roff_num.specs.declared.limits.Limits.{Limits}
 use Rattle.roff_num.specs.declared.num.Num.{Num}
-use Rattle.roff_engine.specs.Engine.Outcome.{Outcome, Seen}
-use Rattle.roff_engine.specs.Interpreter.Performing.{going}
-use Rattle.roff_engine.specs.Interpreter.Giving.{Gives}
-use Rattle.roff_engine.specs.Running.Room.{FewFor}
+use Rattle.roff_interpreter.specs.Outcome.{Outcome, Seen}
+use Rattle.roff_interpreter.specs.Performing.{going}
+use Rattle.roff_interpreter.specs.Giving.{Gives}
+use Rattle.roff_interpreter.specs.Room.{FewFor}
 use Rattle.roff_engine.specs.Running.Starting.{Begins, HasRoom, IsRefused, SetsSome}
-use Rattle.roff_engine.specs.Running.Turning.{StartStops, state_at}
-use Rattle.roff_engine.specs.declared.interpreter.Interpreter.{Interpreter}
+use Rattle.roff_interpreter.specs.Halting.{StartStops}
+use Rattle.roff_engine.specs.Running.Turning.{state_at}
+use Rattle.roff_interpreter.specs.declared.interpreter.Interpreter.{Interpreter}
 use Rattle.roff_engine.specs.declared.running.Running.{Running as Coded}
-use Rattle.roff_engine.proofs.NumberedPages.{written-given}
+use Rattle.roff_interpreter.proofs.NumberedPages.{written-given}
 use Rattle.roff_reader.proofs.TakesAs.{few_names, short_title}
 use Rattle.roff_reader.specs.Reader.State.{ReaderState}
 use Rattle.roff_reader.specs.Reader.Taken.{IsReady}

@@ -33,17 +33,17 @@ use Rattle.roff_fronts.proofs.TurnedRuns.{counted-bytes_taken}
 use Rattle.roff_fronts.proofs.RunsRead.{first_of_front}
 use Rattle.roff_composer.proofs.ToldBytes.{written-told}
 use Rattle.roff_fronts.proofs.PrintedRuns.{TakesText, counted-behind, leads-told, turns-counted}
-use Rattle.roff_engine.specs.declared.interpreter.Interpreter.{Interpreter}
+use Rattle.roff_interpreter.specs.declared.interpreter.Interpreter.{Interpreter}
 use Rattle.roff_formatter.specs.declared.formatter.Formatter.{Formatter}
 use Rattle.roff_engine.specs.declared.running.Running.{Running as Coded}
-use Rattle.roff_engine.specs.Engine.Outcome.{Beginning, Seen, seen}
-use Rattle.roff_engine.specs.Interpreter.Performing.{going}
+use Rattle.roff_interpreter.specs.Outcome.{Beginning, Seen, seen}
+use Rattle.roff_interpreter.specs.Performing.{going}
 use Rattle.roff_formatter.specs.Formatter.Telling.{TellsFront}
 use Rattle.roff_engine.specs.Running.Turning.{GoesPast, GoesPastIf, IsAt, line_turns, lines_left_in, state_at, turns_of_run}
 use Rattle.roff_sinks.specs.Sinks.{Sunk}
 use Rattle.roff_formatter.proofs.Telling.{all_by}
 use Rattle.roff_engine.proofs.Passing.{IsAt-leads, few-alone, goes_past_if-fewer}
-use Rattle.roff_engine.specs.Running.Room.{FewFor}
+use Rattle.roff_interpreter.specs.Room.{FewFor}
 use Rattle.roff_engine.proofs.TurnsLeft.{turns_of_run-no_more}
 use Rattle.roff_run.specs.Reading.Items.{Taking}
 use Rattle.roff_run.specs.Registers.{no_registers}

@@ -52,10 +52,10 @@ use Rattle.roff_reader.proofs.TakesAs.{few_names_in}
 use Rattle.roff_fronts.proofs.TurnedRuns.{counted-bytes_taken}
 use Rattle.roff_reader.specs.Reader.State.{ReaderState}
 use Rattle.roff_reader.specs.Reader.Titles.{ReadsTitle, TitleBytes}
-use Rattle.roff_engine.specs.declared.interpreter.Interpreter.{Interpreter}
+use Rattle.roff_interpreter.specs.declared.interpreter.Interpreter.{Interpreter}
 use Rattle.roff_engine.specs.declared.running.Running.{Running as Coded}
-use Rattle.roff_engine.specs.Engine.Outcome.{Beginning, Seen, seen}
-use Rattle.roff_engine.specs.Interpreter.Performing.{going}
+use Rattle.roff_interpreter.specs.Outcome.{Beginning, Seen, seen}
+use Rattle.roff_interpreter.specs.Performing.{going}
 use Rattle.roff_engine.specs.Running.Turning.{GoesPast, IsAt, turns_of_run}
 use Rattle.roff_engine.proofs.Passing.{IsAt-leads, few-alone, goes_past_fewer}
 use Rattle.roff_engine.proofs.TurnsLeft.{turns_of_run-no_more}

@@ -30,12 +30,12 @@ use Rattle.roff_run.proofs.PlainRuns.{behind_bytes, counted, counted-source, is-
 use Rattle.roff_reader.proofs.TakesAs.{few_names, short_title}
 use Rattle.roff_fronts.proofs.TurnedRuns.{FitsAt, Turned-none, after-Turned, counted-bytes_taken, input-passed, stage_input, stage_input-counted, turns_left-turned}
 use Rattle.roff_engine.specs.declared.running.Running.{Running as Coded}
-use Rattle.roff_engine.specs.Engine.Outcome.{Beginning, Seen, seen}
+use Rattle.roff_interpreter.specs.Outcome.{Beginning, Seen, seen}
 use Rattle.roff_engine.specs.Running.Turning.{GoesPast, IsAt, line_turns, lines_left_in, state_at, turns_left, turns_of_run}
 use Rattle.roff_sinks.specs.Sinks.{Sunk}
-use Rattle.roff_engine.proofs.Fronts.{few-none}
+use Rattle.roff_interpreter.proofs.Fronts.{few-none}
 use Rattle.roff_engine.proofs.Passing.{IsAt-leads, goes_past_fewer, none-read}
-use Rattle.roff_engine.specs.Running.Room.{FewFor}
+use Rattle.roff_interpreter.specs.Room.{FewFor}
 use Rattle.roff_input.specs.Input.Few.{AreFew, AreFewFrom}
 use Rattle.roff_engine.proofs.TurnsLeft.{turns_of_run-fewer, turns_of_run-no_more}
 

@@ -1,5 +1,5 @@
 -- Turns of a run of the code: a call of the unread input, and what is done with what it shows.
-use Rattle.std.proofs.Common.{◌≡◌, inl, ℕ, ◌-◌, ◌+◌, ◌<◌, ◌≤◌, List, [], ◌∷◌, Result, Ok, Err, OnOk, refl, sym, ap, subst, ◌∙◌, arith}
+use Rattle.std.proofs.Common.{◌≡◌, inl, ℕ, ◌+◌, ◌<◌, ◌≤◌, List, [], ◌∷◌, Result, Ok, Err, OnOk, refl, sym, ap, subst, ◌∙◌, arith}
 use Rattle.std.specs.Prelude.{IsOkUnless}
 use Rattle.roff_num.specs.declared.limit.Limit.{Limit}
 use Rattle.roff_num.specs.declared.limits.Limits.{Limits}
@@ -26,15 +26,17 @@ use Rattle.roff_run.specs.Run.{State, ahead_taken, byte_taken, ending_input, esc
 use Rattle.roff_run.specs.TurnsToCome.{begun, turns_to_come, turns_within}
 use Rattle.roff_formatter.specs.declared.halt.Halt.TheVariants.{Refused}
 use Rattle.roff_engine.specs.declared.running.Running.{Running as Coded}
-use Rattle.roff_engine.specs.Engine.Outcome.{Beginning, Seen, OutcomeOf, seen}
-use Rattle.roff_engine.specs.Running.Turning.{DoesItem, Continues, Halts, IsAt, MayEnd, MayGoOn, StepDoes, TookFrom, TurnsBy, input_ends, state_at, turns_at, turns_of_run, turns_with}
+use Rattle.roff_interpreter.specs.Outcome.{Beginning, Seen, OutcomeOf, seen}
+use Rattle.roff_engine.specs.Running.Turning.{DoesItem, Continues, IsAt, MayEnd, MayGoOn, StepDoes, TookFrom, TurnsBy, state_at, turns_at, turns_of_run, turns_with}
+use Rattle.roff_interpreter.specs.Halting.{Halts}
+use Rattle.roff_interpreter.specs.Ending.{input_ends}
 use Rattle.roff_sinks.specs.Sinks.{Sunk, Puts}
 use Rattle.roff_input.specs.Input.Few.{AreFew}
-use Rattle.roff_engine.specs.Running.Room.{FewFor, SeesOn}
-use Rattle.roff_engine.proofs.Fronts.{few-ends, few-interrupted, few-taken}
+use Rattle.roff_interpreter.specs.Room.{FewFor, SeesOn}
+use Rattle.roff_interpreter.proofs.Fronts.{few-ends, few-interrupted, few-taken}
 use Rattle.roff_run.proofs.CalmConditions.{Calm-taking}
 use Rattle.roff_run.specs.Reading.Returns.{behind_return}
-use Rattle.roff_engine.proofs.Calls.{EndsThere, EndsThere-takes, FewBehind, Leaves, Leaves-takes, few-taking, none-taking}
+use Rattle.roff_interpreter.proofs.Calls.{EndsThere, EndsThere-takes, FewBehind, Leaves, Leaves-takes, few-taking, none-taking}
 use Rattle.roff_engine.proofs.Items.{end_passed, moved, return_passed, returned, note_told, refused, source_failed, source_stopped, took}
 use Rattle.roff_run.proofs.InFront.{Given-asked, IsEnding, in_front, items_asked, over_unread, over_unread-ending, shown_step}
 use Rattle.roff_run.proofs.Behind.{begun-behind_return}

@@ -5,7 +5,8 @@ use Rattle.roff_num.specs.declared.limits.Limits.{Limits}
 use Rattle.roff_escape.specs.OpenEscape.{OpenEscape}
 use Rattle.roff_source.specs.Tape.{Tape}
 use Rattle.roff_engine.specs.declared.running.Running.{Running as Coded}
-use Rattle.roff_engine.specs.Running.Turning.{input_ends, line_turns, lines_left_in, state_at, turns_at, turns_left, turns_of_run}
+use Rattle.roff_interpreter.specs.Ending.{input_ends}
+use Rattle.roff_engine.specs.Running.Turning.{line_turns, lines_left_in, state_at, turns_at, turns_left, turns_of_run}
 use Rattle.roff_run.specs.TurnsToCome.{most_left}
 use Rattle.roff_run.proofs.LinesLeft.{left_behind, left-few}
 use Rattle.roff_composer.specs.Composer.Standing.{StandFor}

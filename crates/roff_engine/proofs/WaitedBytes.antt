@@ -1,6 +1,6 @@
 -- A byte that is taken, whether what is half read waits for it or not.
 use Rattle.roff_escape.specs.OpenEscape.{OpenEscape}
-use Rattle.std.proofs.Common.{◌≡◌, ℕ, ◌-◌, ◌≤◌, Bool, true, false, List, Some, Result, refl, sym, ap, subst, ◌∙◌, arith, ◌∷◌, []}
+use Rattle.std.proofs.Common.{◌≡◌, ℕ, ◌≤◌, Bool, true, false, List, Some, Result, refl, sym, ap, subst, ◌∙◌, arith, ◌∷◌, []}
 use Rattle.std.specs.Prelude.{if◌then◌else◌}
 use Rattle.roff_num.specs.declared.limit.Limit.{Limit}
 use Rattle.roff_num.specs.declared.limits.Limits.{Limits}
@@ -22,10 +22,10 @@ use Rattle.roff_run.specs.Run.{State, awaited, awaited_of_source, byte_taken, fr
 use Rattle.roff_run.specs.Reading.{taking as byte_taking}
 use Rattle.roff_run.specs.Reading.Waiting.{waiting_in}
 use Rattle.roff_engine.specs.declared.running.Running.{Running as Coded}
-use Rattle.roff_engine.specs.Engine.Outcome.{Seen, seen}
+use Rattle.roff_interpreter.specs.Outcome.{Seen, seen}
 use Rattle.roff_engine.specs.Running.Turning.{DoesItem, TurnsBy, state_at}
 use Rattle.roff_sinks.specs.Sinks.{Sunk}
-use Rattle.roff_engine.proofs.Fronts.{few-taken}
+use Rattle.roff_interpreter.proofs.Fronts.{few-taken}
 use Rattle.roff_run.proofs.CalmConditions.{Calm-taking}
 use Rattle.roff_engine.proofs.Items.{moved}
 use Rattle.roff_engine.proofs.Turns.{LeavesFewer, acted, falls_front, few_front, leaves_fewer, leaves_front, shown_front, turns_of}

@@ -2,7 +2,7 @@
 use Rattle.roff_escape.specs.Conditions.{is_decided}
 use Rattle.roff_escape.specs.OpenEscape.{OpenEscape, Backslash, Comment, Name, Size, Delimited, Width, Condition}
 use Rattle.roff_escape.specs.declared.open_escape.ConditionPart.TheVariants.{Choice, Expression, Compared, Decided}
-use Rattle.std.proofs.Common.{◌≡◌, ℕ, ◌-◌, ◌<◌, ◌≤◌, Bool, true, false, List, ◌++◌, length, Option, Some, None, Result, Err, refl, sym, ap, subst, ◌∙◌, arith, append_assoc, ◌∷◌, []}
+use Rattle.std.proofs.Common.{◌≡◌, ℕ, ◌<◌, ◌≤◌, Bool, true, false, List, ◌++◌, length, Option, Some, None, Result, Err, refl, sym, ap, subst, ◌∙◌, arith, append_assoc, ◌∷◌, []}
 use Rattle.std.specs.Prelude.{IsOkUnless, if◌then◌else◌}
 use Rattle.roff_num.specs.declared.limit.Limit.{Limit}
 use Rattle.roff_num.specs.declared.limits.Limits.{Limits}
@@ -28,14 +28,14 @@ use Rattle.roff_run.specs.Registers.{Known}
 use Rattle.roff_run.specs.Reading.Waiting.{waiting_above, waiting_in}
 use Rattle.roff_run.specs.declared.line_state.LineState.{LineState}
 use Rattle.roff_engine.specs.declared.running.Running.{Running as Coded}
-use Rattle.roff_engine.specs.Engine.Outcome.{Beginning, Seen, seen}
+use Rattle.roff_interpreter.specs.Outcome.{Beginning, Seen, seen}
 use Rattle.roff_engine.specs.Running.Turning.{DoesItem, IsAt, StepDoes, TurnsBy, state_at, turns_with}
 use Rattle.roff_sinks.specs.Sinks.{Sunk, Puts}
 use Rattle.roff_input.proofs.FewEvents.{few-behind}
-use Rattle.roff_engine.specs.Running.Room.{FewFor, SeesOn, decides_next}
-use Rattle.roff_engine.proofs.EndsUnseen.{few-unseen}
-use Rattle.roff_engine.proofs.Fronts.{few-appended, few-seen_ended}
-use Rattle.roff_engine.proofs.Calls.{EndsThere, EndsThere-looks, Leaves, Leaves-looks, Leaves-deciding}
+use Rattle.roff_interpreter.specs.Room.{FewFor, SeesOn, decides_next}
+use Rattle.roff_interpreter.proofs.EndsUnseen.{few-unseen}
+use Rattle.roff_interpreter.proofs.Fronts.{few-appended, few-seen_ended}
+use Rattle.roff_interpreter.proofs.Calls.{EndsThere, EndsThere-looks, Leaves, Leaves-looks, Leaves-deciding}
 use Rattle.roff_engine.proofs.Items.{looked_at, moved, note_told, source_failed, source_stopped}
 use Rattle.roff_engine.proofs.Turns.{LeavesFewer, acted, leaves_fewer, on_ok, on_ok-then, turned, turns_of}
 use Rattle.roff_run.proofs.InFront.{Given-asked, IsNoNote, Looks-looking, items_asked, over_unread, over_unread-looking, front_step, seen as seen_step, sighted_step}

@@ -24,11 +24,11 @@ use Rattle.roff_run.specs.Run.Counts.{counts_in, first_passed}
 use Rattle.roff_run.specs.Reading.Ends.{due}
 use Rattle.roff_run.specs.declared.line_state.Due.{Due}
 use Rattle.roff_engine.specs.declared.running.Running.{Running as Coded}
-use Rattle.roff_engine.specs.Engine.Outcome.{Seen, Outcome, Runs, seen}
-use Rattle.roff_engine.specs.Interpreter.Performing.{going}
+use Rattle.roff_interpreter.specs.Outcome.{Seen, Outcome, Runs, seen}
+use Rattle.roff_interpreter.specs.Performing.{going}
 use Rattle.roff_engine.specs.Running.Turning.{HasCome, IsFresh, TurnsBy, state_at}
 use Rattle.roff_engine.specs.Running.Starting.{Begins, HasRoom}
-use Rattle.roff_engine.proofs.Fronts.{few-nothing}
+use Rattle.roff_interpreter.proofs.Fronts.{few-nothing}
 use Rattle.roff_sinks.proofs.Appending.{Appends-nothing}
 use Rattle.roff_run.proofs.Leads.{Leads-refl}
 

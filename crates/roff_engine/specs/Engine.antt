@@ -1,3 +1,2 @@
 -- A whole run of the code.
 pub mod Setup
-pub mod Outcome

@@ -1,4 +1,3 @@
-pub mod Interpreter
 pub mod Engine
 pub mod Outcomes
 pub mod TwoRuns

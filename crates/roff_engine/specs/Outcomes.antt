@@ -2,7 +2,7 @@
 use Rattle.std.specs.Prelude.{◌≡◌, Some}
 use Rattle.std.specs.Io.KnownBytes.{Appends}
 use Rattle.roff_num.specs.declared.limits.Limits.{Limits}
-use Rattle.roff_engine.specs.Engine.Outcome.{IsRest, Outcome, Seen}
+use Rattle.roff_interpreter.specs.Outcome.{IsRest, Outcome, Seen}
 use Rattle.roff_run.specs.Results.{last_state, output_of, messages_of, status_of}
 use Rattle.roff_sinks.specs.Sinks.{Sunk, AppendsFront}
 use Rattle.roff_run.specs.declared.status.Status.{Status}

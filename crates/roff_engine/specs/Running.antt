@@ -1,5 +1,4 @@
 -- A run of the code under way.
-pub mod Room
 pub mod Turning
 pub mod Starting
 pub mod Springing

@@ -4,7 +4,7 @@ use Rattle.std.specs.Io.KnownBytes.{Appends}
 use Rattle.roff_num.specs.Lists.{IsBeginning}
 use Rattle.roff_num.specs.declared.limit.Limit.{Limit}
 use Rattle.roff_num.specs.declared.limits.Limits.{Limits}
-use Rattle.roff_engine.specs.Engine.Outcome.{Outcome, Seen}
+use Rattle.roff_interpreter.specs.Outcome.{Outcome, Seen}
 use Rattle.roff_laws.specs.Laws.{failing_behind, going_on_behind}
 use Rattle.roff_laws.specs.Limits.{AreWithin}
 use Rattle.roff_engine.specs.Outcomes.{HadNoFault}

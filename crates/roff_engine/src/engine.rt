@@ -4,8 +4,8 @@ ghost use Rattle.std.specs.Prelude.{◌≡◌, IfOk, IsSome};
 ghost use Rattle.roff_engine.specs.Clauses.{StandFor, Limits, Runs, Tape, seen, IsFresh};
 ghost use Rattle.roff_run.specs.Run.{initial};
 
-use crate::interpreter::Interpreter;
 use crate::running::Running;
+use roff_interpreter::Interpreter;
 use roff_names::first_unread;
 use roff_num::Limits;
 use roff_run::{Phase, Start, Status};

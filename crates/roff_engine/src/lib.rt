@@ -2,10 +2,7 @@
 #![tactic(auto)]
 
 mod engine;
-mod halt;
-mod interpreter;
 pub mod laws;
-mod report;
 mod running;
 
 pub use engine::Engine;

@@ -15,8 +15,8 @@ mod springing;
 mod starting;
 mod texts;
 
-use crate::interpreter::Interpreter;
 use roff_formatter::Halt;
+use roff_interpreter::Interpreter;
 use roff_num::Limits;
 use roff_run::{LineState, PageEvent, Phase, Status};
 use roff_scan::{ByteSource, Item, Note, Unread};
@@ -32,7 +32,7 @@ pub(crate) struct Running {
 }
 
 impl Running {
-    ghost use Rattle.roff_engine.specs.Running.Room.{SeesOn};
+    ghost use Rattle.roff_interpreter.specs.Room.{SeesOn};
     ghost use Rattle.roff_engine.specs.Running.Turning.{ComesFurtherOver, DoesItem, TurnsOver};
 
     /// Takes bytes at once that stand in front, or else does what is due, and takes an item of the

@@ -1,27 +1,22 @@
 -- A condition that asks nothing is read at once, and decides.
-use Rattle.std.proofs.Common.{◌≡◌, ℕ, ◌+◌, ◌≤◌, ◌==◌, Bool, true, false, List, [], ◌∷◌, ◌++◌, length, Option, Some, None, Ok, refl, sym, ap, subst, ◌∙◌, arith}
-use Rattle.std.specs.Prelude.{◌||◌, not, IsTrue, map, pos, int_lt, if◌then◌else◌}
+use Rattle.std.proofs.Common.{◌≡◌, ℕ, ◌==◌, Bool, true, false, List, [], ◌∷◌, ◌++◌, length, Some, None, Ok, refl, sym, ap, subst, ◌∙◌, arith}
+use Rattle.std.specs.Prelude.{◌||◌, not, IsTrue, pos, int_lt, if◌then◌else◌}
 use Rattle.std.proofs.lemmas.Bool.{eqb-true}
 use Rattle.roff_num.specs.Expressions.{folded_onto, operand_within, value_at}
 use Rattle.roff_num.specs.declared.num.Num.{Num}
 use Rattle.roff_num.specs.declared.num.Scale.TheVariants.{Units}
-use Rattle.roff_num.specs.declared.short_name.ShortName.{ShortName}
 use Rattle.roff_source.specs.Bytes.{backslash, blank, is_dropped, newline, tab}
 use Rattle.roff_source.specs.Tape.{Tape}
 use Rattle.roff_escape.specs.ConditionFronts.{ByteTaken, HalvesTaken, HoldsOn, IsHeld, IsRead, NothingTaken, TakesOn}
-use Rattle.roff_escape.specs.EscapeFronts.{ReadsOn}
 use Rattle.roff_escape.specs.OpenEscape.{Condition, OpenEscape, Reads}
 use Rattle.roff_escape.specs.declared.open_escape.ConditionPart.TheVariants.{Choice, Expression}
 use Rattle.roff_escape.specs.declared.open_escape.Surroundings.TheVariants.{Arguments as AboveArguments}
-use Rattle.roff_input.specs.Arguments.{Arguments}
 use Rattle.roff_input.specs.Input.{Ahead, ByteAhead, bytes_ahead, bytes_taken, ends_ahead, is_none_ahead}
 use Rattle.roff_input.specs.Unread.{IsWithin}
 use Rattle.roff_scan.specs.Unread.Calls.{IsFront, NoNewline, OfSource, OfTexts, PassesFront, PassesTexts, front_bytes}
 use Rattle.roff_scan.specs.Unread.Runs.{with_stage_of}
 use Rattle.roff_scan.specs.declared.run_kind.RunKind.TheVariants.{Condition as ConditionRun}
 use Rattle.roff_names.specs.NamesRead.{LeadsTo, input_begun}
-use Rattle.roff_store.specs.Named.{Named}
-use Rattle.roff_store.specs.Texts.{Entry}
 use Rattle.roff_reader.specs.Reader.State.{ReaderState}
 use Rattle.roff_run.specs.PageEvents.{PageEvent}
 use Rattle.roff_run.specs.Reading.{undropped_taking}
@@ -32,9 +27,8 @@ use Rattle.roff_run.specs.Reading.Found.{read_in}
 use Rattle.roff_run.specs.Reading.Items.{PageInput, PageUnread, going_on}
 use Rattle.roff_run.specs.Requests.{called_by}
 use Rattle.roff_run.specs.Stages.{Ignores, Stage, TakesHalf, Turned, stage_of}
-use Rattle.roff_run.specs.declared.line_state.LineState.{LineState}
-use Rattle.roff_run.specs.declared.line_state.LineState.TheVariants.{Branch, Deciding, Skipping}
-use Rattle.roff_fronts.specs.Conditions.{AsksNothing, DecidesAtOnce, DecidesBehind, HasBlank, constant_front, digit_of, none_half}
+use Rattle.roff_run.specs.declared.line_state.LineState.TheVariants.{Deciding, Skipping}
+use Rattle.roff_fronts.specs.Conditions.{AsksNothing, DecidesAtOnce, HasBlank, constant_front, digit_of, none_half}
 use Rattle.roff_fronts.specs.Runs.{IsRun}
 use Rattle.roff_fronts.specs.ControlFronts.{BeginsControl, StandsReady, control_byte}
 use Rattle.roff_fronts.specs.Stages.{ReadsPast}

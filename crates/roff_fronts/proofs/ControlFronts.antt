@@ -122,7 +122,7 @@ turned-named names reading there breaks first second a texts none_due begins nam
     (Here q)))
 
 -- a backslash there
-turned-dropped : (names : Named Entry) (reading : LineState) (breaks : Bool) (a : Arguments) (texts : List (List ℕ)) → due reading ≡ None → BeginsControl reading
+pub turned-dropped : (names : Named Entry) (reading : LineState) (breaks : Bool) (a : Arguments) (texts : List (List ℕ)) → due reading ≡ None → BeginsControl reading
     → Turned names (stage_with reading [] a texts) (control_byte breaks ∷ backslash ∷ []) (stage_with Dropped [] a texts)
 turned-dropped names reading breaks a texts none_due begins =
     let p : Stage = stage_with reading [] a texts in
@@ -160,15 +160,3 @@ reads-named gave gives r new there breaks first second ready before passed after
     (turned-named i.names r.reading there breaks first second i.arguments i.open_texts none_due begins named_first named_second leads)
     (subst (λ (all : List ℕ). PassesFront gave gives all before passed) (sym stands.are) passes)
     (subst (λ (u : PageUnread). IsWithin u) is within)))
-
--- and a backslash
-pub reads-dropped : (gave gives : Tape → Type 0) (r new : ReaderState) (breaks : Bool) (ready : List ℕ) (before after : PageUnread)
-    → due r.reading ≡ None → BeginsControl r.reading → before.input.escapes ≡ [] → StandsReady (control_byte breaks ∷ backslash ∷ []) ready before
-    → PassesFront gave gives (front_bytes 2 ready before) before after → IsWithin after → new ≡ record r { reading = Dropped } → ReadsPast gave gives r new before after
-reads-dropped gave gives r new breaks ready before after none_due begins none_half stands passes within same =
-    let i : PageInput = before.input in
-    subst (λ (n : ReaderState). ReadsPast gave gives r n before after) (sym same)
-    (reads-front gave gives r Dropped (control_byte breaks ∷ backslash ∷ []) before after none_half
-    (turned-dropped i.names r.reading breaks i.arguments i.open_texts none_due begins)
-    (subst (λ (all : List ℕ). PassesFront gave gives all before after) (sym stands.are) passes)
-    within)

@@ -12,6 +12,7 @@ pub mod ControlFronts
 pub mod LinesRead
 mod FrontsRead
 pub mod LineEnds
+pub mod DroppedLines
 pub mod StringFronts
 pub mod RegisterNames
 pub mod RegistersPut

@@ -17,7 +17,7 @@ use Rattle.roff_run.specs.declared.line_state.LineState.{LineState}
 use Rattle.roff_run.specs.declared.line_state.LineState.TheVariants.{LineStart}
 
 -- a line begins behind it
-turned-ended : (names : Named Entry) (reading : LineState) (a : Arguments) (texts : List (List ℕ)) → due reading ≡ None → EndsLine reading
+pub turned-ended : (names : Named Entry) (reading : LineState) (a : Arguments) (texts : List (List ℕ)) → due reading ≡ None → EndsLine reading
     → Turned names (stage_with reading [] a texts) (newline ∷ []) (stage_with LineStart [] a texts)
 turned-ended names reading a texts none_due ends =
     let p : Stage = stage_with reading [] a texts in

@@ -1,17 +1,17 @@
 -- Control lines that are read at once with their arguments, some of them up to their newlines.
-use Rattle.std.proofs.Common.{◌≡◌, ◌==◌, ◌||◌, ◌+◌, ◌≤◌, ℕ, Bool, true, false, List, [], ◌∷◌, ◌++◌, Option, None, Some, append-nil, length, take, refl, sym, ap, subst, ◌∙◌, arith}
+use Rattle.std.proofs.Common.{◌≡◌, ◌==◌, ◌||◌, ◌+◌, ◌≤◌, ℕ, Bool, true, false, List, [], ◌∷◌, ◌++◌, Option, None, append-nil, length, take, refl, sym, ap, subst, ◌∙◌, arith}
 use Rattle.std.proofs.lemmas.Bool.{eqb-true}
 use Rattle.std.proofs.lemmas.List.{length-append, take-take}
 use Rattle.std.specs.List.{AllByRecursion}
 use Rattle.roff_escape.specs.OpenEscape.{OpenEscape}
-use Rattle.roff_input.specs.Arguments.{Arguments, HeldFewer, bytes_held}
+use Rattle.roff_input.specs.Arguments.{Arguments, bytes_held}
 use Rattle.roff_input.specs.Unread.{IsWithin}
 use Rattle.roff_source.specs.Bytes.{backslash, blank, is_argument_byte, is_dropped, newline, tab}
 use Rattle.roff_source.specs.Tape.{Tape}
 use Rattle.roff_store.specs.Named.{Named}
 use Rattle.roff_store.specs.Texts.{Entry}
 use Rattle.roff_num.specs.declared.short_name.ShortName.{ShortName}
-use Rattle.roff_names.specs.NamesRead.{LeadsTo, half_begun, is_deciding}
+use Rattle.roff_names.specs.NamesRead.{half_begun}
 use Rattle.roff_scan.proofs.RunKinds.{no_newline_of}
 use Rattle.roff_scan.proofs.Staged.{passes-staged, stage-behind, staged}
 use Rattle.roff_scan.specs.Unread.Calls.{IsFront, NoNewline, PassesFront, front_bytes, next_bytes}
@@ -20,14 +20,12 @@ use Rattle.roff_scan.specs.declared.unread.lines.BehindHeld.{BehindHeld}
 use Rattle.roff_scan.specs.declared.unread.lines.BehindHeld.TheVariants.{Newline, Register, Other}
 use Rattle.roff_run.proofs.ItemsTaken.{not-second}
 use Rattle.roff_scan.specs.Unread.Runs.{with_stage_of}
-use Rattle.roff_run.specs.Reading.ControlLines.{BelongsToName, behind_called, ends_name}
-use Rattle.roff_run.specs.Reading.Ends.{due}
+use Rattle.roff_run.specs.Reading.ControlLines.{BelongsToName, ends_name}
 use Rattle.roff_run.specs.Reading.Items.{PageInput, PageUnread}
-use Rattle.roff_run.specs.Requests.{called_by}
 use Rattle.roff_run.specs.Stages.{Growing, Here, HoldsIfFewer, Onward, Stage, Turned, stage_of}
 use Rattle.roff_run.specs.declared.line_state.LineState.{LineState}
 use Rattle.roff_reader.specs.Reader.State.{ReaderState}
-use Rattle.roff_fronts.specs.ControlFronts.{BeginsControl, Fronts, HoldsArguments, StandsName, control_byte, is_past, read_for_call, read_to}
+use Rattle.roff_fronts.specs.ControlFronts.{Fronts, HoldsArguments, StandsName, control_byte, is_past, read_for_call, read_to}
 use Rattle.roff_fronts.specs.declared.control.ControlRead.{ControlRead}
 use Rattle.roff_fronts.specs.declared.control.ControlRead.TheVariants.{Held, HeldToEnd, HeldToRegister}
 use Rattle.roff_fronts.specs.Stages.{ReadsLine, ReadsPast}
@@ -49,7 +47,7 @@ Turned-append names p _ r _ behind (Growing _ next q b bytes none_due stays turn
     Growing p next r b (bytes ++ behind) none_due stays turns grow least most (Turned-append names next q r bytes behind path others)
 
 -- bytes that have no newline, and others that have none
-plain-append : (front bytes : List ℕ) → NoNewline front → NoNewline bytes → NoNewline (front ++ bytes)
+pub plain-append : (front bytes : List ℕ) → NoNewline front → NoNewline bytes → NoNewline (front ++ bytes)
 plain-append [] bytes first others = others
 plain-append (b ∷ front) bytes first others = (first.0, plain-append front bytes first.1 others)
 

@@ -64,14 +64,14 @@ lines_taken-charge (b ∷ bytes) i =
     let rest = lines_taken-charge bytes (counting b i) in omega (arith, rest)
 
 -- What bytes that were taken at once leave: no more is counted, the limits are the same, and fewer turns are to come.
-record Leaves (before passed : PageUnread) : Type 0 where
+pub record Leaves (before passed : PageUnread) : Type 0 where
   same : passed.limits ≡ before.limits
   less : pushed passed.input ≤ pushed before.input
   fewer : depth passed.input ≤ depth before.input
-  turns : turns_to_come passed < turns_to_come before
+  pub turns : turns_to_come passed < turns_to_come before
   half : passed.input.escapes ≡ before.input.escapes
 
-leaves : (gave gives : Tape → Type 0) (bytes : List ℕ) (before passed : PageUnread) → 1 ≤ length bytes → PassesFront gave gives bytes before passed → Leaves before passed
+pub leaves : (gave gives : Tape → Type 0) (bytes : List ℕ) (before passed : PageUnread) → 1 ≤ length bytes → PassesFront gave gives bytes before passed → Leaves before passed
 leaves gave gives bytes before passed some (OfSource passes) =
     let i : PageInput = before.input in
     let j : PageInput = lines_taken bytes i in

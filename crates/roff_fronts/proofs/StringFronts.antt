@@ -1,5 +1,5 @@
 -- The beginning of a string's text is read past: a quote alone, which is dropped, or bytes of which the first is kept.
-use Rattle.std.proofs.Common.{◌≡◌, ℕ, zero, suc, ◌+◌, ◌≤◌, ◌==◌, Bool, true, false, not, ◌&&◌, ◌||◌, List, [], ◌∷◌, ◌++◌, length, length-take, map, take, take_while, min, nat_lt, Option, Some, refl, sym, ap, subst, ◌∙◌, arith, if◌then◌else◌}
+use Rattle.std.proofs.Common.{◌≡◌, ℕ, zero, suc, ◌+◌, ◌≤◌, ◌==◌, Bool, true, false, ◌&&◌, List, [], ◌∷◌, ◌++◌, length, length-take, map, take, Option, Some, refl, sym, ap, subst, ◌∙◌, arith, if◌then◌else◌}
 use Rattle.std.specs.List.{AllByRecursion}
 use Rattle.std.proofs.lemmas.Bool.{eqb-true}
 use Rattle.std.proofs.lemmas.Bool.Decides.{nat_tests}
@@ -18,7 +18,6 @@ use Rattle.roff_input.specs.Input.Names.{adding}
 use Rattle.roff_input.specs.Looking.{is_nothing}
 use Rattle.roff_input.specs.Unread.{IsWithin, asks_to_take}
 use Rattle.roff_input.specs.declared.looked.Looked.{Looked}
-use Rattle.roff_input.specs.declared.looked.Looked.TheVariants.{Nothing}
 use Rattle.roff_scan.proofs.AddedFronts.{adding-texts, newest-added, texts_added, texts_added-again, texts_added-none}
 use Rattle.roff_scan.specs.Unread.Calls.{IsFront, NoNewline, OfSource, OfTexts, PassesFront, front_bytes, next_bytes}
 use Rattle.roff_scan.specs.Unread.Runs.{TakesRun, room_for, with_stage_of}
@@ -31,13 +30,13 @@ use Rattle.roff_run.specs.Reading.Found.{found_in}
 use Rattle.roff_run.specs.Reading.Items.{PageInput, PageUnread, Taking, going_on}
 use Rattle.roff_run.specs.Reading.Strings.{string_entered, string_grown}
 use Rattle.roff_run.specs.Registers.{Known}
-use Rattle.roff_run.specs.Stages.{Adds, Growing, Here, Onward, Stage, Turned, input_at, stage_of}
+use Rattle.roff_run.specs.Stages.{Growing, Here, Onward, Stage, Turned, input_at, stage_of}
 use Rattle.roff_run.specs.declared.line_state.LineState.{LineState}
 use Rattle.roff_run.specs.declared.line_state.LineState.TheVariants.{LineStart, StringText}
 use Rattle.roff_reader.proofs.TextTaken.{plain-found}
 use Rattle.roff_reader.specs.Reader.State.{ReaderState}
 use Rattle.roff_fronts.proofs.AddedRuns.{grows-added, stage_with, turned-added}
-use Rattle.roff_fronts.proofs.RunsRead.{first_of_front, passed-charge, reads-bytes, reads-none, reads-taken, turned-behind}
+use Rattle.roff_fronts.proofs.RunsRead.{first_of_front, passed-charge, reads-bytes, reads-taken, turned-behind}
 use Rattle.roff_fronts.specs.Stages.{ReadsPast}
 use Rattle.roff_fronts.specs.Runs.{TakesReady, ready_allowed}
 use Rattle.roff_fronts.specs.StringFronts.{AreKept, BeginsKept, IsQuoted, bytes_of_front, text_front}

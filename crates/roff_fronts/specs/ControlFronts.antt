@@ -19,7 +19,7 @@ use Rattle.roff_run.specs.Reading.Waiting.{line_waits}
 use Rattle.roff_run.specs.Registers.{Known}
 use Rattle.roff_fronts.specs.declared.control.ControlFront.{ControlFront}
 use Rattle.roff_fronts.specs.declared.control.ControlRead.{ControlRead}
-use Rattle.roff_fronts.specs.declared.control.ControlRead.TheVariants.{Nothing, Front, Condition, Decided, Held, HeldToRegister, HeldToEnd}
+use Rattle.roff_fronts.specs.declared.control.ControlRead.TheVariants.{Nothing, Front, Dropped, Condition, Decided, Held, HeldToRegister, HeldToEnd}
 use Rattle.roff_run.specs.declared.line_state.LineState.{LineState}
 use Rattle.roff_run.specs.declared.line_state.LineState.TheVariants.{Control}
 
@@ -52,16 +52,18 @@ pub record StandsReady (bytes ready : List ℕ) (u : PageUnread) : Type 0 where
 abbrev pub is_read : ControlRead → Bool
 is_read Nothing = false
 is_read Front = true
+is_read Dropped = true
 is_read Condition = true
 is_read Decided = true
 is_read Held = true
 is_read HeldToRegister = true
 is_read HeldToEnd = true
 
--- whether its bytes were read past: no newline was taken behind them, and no condition decided
+-- whether its bytes were read past: no newline that isn't read yet was taken behind them, and no condition decided
 abbrev pub is_past : ControlRead → Bool
 is_past Nothing = false
 is_past Front = true
+is_past Dropped = true
 is_past Condition = true
 is_past Decided = false
 is_past Held = true
@@ -79,6 +81,10 @@ abbrev pub read_for_call : BehindHeld → ControlRead
 read_for_call BehindHeld.Newline = HeldToEnd
 read_for_call BehindHeld.Register = Held
 read_for_call BehindHeld.Other = Held
+
+-- what was read of a line that is dropped, by whether its newline was taken
+abbrev pub read_dropped : Bool → ControlRead
+read_dropped is_ended = if is_ended then Dropped else Front
 
 -- behind a name arguments are read: nothing is due there, and what was read of the name begins nothing that is half read
 abbrev pub HoldsArguments : LineState → Type 0

@@ -1,6 +1,7 @@
 pub mod Runs
 pub mod Stages
 pub mod ControlFronts
+pub mod DroppedLines
 pub mod StringFronts
 pub mod Registers
 pub mod Conditions

@@ -11,7 +11,7 @@ ghost use Rattle.roff_fronts.specs.Runs.{IsRun};
 ghost use Rattle.roff_fronts.specs.Stages.{ReadsPast};
 ghost use Rattle.roff_fronts.specs.declared.conditions.BehindName.TheVariants.{Constant};
 ghost use Rattle.roff_fronts.specs.declared.control.ControlRead.TheVariants.{Condition, Decided};
-ghost use Rattle.roff_fronts.specs.declared.control.ControlRead.TheVariants.{HeldToEnd};
+ghost use Rattle.roff_fronts.specs.declared.control.ControlRead.TheVariants.{Dropped, HeldToEnd};
 ghost use Rattle.roff_fronts.specs.declared.control.ControlRead.TheVariants.{HeldToRegister};
 ghost use Rattle.roff_scan.specs.declared.run_kind.RunKind.TheVariants.{Condition as ConditionRun};
 
@@ -51,6 +51,7 @@ pub(super) fn read_condition<S: ByteSource>(
         reader.old reader.new unread.old unread.new }
     ensures line { result ≡ HeldToEnd → ⊥ }
     ensures register { result ≡ HeldToRegister → ⊥ }
+    ensures dropped { result ≡ Dropped → ⊥ }
     ensures read { is_read result ≡ true }
     ensures notes { S.notes source.new ≤ S.notes source.old }
     ensures failures { S.failures source.new ≡ S.failures source.old }

@@ -9,9 +9,11 @@ ghost use Rattle.roff_reader.specs.Clauses.{due};
 ghost use Rattle.roff_fronts.specs.ControlFronts.{BeginsControl, Fronts, StandsReady, control_byte};
 ghost use Rattle.roff_fronts.specs.ControlFronts.{HoldsArguments, StandsName, TakesAtBeginning};
 ghost use Rattle.roff_fronts.specs.ControlFronts.{is_past};
-ghost use Rattle.roff_fronts.specs.ControlFronts.{is_read, read_for_call, read_to};
+ghost use Rattle.roff_fronts.specs.ControlFronts.{is_read, read_dropped, read_for_call, read_to};
+ghost use Rattle.roff_fronts.specs.DroppedLines.{LineBegun};
 ghost use Rattle.roff_fronts.specs.Conditions.{DecidesAtOnce};
 ghost use Rattle.roff_fronts.specs.declared.control.ControlRead.TheVariants.{Condition, Decided};
+ghost use Rattle.roff_fronts.specs.declared.control.ControlRead.TheVariants.{Dropped};
 ghost use Rattle.roff_fronts.specs.declared.control.ControlRead.TheVariants.{HeldToEnd};
 ghost use Rattle.roff_fronts.specs.declared.control.ControlRead.TheVariants.{HeldToRegister};
 ghost use Rattle.roff_fronts.specs.Runs.{IsRun};
@@ -23,6 +25,7 @@ ghost use Rattle.roff_fronts.specs.Stages.{ReadsLine, ReadsPast};
 ghost use Rattle.roff_scan.specs.Unread.Calls.{IsFront, NoNewline, PassesFront, front_bytes};
 
 use crate::conditions::read_condition;
+use crate::dropped::drop_line;
 use roff_names::{begin_deciding, behind_called, called_by};
 use roff_num::ShortName;
 use roff_reader::{CALL_ARGUMENTS, Reader};
@@ -46,6 +49,8 @@ pub enum ControlRead {
     Nothing,
     /// The bytes up to its name's end, or a dropped line's beginning.
     Front,
+    /// All of a dropped line, with its newline: a line begins.
+    Dropped,
     /// The same, where a condition is next.
     Condition,
     /// A condition too, and it decided: a branch begins, or is skipped.
@@ -96,6 +101,7 @@ pub fn read_control_front<S: ByteSource>(
         unread.new.input.escapes }
     ensures decides { result ≡ Decided → DecidesAtOnce (S.gives source.old) (S.gives source.new)
         reader.old reader.new unread.old unread.new }
+    ensures dropped { result ≡ Dropped → LineBegun reader.new unread.old unread.new }
     ensures unchanged { is_read result ≡ false
         → (reader.new ≡ reader.old) × (unread.new ≡ unread.old) × (source.new ≡ source.old) }
     ensures whole { asks_to_take unread.old ≡ true → reads_front unread.old.input.names
@@ -134,6 +140,7 @@ fn read_control<S: ByteSource>(
         unread.new.input.escapes }
     ensures decides { result ≡ Decided → DecidesAtOnce (S.gives source.old) (S.gives source.new)
         reader.old reader.new unread.old unread.new }
+    ensures dropped { result ≡ Dropped → LineBegun reader.new unread.old unread.new }
     ensures unchanged { is_read result ≡ false
         → (reader.new ≡ reader.old) × (unread.new ≡ unread.old) × (source.new ≡ source.old) }
     ensures whole { is_front_read unread.old.input.names front.first front.second ≡ true
@@ -142,10 +149,7 @@ fn read_control<S: ByteSource>(
     ensures failures { S.failures source.new ≡ S.failures source.old }
 {
     if front.first == b'\\' {
-        take_front(unread, source, 2);
-        unread.stays_within();
-        reader.go_on(LineState::Dropped);
-        return ControlRead::Front;
+        return dropped_to(drop_line(reader, unread, source, 2));
     }
     if !belongs_to_name(front.first) || !belongs_to_name(front.second) {
         return ControlRead::Nothing;
@@ -199,6 +203,7 @@ fn read_behind_name<S: ByteSource>(
         unread.new.input.escapes }
     ensures decides { result ≡ Decided → DecidesAtOnce (S.gives source.old) (S.gives source.new)
         reader.old reader.new unread.old unread.new }
+    ensures dropped { result ≡ Dropped → LineBegun reader.new unread.old unread.new }
     ensures read { is_read result ≡ true }
     ensures notes { S.notes source.new ≤ S.notes source.old }
     ensures failures { S.failures source.new ≡ S.failures source.old }
@@ -223,6 +228,7 @@ fn read_behind_name<S: ByteSource>(
             held_for_call(behind)
         }
         LineState::Deciding { keeps } => read_condition(reader, keeps, front, unread, source),
+        LineState::Dropped => dropped_to(drop_line(reader, unread, source, 3)),
         _ => {
             take_front(unread, source, 3);
             begin_deciding(reading, unread);
@@ -278,6 +284,18 @@ fn held_for_call(behind: BehindHeld) -> ControlRead
         BehindHeld::Newline => ControlRead::HeldToEnd,
         BehindHeld::Register => ControlRead::Held,
         BehindHeld::Other => ControlRead::Held,
+    }
+}
+
+/// What was read of a line that is dropped, by whether its newline was taken.
+#[inline(always)]
+fn dropped_to(is_ended: bool) -> ControlRead
+    ensures { result ≡ read_dropped is_ended }
+{
+    if is_ended {
+        ControlRead::Dropped
+    } else {
+        ControlRead::Front
     }
 }
 

@@ -4,6 +4,7 @@
 
 mod conditions;
 mod control;
+mod dropped;
 mod registers;
 mod runs;
 mod strings;

@@ -4,7 +4,7 @@ use Rattle.std.proofs.lemmas.List.{take-append-le}
 use Rattle.std.specs.Option.{option_to_list}
 use Rattle.roff_num.specs.Lists.{IsBeginning}
 use Rattle.roff_num.specs.declared.limits.Limits.{Limits}
-use Rattle.roff_engine.specs.Engine.Outcome.{Outcome}
+use Rattle.roff_interpreter.specs.Outcome.{Outcome}
 use Rattle.roff_run.specs.declared.start.Start.{Start}
 use Rattle.roff_engine.specs.Outcomes.{Gives, GivesAll, HadNoFault}
 use Rattle.roff_run.specs.Results.{output_of, messages_of, status_of}

@@ -2,7 +2,7 @@
 pub use Rattle.std.specs.Process.{exit_status}
 pub use Rattle.clap.specs.Words.{fault_of, kind_of, subcommand_of, takes}
 pub use Rattle.roff_num.specs.Lists.{IsBeginning}
-pub use Rattle.roff_engine.specs.Engine.Outcome.{Runs}
+pub use Rattle.roff_interpreter.specs.Outcome.{Runs}
 pub use Rattle.roff_sinks.specs.Devices.{seen}
 pub use Rattle.tbl_run.specs.Outcome.{PutsTables}
 pub use Rattle.roff_run.specs.Results.{messages_of, output_of}

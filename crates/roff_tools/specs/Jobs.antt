@@ -5,7 +5,7 @@ use Rattle.roff_num.specs.declared.num.Num.{Num}
 use Rattle.roff_source.specs.Tape.{Tape}
 use Rattle.roff_run.specs.declared.status.Status.{Status}
 use Rattle.roff_run.specs.declared.start.Start.{Start}
-use Rattle.roff_engine.specs.Engine.Outcome.{Runs, Seen}
+use Rattle.roff_interpreter.specs.Outcome.{Runs, Seen}
 use Rattle.tbl_run.specs.Outcome.{PutsTables}
 use Rattle.roff_command.specs.CommandLine.{first_page_asked}
 use Rattle.roff_command.specs.PagesAsked.{pages_asked, told_pages}

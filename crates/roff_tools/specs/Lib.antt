@@ -1,5 +1,5 @@
 pub use Rattle.roff_source.specs.Tape
-pub use Rattle.roff_engine.specs.Engine
+pub use Rattle.roff_interpreter.specs.Outcome
 pub mod StartFault
 pub mod Exit
 pub mod Both

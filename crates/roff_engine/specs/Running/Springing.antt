@@ -1,8 +1,8 @@
 -- How far a run of the code has come where events were performed, of which one may have sprung a macro.
-use Rattle.std.specs.Prelude.{◌≡◌, ◌≤◌, ℕ, ◌+◌, List, [], length, map, Option, OnOk, Result}
-use Rattle.roff_engine.specs.Running.Room.{FewFor}
-use Rattle.roff_input.specs.Input.{events_ahead, most_events, putting_all_back}
-use Rattle.roff_run.specs.Reading.Items.{PageInput, PageUnread}
+use Rattle.std.specs.Prelude.{◌≡◌, ◌≤◌, ℕ, List, [], map, Option, OnOk, Result}
+use Rattle.roff_interpreter.specs.Room.{FewFor, HasRoom}
+use Rattle.roff_input.specs.Input.{putting_all_back}
+use Rattle.roff_run.specs.Reading.Items.{PageInput}
 use Rattle.roff_composer.specs.Composer.Standing.{StandFor}
 use Rattle.roff_reader.specs.Reader.Taken.{IsReady}
 use Rattle.roff_run.specs.Environments.{PageHistory}
@@ -10,15 +10,11 @@ use Rattle.roff_run.specs.PageEvents.{PageEvent}
 use Rattle.roff_run.specs.Titles.{keeping, put_back}
 use Rattle.roff_run.specs.declared.status.Status.{Status}
 use Rattle.roff_source.specs.Tape.{Tape}
-use Rattle.roff_engine.specs.Engine.Outcome.{Beginning, Seen, Reaches}
+use Rattle.roff_interpreter.specs.Outcome.{Beginning, Seen, Reaches}
 use Rattle.roff_formatter.specs.Formatter.Sprung.{behind_sprung, rest_left}
 use Rattle.roff_engine.specs.Running.Turning.{Continues, state_at, turns_of_run}
 use Rattle.roff_engine.specs.declared.running.Running.{Running as Coded}
 use Rattle.roff_formatter.specs.declared.sprung.Sprung.{Sprung}
-
--- so many events can be put back before this unread input, if there are any
-abbrev pub HasRoom : List PageEvent → PageUnread → Type 0
-HasRoom events u = 1 ≤ length events → events_ahead u.input.ahead + length events ≤ most_events u.limits.depth
 
 -- The run of the code stands behind events, of which one may have sprung a macro that isn't read yet: the definition has put back
 -- what is left of them, and has still to read it.

@@ -4,7 +4,7 @@ use Rattle.roff_num.specs.declared.limit.Limit.{Limit}
 use Rattle.roff_num.specs.declared.limits.Limits.{Limits}
 use Rattle.roff_num.specs.declared.num.Num.{Num}
 use Rattle.roff_engine.specs.declared.running.Running.{Running as Coded}
-use Rattle.roff_engine.specs.Running.Room.{FewFor}
+use Rattle.roff_interpreter.specs.Room.{FewFor}
 use Rattle.roff_engine.specs.Running.Turning.{state_at}
 use Rattle.roff_reader.specs.Reader.Taken.{IsReady}
 use Rattle.roff_composer.specs.Composer.Standing.{StandFor}

@@ -1,7 +1,5 @@
 -- How far a run of the code has come, as a run of the definition.
-use Rattle.std.specs.Prelude.{◌≡◌, ◌⊎◌, ℕ, ◌*◌, ◌+◌, ◌<◌, ◌≤◌, Bool, true, false, if◌then◌else◌, List, [], ◌∷◌, None, OnOk, Result, Ok, Err}
-use Rattle.std.specs.Io.KnownBytes.{Appends}
-use Rattle.roff_num.specs.declared.limit.Limit.{Limit}
+use Rattle.std.specs.Prelude.{◌≡◌, ◌⊎◌, ℕ, ◌*◌, ◌+◌, ◌<◌, ◌≤◌, Bool, true, false, if◌then◌else◌, List, [], None, OnOk, Result, Ok, Err}
 use Rattle.roff_num.specs.declared.limits.Limits.{Limits}
 use Rattle.roff_composer.specs.declared.composer.Composer.{Composer as ComposerOf}
 use Rattle.roff_run.specs.declared.start.Start.{Start}
@@ -10,15 +8,12 @@ use Rattle.roff_source.specs.declared.source.ByteSource as byte_source
 use Rattle.roff_input.specs.Looking.{is_closed, looked_then}
 use Rattle.roff_input.specs.declared.looked.Looked.TheVariants.{Nothing}
 use Rattle.roff_composer.specs.Composer.Standing.{StandFor}
-use Rattle.roff_engine.specs.declared.interpreter.Interpreter.{Interpreter}
+use Rattle.roff_interpreter.specs.declared.interpreter.Interpreter.{Interpreter}
 use Rattle.roff_engine.specs.declared.running.Running.{Running as Coded}
 use Rattle.roff_run.specs.declared.status.Status.{Status}
-use Rattle.roff_run.specs.declared.status.Status.TheVariants.{Device, Done}
-use Rattle.roff_formatter.specs.declared.halt.Halt.{Halt}
-use Rattle.roff_formatter.specs.declared.halt.Halt.TheVariants.{Limit as Limited, Refused, Over, Output, Messages}
-use Rattle.roff_engine.specs.Engine.Outcome.{Beginning, Completes, Seen, seen, IsLeftOf, Reaches, OutputStops, MessagesFail, OutcomeOf}
-use Rattle.roff_engine.specs.Interpreter.Performing.{Opens, going}
-use Rattle.roff_engine.specs.Running.Room.{FewFor}
+use Rattle.roff_interpreter.specs.Outcome.{Beginning, Seen, seen, IsLeftOf, Reaches, OutcomeOf}
+use Rattle.roff_interpreter.specs.Performing.{Opens, going}
+use Rattle.roff_interpreter.specs.Room.{FewFor}
 use Rattle.roff_run.specs.TurnsToCome.{most_left}
 use Rattle.roff_sinks.specs.Sinks.{Sunk}
 use Rattle.roff_sinks.specs.declared.sink.ByteSink as byte_sink
@@ -31,16 +26,12 @@ use Rattle.roff_run.specs.declared.line_state.LineState.TheVariants.{LineStart, 
 use Rattle.roff_run.specs.declared.phase.Phase.TheVariants.{Closing}
 use Rattle.roff_run.specs.Reading.Ends.{due, is_unfinished}
 use Rattle.roff_run.specs.Environments.{PageHistory, interrupted_line}
-use Rattle.roff_run.specs.Run.{State, first_unread, escape_ends, initial, input_ended, known, known_at, step, stopped_by, output, reported}
+use Rattle.roff_run.specs.Run.{State, first_unread, known_at, step}
 
 -- the state of a run that reads on, where the source still gives this tape
 abbrev pub state_at : Tape → Coded → PageHistory → List ℕ → State
 state_at tape run h messages =
     going (looked_then run.unread.looked tape) run.unread.input run.interpreter.reader.reading run.interpreter.reader.registers.all h messages run.phase (is_closed run.unread.looked) []
-
--- the end of the input: what is half read ends first, one after another
-abbrev pub input_ends : State → State
-input_ends s = elim s.input.escapes [ [] ↦ input_ended (is_unfinished s.phase (known s) s.reading) s | first ∷ others ↦ escape_ends s ]
 
 -- how many turns are to come of a run beside those of the line that ends with the input, and of phases
 abbrev pub turns_left : Coded → ℕ
@@ -87,53 +78,6 @@ pub record IsAt (t : Beginning) (tape : Tape) (start now : Seen) (run : Coded) :
   pub ready : IsReady run.interpreter.reader.registers run.unread
   pub limits : run.unread.limits ≡ run.limits
   pub few : FewFor [] run.interpreter.reader.reading run.unread.input.escapes run.unread.input.ahead
-
--- the definition stops at a limit in the step behind a state of this line
-pub record LimitStops (l : Limits) (t : Beginning) (left : Tape) (line : ℕ) (limit : Limit) (before now : Seen) : Type 0 where
-  pub state : State
-  pub reaches : Reaches l t before now state
-  pub goes_on : state.ended ≡ None
-  pub stops : step l state ≡ stopped_by l limit state
-  pub rest : IsLeftOf left state.tape
-  pub quiet : state.last_message ≡ []
-  pub line_is : state.input.line ≡ line
-
--- a limit refused what was given to the run, which stops before its first step, at a state of this line in which nothing happened
--- yet: its source wasn't asked
-pub record StartStops (l : Limits) (t : Beginning) (left : Tape) (line : ℕ) (limit : Limit) (before now : Seen) : Type 0 where
-  pub state : State
-  pub stops : initial l t.start t.tape ≡ stopped_by l limit state
-  pub text : output state ≡ []
-  pub messages : state.messages ≡ []
-  pub source : before.failures ≤ now.failures
-  pub out : now.out ≡ before.out
-  pub err : now.err ≡ before.err
-  pub rest : left ≡ t.tape
-  pub unread : state.tape ≡ t.tape
-  pub line_is : state.input.line ≡ line
-
--- the output failed in the step behind a state of this line
-pub record OutputStopsAt (l : Limits) (t : Beginning) (left : Tape) (line : ℕ) (before now : Seen) : Type 0 where
-  pub state : State
-  pub stops : OutputStops l t before now state
-  pub messages : Appends before.err.contents now.err.contents (reported state)
-  pub messages_stay : now.err.failures ≡ before.err.failures
-  pub rest : IsLeftOf left state.tape
-  pub line_is : state.input.line ≡ line
-
--- The line of a message that tells why a run can't go on: a refused item isn't taken, and the byte before it stood on
--- the first line; the last byte taken stood on the second.
-abbrev pub line_told : Halt → ℕ → ℕ → ℕ
-line_told (Refused limit) line_before line = line_before
-line_told (_) line_before line = line
-
--- why the run can't go on, before that is reported
-abbrev pub Halts : Limits → Beginning → Tape → ℕ → Halt → Seen → Seen → Type 0
-Halts l t left line (Limited limit) before now = LimitStops l t left line limit before now
-Halts l t left line (Refused limit) before now = LimitStops l t left line limit before now ⊎ StartStops l t left line limit before now
-Halts l t left line Output before now = OutputStopsAt l t left line before now
-Halts l t left line Over before now = Completes l t left Done before now
-Halts l t left line Messages before now = MessagesFail l t left Device before now
 
 -- the run goes on, with this tape to come, or it ended, with this tape left
 abbrev pub Continues : Beginning → Tape → Seen → Seen → Result (Unit {0}) Status → Coded → Type 0

@@ -9,15 +9,16 @@ ghost use Rattle.roff_run.specs.Output.{PageHistory};
 ghost use Rattle.roff_run.specs.declared.phase.Phase.TheVariants.{Reading, LastMacro};
 
 use super::Running;
-use crate::halt::status;
-use crate::report::report;
 use roff_formatter::Halt;
+use roff_interpreter::halt::status;
+use roff_interpreter::report::report;
 use roff_run::{Message, Phase, Status};
 use roff_sinks::{ByteSink, SinkFault};
 
 impl Running {
-    ghost use Rattle.roff_engine.specs.Running.Turning.{DoesItem, Halts, MayEnd, MayGoOn};
-    ghost use Rattle.roff_engine.specs.Running.Turning.{input_ends, line_told};
+    ghost use Rattle.roff_engine.specs.Running.Turning.{DoesItem, MayEnd, MayGoOn};
+    ghost use Rattle.roff_interpreter.specs.Ending.{input_ends};
+    ghost use Rattle.roff_interpreter.specs.Halting.{Halts, line_told};
 
     /// Ends what is half read, before what stays.
     pub(super) fn end_escape<O: ByteSink, E: ByteSink>(

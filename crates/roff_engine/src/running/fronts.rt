@@ -12,7 +12,7 @@ use roff_fronts::{
     take_branch_blanks, take_run, take_string_front, take_string_name,
 };
 use roff_num::ShortName;
-use roff_scan::ByteSource;
+use roff_scan::{ByteSource, begins_register};
 
 /// What lies behind bytes that were told.
 #[derive(Clone, Copy)]
@@ -313,17 +313,4 @@ pub(super) fn behind_text(bytes: &[u8], place: usize) -> Behind {
         return Behind::Register;
     }
     Behind::Escape
-}
-
-/// Whether the escape of a register may begin at this place of some bytes: a backslash and its
-/// letter.
-#[inline(always)]
-fn begins_register(bytes: &[u8], place: usize) -> bool {
-    if place >= bytes.len() {
-        return false;
-    }
-    if bytes[place] != b'\\' {
-        return false;
-    }
-    bytes.len() - place > 1 && bytes[place + 1] == b'n'
 }

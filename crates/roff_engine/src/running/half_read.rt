@@ -12,7 +12,7 @@ use roff_scan::{ByteSource, Sight, Waiting};
 use roff_sinks::ByteSink;
 
 impl Running {
-    ghost use Rattle.roff_engine.specs.Running.Room.{SeesOn};
+    ghost use Rattle.roff_interpreter.specs.Room.{SeesOn};
     ghost use Rattle.roff_engine.specs.Running.Turning.{DoesItem, TurnsOver};
 
     /// The same where something is half read: it takes the item in front, or waits for a byte, or a

@@ -105,6 +105,7 @@ impl Running {
         match read_control_front(&mut self.interpreter.reader, &mut self.unread, source) {
             ControlRead::Nothing => Ok(self.pass_return()),
             ControlRead::Front => Ok(self.pass_behind_front(source)),
+            ControlRead::Dropped => Ok(true),
             ControlRead::Condition => Ok(self.pass_condition(source)),
             ControlRead::Decided => Ok(true),
             ControlRead::Held => Ok(self.pass_end()),

@@ -4,7 +4,7 @@ ghost use Rattle.std.specs.Prelude.{◌≡◌, ℕ, Some};
 ghost use Rattle.roff_engine.specs.Clauses.{LineStart, Sunk, seen, due, Leaves, Tells};
 
 use super::Running;
-use crate::report::report_text;
+use roff_interpreter::report::report_text;
 use roff_run::{Due, Phase, Status};
 use roff_sinks::ByteSink;
 

@@ -1,5 +1,5 @@
 -- Bytes of a control line that are taken together, and the newline that ends it (manual, section 7).
-use Rattle.std.specs.Prelude.{◌≡◌, ℕ, ◌+◌, ◌-◌, ◌==◌, Bool, true, false, Option, List, [], ◌∷◌, ◌++◌, length, min, drop, take}
+use Rattle.std.specs.Prelude.{◌≡◌, ℕ, ◌+◌, ◌-◌, ◌==◌, Bool, true, false, ◌&&◌, Option, List, [], ◌∷◌, ◌++◌, length, min, drop, take}
 use Rattle.std.specs.List.{AllByRecursion}
 use Rattle.roff_arguments.specs.ArgumentTexts.Kept.{StopsAt}
 use Rattle.roff_input.specs.Arguments.{Arguments, HeldFewer, bytes_held}
@@ -32,6 +32,12 @@ is_ended Other = false
 abbrev pub begins_with_newline : List ℕ → Bool
 begins_with_newline [] = false
 begins_with_newline (b ∷ bytes) = b == newline
+
+-- whether a backslash and the letter of a register are
+abbrev pub begins_register : List ℕ → Bool
+begins_register [] = false
+begins_register (b ∷ []) = false
+begins_register (b ∷ second ∷ bytes) = (b == 92) && (second == 110)
 
 -- how many bytes of a line the limits have room for, of which all but the first so many are held
 abbrev pub line_room : {E : Type 0} → ℕ → Unread E → ℕ

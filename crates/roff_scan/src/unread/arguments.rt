@@ -65,8 +65,8 @@ impl<E: Copy> Unread<E> {
         Ok(())
     }
 
-    /// Holds the first bytes of a text in arguments, up to one that isn't held as it is read. Returns
-    /// how many. They aren't counted as taken.
+    /// Holds the first bytes of a text in arguments, up to one that isn't held as it is read.
+    /// Returns how many. They aren't counted as taken.
     #[inline(always)]
     pub fn hold_bytes(&mut self, text: &[u8]) -> usize
         requires { pushed self.old.input + length text.now ≤ self.old.limits.stack }

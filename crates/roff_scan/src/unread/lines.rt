@@ -1,9 +1,9 @@
-//! Control lines: bytes that are held in the arguments of one behind its name, and the newline that ends
-//! it.
+//! Control lines: bytes that are held in the arguments of one behind its name, and the newline
+//! that ends it.
 
 ghost use Rattle.std.specs.Prelude.{◌≡◌, ◌≤◌, ◌+◌, ◌-◌, ◌++◌, ◌∷◌, [], drop, None, Some, true};
 ghost use Rattle.roff_input.specs.Input.{is_none_ahead, pushed};
-ghost use Rattle.roff_scan.specs.Unread.Lines.{begins_with_newline, is_ended};
+ghost use Rattle.roff_scan.specs.Unread.Lines.{begins_register, begins_with_newline, is_ended};
 ghost use Rattle.roff_source.specs.Bytes.{newline};
 
 use super::Unread;
@@ -26,9 +26,9 @@ impl<E: Copy> Unread<E> {
     ghost use Rattle.roff_scan.specs.Unread.Calls.{front_bytes};
     ghost use Rattle.roff_scan.specs.Unread.Lines.{HoldsLine, StandsNewline, ended_by, line_room};
 
-    /// Takes so many bytes that stand in front, then bytes behind them that are held in the arguments
-    /// of the line, as they lie together, and a newline behind these, if one stands there: no more
-    /// than the limits have room for. Whether anything is half read isn't looked at.
+    /// Takes so many bytes that stand in front, then bytes behind them that are held in the
+    /// arguments of the line, as they lie together, and a newline behind these, if one stands there:
+    /// no more than the limits have room for. Whether anything is half read isn't looked at.
     #[inline(never)]
     pub fn hold_line<S: ByteSource>(&mut self, source: &mut S, skipped: usize) -> BehindHeld
         requires front { IsFront skipped (S.ready source.old) self.old }
@@ -89,7 +89,8 @@ impl<E: Copy> Unread<E> {
     fn pass_to<S: ByteSource>(&mut self, source: &mut S, count: usize, behind: BehindHeld)
         requires front { IsFront count (S.ready source.old) self.old }
         requires plain { NoNewline (front_bytes count (S.ready source.old) self.old) }
-        requires ended { is_ended behind ≡ true → StandsNewline count (S.ready source.old) self.old }
+        requires ended { is_ended behind ≡ true
+            → StandsNewline count (S.ready source.old) self.old }
         ensures passes { PassesFront (S.gives source.old) (S.gives source.new)
             (ended_by behind (front_bytes count (S.ready source.old) self.old)) self.old self.new }
         ensures notes { S.notes source.new ≤ S.notes source.old }
@@ -102,7 +103,8 @@ impl<E: Copy> Unread<E> {
         }
     }
 
-    /// How many bytes of a line the limits have room for, of which all but the first so many are held.
+    /// How many bytes of a line the limits have room for, of which all but the first so many are
+    /// held.
     #[inline(always)]
     fn line_room(&self, skipped: usize) -> usize
         requires { self.now.input.charge + skipped ≤ self.now.limits.bytes }
@@ -187,11 +189,17 @@ fn behind_held(bytes: &[u8], place: usize) -> BehindHeld
     if bytes[place] == b'\n' {
         return BehindHeld::Newline;
     }
-    if bytes[place] != b'\\' {
-        return BehindHeld::Other;
-    }
-    if bytes.len() - place > 1 && bytes[place + 1] == b'n' {
+    if begins_register(bytes, place) {
         return BehindHeld::Register;
     }
     BehindHeld::Other
+}
+
+/// Whether the escape of a register may begin at this place of some bytes: a backslash and its
+/// letter.
+#[inline(always)]
+pub fn begins_register(bytes: &[u8], place: usize) -> bool
+    ensures { result ≡ begins_register (drop place bytes.now) }
+{
+    matches!(bytes_behind(bytes, place), [b'\\', b'n', ..])
 }

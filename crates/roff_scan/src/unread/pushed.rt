@@ -44,8 +44,8 @@ impl<E: Copy> Unread<E> {
         Ok(())
     }
 
-    /// Puts a text in front of which so many bytes were read already, each at its cost. Where that is all
-    /// of it, and no quote is waited for, its end is taken too. Returns whether it was.
+    /// Puts a text in front of which so many bytes were read already, each at its cost. Where that is
+    /// all of it, and no quote is waited for, its end is taken too. Returns whether it was.
     #[inline(always)]
     pub fn push_read(&mut self, text: &[u8], count: usize) -> bool
         requires among { count ≤ length text.now }

@@ -16,6 +16,7 @@ ghost use Rattle.roff_scan.specs.declared.run_kind.RunKind.TheVariants.{Definiti
 
 use super::Unread;
 use super::fronts::front_of;
+use super::lines::begins_register;
 use crate::run_kind::RunKind;
 use roff_arguments::ArgumentTexts;
 use roff_escape::OpenEscapes;
@@ -54,8 +55,8 @@ impl<E: Copy> Unread<E> {
 
     // Each kind that comes often has a copy of its own, for which the compiler knows the kind.
 
-    /// The same of bytes that are held in arguments. Returns also whether the escape of a register may
-    /// stand behind them.
+    /// The same of bytes that are held in arguments. Returns also whether the escape of a register
+    /// may stand behind them.
     #[inline(never)]
     pub fn take_arguments<S: ByteSource>(&mut self, source: &mut S) -> (usize, bool)
         ensures takes { TakesRun Arguments (S.gives source.old) (S.gives source.new)
@@ -293,16 +294,4 @@ fn text_ready<S: ByteSource>(source: &S, most: usize) -> &[u8]
 {
     let front = at_most(source.buffered(), most);
     at_most(front, text_in_front(front))
-}
-
-/// Whether the escape of a register may begin at this place of some bytes: a backslash and its letter.
-#[inline(always)]
-fn begins_register(bytes: &[u8], place: usize) -> bool {
-    if place >= bytes.len() {
-        return false;
-    }
-    if bytes[place] != b'\\' {
-        return false;
-    }
-    bytes.len() - place > 1 && bytes[place + 1] == b'n'
 }

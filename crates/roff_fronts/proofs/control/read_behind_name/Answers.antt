@@ -1,6 +1,7 @@
 use Rattle.std.proofs.Common.{None, Some, ap, refl, ◌∙◌}
 use Rattle.roff_reader.specs.Reader.State.{ReaderState}
 use Rattle.roff_fronts.proofs.ControlFronts.{reads-named}
+use Rattle.roff_fronts.proofs.DroppedLines.{name-leads}
 use Rattle.roff_fronts.proofs.HeldRuns.{holds_call_where}
 use Rattle.roff_fronts.proofs.LinesRead.{call-ended, call-holds, call-past, held-half, held-line, held-past, line-ended, past-left, request-each, request-holds, runs-arguments}
 use Rattle.roff_fronts.proofs.control.read_behind_name.Goals as goal
@@ -41,6 +42,9 @@ returns-else-front-2-clause-line g c = λ ends.
     held-line _ _ c.args.reader.now c.go_on-in-Calling.new.self there c.args.front _ c.hold_call-behind.result c.args.unread.now c.hold_call-behind.new.self (Some 8) c.requires
     (call-holds _ there is) (holds_call_where there _ is) c.hold_call-behind.ensures.holds c.go_on-in-Calling.ensures (call-ended _ _ c.held_for_call.ensures ends)
 
+pub drop_line-requires : goal.drop_line-requires
+drop_line-requires g c = name-leads c.args.front c.args.reading _ _ c.args.unread.now c.requires c.in-Dropped.is
+
 pub returns-in_default : goal.returns-in_default
 returns-in_default g c = record {
   past = λ past.
@@ -54,6 +58,7 @@ returns-in_default g c = record {
   register = λ wrong. absurd (cc);
   condition = λ wrong. absurd (cc);
   decides = λ wrong. absurd (cc);
+  dropped = λ wrong. absurd (cc);
   read = refl;
   notes = c.take_front.ensures.notes;
   failures = c.take_front.ensures.failures;

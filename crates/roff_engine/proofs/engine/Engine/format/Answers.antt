@@ -1,6 +1,6 @@
 use Rattle.std.proofs.Common.{◌≡◌, ap, sym, subst, ◌∙◌}
 use Rattle.std.specs.Prelude.{IsSome}
-use Rattle.roff_engine.specs.Engine.Outcome.{Runs, seen}
+use Rattle.roff_interpreter.specs.Outcome.{Runs, seen}
 use Rattle.roff_engine.specs.Engine.Setup.{Setup}
 use Rattle.roff_engine.specs.Running.Turning.{HasCome}
 use Rattle.roff_engine.specs.declared.running.Running.{Running as Coded}

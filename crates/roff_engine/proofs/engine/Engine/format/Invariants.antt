@@ -1,5 +1,5 @@
 use Rattle.std.proofs.Common.{◌≡◌}
-use Rattle.roff_engine.specs.Engine.Outcome.{seen}
+use Rattle.roff_interpreter.specs.Outcome.{seen}
 use Rattle.roff_engine.specs.Running.Turning.{HasCome, turns_with}
 use Rattle.roff_engine.proofs.ComingFurther.{turns_told}
 use Rattle.roff_engine.proofs.engine.Engine.format.Given as goal

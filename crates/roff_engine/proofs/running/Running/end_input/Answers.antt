@@ -2,7 +2,8 @@ use Rattle.std.proofs.Common.{◌≡◌, true, false, sym, ap, ◌∙◌}
 use Rattle.roff_run.specs.Run.{escape_ends, input_ended, phase_ended}
 use Rattle.roff_run.specs.declared.phase.Phase.{Phase}
 use Rattle.roff_run.specs.declared.phase.Phase.TheVariants.{Closing, LastMacro, Reading}
-use Rattle.roff_engine.specs.Running.Turning.{input_ends, state_at}
+use Rattle.roff_interpreter.specs.Ending.{input_ends}
+use Rattle.roff_engine.specs.Running.Turning.{state_at}
 use Rattle.roff_engine.proofs.Acting.{DoesItem-as}
 use Rattle.roff_engine.proofs.Ending.{closed_acts, input_ends-escapes, input_ends-no_half, some_half}
 use Rattle.roff_engine.proofs.Turns.{on_ok}

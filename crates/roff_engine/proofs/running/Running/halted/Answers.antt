@@ -1,6 +1,6 @@
 use Rattle.std.proofs.Common.{◌≡◌, ◌∙◌, sym, ap}
 use Rattle.roff_formatter.specs.declared.halt.Halt.{Halt}
-use Rattle.roff_engine.specs.Running.Turning.{line_told}
+use Rattle.roff_interpreter.specs.Halting.{line_told}
 use Rattle.roff_engine.proofs.Acting.{line_told-taken}
 use Rattle.roff_engine.proofs.running.Running.halted.Goals as goal
 use Rattle.roff_engine.proofs.running.Running.halted.Goals.{in-Refused, in_default}

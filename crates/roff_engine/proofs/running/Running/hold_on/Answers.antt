@@ -1,6 +1,6 @@
 use Rattle.std.proofs.Common.{ap}
 use Rattle.roff_scan.specs.declared.run_kind.RunKind.TheVariants.{Arguments}
-use Rattle.roff_engine.specs.declared.interpreter.Interpreter.{Interpreter}
+use Rattle.roff_interpreter.specs.declared.interpreter.Interpreter.{Interpreter}
 use Rattle.roff_engine.proofs.PassingOn.{goes_further_none}
 use Rattle.roff_engine.proofs.PutRegisters.{goes_further_on, run-kept}
 use Rattle.roff_engine.proofs.running.Running.hold_on.Goals as goal

@@ -8,7 +8,7 @@ use Rattle.roff_engine.proofs.ComingFurther.{comes_past}
 use Rattle.roff_engine.proofs.ConditionsAtOnce.{goes_further_at_once}
 use Rattle.roff_engine.proofs.LinesEnded.{comes-as, comes-line}
 use Rattle.roff_engine.proofs.PassingEnds.{goes_further_passed, goes_further_returned}
-use Rattle.roff_engine.proofs.PassingOn.{goes_further_both, goes_past_kept}
+use Rattle.roff_engine.proofs.PassingOn.{goes_further_begun, goes_further_both, goes_past_kept}
 use Rattle.roff_engine.proofs.Turned.{goes_past_turned}
 use Rattle.roff_engine.proofs.running.Running.pass_control_front.Goals as goal
 
@@ -19,6 +19,13 @@ returns-in-Front g c =
     let read = c.read_control_front.ensures in
     comes_past _ _ _ _ _ _ _ _ _ (goes_further_both _ _ _ _ _ _ _ _ _ _ _ _ _
     (goes_past_turned _ _ _ _ _ _ out err c.args.self.now _ _ (read.past (ap is_past c.in-Front.is)) read.notes read.failures) (c.pass_behind_front.ensures out err))
+
+pub returns-in-Dropped : goal.returns-in-Dropped
+returns-in-Dropped g c =
+    let out = g.O.ByteSink.sunk c.args.out.now in
+    let err = g.E.ByteSink.sunk c.args.err.now in
+    let read = c.read_control_front.ensures in
+    comes_past _ _ _ _ _ _ _ _ _ (goes_further_begun _ _ _ _ _ _ out err c.args.self.now _ _ (read.past (ap is_past c.in-Dropped.is)) (read.dropped c.in-Dropped.is) read.notes read.failures)
 
 pub returns-in-Held : goal.returns-in-Held
 returns-in-Held g c =

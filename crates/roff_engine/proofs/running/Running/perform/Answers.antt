@@ -3,7 +3,8 @@ use Rattle.roff_input.specs.Input.{DoAhead}
 use Rattle.roff_run.specs.Run.{ahead_taken}
 use Rattle.roff_run.proofs.Keeping.{Keeps-interrupted}
 use Rattle.roff_engine.proofs.Acting.{taking_acts, halted_acts}
-use Rattle.roff_engine.proofs.EventsTaken.{event_taking, event_does, event_meant, line-interrupted}
+use Rattle.roff_interpreter.proofs.EventsTaken.{event_taking, event_does, line-interrupted}
+use Rattle.roff_engine.proofs.EventsMeant.{event_meant}
 use Rattle.roff_engine.proofs.running.Running.perform.Goals as goal
 
 pub returns-in-Ok : goal.returns-in-Ok

@@ -1,5 +1,5 @@
 use Rattle.std.proofs.Common.{inr}
-use Rattle.roff_engine.specs.Engine.Outcome.{seen}
+use Rattle.roff_interpreter.specs.Outcome.{seen}
 use Rattle.roff_engine.proofs.Starting.{stops_at_start}
 use Rattle.roff_engine.proofs.running.Running.refuse.Goals as goal
 

@@ -1,6 +1,6 @@
 use Rattle.std.proofs.Common.{◌≡◌, ℕ, rules, subst}
 use Rattle.roff_run.specs.Run.{byte_taken}
-use Rattle.roff_engine.specs.Engine.Outcome.{seen}
+use Rattle.roff_interpreter.specs.Outcome.{seen}
 use Rattle.roff_engine.specs.Running.Turning.{DoesItem}
 use Rattle.roff_engine.proofs.running.Running.take_first.Goals as goal
 

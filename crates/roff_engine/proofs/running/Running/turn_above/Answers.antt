@@ -1,6 +1,6 @@
 use Rattle.std.proofs.Common.{arith, subst, sym}
 use Rattle.roff_run.specs.Reading.Items.{PageUnread}
-use Rattle.roff_engine.specs.Running.Room.{SeesOn}
+use Rattle.roff_interpreter.specs.Room.{SeesOn}
 use Rattle.roff_engine.proofs.PassingEnds.{takes_end}
 use Rattle.roff_engine.proofs.Turns.{TurnsBy-same, front_end}
 use Rattle.roff_engine.proofs.running.Running.turn_above.Goals as goal

@@ -1,6 +1,6 @@
 use Rattle.std.proofs.Common.{subst, sym}
 use Rattle.roff_run.specs.Reading.Items.{PageUnread}
-use Rattle.roff_engine.specs.Running.Room.{SeesOn}
+use Rattle.roff_interpreter.specs.Room.{SeesOn}
 use Rattle.roff_engine.proofs.Turns.{TurnsBy-same, front_byte}
 use Rattle.roff_engine.proofs.running.Running.turn_in_front.Goals as goal
 

@@ -1,6 +1,6 @@
 use Rattle.std.proofs.Common.{◌∙◌}
 use Rattle.roff_engine.proofs.PassingOn.{goes_past_known, turned_past}
-use Rattle.roff_engine.proofs.TakenBytes.{escapes-taken}
+use Rattle.roff_interpreter.proofs.TakenBytes.{escapes-taken}
 use Rattle.roff_engine.proofs.Turns.{TurnsBy-same}
 use Rattle.roff_engine.proofs.WaitedBytes.{byte_alone}
 use Rattle.roff_engine.proofs.running.Running.turn_text.Goals as goal

@@ -1,0 +1,15 @@
+pub mod EventsKept
+pub mod MessagesTold
+pub mod SoFar
+pub mod DoesTakings
+pub mod Halting
+pub mod Room
+pub mod Fronts
+pub mod EndsUnseen
+pub mod EventsTaken
+pub mod Closing
+pub mod Calls
+pub mod NumberedPages
+pub mod TakenBytes
+pub mod NamedSteps
+pub mod LinesSplit

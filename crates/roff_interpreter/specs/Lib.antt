@@ -1,0 +1,7 @@
+pub mod Outcome
+pub mod Performing
+pub mod Giving
+pub mod Room
+pub mod Halting
+pub mod Ending
+pub mod Clauses

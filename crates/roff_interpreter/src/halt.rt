@@ -1,0 +1,33 @@
+//! How what ends a run early is told.
+
+ghost use Rattle.std.specs.Prelude.{ℕ};
+ghost use Rattle.roff_interpreter.specs.Clauses.{Beginning, Tape, OutcomeOf, Seen, seen, Halts, Sunk};
+
+use crate::report::report;
+use roff_formatter::Halt;
+use roff_num::Limits;
+use roff_run::{Message, Status};
+use roff_sinks::ByteSink;
+
+/// How a run ends that was halted on this line. A limit and a fault of the output are reported.
+pub fn status<E: ByteSink>(halt: Halt, limits: Limits, line: u32, err: &mut E) -> Status
+    ensures { (t : Beginning) (left : Tape) (before : Seen) (failures : ℕ) (out : Sunk)
+        → Halts limits t left line halt before (seen failures out (E.sunk err.old))
+        → OutcomeOf limits t left result before (seen failures out (E.sunk err.new)) }
+{
+    match halt {
+        Halt::Limit(limit) | Halt::Refused(limit) => {
+            let message = Message::LimitReached(limit, limits.value(limit));
+            match report(message, line, err) {
+                Ok(()) => Status::Limit(limit),
+                Err(_) => Status::Device,
+            }
+        }
+        Halt::Output => {
+            let _ = report(Message::WriteFailed, line, err);
+            Status::Device
+        }
+        Halt::Over => Status::Done,
+        Halt::Messages => Status::Device,
+    }
+}
