@@ -22,22 +22,16 @@ use Rattle.roff_run.specs.Reading.Ends.{due}
 use Rattle.roff_run.specs.Reading.Items.{PageUnread}
 use Rattle.roff_run.specs.declared.line_state.LineState.{LineState}
 use Rattle.roff_run.specs.declared.line_state.LineState.TheVariants.{Deciding}
-use Rattle.roff_fronts.specs.Conditions.{DecidesAtOnce, DecidesBehind, none_half}
+use Rattle.roff_fronts.specs.Registers.{OfRegister}
+use Rattle.roff_fronts.specs.Conditions.{DecidesAtOnce, DecidesBehind, DecidesConstant, DecidesRegister, OfConstant, OfRegister, PassesWaiting, deciding_reader, none_half}
 use Rattle.roff_engine.specs.declared.running.Running.{Running as Coded}
 use Rattle.roff_interpreter.specs.Outcome.{Seen, seen}
 use Rattle.roff_engine.specs.Running.Turning.{GoesFurther, GoesPast}
 use Rattle.roff_engine.proofs.EndsAtOnce.{decides-reading, ends-decided, ends-expression, goes_further_decided, goes_past_expression, waits-reading}
-use Rattle.roff_engine.proofs.PassingOn.{goes_further_both, goes_past_both}
+use Rattle.roff_engine.proofs.PassingEnds.{goes_past_seen}
+use Rattle.roff_engine.proofs.PassingOn.{goes_further_both}
+use Rattle.roff_engine.proofs.PutRegisters.{goes_further_put, goes_further_then}
 use Rattle.roff_engine.proofs.Turned.{goes_past_turned}
-
--- further, and then past more
-pub goes_further_then : (begins : Bool) (gave mid gives : Tape → Type 0) (noted kept notes : ℕ) (old between new : Coded) (now halfway behind : Seen)
-    → GoesFurther begins gave mid noted kept old between now halfway → GoesPast mid gives kept notes between new halfway behind
-    → GoesFurther begins gave gives noted notes old new now behind
-goes_further_then begins gave mid gives noted kept notes old between new now halfway behind first second = record {
-  past = goes_past_both gave mid gives noted kept notes old between new now halfway behind first.past second;
-  fewer = λ is. let less = first.fewer is in omega (arith, less, second.turns);
-}
 
 module _ (gives : Tape → Type 0) (notes failures : ℕ) (out err : Sunk) (old : Coded) (new : ReaderState) (after : PageUnread)
     (d : DecidesBehind gives old.interpreter.reader new old.unread after) (within : IsWithin old.unread) where
@@ -119,14 +113,53 @@ module _ (gives : Tape → Type 0) (notes failures : ℕ) (out err : Sunk) (old 
       (goes_further_both true gives gives gives notes notes notes old there decided now now now past-expression further-decided)
       (goes_past_turned gives gives notes notes failures failures out err decided after new d.behind (omega arith) refl)
 
--- so the run goes past it
-pub goes_further_at_once : (gave gives : Tape → Type 0) (noted notes failed failures : ℕ) (out err : Sunk) (old : Coded) (after : PageUnread) (new : ReaderState)
-    → DecidesAtOnce gave gives old.interpreter.reader new old.unread after → notes ≤ noted → failures ≡ failed
+-- a reader that reads a condition
+abbrev on_condition : Coded → PageUnread → Coded
+on_condition old u = record old { unread = u; interpreter = record old.interpreter { reader = deciding_reader old.interpreter.reader } }
+
+-- so the run goes past one that asks nothing
+goes_further_constant : (gave gives : Tape → Type 0) (noted notes failed failures : ℕ) (out err : Sunk) (old : Coded) (after : PageUnread) (new : ReaderState)
+    → DecidesConstant gave gives old.interpreter.reader new old.unread after → notes ≤ noted → failures ≡ failed
     → GoesFurther true gave gives noted notes old (record old { unread = after; interpreter = record old.interpreter { reader = new } }) (seen failed out err) (seen failures out err)
-goes_further_at_once gave gives noted notes failed failures out err old after new d fewer same =
-    let r : ReaderState = record old.interpreter.reader { reading = Deciding false } in
-    let between : Coded = record old { unread = d.between; interpreter = record old.interpreter { reader = r } } in
+goes_further_constant gave gives noted notes failed failures out err old after new d fewer same =
+    let r : ReaderState = deciding_reader old.interpreter.reader in
+    let between : Coded = on_condition old d.between in
     let new_run : Coded = record old { unread = after; interpreter = record old.interpreter { reader = new } } in
     goes_further_both true gave gives gives noted notes notes old between new_run (seen failed out err) (seen failures out err) (seen failures out err)
     (goes_past_turned gave gives noted notes failed failures out err old d.between r d.past fewer same)
     (goes_further_behind gives notes failures out err between new after d.decides d.past.within)
+
+-- and past one that asks for a register
+goes_further_asking : (gave gives : Tape → Type 0) (noted notes failed failures : ℕ) (out err : Sunk) (old : Coded) (after : PageUnread) (new : ReaderState)
+    → DecidesRegister old.interpreter.formatter.composer gave gives old.interpreter.reader new old.unread after → notes ≤ noted → failures ≡ failed
+    → GoesFurther true gave gives noted notes old (record old { unread = after; interpreter = record old.interpreter { reader = new } }) (seen failed out err) (seen failures out err)
+goes_further_asking gave gives noted notes failed failures out err old after new d fewer same =
+    let r : ReaderState = deciding_reader old.interpreter.reader in
+    let new_run : Coded = record old { unread = after; interpreter = record old.interpreter { reader = new } } in
+    let behind : Seen = seen failures out err in
+    let asked : Coded = on_condition old d.asked in
+    let put : Coded = on_condition old d.put in
+    let ended : Coded = on_condition old d.ended in
+    let over : Coded = on_condition old d.over in
+    let between : Coded = on_condition old d.between in
+    let p : PassesWaiting d.ended d.over = d.passes in
+    goes_further_both true gave gives gives noted notes notes old asked new_run (seen failed out err) behind behind
+    (goes_past_turned gave gives noted notes failed failures out err old d.asked r d.past fewer same)
+    (goes_further_both true gives gives gives notes notes notes asked put new_run behind behind behind
+    (goes_further_put OfRegister gives gives asked d.put d.puts notes notes failures failures out err (omega arith) refl).past
+    (goes_further_both true gives gives gives notes notes notes put ended new_run behind behind behind
+    (goes_past_turned gives gives notes notes failures failures out err put d.ended r d.text (omega arith) refl)
+    (goes_further_both true gives gives gives notes notes notes ended over new_run behind behind behind
+    (goes_past_seen ended over true p.byte refl p.waits p.sees p.stays (λ so. p.passes) p.within (λ not. absurd (cc)) refl gives notes behind)
+    (goes_further_both true gives gives gives notes notes notes over between new_run behind behind behind
+    (goes_past_turned gives gives notes notes failures failures out err over d.between r d.rest (omega arith) refl)
+    (goes_further_behind gives notes failures out err between new after d.decides d.rest.within)))))
+
+-- past any
+pub goes_further_at_once : (gave gives : Tape → Type 0) (noted notes failed failures : ℕ) (out err : Sunk) (old : Coded) (after : PageUnread) (new : ReaderState)
+    → DecidesAtOnce old.interpreter.formatter.composer gave gives old.interpreter.reader new old.unread after → notes ≤ noted → failures ≡ failed
+    → GoesFurther true gave gives noted notes old (record old { unread = after; interpreter = record old.interpreter { reader = new } }) (seen failed out err) (seen failures out err)
+goes_further_at_once gave gives noted notes failed failures out err old after new (OfConstant d) fewer same =
+    goes_further_constant gave gives noted notes failed failures out err old after new d fewer same
+goes_further_at_once gave gives noted notes failed failures out err old after new (OfRegister d) fewer same =
+    goes_further_asking gave gives noted notes failed failures out err old after new d fewer same

@@ -1,4 +1,4 @@
--- A register's escape that was taken at once, with its text in front: the run has come behind it.
+-- The escape of a register or a string that was taken at once, with its text in front: the run has come behind it.
 use Rattle.std.proofs.Common.{◌≡◌, ℕ, ◌+◌, ◌<◌, ◌≤◌, Bool, true, false, List, [], ◌∷◌, ◌++◌, length, take, None, refl, sym, ap, subst, ◌∙◌, arith}
 use Rattle.std.specs.Prelude.{map}
 use Rattle.std.proofs.Math.Seq.{take-length}
@@ -10,7 +10,7 @@ use Rattle.roff_input.specs.Looking.{is_closed, looked_then}
 use Rattle.roff_input.specs.Unread.{IsWithin}
 use Rattle.roff_input.specs.declared.looked.Looked.{Looked}
 use Rattle.roff_source.specs.Tape.{OneByte, Tape, items_then}
-use Rattle.roff_scan.specs.Unread.Calls.{OfSource, OfTexts, PassesFront, front_bytes, next_bytes}
+use Rattle.roff_scan.specs.Unread.Calls.{OfSource, OfTexts, PassesEnd, PassesFront, front_bytes, next_bytes}
 use Rattle.roff_composer.specs.declared.composer.Composer.{Composer as ComposerOf}
 use Rattle.roff_reader.specs.Reader.State.{ReaderState}
 use Rattle.roff_reader.proofs.TakesAs.{few_names, short_title}
@@ -20,11 +20,11 @@ use Rattle.roff_run.proofs.PlainRuns.{counted, counted-source}
 use Rattle.roff_run.specs.PageEvents.{PageEvent}
 use Rattle.roff_run.specs.Reading.Items.{PageInput, PageUnread}
 use Rattle.roff_run.specs.Reading.Units.{interrupted}
-use Rattle.roff_run.specs.Registers.{AllRegisters, text_of_register}
+use Rattle.roff_run.specs.Registers.{AllRegisters}
 use Rattle.roff_run.specs.Run.{Leads, State, known_at}
 use Rattle.roff_run.specs.Run.Counts.{counts_in, first_passed}
 use Rattle.roff_run.specs.declared.line_state.LineState.{LineState}
-use Rattle.roff_fronts.specs.Registers.{HoldsRegister, PutsRegister, ReadsNames, with_text}
+use Rattle.roff_fronts.specs.Registers.{Asked, OfRegister, OfString, HoldsRegister, PutsRegister, PutsText, ReadsNames, text_asked, with_text}
 use Rattle.roff_fronts.specs.Runs.{IsRun}
 use Rattle.roff_fronts.proofs.RegistersHeld.{ReadsText, next_bytes-put, passes-end, passes-read, read}
 use Rattle.roff_formatter.specs.Formatter.Telling.{TellsFront}
@@ -50,8 +50,8 @@ use Rattle.roff_engine.proofs.Telling.{goes_past_told}
 use Rattle.roff_engine.proofs.Turned.{goes_past_turned}
 use Rattle.roff_engine.proofs.TurnsLeft.{turns_of_run-fewer}
 
-module _ (gave gives : Tape → Type 0) (old : Coded) (after : PageUnread)
-    (puts : PutsRegister gave gives old.interpreter.reader old.interpreter.formatter.composer old.unread after) where
+module _ (purpose : Asked) (gave gives : Tape → Type 0) (old : Coded) (after : PageUnread)
+    (puts : PutsText purpose gave gives old.interpreter.reader old.interpreter.formatter.composer old.unread after) where
   abbrev i : PageInput
   i = old.unread.input
 
@@ -86,10 +86,10 @@ module _ (gave gives : Tape → Type 0) (old : Coded) (after : PageUnread)
       let behind : State = state_at t (record old { unread = there }) at.history at.messages in
       let fits : first_passed l (counts_in rs input) ≡ None =
       first_passed-few_names l rs input (few_names old.interpreter.reader.registers old.unread at.ready) (short_title old.interpreter.reader.registers old.unread at.ready) ∙ IsWithin-allowed there inside in
-      let text_is : puts.text ≡ text_of_register (known_at at.history rs (counted from puts.bytes i)) puts.name =
-      subst (λ (u : PageUnread). puts.text ≡ text_of_register (known_at at.history rs u.input) puts.name) passed (puts.text_is old.limits at.history at.stands) in
+      let text_is : puts.text ≡ text_asked purpose (known_at at.history rs (counted from puts.bytes i)) (interrupted reading (counted from puts.bytes i)) puts.name =
+      subst (λ (u : PageUnread). puts.text ≡ text_asked purpose (known_at at.history rs u.input) (interrupted reading u.input) puts.name) passed (puts.text_is old.limits at.history at.stands) in
       let leads : Leads l s (record s { tape = tape_at from [] s.tape; input = input }) =
-      leads-put l s from puts.bytes puts.name puts.text refl refl refl is_open puts.asked ahead asked charged at.ready.within text_is fits in
+      leads-put purpose l s from puts.bytes puts.name puts.text refl refl refl is_open puts.asked ahead asked charged at.ready.within text_is fits in
       let comes : Leads l s behind = subst (λ (tape : Tape). Leads l s (record s { tape = tape; input = input })) left leads in
       let few : AreFewFrom 0 (ahead_at from []) =
       few-behind_escape from puts.asked.front puts.asked.last
@@ -176,7 +176,7 @@ goes_further_held gave gives noted notes failed failures out err old after holds
     let behind : Seen = seen failures out err in
     goes_further_then true gave gives gives noted notes notes old read new now behind behind
     (goes_further_then true gave gives gives noted notes notes old put read now behind behind
-    (goes_further_put gave gives old holds.put holds.puts noted notes failed failures out err few same)
+    (goes_further_put OfRegister gave gives old holds.put holds.puts noted notes failed failures out err few same)
     (goes_past_turned gives gives notes notes failures failures out err put holds.read old.interpreter.reader holds.past (omega arith) refl))
     (goes_further_passed read new holds.is_ended (λ so. none_due) holds.takes holds.ends (λ so. holds.within)
     (λ so. ap (λ (u : PageUnread). record old { unread = u }) (holds.stays so)) refl gives notes behind).past
@@ -205,7 +205,7 @@ goes_further_told gave gives noted notes failed failures out err old f passed af
     let stood : text ≡ front_bytes (length text) [] there = sym (ap (take (length text)) bytes ∙ take-length text) in
     goes_further_then true gave gives gives noted notes notes old (record old { unread = between; interpreter = reader }) (record old { unread = after; interpreter = reader }) now behind behind
     (goes_further_then true gave gives gives noted notes notes old put (record old { unread = between; interpreter = reader }) now behind behind
-    (goes_further_put gave gives old there puts noted notes failed failures out err few same)
+    (goes_further_put OfRegister gave gives old there puts noted notes failed failures out err few same)
     (goes_past_told put f text count told none_half run.none_due run.does gives gives [] notes notes failures failures out err between stood passes (omega arith) refl))
     (goes_further_passed (record old { unread = between; interpreter = reader }) (record old { unread = after; interpreter = reader }) is_ended (λ so. run.none_due)
     (λ so. ap (λ (half : List OpenEscape). waiting_above old.interpreter.reader.reading a.place half) none_half ∙ names.takes a.place (none_waited so))
@@ -231,3 +231,26 @@ pub half_register : (gave gives : Tape → Type 0) (r : ReaderState) (es : Compo
     → (is_taken ≡ true → HoldsRegister gave gives r es before after) → (is_taken ≡ false → after ≡ before) → after.input.escapes ≡ before.input.escapes
 half_register gave gives r es before after true holds kept = (holds refl).half
 half_register gave gives r es before after false holds kept = ap (λ (u : PageUnread). u.input.escapes) (kept refl)
+
+-- past the escape of a string, which was put in front, or past nothing
+pub goes_further_string : (gave gives : Tape → Type 0) (noted notes failed failures : ℕ) (out err : Sunk) (old new : Coded) (is_put : Bool) → new ≡ record old { unread = new.unread }
+    → (is_put ≡ true → PutsText OfString gave gives old.interpreter.reader old.interpreter.formatter.composer old.unread new.unread)
+    → (is_put ≡ false → (new.unread ≡ old.unread) × (gives ≡ gave) × (notes ≡ noted)) → notes ≤ noted → failures ≡ failed
+    → GoesFurther is_put gave gives noted notes old new (seen failed out err) (seen failures out err)
+goes_further_string gave gives noted notes failed failures out err old new true is puts kept few same =
+    subst (λ (run : Coded). GoesFurther true gave gives noted notes old run (seen failed out err) (seen failures out err)) (sym is)
+    (goes_further_put OfString gave gives old new.unread (puts refl) noted notes failed failures out err few same)
+goes_further_string gave gives noted notes failed failures out err old new false is puts kept few same =
+    let none = kept refl in
+    goes_further_none gave gives noted notes old new (seen failed out err) (seen failures out err)
+    (goes_past_kept gave gives noted notes failed failures out err old new none.1 none.2 same (is ∙ ap (λ (u : PageUnread). record old { unread = u }) none.0))
+
+pub half_string : (gave gives : Tape → Type 0) (r : ReaderState) (es : ComposerOf) (before after : PageUnread) (is_put : Bool)
+    → (is_put ≡ true → PutsText OfString gave gives r es before after) → (is_put ≡ false → after ≡ before) → after.input.escapes ≡ before.input.escapes
+half_string gave gives r es before after true puts kept = (puts refl).half
+half_string gave gives r es before after false puts kept = ap (λ (u : PageUnread). u.input.escapes) (kept refl)
+
+-- the end of a text leaves what is half read
+pub half_ended : (before after : PageUnread) (is_passed : Bool) → (is_passed ≡ true → PassesEnd before after) → (is_passed ≡ false → after ≡ before) → after.input.escapes ≡ before.input.escapes
+half_ended before after true passes kept = ap (λ (u : PageUnread). u.input.escapes) (passes refl).input
+half_ended before after false passes kept = ap (λ (u : PageUnread). u.input.escapes) (kept refl)

@@ -9,6 +9,7 @@ mod conditions;
 mod ending;
 mod fronts;
 mod half_read;
+mod line_ends;
 mod passing;
 mod settling;
 mod springing;

@@ -11,12 +11,15 @@ use Rattle.roff_escape.specs.ConditionFronts.{ByteTaken, HalvesTaken, HoldsOn, I
 use Rattle.roff_escape.specs.OpenEscape.{Condition, OpenEscape, Reads}
 use Rattle.roff_escape.specs.declared.open_escape.ConditionPart.TheVariants.{Choice, Expression}
 use Rattle.roff_escape.specs.declared.open_escape.Surroundings.TheVariants.{Arguments as AboveArguments}
+use Rattle.roff_input.specs.Arguments.{Arguments}
 use Rattle.roff_input.specs.Input.{Ahead, ByteAhead, bytes_ahead, bytes_taken, ends_ahead, is_none_ahead}
 use Rattle.roff_input.specs.Unread.{IsWithin}
 use Rattle.roff_scan.specs.Unread.Calls.{IsFront, NoNewline, OfSource, OfTexts, PassesFront, PassesTexts, front_bytes}
 use Rattle.roff_scan.specs.Unread.Runs.{with_stage_of}
 use Rattle.roff_scan.specs.declared.run_kind.RunKind.TheVariants.{Condition as ConditionRun}
 use Rattle.roff_names.specs.NamesRead.{LeadsTo, input_begun}
+use Rattle.roff_store.specs.Named.{Named}
+use Rattle.roff_store.specs.Texts.{Entry}
 use Rattle.roff_reader.specs.Reader.State.{ReaderState}
 use Rattle.roff_run.specs.PageEvents.{PageEvent}
 use Rattle.roff_run.specs.Reading.{undropped_taking}
@@ -27,8 +30,9 @@ use Rattle.roff_run.specs.Reading.Found.{read_in}
 use Rattle.roff_run.specs.Reading.Items.{PageInput, PageUnread, going_on}
 use Rattle.roff_run.specs.Requests.{called_by}
 use Rattle.roff_run.specs.Stages.{Ignores, Stage, TakesHalf, Turned, stage_of}
+use Rattle.roff_run.specs.declared.line_state.LineState.{LineState}
 use Rattle.roff_run.specs.declared.line_state.LineState.TheVariants.{Deciding, Skipping}
-use Rattle.roff_fronts.specs.Conditions.{AsksNothing, DecidesAtOnce, HasBlank, constant_front, digit_of, none_half}
+use Rattle.roff_fronts.specs.Conditions.{AsksNothing, DecidesConstant, HasBlank, constant_front, digit_of, none_half}
 use Rattle.roff_fronts.specs.Runs.{IsRun}
 use Rattle.roff_fronts.specs.ControlFronts.{BeginsControl, StandsReady, control_byte}
 use Rattle.roff_fronts.specs.Stages.{ReadsPast}
@@ -36,7 +40,7 @@ use Rattle.roff_fronts.proofs.AddedRuns.{turned-same}
 use Rattle.roff_fronts.proofs.BlankRuns.{passes-blank}
 use Rattle.roff_fronts.proofs.ConditionRuns.{turned-taken}
 use Rattle.roff_fronts.proofs.LinesRead.{Turned-append}
-use Rattle.roff_fronts.proofs.ControlFronts.{ready-some, reads-front, stage_with, turned-named}
+use Rattle.roff_fronts.proofs.ControlFronts.{control_plain, ready-some, reads-front, stage_with, turned-named}
 
 -- where a condition is read, bytes change what is half read
 pub takes-half : (keeps : Bool) → TakesHalf (Deciding keeps)
@@ -84,11 +88,11 @@ so-digit true = refl
 so-digit false = refl
 
 -- a blank behind it is passed over
-passes-behind : (so : Bool) (b : ℕ) → (b == blank) ≡ true → Ignores (branch_of so) b
+pub passes-behind : (so : Bool) (b : ℕ) → (b == blank) ≡ true → Ignores (branch_of so) b
 passes-behind true b is = passes-blank b is
 passes-behind false b is = λ k i none. subst (λ (c : ℕ). Ignores (Skipping 0 0 false) c) (sym (eqb-true b blank is)) (λ k i none. refl) k i none
 
-none_due-branch : (so : Bool) → due (branch_of so) ≡ None
+pub none_due-branch : (so : Bool) → due (branch_of so) ≡ None
 none_due-branch true = refl
 none_due-branch false = refl
 
@@ -168,7 +172,7 @@ module _ (gave gives : Tape → Type 0) (r : ReaderState) (breaks : Bool) (first
         within = inside;
       }
 
-  decides-texts : DecidesAtOnce gave gives r (record r { reading = branch_of so }) before passed
+  decides-texts : DecidesConstant gave gives r (record r { reading = branch_of so }) before passed
   decides-texts = record {
     between = between;
     past = past-front;
@@ -188,12 +192,12 @@ pub decides-constant : (gave gives : Tape → Type 0) (r new : ReaderState) (bre
     → before.input.escapes ≡ [] → due r.reading ≡ None → BeginsControl r.reading → BelongsToName first → BelongsToName second
     → LeadsTo (λ i. behind_called i breaks (called_by (record { first = first; second = Some second }) before.input.names)) (Deciding false)
     → StandsReady (constant_front breaks first second so) ready before → is_none_ahead before.input.ahead ≡ false → PassesFront gave gives (front_bytes 6 ready before) before passed
-    → IsWithin before → IsWithin passed → new ≡ record r { reading = branch_of so } → DecidesAtOnce gave gives r new before passed
+    → IsWithin before → IsWithin passed → new ≡ record r { reading = branch_of so } → DecidesConstant gave gives r new before passed
 decides-constant gave gives r new breaks first second so ready before passed none none_due begins named_first named_second leads stands ahead passes within inside is =
-    subst (λ (n : ReaderState). DecidesAtOnce gave gives r n before passed) (sym is)
+    subst (λ (n : ReaderState). DecidesConstant gave gives r n before passed) (sym is)
     (of_texts (subst (λ (bytes : List ℕ). PassesFront gave gives bytes before passed) (sym stands.are) passes))
   where
-    of_texts : PassesFront gave gives (constant_front breaks first second so) before passed → DecidesAtOnce gave gives r (record r { reading = branch_of so }) before passed
+    of_texts : PassesFront gave gives (constant_front breaks first second so) before passed → DecidesConstant gave gives r (record r { reading = branch_of so }) before passed
     of_texts (OfSource passes) = let wrong = ap (λ (items : List (Ahead PageEvent)). is_none_ahead items) passes.ahead in absurd (cc)
     of_texts (OfTexts passes) = decides-texts gave gives r breaks first second so before passed none none_due begins named_first named_second leads passes within inside
 
@@ -230,18 +234,25 @@ no_newline-name false false true newlines others is = cc
 no_newline-name false false false true others is = cc
 no_newline-name false false false false others is = refl
 
-no_newline-control : (breaks : Bool) → (control_byte breaks == newline) ≡ false
-no_newline-control true = refl
-no_newline-control false = refl
-
 pub no_newline-blank : (breaks : Bool) (first second : ℕ) → BelongsToName first → BelongsToName second → NoNewline (control_byte breaks ∷ first ∷ second ∷ blank ∷ [])
 no_newline-blank breaks first second named_first named_second = (
-  no_newline-control breaks,
+  control_plain breaks,
   (
     no_newline-name (is_dropped first) (first == blank) (first == tab) (first == newline) (first == backslash) named_first,
     (no_newline-name (is_dropped second) (second == blank) (second == tab) (second == newline) (second == backslash) named_second, (refl, tt)),
   ),
 )
+
+-- a condition's front leads to where nothing is read of it yet, and so does a blank behind it
+pub turned-blank : (names : Named Entry) (reading : LineState) (keeps breaks : Bool) (first second : ℕ) (a : Arguments) (texts : List (List ℕ)) → due reading ≡ None → BeginsControl reading
+    → BelongsToName first → BelongsToName second → LeadsTo (λ i. behind_called i breaks (called_by (record { first = first; second = Some second }) names)) (Deciding keeps)
+    → Turned names (stage_with reading [] a texts) (control_byte breaks ∷ first ∷ second ∷ blank ∷ []) (stage_with (Deciding keeps) choice a texts)
+turned-blank names reading keeps breaks first second a texts none_due begins named_first named_second leads =
+    let there : Stage = stage_with (Deciding keeps) choice a texts in
+    Turned-append names (stage_with reading [] a texts) there there (control_byte breaks ∷ first ∷ second ∷ []) (blank ∷ [])
+    (turned-named names reading (Deciding keeps) breaks first second a texts none_due begins named_first named_second leads)
+    (turned-taken names (Deciding keeps) a texts choice choice (blank ∷ []) refl (takes-half keeps)
+    (ByteTaken choice choice choice blank [] passes-first (NothingTaken choice)))
 
 -- a condition's front was read, with a blank behind it
 pub reads-blank : (gave gives : Tape → Type 0) (r new : ReaderState) (keeps breaks : Bool) (first second : ℕ) (ready : List ℕ) (before passed after : PageUnread)
@@ -251,16 +262,12 @@ pub reads-blank : (gave gives : Tape → Type 0) (r new : ReaderState) (keeps br
     → after ≡ record passed { input = input_begun (Deciding keeps) passed.input } → IsWithin after → new ≡ record r { reading = Deciding keeps } → ReadsPast gave gives r new before after
 reads-blank gave gives r new keeps breaks first second ready before passed after none_due begins none named_first named_second leads stands passes is within same =
     let i : PageInput = before.input in
-    let there : Stage = stage_with (Deciding keeps) choice i.arguments i.open_texts in
     let bytes : List ℕ = control_byte breaks ∷ first ∷ second ∷ blank ∷ [] in
     let behind : PageUnread = record passed { input = input_begun (Deciding keeps) passed.input } in
     subst (λ (n : ReaderState). ReadsPast gave gives r n before after) (sym same)
     (subst (λ (u : PageUnread). ReadsPast gave gives r (record r { reading = Deciding keeps }) before u) (sym is)
     (reads-front gave gives r (Deciding keeps) bytes before passed none
-    (Turned-append i.names (stage_with r.reading [] i.arguments i.open_texts) there there (control_byte breaks ∷ first ∷ second ∷ []) (blank ∷ [])
-    (turned-named i.names r.reading (Deciding keeps) breaks first second i.arguments i.open_texts none_due begins named_first named_second leads)
-    (turned-taken i.names (Deciding keeps) i.arguments i.open_texts choice choice (blank ∷ []) refl (takes-half keeps)
-    (ByteTaken choice choice choice blank [] passes-first (NothingTaken choice))))
+    (turned-blank i.names r.reading keeps breaks first second i.arguments i.open_texts none_due begins named_first named_second leads)
     (subst (λ (all : List ℕ). PassesFront gave gives all before passed) (sym stands.are) passes)
     (subst (λ (u : PageUnread). IsWithin u) is within)))
 

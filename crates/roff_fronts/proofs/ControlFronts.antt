@@ -1,10 +1,10 @@
 -- The front of a control line leads from stage to stage, and is read past.
-use Rattle.std.proofs.Common.{◌≡◌, ℕ, ◌≤◌, Bool, true, false, List, [], ◌∷◌, ◌++◌, length, take, Some, None, refl, sym, ap, subst, ◌∙◌, arith}
+use Rattle.std.proofs.Common.{◌≡◌, ◌==◌, ℕ, ◌≤◌, Bool, true, false, List, [], ◌∷◌, ◌++◌, length, take, Some, None, refl, sym, ap, subst, ◌∙◌, arith}
 use Rattle.std.specs.Prelude.{if◌then◌else◌}
 use Rattle.std.proofs.Math.Seq.{take-append_seam}
 use Rattle.std.proofs.lemmas.List.{length-append, take-take}
 use Rattle.roff_input.specs.Arguments.{Arguments}
-use Rattle.roff_source.specs.Bytes.{backslash, is_dropped}
+use Rattle.roff_source.specs.Bytes.{backslash, is_dropped, newline}
 use Rattle.roff_escape.specs.OpenEscape.{OpenEscape, texts_held}
 use Rattle.roff_escape.specs.OpenEscapes.{byte_read}
 use Rattle.roff_source.specs.Tape.{Tape}
@@ -87,6 +87,11 @@ ready-two breaks first second ready u is stands =
 -- a stage
 abbrev pub stage_with : LineState → List OpenEscape → Arguments → List (List ℕ) → Stage
 stage_with reading half a texts = record { reading = reading; escapes = half; arguments = a; texts = texts }
+
+-- the byte with which a control line begins is no newline
+pub control_plain : (breaks : Bool) → (control_byte breaks == newline) ≡ false
+control_plain true = refl
+control_plain false = refl
 
 -- behind a name no text is held
 none_held : (deciding : Bool) → texts_held (half_begun deciding []) ≡ 0

@@ -22,7 +22,7 @@ use Rattle.roff_fronts.specs.DroppedLines.{EndsDropped, LeadsToDropped, LineBegu
 use Rattle.roff_fronts.specs.Stages.{ReadsPast}
 use Rattle.roff_fronts.specs.declared.control.ControlFront.{ControlFront}
 use Rattle.roff_fronts.proofs.AddedRuns.{turned-same}
-use Rattle.roff_fronts.proofs.ControlFronts.{ready-some, stage_with, turned-dropped, turned-named}
+use Rattle.roff_fronts.proofs.ControlFronts.{control_plain, ready-some, stage_with, turned-dropped, turned-named}
 use Rattle.roff_fronts.proofs.LineEnds.{turned-ended}
 use Rattle.roff_fronts.proofs.LinesRead.{Turned-append, front_plain, plain-append}
 use Rattle.roff_fronts.proofs.RegistersPut.{leaves}
@@ -159,10 +159,6 @@ reads-led gave gives skipped ready r new before after leads passes within is =
     (reads-bytes gave gives (front_bytes skipped ready before) r (record r { reading = Dropped }) before after passes leads.turned refl refl within)
 
 -- a backslash behind the dot or apostrophe leads there
-control_plain : (breaks : Bool) → (control_byte breaks == newline) ≡ false
-control_plain true = refl
-control_plain false = refl
-
 pub backslash-leads : (breaks : Bool) (reading : LineState) (ready : List ℕ) (u : PageUnread) → due reading ≡ None → BeginsControl reading → u.input.escapes ≡ []
     → StandsReady (control_byte breaks ∷ backslash ∷ []) ready u → LeadsToDropped 2 reading ready u
 backslash-leads breaks reading ready u none_due begins none_half stands =

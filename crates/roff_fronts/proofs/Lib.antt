@@ -19,3 +19,6 @@ pub mod RegistersPut
 pub mod RegistersHeld
 pub mod PuttingRuns
 pub mod ConstantConditions
+pub mod ExpressionFronts
+pub mod AnsweredConditions
+pub mod RegisterConditions

@@ -17,7 +17,7 @@ use Rattle.roff_scan.proofs.Staged.{passes-staged, stage-behind, staged}
 use Rattle.roff_scan.specs.Unread.Calls.{IsFront, NoNewline, PassesFront, front_bytes, next_bytes}
 use Rattle.roff_scan.specs.Unread.Lines.{HoldsLine, StandsNewline, begins_with_newline, ended_by, is_ended, with_held}
 use Rattle.roff_scan.specs.declared.unread.lines.BehindHeld.{BehindHeld}
-use Rattle.roff_scan.specs.declared.unread.lines.BehindHeld.TheVariants.{Newline, Register, Other}
+use Rattle.roff_scan.specs.declared.unread.lines.BehindHeld.TheVariants.{Newline, Named as AtName, Other}
 use Rattle.roff_run.proofs.ItemsTaken.{not-second}
 use Rattle.roff_scan.specs.Unread.Runs.{with_stage_of}
 use Rattle.roff_run.specs.Reading.ControlLines.{BelongsToName, ends_name}
@@ -27,10 +27,10 @@ use Rattle.roff_run.specs.declared.line_state.LineState.{LineState}
 use Rattle.roff_reader.specs.Reader.State.{ReaderState}
 use Rattle.roff_fronts.specs.ControlFronts.{Fronts, HoldsArguments, StandsName, control_byte, is_past, read_for_call, read_to}
 use Rattle.roff_fronts.specs.declared.control.ControlRead.{ControlRead}
-use Rattle.roff_fronts.specs.declared.control.ControlRead.TheVariants.{Held, HeldToEnd, HeldToRegister}
+use Rattle.roff_fronts.specs.declared.control.ControlRead.TheVariants.{Held, HeldToEnd, HeldToEscape}
 use Rattle.roff_fronts.specs.Stages.{ReadsLine, ReadsPast}
 use Rattle.roff_fronts.specs.declared.control.ControlFront.{ControlFront}
-use Rattle.roff_fronts.proofs.ControlFronts.{stage_with, turned-named}
+use Rattle.roff_fronts.proofs.ControlFronts.{control_plain, stage_with, turned-named}
 use Rattle.roff_fronts.proofs.HeldRuns.{holds_request, turned-held}
 use Rattle.roff_fronts.specs.Runs.{IsRun}
 use Rattle.roff_scan.specs.declared.run_kind.RunKind.TheVariants.{Arguments as ArgumentsRun}
@@ -64,10 +64,6 @@ not_third false false false fourth none = refl
 
 named_plain : (b : ℕ) → BelongsToName b → (b == newline) ≡ false
 named_plain b belongs = not_third (b == blank) (b == tab) (b == newline) (b == backslash) (not-second (is_dropped b) (ends_name b) belongs)
-
-control_plain : (breaks : Bool) → (control_byte breaks == newline) ≡ false
-control_plain true = refl
-control_plain false = refl
 
 pub front_plain : (front : ControlFront) (there reading : LineState) (ready : List ℕ) (u : PageUnread) → StandsName front there reading ready u → NoNewline (front_bytes 3 ready u)
 front_plain front there reading ready u named =
@@ -164,7 +160,7 @@ module _ (gave gives : Tape → Type 0) (r new : ReaderState) (there : LineState
       past : (b : BehindHeld) → is_ended b ≡ false → PassesFront gave gives (ended_by b (front_bytes 3 ready before ++ line.held)) (with_held (bytes_held line.held before.input.arguments) before) after
           → PassesFront gave gives (front_bytes 3 ready before ++ line.held) (with_held (bytes_held line.held before.input.arguments) before) after
       past Newline left passes = absurd (cc)
-      past Register left passes = passes
+      past AtName left passes = passes
       past Other left passes = passes
 
   -- where nothing is half read
@@ -183,7 +179,7 @@ module _ (gave gives : Tape → Type 0) (r new : ReaderState) (there : LineState
       past : (b : BehindHeld) → is_ended b ≡ true → PassesFront gave gives (ended_by b (front_bytes 3 ready before ++ line.held)) (with_held (bytes_held line.held before.input.arguments) before) after
           → PassesFront gave gives (front_bytes 3 ready before ++ line.held ++ newline ∷ []) (with_held (bytes_held line.held before.input.arguments) before) after
       past Newline ended passes = passes
-      past Register ended passes = absurd (cc)
+      past AtName ended passes = absurd (cc)
       past Other ended passes = absurd (cc)
 
 -- a line of which nothing was held
@@ -231,22 +227,22 @@ call-holds name there is = subst HoldsArguments (sym is) (refl, refl)
 -- what was read, by what stands behind them
 pub past-left : (b : BehindHeld) (read : ControlRead) → read ≡ read_to b → is_past read ≡ true → is_ended b ≡ false
 past-left Newline read is past = let wrong : false ≡ true = sym (ap is_past is) ∙ past in absurd (cc)
-past-left Register read is past = refl
+past-left AtName read is past = refl
 past-left Other read is past = refl
 
 pub line-ended : (b : BehindHeld) (read : ControlRead) → read ≡ read_to b → read ≡ HeldToEnd → is_ended b ≡ true
 line-ended Newline read is ends = refl
-line-ended Register read is ends = let wrong : HeldToRegister ≡ HeldToEnd = sym is ∙ ends in absurd (cc)
+line-ended AtName read is ends = let wrong : HeldToEscape ≡ HeldToEnd = sym is ∙ ends in absurd (cc)
 line-ended Other read is ends = let wrong : Held ≡ HeldToEnd = sym is ∙ ends in absurd (cc)
 
 pub call-past : (b : BehindHeld) (read : ControlRead) → read ≡ read_for_call b → is_past read ≡ true → is_ended b ≡ false
 call-past Newline read is past = let wrong : false ≡ true = sym (ap is_past is) ∙ past in absurd (cc)
-call-past Register read is past = refl
+call-past AtName read is past = refl
 call-past Other read is past = refl
 
 pub call-ended : (b : BehindHeld) (read : ControlRead) → read ≡ read_for_call b → read ≡ HeldToEnd → is_ended b ≡ true
 call-ended Newline read is ends = refl
-call-ended Register read is ends = let wrong : Held ≡ HeldToEnd = sym is ∙ ends in absurd (cc)
+call-ended AtName read is ends = let wrong : Held ≡ HeldToEnd = sym is ∙ ends in absurd (cc)
 call-ended Other read is ends = let wrong : Held ≡ HeldToEnd = sym is ∙ ends in absurd (cc)
 
 -- behind a request's name arguments are held

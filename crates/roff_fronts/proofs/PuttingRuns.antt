@@ -1,4 +1,4 @@
--- Runs over the escape of a register: its bytes lead from stage to stage, and behind the last one the register's text is in front.
+-- Runs over the escape of a register or a string: its bytes lead from stage to stage, and behind the last one the text is in front.
 use Rattle.std.proofs.Common.{◌≡◌, ℕ, ◌+◌, ◌≤◌, Bool, false, List, [], ◌∷◌, ◌++◌, length, Option, Some, None, refl, ap, sym, subst, ◌∙◌, arith}
 use Rattle.std.specs.Prelude.{map}
 use Rattle.roff_num.specs.declared.limit.Limit.{Limit}
@@ -18,13 +18,13 @@ use Rattle.roff_run.specs.Reading.{taking}
 use Rattle.roff_run.specs.Reading.Ends.{due}
 use Rattle.roff_run.specs.Reading.Items.{PageInput, Taking, going_on}
 use Rattle.roff_run.specs.Reading.Units.{interrupted, settled_for}
-use Rattle.roff_run.specs.Registers.{Known, text_of_register}
+use Rattle.roff_run.specs.Registers.{Known}
 use Rattle.roff_run.specs.PageEvents.{PageEvent}
 use Rattle.roff_run.specs.Run.{Leads, State, after, known, known_at, made, step, taken_as, unless_refused}
 use Rattle.roff_run.specs.Run.Counts.{counts_in, first_passed}
 use Rattle.roff_run.specs.Stages.{Stage, held_at, input_at, stage_of}
 use Rattle.roff_run.specs.declared.line_state.LineState.{LineState}
-use Rattle.roff_fronts.specs.Registers.{AsksRegister, settled_at}
+use Rattle.roff_fronts.specs.Registers.{Asked, AsksText, settled_at, text_asked}
 use Rattle.roff_fronts.proofs.TurnedRuns.{FitsAt, IsGoing, after-Turned, stage_input}
 
 -- bytes come from there, where this one comes behind them
@@ -91,14 +91,14 @@ NoMore-led names p q (FromSource tape) bytes i charge newlines line held texts =
     }
 
 -- the step at the last byte
-step-put : (l : Limits) (s : State) (names : Named Entry) (from : Origin) (p q : Stage) (b : ℕ) (name text : List ℕ) (j : PageInput)
+step-put : (asked : Asked) (l : Limits) (s : State) (names : Named Entry) (from : Origin) (p q : Stage) (b : ℕ) (name text : List ℕ) (j : PageInput)
     → IsGoing from s → due q.reading ≡ None → is_ended_by q.escapes (Some b) ≡ false → j.charge + 1 ≤ l.bytes
-    → ((k : Known) (i : PageInput) → taking k q.reading (input_at names q i) b ≡ going_on (pushing (text_of_register k name) (input_at names p i)) p.reading)
-    → text ≡ text_of_register (known_at s.history s.registers (stage_input names p from [] (behind_byte from b j))) name
+    → ((k : Known) (i : PageInput) → taking k q.reading (input_at names q i) b ≡ going_on (pushing (text_asked asked k (input_at names p i) name) (input_at names p i)) p.reading)
+    → (let there : PageInput = stage_input names p from [] (behind_byte from b j) in text ≡ text_asked asked (known_at s.history s.registers there) there name)
     → first_passed l (counts_in s.registers (pushing text (stage_input names p from [] (behind_byte from b j)))) ≡ None
     → step l (run_at s names q from (b ∷ []) j)
     ≡ record s { tape = tape_at from [] s.tape; input = pushing text (stage_input names p from [] (behind_byte from b j)); reading = p.reading }
-step-put l s names (FromAhead rest) p q b name text j on none_due stays few asks is_text fits =
+step-put asked l s names (FromAhead rest) p q b name text j on none_due stays few asks is_text fits =
     let from : Origin = FromAhead rest in
     let before : State = run_at s names q from (b ∷ []) j in
     let taken : State = run_at s names q from [] (behind_byte from b j) in
@@ -106,10 +106,10 @@ step-put l s names (FromAhead rest) p q b name text j on none_due stays few asks
     let behind : List ℕ → State = λ digits. record taken { input = pushing digits (input_at names p there); reading = p.reading } in
     byte_ahead_is_taken l before b rest on.going on.idle on.unsprung none_due refl stays (omega (arith, few))
     ∙ ap (λ (t : Taking). made l before (taken_as t taken)) (asks (known taken) there)
-    ∙ ap (made l before) (taken_as-going_on (pushing (text_of_register (known taken) name) (input_at names p there)) p.reading taken)
+    ∙ ap (made l before) (taken_as-going_on (pushing (text_asked asked (known taken) (input_at names p there) name) (input_at names p there)) p.reading taken)
     ∙ ap (λ (digits : List ℕ). made l before (behind digits)) (sym is_text)
     ∙ ap (λ (r : Option Limit). unless_refused l r before (behind text)) fits
-step-put l s names (FromSource tape) p q b name text j on none_due stays few asks is_text fits =
+step-put asked l s names (FromSource tape) p q b name text j on none_due stays few asks is_text fits =
     let from : Origin = FromSource tape in
     let before : State = run_at s names q from (b ∷ []) j in
     let taken : State = run_at s names q from [] (behind_byte from b j) in
@@ -118,7 +118,7 @@ step-put l s names (FromSource tape) p q b name text j on none_due stays few ask
     bytes_of_the_source_are_taken l before b (record { going = on.going; is_open = on.is_open; idle = on.idle; unsprung = on.unsprung; none_due = none_due })
     refl refl stays (omega (arith, few))
     ∙ ap (λ (t : Taking). made l before (taken_as t taken)) (asks (known taken) there)
-    ∙ ap (made l before) (taken_as-going_on (pushing (text_of_register (known taken) name) (input_at names p there)) p.reading taken)
+    ∙ ap (made l before) (taken_as-going_on (pushing (text_asked asked (known taken) (input_at names p there) name) (input_at names p there)) p.reading taken)
     ∙ ap (λ (digits : List ℕ). made l before (behind digits)) (sym is_text)
     ∙ ap (λ (r : Option Limit). unless_refused l r before (behind text)) fits
 
@@ -132,13 +132,13 @@ abbrev pub input_put : LineState → List ℕ → Origin → List ℕ → PageIn
 input_put reading text from bytes i = pushing text (interrupted reading (counted from bytes i))
 
 -- a run leads over the escape, where no count is above its limit in front of it and behind it
-pub leads-put : (l : Limits) (s : State) (from : Origin) (bytes name text : List ℕ) → s.ended ≡ None → s.to_do ≡ [] → s.sprung ≡ None → IsOpenFor from s.is_closed
-    → AsksRegister s.input.names (stage_of s.reading s.input) bytes name → s.input.ahead ≡ ahead_at from bytes → s.tape ≡ tape_at from bytes s.tape
+pub leads-put : (purpose : Asked) (l : Limits) (s : State) (from : Origin) (bytes name text : List ℕ) → s.ended ≡ None → s.to_do ≡ [] → s.sprung ≡ None → IsOpenFor from s.is_closed
+    → AsksText purpose s.input.names (stage_of s.reading s.input) bytes name → s.input.ahead ≡ ahead_at from bytes → s.tape ≡ tape_at from bytes s.tape
     → s.input.charge + length bytes ≤ l.bytes → first_passed l (counts_in s.registers s.input) ≡ None
-    → text ≡ text_of_register (known_at s.history s.registers (counted from bytes s.input)) name
+    → text ≡ text_asked purpose (known_at s.history s.registers (counted from bytes s.input)) (interrupted s.reading (counted from bytes s.input)) name
     → first_passed l (counts_in s.registers (input_put s.reading text from bytes s.input)) ≡ None
     → Leads l s (record s { tape = tape_at from [] s.tape; input = input_put s.reading text from bytes s.input })
-leads-put l s from bytes name text going idle unsprung is_open asked ahead tape charged within is_text fits =
+leads-put purpose l s from bytes name text going idle unsprung is_open asked ahead tape charged within is_text fits =
     let i : PageInput = s.input in
     let p : Stage = stage_of s.reading i in
     let q : Stage = asked.there in
@@ -171,9 +171,9 @@ leads-put l s from bytes name text going idle unsprung is_open asked ahead tape 
     let charge = charged-behind first front i in
     let steps : step l (run_at s i.names q from (b ∷ []) j)
     ≡ record s { tape = tape_at from [] s.tape; input = pushing text (stage_input i.names (settled_at p) from [] (behind_byte from b j)); reading = s.reading } =
-    step-put l s i.names from (settled_at p) q b name text j (record { going = going; is_open = is_open; idle = idle; unsprung = unsprung }) asked.none_due asked.stays
+    step-put purpose l s i.names from (settled_at p) q b name text j (record { going = going; is_open = is_open; idle = idle; unsprung = unsprung }) asked.none_due asked.stays
     (omega (arith, charge, counts, charged)) asked.asks
-    (subst (λ (k : PageInput). text ≡ text_of_register (known_at s.history s.registers k) name) (sym is) is_text)
+    (subst (λ (k : PageInput). text ≡ text_asked purpose (known_at s.history s.registers k) k name) (sym is) is_text)
     (subst (λ (k : PageInput). first_passed l (counts_in s.registers (pushing text k)) ≡ None) (sym is) fits) in
     Leads-to l s (run_at s i.names q from (b ∷ []) j) _ comes
     (steps ∙ ap (λ (k : PageInput). record s { tape = tape_at from [] s.tape; input = pushing text k }) is)

@@ -1,18 +1,20 @@
--- A register's escape that was taken at once, and its text in front.
-use Rattle.std.proofs.Common.{◌≡◌, ℕ, ◌+◌, ◌<◌, ◌≤◌, ◌==◌, Bool, true, false, not, List, [], ◌∷◌, ◌++◌, length, map, take, Option, Some, None, refl, sym, ap, subst, ◌∙◌, arith}
+-- The escape of a register or a string that was taken at once, and its text in front.
+use Rattle.std.proofs.Common.{◌≡◌, ℕ, ◌+◌, ◌<◌, ◌≤◌, ◌==◌, Bool, true, false, not, List, [], ◌∷◌, ◌++◌, length, map, take, Option, Some, None, Result, refl, sym, ap, subst, ◌∙◌, arith}
 use Rattle.std.specs.Prelude.{IfSome}
 use Rattle.std.proofs.lemmas.Bool.{ne_eqb}
 use Rattle.roff_composer.specs.Composer.Standing.{StandFor}
 use Rattle.roff_composer.specs.declared.composer.Composer.{Composer as ComposerOf}
 use Rattle.roff_escape.specs.OpenEscape.{OpenEscape}
 use Rattle.roff_input.proofs.Counts.{bytes_ahead-bytes, ends_ahead-bytes}
-use Rattle.roff_input.specs.Input.{Ahead, ByteAhead, EndAhead, bytes_ahead, counting, depth, ends_ahead, lines_taken, pushed}
-use Rattle.roff_input.specs.Unread.{IsWithin}
+use Rattle.roff_input.specs.Input.{Ahead, ByteAhead, EndAhead, bytes_ahead, counting, depth, ends_ahead, lines_taken, pushed, pushing}
+use Rattle.roff_input.specs.Input.Names.{body_named}
+use Rattle.roff_input.specs.Unread.{IsWithin, changing, input_refusal, unless_passed}
 use Rattle.roff_num.specs.ShortNames.{name_bytes}
+use Rattle.roff_num.specs.declared.limit.Limit.{Limit}
 use Rattle.roff_num.specs.declared.limits.Limits.{Limits}
 use Rattle.roff_num.specs.declared.short_name.ShortName.{ShortName}
 use Rattle.roff_reader.specs.Reader.State.{ReaderState}
-use Rattle.roff_run.proofs.InputCounts.{NoMore-interrupted}
+use Rattle.roff_run.proofs.InputCounts.{IsWithin-allowed, NoMore-interrupted}
 use Rattle.roff_run.specs.Environments.{PageHistory}
 use Rattle.roff_run.specs.Reading.Items.{PageInput, PageUnread}
 use Rattle.roff_run.specs.Reading.Units.{interrupted}
@@ -21,23 +23,28 @@ use Rattle.roff_run.specs.Run.{known_at}
 use Rattle.roff_run.specs.TurnsToCome.{free_ahead, turns_to_come}
 use Rattle.roff_run.specs.PageEvents.{PageEvent}
 use Rattle.roff_run.specs.declared.line_state.LineState.{LineState}
+use Rattle.roff_run.specs.declared.line_state.LineState.TheVariants.{Arguments as InArguments, Calling, StringName}
 use Rattle.roff_scan.proofs.Changing.{IsWithin-pushing}
 use Rattle.roff_scan.proofs.PassingAhead.{bytes_taken-is}
 use Rattle.roff_scan.specs.Unread.Calls.{IsFront, NoNewline, OfSource, OfTexts, PassesFront, front_bytes}
 use Rattle.roff_source.specs.Bytes.{backslash, is_dropped, newline}
 use Rattle.roff_source.specs.Tape.{Tape}
-use Rattle.roff_fronts.specs.Registers.{AsksRegister, BeginsRegister, IsNameOf, IsRegisterAhead, IsRegisterName, PutsRegister, ReadsNames, escape_behind, register_escape, with_text}
+use Rattle.roff_fronts.specs.Registers.{Asked, OfRegister, OfString, AsksText, BeginsEscape, IsNameOf, IsRegisterAhead, IsRegisterName, IsStringAhead, NamesRegister, PutsRegister, PutsText, ReadsNames, escape_behind, escape_of, letter_of, register_escape, text_asked, with_text}
 use Rattle.roff_fronts.proofs.HeldRuns.{none_of_three}
 use Rattle.roff_fronts.proofs.RunsRead.{first_of_front, passed-charge}
-use Rattle.roff_fronts.proofs.RegisterNames.{asks_register}
+use Rattle.roff_fronts.proofs.RegisterNames.{asks_text, reads_escape-alone}
 
 -- no newline is in such an escape
-pub no_newline : (first : ℕ) (second : Option ℕ) → IsNameOf first second → NoNewline (escape_behind first second)
-no_newline first None is = (refl, (refl, ((none_of_three (first == backslash) (is_dropped first) (first == newline) is.0).1.1, tt)))
-no_newline first (Some second) is = (
+letter_no_newline : (asked : Asked) → (letter_of asked == newline) ≡ false
+letter_no_newline OfRegister = refl
+letter_no_newline OfString = refl
+
+pub no_newline : (asked : Asked) (first : ℕ) (second : Option ℕ) → IsNameOf first second → NoNewline (escape_behind asked first second)
+no_newline asked first None is = (refl, (letter_no_newline asked, ((none_of_three (first == backslash) (is_dropped first) (first == newline) is.0).1.1, tt)))
+no_newline asked first (Some second) is = (
   refl,
   (
-    refl,
+    letter_no_newline asked,
     (
       refl,
       (
@@ -49,7 +56,7 @@ no_newline first (Some second) is = (
 )
 
 -- bytes of texts cost their own
-free_ahead-bytes : (text : List ℕ) (items : List (Ahead PageEvent)) → free_ahead (map ByteAhead text ++ items) ≡ free_ahead items
+pub free_ahead-bytes : (text : List ℕ) (items : List (Ahead PageEvent)) → free_ahead (map ByteAhead text ++ items) ≡ free_ahead items
 free_ahead-bytes [] items = refl
 free_ahead-bytes (b ∷ text) items = free_ahead-bytes text items
 
@@ -102,84 +109,88 @@ leaves gave gives bytes before passed some (OfTexts passes) =
       half = refl;
     })
 
+-- and bodies are the same
+same_bodies : (gave gives : Tape → Type 0) (bytes name : List ℕ) (reading : LineState) (before passed : PageUnread) → PassesFront gave gives bytes before passed
+    → body_named name (interrupted reading passed.input) ≡ body_named name before.input
+same_bodies gave gives bytes name reading before passed passes =
+    names-interrupted name reading passed.input ∙ there before passed passes
+  where
+    names-interrupted : (name : List ℕ) (reading : LineState) (i : PageInput) → body_named name (interrupted reading i) ≡ body_named name i
+    names-interrupted name (InArguments breaks request) i = refl
+    names-interrupted name (StringName appends) i = refl
+    names-interrupted name (Calling called) i = refl
+    names-interrupted name (_) i = refl
+
+    there : (before passed : PageUnread) → PassesFront gave gives bytes before passed → body_named name passed.input ≡ body_named name before.input
+    there before passed (OfSource passes) =
+        ap (λ (u : PageUnread). body_named name u.input) (passes.input ∙ ap (λ (k : PageInput). record before { input = k }) (lines_taken-counts bytes before.input))
+    there before passed (OfTexts passes) =
+        ap (λ (u : PageUnread). body_named name u.input) (passes.input ∙ ap (λ (k : PageInput). record before { input = k }) (bytes_taken-is bytes passes.behind before.input passes.in_front))
+
 -- no more turns are to come where a text was put in front
 turns-pushed : (text : List ℕ) (u : PageUnread) → turns_to_come (with_text text u) ≤ turns_to_come u
 turns-pushed text u = let free = free_ahead-bytes text (EndAhead ∷ u.input.ahead) in omega (arith, free)
 
 -- an escape has some bytes, and few
-some_bytes : (first : ℕ) (second : Option ℕ) → 1 ≤ length (escape_behind first second)
-some_bytes first None = omega arith
-some_bytes first (Some second) = omega arith
+pub some_bytes : (asked : Asked) (first : ℕ) (second : Option ℕ) → 1 ≤ length (escape_behind asked first second)
+some_bytes asked first None = omega arith
+some_bytes asked first (Some second) = omega arith
 
-few_bytes : (first : ℕ) (second : Option ℕ) → length (escape_behind first second) ≤ 5
-few_bytes first None = omega arith
-few_bytes first (Some second) = omega arith
+few_bytes : (asked : Asked) (first : ℕ) (second : Option ℕ) → length (escape_behind asked first second) ≤ 5
+few_bytes asked first None = omega arith
+few_bytes asked first (Some second) = omega arith
+
+-- An escape was taken, and what it asks for would be in front, where the limits have room for it.
+pub puts_text : (asked : Asked) (gave gives : Tape → Type 0) (r : ReaderState) (es : ComposerOf) (before passed settled : PageUnread) (name : ShortName) (text : List ℕ)
+    → IsRegisterName name → ReadsNames r.reading → before.input.escapes ≡ [] → pushed before.input + length text ≤ before.limits.stack → depth before.input < before.limits.depth
+    → PassesFront gave gives (escape_of asked name) before passed → settled ≡ record passed { input = interrupted r.reading passed.input } → IsWithin settled
+    → ((limits : Limits) (h : PageHistory) → StandFor limits h es → text ≡ text_asked asked (known_at h r.registers.all settled.input) settled.input (name_bytes name))
+    → PutsText asked gave gives r es before (with_text text settled)
+puts_text asked gave gives r es before passed settled name text named reads none_half room shallow passes is_settled fits text_is =
+    let i : PageInput = before.input in
+    let there : PageUnread = record passed { input = interrupted r.reading passed.input } in
+    let left : Leaves before passed = leaves gave gives (escape_of asked name) before passed (some_bytes asked name.first name.second) passes in
+    let fits_there : IsWithin there = subst IsWithin is_settled fits in
+    let no_more = NoMore-interrupted r.reading passed.input in
+    let turns = turns-pushed text there in
+    let put : PutsText asked gave gives r es before (with_text text there) = record {
+      bytes = escape_of asked name;
+      name = name_bytes name;
+      text = text;
+      passed = passed;
+      asked = subst (λ (half : List OpenEscape). AsksText asked i.names (record { reading = r.reading; escapes = half; arguments = i.arguments; texts = i.open_texts }) (escape_of asked name) (name_bytes name)) (sym none_half)
+          (asks_text asked i.names r.reading reads [] (reads_escape-alone asked) i.arguments i.open_texts name.first name.second named);
+      passes = passes;
+      text_is = λ limits h stands. subst (λ (u : PageUnread). text ≡ text_asked asked (known_at h r.registers.all u.input) u.input (name_bytes name)) is_settled (text_is limits h stands);
+      put = refl;
+      fewer = omega (arith, turns, left.turns);
+      half = left.half;
+      within = IsWithin-pushing there text fits_there (pushed there.input) refl
+          (omega (arith, room, no_more.bytes, left.less, ap (λ (m : Limits). m.stack) left.same))
+          (omega (arith, shallow, no_more.texts, left.fewer, ap (λ (m : Limits). m.depth) left.same));
+    } in
+    subst (λ (u : PageUnread). PutsText asked gave gives r es before (with_text text u)) (sym is_settled) put
 
 module _ (gave gives : Tape → Type 0) (ready : List ℕ) (reading : LineState) (before passed settled : PageUnread) (name : ShortName) (text : List ℕ)
     (ahead : IsRegisterAhead name reading ready before) (passes : PassesFront gave gives (register_escape name) before passed)
     (is_settled : settled ≡ record passed { input = interrupted reading passed.input }) (few : length text ≤ 48) where
   left : Leaves before passed
-  left = leaves gave gives (register_escape name) before passed (some_bytes name.first name.second) passes
+  left = leaves gave gives (register_escape name) before passed (some_bytes OfRegister name.first name.second) passes
 
-  abbrev there : PageUnread
-  there = record passed { input = interrupted reading passed.input }
-
-  -- the limit on bytes has room for what is read of the text
+  -- the limit on bytes has room for what is read of a register's text
   pub room_behind : settled.input.charge + length text < settled.limits.bytes
   room_behind =
       let charge = passed-charge gave gives (register_escape name) before passed passes in
       subst (λ (u : PageUnread). u.input.charge + length text < u.limits.bytes) (sym is_settled)
-      (omega (arith, charge, few_bytes name.first name.second, few, ahead.bytes, ap (λ (m : Limits). m.bytes) left.same))
+      (omega (arith, charge, few_bytes OfRegister name.first name.second, few, ahead.bytes, ap (λ (m : Limits). m.bytes) left.same))
 
-  -- the escape was taken, and its register's text would be in front
+  -- its escape was taken, and its text would be in front
   pub puts_register : (r : ReaderState) (es : ComposerOf) → r.reading ≡ reading → IsWithin settled
       → ((limits : Limits) (h : PageHistory) → StandFor limits h es → text ≡ text_of_register (known_at h r.registers.all settled.input) (name_bytes name))
       → PutsRegister gave gives r es before (with_text text settled)
   puts_register r es is_reading fits text_is =
-      let i : PageInput = before.input in
-      let fits_there : IsWithin there = subst IsWithin is_settled fits in
-      let no_more = NoMore-interrupted reading passed.input in
-      let turns = turns-pushed text there in
-      let put : PutsRegister gave gives r es before (with_text text there) = record {
-        bytes = register_escape name;
-        name = name_bytes name;
-        text = text;
-        passed = passed;
-        asked = subst (λ (half : List OpenEscape). AsksRegister i.names (record { reading = r.reading; escapes = half; arguments = i.arguments; texts = i.open_texts }) (register_escape name) (name_bytes name)) (sym ahead.none_half)
-            (asks_register i.names r.reading (subst ReadsNames (sym is_reading) ahead.reads) i.arguments i.open_texts name.first name.second ahead.named);
-        passes = passes;
-        text_is = λ limits h stands. subst (λ (u : PageUnread). text ≡ text_of_register (known_at h r.registers.all u.input) (name_bytes name)) is_settled (text_is limits h stands);
-        put = ap (λ (reads : LineState). with_text text (record passed { input = interrupted reads passed.input })) (sym is_reading);
-        fewer = omega (arith, turns, left.turns);
-        half = left.half;
-        within = IsWithin-pushing there text fits_there (pushed there.input) refl
-            (omega (arith, few, ahead.room, no_more.bytes, left.less, ap (λ (m : Limits). m.stack) left.same))
-            (omega (arith, ahead.shallow, no_more.texts, left.fewer, ap (λ (m : Limits). m.depth) left.same));
-      } in
-      subst (λ (u : PageUnread). PutsRegister gave gives r es before (with_text text u)) (sym is_settled) put
-
--- bytes begin with the escape of a name of two bytes, or of one
-pub begins_long : (r : Option ShortName) (first second : ℕ) (rest : List ℕ) → IfSome r (λ name. IsRegisterName name × (name ≡ record { first = first; second = Some second }))
-    → IfSome r (λ name. BeginsRegister (92 ∷ 110 ∷ 40 ∷ first ∷ second ∷ rest) name)
-begins_long None first second rest is = tt
-begins_long (Some name) first second rest is =
-    let bytes : List ℕ = 92 ∷ 110 ∷ 40 ∷ first ∷ second ∷ rest in
-    record {
-      named = is.0;
-      among = subst (λ (n : ShortName). length (register_escape n) ≤ length bytes) (sym is.1) (omega arith);
-      is = subst (λ (n : ShortName). take (length (register_escape n)) bytes ≡ register_escape n) (sym is.1) refl;
-    }
-
-pub begins_short : (r : Option ShortName) (first : ℕ) (rest : List ℕ) → IfSome r (λ name. IsRegisterName name × (name ≡ record { first = first; second = None }))
-    → IfSome r (λ name. BeginsRegister (92 ∷ 110 ∷ first ∷ rest) name)
-begins_short None first rest is = tt
-begins_short (Some name) first rest is =
-    let bytes : List ℕ = 92 ∷ 110 ∷ first ∷ rest in
-    record {
-      named = is.0;
-      among = subst (λ (n : ShortName). length (register_escape n) ≤ length bytes) (sym is.1) (omega arith);
-      is = subst (λ (n : ShortName). take (length (register_escape n)) bytes ≡ register_escape n) (sym is.1) refl;
-    }
+      puts_text OfRegister gave gives r es before passed settled name text ahead.named (subst ReadsNames (sym is_reading) ahead.reads) ahead.none_half (omega (arith, few, ahead.room)) ahead.shallow passes
+      (subst (λ (reads : LineState). settled ≡ record passed { input = interrupted reads passed.input }) (sym is_reading) is_settled) fits text_is
 
 -- nothing is half read
 pub none_open : (half : List OpenEscape) → not (length half == 0) ≡ false → half ≡ []
@@ -190,7 +201,7 @@ none_open (first ∷ others) is =
     absurd (cc)
 
 -- where bytes in front begin with the escape of a name, and the limits have room, it is read at once
-pub is_register_ahead : (found : Option ShortName) (bytes ready : List ℕ) (reading : LineState) (u : PageUnread) → IfSome found (λ name. BeginsRegister bytes name)
+pub is_register_ahead : (found : Option ShortName) (bytes ready : List ℕ) (reading : LineState) (u : PageUnread) → IfSome found (λ name. BeginsEscape OfRegister bytes name)
     → bytes ≡ front_bytes (length bytes) ready u → IsFront (length bytes) ready u → ReadsNames reading → u.input.escapes ≡ []
     → pushed u.input + 48 ≤ u.limits.stack → depth u.input < u.limits.depth → u.input.charge + 54 ≤ u.limits.bytes
     → IfSome found (λ name. IsRegisterAhead name reading ready u)
@@ -205,3 +216,49 @@ is_register_ahead (Some name) bytes ready reading u begins stood front reads non
   shallow = shallow;
   bytes = charge;
 }
+
+-- the same of a string, where the stack has room for its text
+pub is_string_ahead : (name : ShortName) (bytes ready : List ℕ) (reading : LineState) (u : PageUnread) → BeginsEscape OfString bytes name
+    → bytes ≡ front_bytes (length bytes) ready u → IsFront (length bytes) ready u → ReadsNames reading → u.input.escapes ≡ []
+    → pushed u.input + length (body_named (name_bytes name) u.input) ≤ u.limits.stack → depth u.input < u.limits.depth → IsStringAhead name reading ready u
+is_string_ahead name bytes ready reading u begins stood front reads none_half room shallow = record {
+  named = begins.named;
+  reads = reads;
+  none_half = none_half;
+  front = record { among = omega (arith, begins.among, front.among); within = omega (arith, begins.among, front.within) };
+  is = sym (first_of_front bytes (length (escape_of OfString name)) ready u stood begins.among) ∙ begins.is;
+  room = room;
+  shallow = shallow;
+}
+
+-- what was put in front is there, where no limit refuses it
+pub put-allowed : (i : PageInput) (u new : PageUnread) (r : Result (Unit {0}) Limit) → IsWithin (record u { input = i }) → (r, new) ≡ changing i u → new ≡ record u { input = i }
+put-allowed i u new r within changes =
+    let allowed : input_refusal u.limits i ≡ None = IsWithin-allowed (record u { input = i }) within in
+    ap (λ (p : Result (Unit {0}) Limit × PageUnread). p.1) (changes ∙ ap (λ (o : Option Limit). unless_passed o i u) allowed)
+
+-- the escapes of a name have as many bytes each
+pub as_long : (asked : Asked) (first : ℕ) (second : Option ℕ) → length (escape_behind asked first second) ≡ length (escape_behind OfRegister first second)
+as_long asked first None = refl
+as_long asked first (Some second) = refl
+
+-- the escape of a string was taken, and the string was put in front
+module _ (gave gives : Tape → Type 0) (r : ReaderState) (es : ComposerOf) (ready : List ℕ) (before passed settled after : PageUnread) (name : ShortName) (answer : Result (Unit {0}) Limit)
+    (ahead : IsStringAhead name r.reading ready before) (passes : PassesFront gave gives (escape_of OfString name) before passed)
+    (is_settled : settled ≡ record passed { input = interrupted r.reading passed.input }) (fits : IsWithin settled)
+    (changes : let text : List ℕ = body_named (name_bytes name) settled.input in (answer, after) ≡ changing (pushing text settled.input) settled) where
+  abbrev text_put : List ℕ
+  text_put = body_named (name_bytes name) settled.input
+
+  -- it is that of the names as they were
+  same_text : text_put ≡ body_named (name_bytes name) before.input
+  same_text = ap (λ (u : PageUnread). body_named (name_bytes name) u.input) is_settled ∙ same_bodies gave gives (escape_of OfString name) (name_bytes name) r.reading before passed passes
+
+  puts : PutsText OfString gave gives r es before (with_text text_put settled)
+  puts =
+      puts_text OfString gave gives r es before passed settled name text_put ahead.named ahead.reads ahead.none_half
+      (omega (arith, ahead.room, ap (λ (text : List ℕ). length text) same_text)) ahead.shallow passes is_settled fits (λ limits h stands. refl)
+
+  pub puts_string : PutsText OfString gave gives r es before after
+  puts_string =
+      subst (λ (u : PageUnread). PutsText OfString gave gives r es before u) (sym (put-allowed (pushing text_put settled.input) settled after answer puts.within changes)) puts

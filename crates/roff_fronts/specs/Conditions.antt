@@ -6,13 +6,20 @@ use Rattle.roff_num.specs.declared.num.Scale.TheVariants.{Units}
 use Rattle.roff_source.specs.Bytes.{blank}
 use Rattle.roff_source.specs.Tape.{Tape}
 use Rattle.roff_escape.specs.OpenEscape.{Condition}
+use Rattle.roff_escape.specs.Waiting.{is_ended_by}
 use Rattle.roff_escape.specs.declared.open_escape.ConditionPart.TheVariants.{Expression}
+use Rattle.roff_escape.specs.declared.open_escape.Waiting.TheVariants.{Waits}
 use Rattle.roff_input.specs.Shown.{SeesByte, seen_ahead}
+use Rattle.roff_input.specs.Unread.{IsWithin}
+use Rattle.roff_scan.specs.Unread.Calls.{PassesEnd}
+use Rattle.roff_composer.specs.declared.composer.Composer.{Composer as ComposerOf}
 use Rattle.roff_reader.specs.Reader.State.{ReaderState}
 use Rattle.roff_run.specs.Reading.Branches.{branch_of}
 use Rattle.roff_run.specs.Reading.Items.{PageUnread}
+use Rattle.roff_run.specs.Reading.Waiting.{waiting_in}
 use Rattle.roff_run.specs.declared.line_state.LineState.TheVariants.{Deciding}
-use Rattle.roff_fronts.specs.ControlFronts.{control_byte}
+use Rattle.roff_fronts.specs.ControlFronts.{StandsReady, control_byte}
+use Rattle.roff_fronts.specs.Registers.{PutsRegister}
 use Rattle.roff_fronts.specs.Stages.{ReadsPast}
 use Rattle.roff_fronts.specs.declared.conditions.BehindName.{BehindName}
 use Rattle.roff_fronts.specs.declared.conditions.BehindName.TheVariants.{Constant, Blank, Other}
@@ -44,8 +51,18 @@ pub record HasBlank (bytes : List ℕ) : Type 0 where
 -- what stands behind the first three of these bytes
 abbrev pub StandsBehind : List ℕ → BehindName → Type 0
 StandsBehind bytes (Constant so) = AsksNothing bytes so
-StandsBehind bytes Blank = HasBlank bytes
+StandsBehind bytes (Blank asks) = HasBlank bytes
 StandsBehind bytes Other = Unit {0}
+
+-- this stands behind the first three of the bytes in front
+pub record SeesBehind (behind : BehindName) (ready : List ℕ) (u : PageUnread) : Type 0 where
+  pub bytes : List ℕ
+  pub stands : StandsReady bytes ready u
+  pub are : StandsBehind bytes behind
+
+-- a reader that reads a condition, whose result isn't kept
+abbrev pub deciding_reader : ReaderState → ReaderState
+deciding_reader r = record r { reading = Deciding false }
 
 -- what is unread, with nothing half read
 abbrev pub none_half : PageUnread → PageUnread
@@ -62,8 +79,37 @@ pub record DecidesBehind (gives : Tape → Type 0) (old new : ReaderState) (befo
   pub is_number : value_at text 0 Units (Some (pos 0)) ≡ Ok value
   pub behind : ReadsPast gives gives (record old { reading = branch_of (int_lt (pos 0) value.0.0) }) new (none_half before) after
 
--- A control line's front was read at once, and a condition behind it, which decided.
-pub record DecidesAtOnce (gave gives : Tape → Type 0) (old new : ReaderState) (before after : PageUnread) : Type 0 where
+-- A control line's front was read at once, and a condition behind it that asks nothing, which decided.
+pub record DecidesConstant (gave gives : Tape → Type 0) (old new : ReaderState) (before after : PageUnread) : Type 0 where
   pub between : PageUnread
-  pub past : ReadsPast gave gives old (record old { reading = Deciding false }) before between
-  pub decides : DecidesBehind gives (record old { reading = Deciding false }) new between after
+  pub past : ReadsPast gave gives old (deciding_reader old) before between
+  pub decides : DecidesBehind gives (deciding_reader old) new between after
+
+-- the end of a text was passed in front of a byte that is seen, for which what is half read waits
+pub record PassesWaiting (before after : PageUnread) : Type 0 where
+  pub waits : waiting_in (Deciding false) before.input ≡ Waits
+  pub byte : ℕ
+  pub sees : seen_ahead before.input.ahead ≡ Some (SeesByte byte)
+  pub stays : is_ended_by before.input.escapes (Some byte) ≡ false
+  pub passes : PassesEnd before after
+  pub within : IsWithin after
+
+-- A control line's front was read at once, and a condition behind it that asks for a register: the register's text was read in its
+-- escape's place, then the text's end and an expression behind that, which decided.
+pub record DecidesRegister (es : ComposerOf) (gave gives : Tape → Type 0) (old new : ReaderState) (before after : PageUnread) : Type 0 where
+  pub asked : PageUnread
+  pub past : ReadsPast gave gives old (deciding_reader old) before asked
+  pub put : PageUnread
+  pub puts : PutsRegister gives gives (deciding_reader old) es asked put
+  pub ended : PageUnread
+  pub text : ReadsPast gives gives (deciding_reader old) (deciding_reader old) put ended
+  pub over : PageUnread
+  pub passes : PassesWaiting ended over
+  pub between : PageUnread
+  pub rest : ReadsPast gives gives (deciding_reader old) (deciding_reader old) over between
+  pub decides : DecidesBehind gives (deciding_reader old) new between after
+
+-- a condition was read at once with the front of its line, and decided
+pub data DecidesAtOnce (es : ComposerOf) (gave gives : Tape → Type 0) (old new : ReaderState) (before after : PageUnread) : Type 0 where
+  OfConstant : DecidesConstant gave gives old new before after → DecidesAtOnce es gave gives old new before after
+  OfRegister : DecidesRegister es gave gives old new before after → DecidesAtOnce es gave gives old new before after

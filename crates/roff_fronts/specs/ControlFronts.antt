@@ -19,7 +19,7 @@ use Rattle.roff_run.specs.Reading.Waiting.{line_waits}
 use Rattle.roff_run.specs.Registers.{Known}
 use Rattle.roff_fronts.specs.declared.control.ControlFront.{ControlFront}
 use Rattle.roff_fronts.specs.declared.control.ControlRead.{ControlRead}
-use Rattle.roff_fronts.specs.declared.control.ControlRead.TheVariants.{Nothing, Front, Dropped, Condition, Decided, Held, HeldToRegister, HeldToEnd}
+use Rattle.roff_fronts.specs.declared.control.ControlRead.TheVariants.{Nothing, Front, Dropped, Condition, Decided, Held, HeldToEscape, HeldToEnd}
 use Rattle.roff_run.specs.declared.line_state.LineState.{LineState}
 use Rattle.roff_run.specs.declared.line_state.LineState.TheVariants.{Control}
 
@@ -56,7 +56,7 @@ is_read Dropped = true
 is_read Condition = true
 is_read Decided = true
 is_read Held = true
-is_read HeldToRegister = true
+is_read HeldToEscape = true
 is_read HeldToEnd = true
 
 -- whether its bytes were read past: no newline that isn't read yet was taken behind them, and no condition decided
@@ -67,19 +67,19 @@ is_past Dropped = true
 is_past Condition = true
 is_past Decided = false
 is_past Held = true
-is_past HeldToRegister = true
+is_past HeldToEscape = true
 is_past HeldToEnd = false
 
 -- what was read of one, by what stands behind the bytes that were held in its arguments
 abbrev pub read_to : BehindHeld → ControlRead
 read_to BehindHeld.Newline = HeldToEnd
-read_to BehindHeld.Register = HeldToRegister
+read_to BehindHeld.Named = HeldToEscape
 read_to BehindHeld.Other = Held
 
--- the same of a line that calls a body, where no register is read at once
+-- the same of a line that calls a body, where no escape is read at once
 abbrev pub read_for_call : BehindHeld → ControlRead
 read_for_call BehindHeld.Newline = HeldToEnd
-read_for_call BehindHeld.Register = Held
+read_for_call BehindHeld.Named = Held
 read_for_call BehindHeld.Other = Held
 
 -- what was read of a line that is dropped, by whether its newline was taken

@@ -5,3 +5,4 @@ pub mod DroppedLines
 pub mod StringFronts
 pub mod Registers
 pub mod Conditions
+pub mod Answered

@@ -1,4 +1,4 @@
--- Registers that are read at once, where their escapes stand whole in front (manual, section 8).
+-- Registers and strings that are read at once, where their escapes stand whole in front (manual, sections 7 and 8).
 use Rattle.std.specs.Prelude.{◌≡◌, ℕ, ◌+◌, ◌<◌, ◌≤◌, ◌==◌, ◌++◌, Bool, true, false, List, [], ◌∷◌, length, take, Option, Some, None}
 use Rattle.roff_input.specs.Arguments.{Arguments, held, is_behind_quote}
 use Rattle.roff_input.specs.declared.place.Place.{Place}
@@ -7,13 +7,16 @@ use Rattle.roff_composer.specs.declared.composer.Composer.{Composer as ComposerO
 use Rattle.roff_escape.specs.OpenEscape.{OpenEscape}
 use Rattle.roff_escape.specs.OpenEscapes.{byte_read}
 use Rattle.roff_escape.specs.Waiting.{is_ended_by}
-use Rattle.roff_escape.specs.declared.escapes.NameUse.TheVariants.{Register}
+use Rattle.roff_escape.specs.declared.escapes.NameUse.{NameUse}
+use Rattle.roff_escape.specs.declared.escapes.NameUse.TheVariants.{Register, Text}
 use Rattle.roff_escape.specs.declared.open_escape.Found.TheVariants.{Asks, GoesOn}
 use Rattle.roff_escape.specs.declared.open_escape.Surroundings.{Surroundings}
 use Rattle.roff_escape.specs.declared.open_escape.Waiting.TheVariants.{Takes}
 use Rattle.roff_input.specs.Input.{depth, pushed, pushing}
+use Rattle.roff_input.specs.Input.Names.{body_named}
 use Rattle.roff_input.specs.Unread.{IsWithin}
 use Rattle.roff_num.specs.declared.limits.Limits.{Limits}
+use Rattle.roff_num.specs.ShortNames.{name_bytes}
 use Rattle.roff_num.specs.declared.short_name.ShortName.{ShortName}
 use Rattle.roff_reader.specs.Reader.State.{ReaderState}
 use Rattle.roff_run.specs.Environments.{PageHistory}
@@ -34,13 +37,35 @@ use Rattle.roff_fronts.specs.Stages.{ReadsPast}
 use Rattle.roff_store.specs.Named.{Named}
 use Rattle.roff_store.specs.Texts.{Entry}
 
--- the bytes of the escape that reads the register of a name
-abbrev pub escape_behind : ℕ → Option ℕ → List ℕ
-escape_behind first None = 92 ∷ 110 ∷ first ∷ []
-escape_behind first (Some second) = 92 ∷ 110 ∷ 40 ∷ first ∷ second ∷ []
+-- what is read at once in the place of its escape
+pub data Asked : Type 0 where
+  OfRegister : Asked
+  OfString : Asked
+
+-- what its name is read for, and the letter behind the backslash
+abbrev pub purpose_of : Asked → NameUse
+purpose_of OfRegister = Register None
+purpose_of OfString = Text
+
+abbrev pub letter_of : Asked → ℕ
+letter_of OfRegister = 110
+letter_of OfString = 42
+
+-- the text that is read
+abbrev pub text_asked : Asked → Known → PageInput → List ℕ → List ℕ
+text_asked OfRegister k i name = text_of_register k name
+text_asked OfString k i name = body_named name i
+
+-- the bytes of the escape of a name
+abbrev pub escape_behind : Asked → ℕ → Option ℕ → List ℕ
+escape_behind asked first None = 92 ∷ letter_of asked ∷ first ∷ []
+escape_behind asked first (Some second) = 92 ∷ letter_of asked ∷ 40 ∷ first ∷ second ∷ []
+
+abbrev pub escape_of : Asked → ShortName → List ℕ
+escape_of asked name = escape_behind asked name.first name.second
 
 abbrev pub register_escape : ShortName → List ℕ
-register_escape name = escape_behind name.first name.second
+register_escape name = escape_of OfRegister name
 
 -- a name of one byte is neither a sign nor a parenthesis, and each byte is one that isn't dropped, no backslash and no newline
 abbrev pub IsNameOf : ℕ → Option ℕ → Type 0
@@ -51,22 +76,31 @@ IsNameOf first (Some second) = (is_argument_byte first ≡ true) × (is_argument
 abbrev pub IsRegisterName : ShortName → Type 0
 IsRegisterName name = IsNameOf name.first name.second
 
--- bytes begin with the escape that reads the register of a name
-pub record BeginsRegister (bytes : List ℕ) (name : ShortName) : Type 0 where
+-- the name of these bytes, which is a register's
+pub record NamesRegister (first : ℕ) (second : Option ℕ) (name : ShortName) : Type 0 where
   pub named : IsRegisterName name
-  pub among : length (register_escape name) ≤ length bytes
-  pub is : take (length (register_escape name)) bytes ≡ register_escape name
+  pub is : name ≡ record { first = first; second = second }
+
+-- bytes begin with the escape of a name
+pub record BeginsEscape (asked : Asked) (bytes : List ℕ) (name : ShortName) : Type 0 where
+  pub named : IsRegisterName name
+  pub among : length (escape_of asked name) ≤ length bytes
+  pub is : take (length (escape_of asked name)) bytes ≡ escape_of asked name
+
+abbrev pub BeginsRegister : List ℕ → ShortName → Type 0
+BeginsRegister bytes name = BeginsEscape OfRegister bytes name
 
 -- Where this is read, a byte that gives nothing yet changes only what is half read, once no quote follows the one before; and behind
--- the name of a register its text is read in its escape's place. Nothing is waited for but a quote behind one.
+-- the name of a register or a string its text is read in its escape's place. Nothing is waited for but a quote behind one.
 pub record ReadsNames (reading : LineState) : Type 0 where
   pub none_due : due reading ≡ None
   pub goes_on : (k : Known) (i : PageInput) (b : ℕ) (next : List OpenEscape) → is_dropped b ≡ false
       → ((base : Surroundings) → byte_read base i.escapes b ≡ (GoesOn, next))
       → taking k reading i b ≡ going_on (record (interrupted reading i) { escapes = next }) reading
-  pub asks : (k : Known) (i : PageInput) (b : ℕ) (rest : List OpenEscape) (name : List ℕ) → is_dropped b ≡ false
-      → ((base : Surroundings) → byte_read base i.escapes b ≡ (Asks (Register None) (Some name), rest))
-      → taking k reading i b ≡ going_on (pushing (text_of_register k name) (record (interrupted reading i) { escapes = rest })) reading
+  pub asks : (asked : Asked) (k : Known) (i : PageInput) (b : ℕ) (rest : List OpenEscape) (name : List ℕ) → is_dropped b ≡ false
+      → ((base : Surroundings) → byte_read base i.escapes b ≡ (Asks (purpose_of asked) (Some name), rest))
+      → let behind : PageInput = record (interrupted reading i) { escapes = rest } in
+      taking k reading i b ≡ going_on (pushing (text_asked asked k behind name) behind) reading
   pub twice : (a : Arguments) → settled_for reading (settled_for reading a) ≡ settled_for reading a
   pub same_held : (a : Arguments) → held (settled_for reading a) ≡ held a
   pub takes : (place : Place) → is_behind_quote place ≡ false → line_waits reading place ≡ Takes
@@ -75,8 +109,8 @@ pub record ReadsNames (reading : LineState) : Type 0 where
 abbrev pub settled_at : Stage → Stage
 settled_at p = record p { arguments = settled_for p.reading p.arguments }
 
--- These bytes lead to where the text of the register of a name is put in front: all but the last one from stage to stage.
-pub record AsksRegister (names : Named Entry) (p : Stage) (bytes name : List ℕ) : Type 0 where
+-- These bytes lead to where the text of a name is put in front: all but the last one from stage to stage.
+pub record AsksText (asked : Asked) (names : Named Entry) (p : Stage) (bytes name : List ℕ) : Type 0 where
   pub front : List ℕ
   pub last : ℕ
   pub is : bytes ≡ front ++ last ∷ []
@@ -86,8 +120,8 @@ pub record AsksRegister (names : Named Entry) (p : Stage) (bytes name : List ℕ
   pub stays : is_ended_by there.escapes (Some last) ≡ false
   pub held : held_at there ≤ held_at p
   pub texts : there.texts ≡ p.texts
-  pub asks : (k : Known) (i : PageInput) → taking k there.reading (input_at names there i) last
-      ≡ going_on (pushing (text_of_register k name) (input_at names (settled_at p) i)) p.reading
+  pub asks : (k : Known) (i : PageInput) → let behind : PageInput = input_at names (settled_at p) i in
+      taking k there.reading (input_at names there i) last ≡ going_on (pushing (text_asked asked k behind name) behind) p.reading
 
 -- an input with a text in front
 abbrev pub with_text : List ℕ → PageUnread → PageUnread
@@ -105,21 +139,36 @@ pub record IsRegisterAhead (name : ShortName) (reading : LineState) (ready : Lis
   pub shallow : depth u.input < u.limits.depth
   pub bytes : u.input.charge + 54 ≤ u.limits.bytes
 
--- The escape of a register that stood whole in front was taken at once, and its text is in front. Fewer turns are to come.
-pub record PutsRegister (gave gives : Tape → Type 0) (r : ReaderState) (es : ComposerOf) (before after : PageUnread) : Type 0 where
+-- An escape that stood whole in front was taken at once, and its text is in front. Fewer turns are to come.
+pub record PutsText (asked_for : Asked) (gave gives : Tape → Type 0) (r : ReaderState) (es : ComposerOf) (before after : PageUnread) : Type 0 where
   pub bytes : List ℕ
   pub name : List ℕ
   pub text : List ℕ
   pub passed : PageUnread
-  pub asked : AsksRegister before.input.names (stage_of r.reading before.input) bytes name
+  pub asked : AsksText asked_for before.input.names (stage_of r.reading before.input) bytes name
   pub passes : PassesFront gave gives bytes before passed
-  pub text_is : (limits : Limits) (h : PageHistory) → StandFor limits h es → text ≡ text_of_register (known_at h r.registers.all passed.input) name
+  pub text_is : (limits : Limits) (h : PageHistory) → StandFor limits h es → text ≡ text_asked asked_for (known_at h r.registers.all passed.input) (interrupted r.reading passed.input) name
   pub put : after ≡ with_text text (record passed { input = interrupted r.reading passed.input })
   pub fewer : turns_to_come after < turns_to_come before
   pub half : after.input.escapes ≡ before.input.escapes
   pub within : IsWithin after
 
--- The same, and behind it bytes of the text were read past, and the end of that too, if it is said.
+-- the same of a register
+abbrev pub PutsRegister : (Tape → Type 0) → (Tape → Type 0) → ReaderState → ComposerOf → PageUnread → PageUnread → Type 0
+PutsRegister gave gives r es before after = PutsText OfRegister gave gives r es before after
+
+-- The escape of the string of a name stands whole in front, where it is read at once: nothing is half read, and the limits have room for
+-- its bytes and for the text.
+pub record IsStringAhead (name : ShortName) (reading : LineState) (ready : List ℕ) (u : PageUnread) : Type 0 where
+  pub named : IsRegisterName name
+  pub reads : ReadsNames reading
+  pub none_half : u.input.escapes ≡ []
+  pub front : IsFront (length (escape_of OfString name)) ready u
+  pub is : front_bytes (length (escape_of OfString name)) ready u ≡ escape_of OfString name
+  pub room : pushed u.input + length (body_named (name_bytes name) u.input) ≤ u.limits.stack
+  pub shallow : depth u.input < u.limits.depth
+
+-- A register's escape was taken so, and behind it bytes of the text were read past, and the end of that too, if it is said.
 pub record HoldsRegister (gave gives : Tape → Type 0) (r : ReaderState) (es : ComposerOf) (before after : PageUnread) : Type 0 where
   pub put : PageUnread
   pub puts : PutsRegister gave gives r es before put

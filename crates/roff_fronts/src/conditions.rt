@@ -5,17 +5,20 @@ ghost use Rattle.roff_input.specs.Input.{is_none_ahead};
 ghost use Rattle.roff_input.specs.Unread.{IsWithin};
 ghost use Rattle.roff_names.specs.NamesRead.{input_begun};
 ghost use Rattle.roff_run.specs.declared.line_state.LineState.TheVariants.{Deciding};
-ghost use Rattle.roff_fronts.specs.Conditions.{DecidesAtOnce, StandsBehind};
+ghost use Rattle.roff_fronts.specs.Conditions.{DecidesAtOnce, DecidesRegister};
+ghost use Rattle.roff_fronts.specs.Conditions.{SeesBehind, StandsBehind};
 ghost use Rattle.roff_fronts.specs.ControlFronts.{StandsName, is_past, is_read};
 ghost use Rattle.roff_fronts.specs.Runs.{IsRun};
 ghost use Rattle.roff_fronts.specs.Stages.{ReadsPast};
 ghost use Rattle.roff_fronts.specs.declared.conditions.BehindName.TheVariants.{Constant};
 ghost use Rattle.roff_fronts.specs.declared.control.ControlRead.TheVariants.{Condition, Decided};
 ghost use Rattle.roff_fronts.specs.declared.control.ControlRead.TheVariants.{Dropped, HeldToEnd};
-ghost use Rattle.roff_fronts.specs.declared.control.ControlRead.TheVariants.{HeldToRegister};
+ghost use Rattle.roff_fronts.specs.declared.control.ControlRead.TheVariants.{HeldToEscape};
 ghost use Rattle.roff_scan.specs.declared.run_kind.RunKind.TheVariants.{Condition as ConditionRun};
 
+use crate::answered::decide_register;
 use crate::control::{ControlFront, ControlRead, take_front};
+use roff_composer::Composer;
 use roff_names::begin_deciding;
 use roff_reader::Reader;
 use roff_run::{LineState, PageEvent};
@@ -26,31 +29,33 @@ use roff_scan::{ByteSource, Unread};
 enum BehindName {
     /// A condition that asks nothing, between blanks: `1` or `0`, by whether it is so.
     Constant(bool),
-    /// A blank.
-    Blank,
+    /// A blank, and whether the escape of a register may stand behind it, and more behind that.
+    Blank { asks: bool },
     /// Anything else, or nothing that is seen.
     Other,
 }
 
 /// Takes the name of a request that asks a condition, with its dot or apostrophe, and a blank
-/// behind it; or a condition too that asks nothing, which decides.
+/// behind it; or a condition too that asks nothing, or asks for a register, and decides.
 #[inline(never)]
 pub(super) fn read_condition<S: ByteSource>(
     reader: &mut Reader,
     keeps: bool,
     front: ControlFront,
+    composer: &Composer,
     unread: &mut Unread<PageEvent>,
     source: &mut S,
 ) -> ControlRead
-    requires { StandsName front (Deciding keeps) reader.old.reading (S.ready source.old) unread.old }
+    requires { StandsName front (Deciding keeps) reader.old.reading
+        (S.ready source.old) unread.old }
     ensures past { is_past result ≡ true → ReadsPast (S.gives source.old) (S.gives source.new)
         reader.old reader.new unread.old unread.new }
     ensures condition { result ≡ Condition → IsRun ConditionRun reader.new.reading
         unread.new.input.escapes }
-    ensures decides { result ≡ Decided → DecidesAtOnce (S.gives source.old) (S.gives source.new)
-        reader.old reader.new unread.old unread.new }
+    ensures decides { result ≡ Decided → DecidesAtOnce composer.now (S.gives source.old)
+        (S.gives source.new) reader.old reader.new unread.old unread.new }
     ensures line { result ≡ HeldToEnd → ⊥ }
-    ensures register { result ≡ HeldToRegister → ⊥ }
+    ensures register { result ≡ HeldToEscape → ⊥ }
     ensures dropped { result ≡ Dropped → ⊥ }
     ensures read { is_read result ≡ true }
     ensures notes { S.notes source.new ≤ S.notes source.old }
@@ -65,16 +70,76 @@ pub(super) fn read_condition<S: ByteSource>(
             reader.go_on(LineState::branch(so));
             ControlRead::Decided
         }
-        None => match behind {
-            BehindName::Blank => {
-                take_front(unread, source, 4);
-                begin_condition(reader, keeps, unread)
+        None => {
+            if decide_asking(reader, keeps, front, behind, composer, unread, source) {
+                return ControlRead::Decided;
             }
-            _ => {
-                take_front(unread, source, 3);
-                begin_condition(reader, keeps, unread)
+            read_undecided(reader, keeps, front, behind, unread, source)
+        }
+    }
+}
+
+/// What [`decide_register`] does, where a register may be asked for behind the name, and the
+/// condition's result isn't kept. Returns whether it decided.
+#[inline(always)]
+fn decide_asking<S: ByteSource>(
+    reader: &mut Reader,
+    keeps: bool,
+    front: ControlFront,
+    behind: BehindName,
+    composer: &Composer,
+    unread: &mut Unread<PageEvent>,
+    source: &mut S,
+) -> bool
+    requires { StandsName front (Deciding keeps) reader.old.reading
+        (S.ready source.old) unread.old }
+    ensures decides { result ≡ true → DecidesRegister composer.now (S.gives source.old)
+        (S.gives source.new) reader.old reader.new unread.old unread.new }
+    ensures unchanged { result ≡ false
+        → (reader.new ≡ reader.old) × (unread.new ≡ unread.old) × (source.new ≡ source.old) }
+    ensures notes { S.notes source.new ≤ S.notes source.old }
+    ensures failures { S.failures source.new ≡ S.failures source.old }
+{
+    match behind {
+        BehindName::Blank { asks: true } => {
+            if keeps {
+                return false;
             }
-        },
+            decide_register(reader, front, composer, unread, source)
+        }
+        _ => false,
+    }
+}
+
+/// The same of a condition that doesn't decide at once, behind whose name this stands.
+#[inline(always)]
+fn read_undecided<S: ByteSource>(
+    reader: &mut Reader,
+    keeps: bool,
+    front: ControlFront,
+    behind: BehindName,
+    unread: &mut Unread<PageEvent>,
+    source: &mut S,
+) -> ControlRead
+    requires named { StandsName front (Deciding keeps) reader.old.reading
+        (S.ready source.old) unread.old }
+    requires behind { SeesBehind behind (S.ready source.old) unread.old }
+    ensures condition { result ≡ Condition }
+    ensures past { ReadsPast (S.gives source.old) (S.gives source.new)
+        reader.old reader.new unread.old unread.new }
+    ensures run { IsRun ConditionRun reader.new.reading unread.new.input.escapes }
+    ensures notes { S.notes source.new ≤ S.notes source.old }
+    ensures failures { S.failures source.new ≡ S.failures source.old }
+{
+    match behind {
+        BehindName::Blank { .. } => {
+            take_front(unread, source, 4);
+            begin_condition(reader, keeps, unread)
+        }
+        _ => {
+            take_front(unread, source, 3);
+            begin_condition(reader, keeps, unread)
+        }
     }
 }
 
@@ -110,7 +175,7 @@ fn decided_at_once(keeps: bool, behind: BehindName, unread: &Unread<PageEvent>) 
                 Some(so)
             }
         }
-        BehindName::Blank => None,
+        BehindName::Blank { .. } => None,
         BehindName::Other => None,
     }
 }
@@ -123,7 +188,10 @@ fn behind_name(bytes: &[u8]) -> BehindName
     match bytes {
         [_, _, _, b' ', b'0', b' ', ..] => BehindName::Constant(false),
         [_, _, _, b' ', b'1', b' ', ..] => BehindName::Constant(true),
-        [_, _, _, b' ', ..] => BehindName::Blank,
+        [_, _, _, b' ', b'\\', b'n', _, b' ', ..] => BehindName::Blank { asks: false },
+        [_, _, _, b' ', b'\\', b'n', b'(', _, _, b' ', ..] => BehindName::Blank { asks: false },
+        [_, _, _, b' ', b'\\', b'n', ..] => BehindName::Blank { asks: true },
+        [_, _, _, b' ', ..] => BehindName::Blank { asks: false },
         _ => BehindName::Other,
     }
 }

@@ -15,7 +15,7 @@ ghost use Rattle.roff_fronts.specs.Conditions.{DecidesAtOnce};
 ghost use Rattle.roff_fronts.specs.declared.control.ControlRead.TheVariants.{Condition, Decided};
 ghost use Rattle.roff_fronts.specs.declared.control.ControlRead.TheVariants.{Dropped};
 ghost use Rattle.roff_fronts.specs.declared.control.ControlRead.TheVariants.{HeldToEnd};
-ghost use Rattle.roff_fronts.specs.declared.control.ControlRead.TheVariants.{HeldToRegister};
+ghost use Rattle.roff_fronts.specs.declared.control.ControlRead.TheVariants.{HeldToEscape};
 ghost use Rattle.roff_fronts.specs.Runs.{IsRun};
 ghost use Rattle.roff_scan.specs.declared.run_kind.RunKind.TheVariants.{Arguments};
 ghost use Rattle.roff_scan.specs.declared.run_kind.RunKind.TheVariants.{Condition as ConditionRun};
@@ -26,6 +26,7 @@ ghost use Rattle.roff_scan.specs.Unread.Calls.{IsFront, NoNewline, PassesFront, 
 
 use crate::conditions::read_condition;
 use crate::dropped::drop_line;
+use roff_composer::Composer;
 use roff_names::{begin_deciding, behind_called, called_by};
 use roff_num::ShortName;
 use roff_reader::{CALL_ARGUMENTS, Reader};
@@ -58,7 +59,7 @@ pub enum ControlRead {
     /// The bytes up to its name's end, and bytes behind it that are held in its arguments.
     Held,
     /// The same, where the escape of a register may stand behind them.
-    HeldToRegister,
+    HeldToEscape,
     /// The same up to its newline, which was taken too, and isn't read yet.
     HeldToEnd,
 }
@@ -85,6 +86,7 @@ pub fn begins_control_line(reader: &Reader) -> bool
 #[inline(always)]
 pub fn read_control_front<S: ByteSource>(
     reader: &mut Reader,
+    composer: &Composer,
     unread: &mut Unread<PageEvent>,
     source: &mut S,
 ) -> ControlRead
@@ -95,12 +97,12 @@ pub fn read_control_front<S: ByteSource>(
         reader.old reader.new unread.old unread.new }
     ensures line { result ≡ HeldToEnd → ReadsLine (S.gives source.old) (S.gives source.new)
         reader.old reader.new unread.old unread.new }
-    ensures register { result ≡ HeldToRegister
+    ensures register { result ≡ HeldToEscape
         → IsRun Arguments reader.new.reading unread.new.input.escapes }
     ensures condition { result ≡ Condition → IsRun ConditionRun reader.new.reading
         unread.new.input.escapes }
-    ensures decides { result ≡ Decided → DecidesAtOnce (S.gives source.old) (S.gives source.new)
-        reader.old reader.new unread.old unread.new }
+    ensures decides { result ≡ Decided → DecidesAtOnce composer.now (S.gives source.old)
+        (S.gives source.new) reader.old reader.new unread.old unread.new }
     ensures dropped { result ≡ Dropped → LineBegun reader.new unread.old unread.new }
     ensures unchanged { is_read result ≡ false
         → (reader.new ≡ reader.old) × (unread.new ≡ unread.old) × (source.new ≡ source.old) }
@@ -111,7 +113,7 @@ pub fn read_control_front<S: ByteSource>(
     ensures failures { S.failures source.new ≡ S.failures source.old }
 {
     match control_front(unread.front(source)) {
-        Some(front) => read_control(reader, front, unread, source),
+        Some(front) => read_control(reader, front, composer, unread, source),
         None => ControlRead::Nothing,
     }
 }
@@ -121,6 +123,7 @@ pub fn read_control_front<S: ByteSource>(
 fn read_control<S: ByteSource>(
     reader: &mut Reader,
     front: ControlFront,
+    composer: &Composer,
     unread: &mut Unread<PageEvent>,
     source: &mut S,
 ) -> ControlRead
@@ -134,12 +137,12 @@ fn read_control<S: ByteSource>(
         reader.old reader.new unread.old unread.new }
     ensures line { result ≡ HeldToEnd → ReadsLine (S.gives source.old) (S.gives source.new)
         reader.old reader.new unread.old unread.new }
-    ensures register { result ≡ HeldToRegister
+    ensures register { result ≡ HeldToEscape
         → IsRun Arguments reader.new.reading unread.new.input.escapes }
     ensures condition { result ≡ Condition → IsRun ConditionRun reader.new.reading
         unread.new.input.escapes }
-    ensures decides { result ≡ Decided → DecidesAtOnce (S.gives source.old) (S.gives source.new)
-        reader.old reader.new unread.old unread.new }
+    ensures decides { result ≡ Decided → DecidesAtOnce composer.now (S.gives source.old)
+        (S.gives source.new) reader.old reader.new unread.old unread.new }
     ensures dropped { result ≡ Dropped → LineBegun reader.new unread.old unread.new }
     ensures unchanged { is_read result ≡ false
         → (reader.new ≡ reader.old) × (unread.new ≡ unread.old) × (source.new ≡ source.old) }
@@ -160,7 +163,7 @@ fn read_control<S: ByteSource>(
     };
     match behind_called(front.breaks, called_by(name, unread)) {
         None => ControlRead::Nothing,
-        Some(reading) => read_behind_name(reader, front, reading, unread, source),
+        Some(reading) => read_behind_name(reader, front, reading, composer, unread, source),
     }
 }
 
@@ -189,6 +192,7 @@ fn read_behind_name<S: ByteSource>(
     reader: &mut Reader,
     front: ControlFront,
     reading: LineState,
+    composer: &Composer,
     unread: &mut Unread<PageEvent>,
     source: &mut S,
 ) -> ControlRead
@@ -197,12 +201,12 @@ fn read_behind_name<S: ByteSource>(
         reader.old reader.new unread.old unread.new }
     ensures line { result ≡ HeldToEnd → ReadsLine (S.gives source.old) (S.gives source.new)
         reader.old reader.new unread.old unread.new }
-    ensures register { result ≡ HeldToRegister
+    ensures register { result ≡ HeldToEscape
         → IsRun Arguments reader.new.reading unread.new.input.escapes }
     ensures condition { result ≡ Condition → IsRun ConditionRun reader.new.reading
         unread.new.input.escapes }
-    ensures decides { result ≡ Decided → DecidesAtOnce (S.gives source.old) (S.gives source.new)
-        reader.old reader.new unread.old unread.new }
+    ensures decides { result ≡ Decided → DecidesAtOnce composer.now (S.gives source.old)
+        (S.gives source.new) reader.old reader.new unread.old unread.new }
     ensures dropped { result ≡ Dropped → LineBegun reader.new unread.old unread.new }
     ensures read { is_read result ≡ true }
     ensures notes { S.notes source.new ≤ S.notes source.old }
@@ -227,7 +231,9 @@ fn read_behind_name<S: ByteSource>(
             reader.go_on(reading);
             held_for_call(behind)
         }
-        LineState::Deciding { keeps } => read_condition(reader, keeps, front, unread, source),
+        LineState::Deciding { keeps } => {
+            read_condition(reader, keeps, front, composer, unread, source)
+        }
         LineState::Dropped => dropped_to(drop_line(reader, unread, source, 3)),
         _ => {
             take_front(unread, source, 3);
@@ -270,7 +276,7 @@ fn held_to(behind: BehindHeld) -> ControlRead
 {
     match behind {
         BehindHeld::Newline => ControlRead::HeldToEnd,
-        BehindHeld::Register => ControlRead::HeldToRegister,
+        BehindHeld::Named => ControlRead::HeldToEscape,
         BehindHeld::Other => ControlRead::Held,
     }
 }
@@ -282,7 +288,7 @@ fn held_for_call(behind: BehindHeld) -> ControlRead
 {
     match behind {
         BehindHeld::Newline => ControlRead::HeldToEnd,
-        BehindHeld::Register => ControlRead::Held,
+        BehindHeld::Named => ControlRead::Held,
         BehindHeld::Other => ControlRead::Held,
     }
 }

@@ -42,8 +42,8 @@ pub(super) fn drop_line<S: ByteSource>(
     }
 }
 
-/// How many of these bytes stand in front of the first newline behind the first so many, if there is
-/// one.
+/// How many of these bytes stand in front of the first newline behind the first so many, if there
+/// is one.
 #[inline(always)]
 fn dropped_len(bytes: &[u8], skipped: usize) -> Option<usize>
     ensures { IfSome result (λ count. EndsDropped skipped bytes.now count) }

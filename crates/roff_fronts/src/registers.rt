@@ -2,7 +2,7 @@
 
 ghost use Rattle.std.specs.Prelude.{◌≡◌, ◌≤◌, ◌<◌, ◌+◌, true, false, IfSome, None, Some, length};
 ghost use Rattle.roff_fronts.specs.Registers.{BeginsRegister, HoldsRegister, IsRegisterAhead};
-ghost use Rattle.roff_fronts.specs.Registers.{IsRegisterName, PutsRegister, ReadsNames};
+ghost use Rattle.roff_fronts.specs.Registers.{NamesRegister, PutsRegister, ReadsNames};
 ghost use Rattle.roff_fronts.specs.Registers.{register_escape, with_text};
 ghost use Rattle.roff_fronts.specs.Runs.{IsRun};
 ghost use Rattle.roff_input.specs.Input.{depth, pushed};
@@ -120,7 +120,7 @@ pub fn pass_register<S: ByteSource>(
 
 /// Whether names behind escapes are read at once here: on a text line, and behind a request's name.
 #[inline(always)]
-fn reads_names(reader: &Reader) -> bool
+pub(super) fn reads_names(reader: &Reader) -> bool
     ensures { result ≡ true → ReadsNames reader.now.reading }
 {
     match reader.reading() {
@@ -149,7 +149,7 @@ fn has_room(unread: &Unread<PageEvent>) -> bool
 
 /// The name of the register whose escape these bytes begin with, if they do.
 #[inline(always)]
-fn register_in_front(bytes: &[u8]) -> Option<ShortName>
+pub(super) fn register_in_front(bytes: &[u8]) -> Option<ShortName>
     ensures { IfSome result (λ name. BeginsRegister bytes.now name) }
 {
     match bytes {
@@ -161,8 +161,8 @@ fn register_in_front(bytes: &[u8]) -> Option<ShortName>
 
 /// A name of two bytes, if both belong to one.
 #[inline(always)]
-fn long_name(first: u8, second: u8) -> Option<ShortName>
-    ensures { IfSome result (λ name. IsRegisterName name × (name ≡ record { first = first; second = Some second })) }
+pub(super) fn long_name(first: u8, second: u8) -> Option<ShortName>
+    ensures { IfSome result (λ name. NamesRegister first (Some second) name) }
 {
     if !is_argument_byte(first) {
         return None;
@@ -178,8 +178,8 @@ fn long_name(first: u8, second: u8) -> Option<ShortName>
 
 /// A name of one byte, if that is neither a sign nor a parenthesis.
 #[inline(always)]
-fn short_name(first: u8) -> Option<ShortName>
-    ensures { IfSome result (λ name. IsRegisterName name × (name ≡ record { first = first; second = None })) }
+pub(super) fn short_name(first: u8) -> Option<ShortName>
+    ensures { IfSome result (λ name. NamesRegister first None name) }
 {
     if !is_argument_byte(first) {
         return None;
@@ -199,9 +199,9 @@ fn short_name(first: u8) -> Option<ShortName>
     })
 }
 
-/// How many bytes the escape of a register's name has.
+/// How many bytes the escape of a name has.
 #[inline(always)]
-fn escape_len(name: ShortName) -> usize
+pub(super) fn escape_len(name: ShortName) -> usize
     ensures { result ≡ length (register_escape name) }
 {
     match name.second {

@@ -1,7 +1,8 @@
 //! How what ends a run early is told.
 
 ghost use Rattle.std.specs.Prelude.{ℕ};
-ghost use Rattle.roff_interpreter.specs.Clauses.{Beginning, Tape, OutcomeOf, Seen, seen, Halts, Sunk};
+ghost use Rattle.roff_interpreter.specs.Clauses.{Beginning, Tape, OutcomeOf, Seen, seen, Halts};
+ghost use Rattle.roff_interpreter.specs.Clauses.{Sunk};
 
 use crate::report::report;
 use roff_formatter::Halt;

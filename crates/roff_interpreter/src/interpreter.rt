@@ -4,6 +4,7 @@ ghost use Rattle.std.specs.Prelude.{◌≡◌, IfOk};
 ghost use Rattle.roff_interpreter.specs.Clauses.{fresh_reader, Gives, StandFor, pages_given};
 
 mod ending;
+mod line_ends;
 mod performing;
 mod taking;
 

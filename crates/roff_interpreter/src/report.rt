@@ -17,8 +17,8 @@ pub fn report<E: ByteSink>(message: Message, line: u32, err: &mut E) -> Result<(
     err.put(&message.line(line))
 }
 
-/// Writes the text of a message that a request tells: bare, and a newline. An empty one of a request
-/// that aborts the run is `User Abort`.
+/// Writes the text of a message that a request tells: bare, and a newline. An empty one of a
+/// request that aborts the run is `User Abort`.
 ///
 /// # Errors
 ///

@@ -4,7 +4,7 @@ ghost use Rattle.std.specs.Prelude.{◌≡◌, ◌≤◌, ◌∷◌, [], true, d
 ghost use Rattle.std.specs.Prelude.{if◌then◌else◌, false};
 ghost use Rattle.roff_meaning.specs.Events.{around_break, request_events, stop_at, stops_set};
 ghost use Rattle.roff_meaning.specs.Events.{BreakNotFirst, stops_or_few};
-ghost use Rattle.roff_layout.specs.declared.event.Event.TheVariants.{Break, WordEnd};
+ghost use Rattle.roff_layout.specs.declared.event.Event.TheVariants.{Break, Set, WordEnd};
 ghost use Rattle.roff_run.specs.declared.event.PageEvent.TheVariants.{Text};
 ghost use Rattle.roff_run.specs.Requests.Effects.{behind_break};
 
@@ -91,6 +91,28 @@ impl RequestedEvents {
         ensures others { result ≡ false → BreakNotFirst self.now.items }
     {
         self.before.is_none() && self.breaks
+    }
+
+    /// The parameter that they set behind those of a break, if one is to come, where they are no
+    /// others.
+    #[inline(always)]
+    pub fn setting_behind(&self, breaks: bool) -> Option<Param>
+        ensures { IfSome result
+            (λ param. self.now.items ≡ behind_break breaks (Text (Set param) ∷ [])) }
+    {
+        if self.before.is_some() {
+            return None;
+        }
+        if self.sets_stops {
+            return None;
+        }
+        if self.breaks != breaks {
+            return None;
+        }
+        match &self.behind {
+            RequestEvents::One(PageEvent::Text(Event::Set(param))) => Some(*param),
+            _ => None,
+        }
     }
 
     /// The event at an index, if there are so many: 36 at most.

@@ -1,7 +1,7 @@
 //! What an item means, where that isn't told by the name of its step.
 
-ghost use Rattle.std.specs.Prelude.{◌≡◌, ◌≤◌, ◌∷◌, None, IfSome, drop, slice_get, true, false};
-ghost use Rattle.roff_layout.specs.declared.event.Event.TheVariants.{Break, WordEnd};
+ghost use Rattle.std.specs.Prelude.{◌≡◌, ◌≤◌, ◌∷◌, [], None, IfSome, drop, slice_get, true, false};
+ghost use Rattle.roff_layout.specs.declared.event.Event.TheVariants.{Break, Set, WordEnd};
 ghost use Rattle.roff_run.specs.declared.event.PageEvent.TheVariants.{Text};
 ghost use Rattle.roff_run.specs.Events.Lines.{line_events};
 ghost use Rattle.roff_run.specs.Requests.Effects.{behind_break};
@@ -10,7 +10,7 @@ ghost use Rattle.roff_meaning.specs.Meaning.{IsWithoutBreak, nothing_kept, resum
 
 use crate::events::{RequestEvents, RequestedEvents};
 use arrayvec::ArrayVec;
-use roff_layout::Event;
+use roff_layout::{Event, Param};
 use roff_run::{LineEvents, Message, PageEvent};
 use std::marker::Model;
 
@@ -107,6 +107,19 @@ impl Meaning {
         ensures others { result ≡ false → IsWithoutBreak self.now.events }
     {
         self.is_request && self.requested.begin_with_break()
+    }
+
+    /// The parameter that the events set behind those of a break, if one is to come, where they are
+    /// no others.
+    #[inline(always)]
+    pub fn setting_behind(&self, breaks: bool) -> Option<Param>
+        ensures { IfSome result
+            (λ param. self.now.events ≡ behind_break breaks (Text (Set param) ∷ [])) }
+    {
+        if !self.is_request {
+            return None;
+        }
+        self.requested.setting_behind(breaks)
     }
 
     /// The event at an index, if there are so many: 36 at most.

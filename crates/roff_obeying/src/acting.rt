@@ -15,6 +15,7 @@ ghost use Rattle.roff_run.specs.Requests.Effects.{meant_by};
 ghost use Rattle.roff_run.specs.Run.{known_at};
 ghost use Rattle.roff_run.specs.declared.request.Request.TheVariants.{NumberRegister};
 
+use crate::lengths::set_indent;
 use crate::numbering::{set_numbers, set_register};
 use crate::registers::{in_force, remove_given};
 use crate::telling::{happen, keep, keep_stops, say, set_always};
@@ -51,6 +52,7 @@ pub fn act(
     match request {
         Request::Break => Ok(broken(breaks)),
         Request::NumberRegister => set_register(registers, meaning, composer, unread),
+        Request::Indent => Ok(set_indent(meaning, breaks, composer, unread)),
         Request::WithoutEffect(_) => Ok(Step::Nothing),
         Request::Fill => Ok(set_always(meaning, breaks, Param::Filling(true))),
         Request::NoFill => Ok(set_always(meaning, breaks, Param::Filling(false))),

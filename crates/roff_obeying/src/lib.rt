@@ -3,6 +3,7 @@
 #![tactic(auto)]
 
 mod acting;
+mod lengths;
 mod numbering;
 mod registers;
 mod telling;

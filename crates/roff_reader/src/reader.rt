@@ -2,7 +2,7 @@
 
 ghost use Rattle.std.specs.Prelude.{◌≡◌, ◌==◌, ◌≤◌, ◌∷◌, [], IfOk, IfSome, None, false, slice_get};
 ghost use Rattle.std.specs.Prelude.{drop, true};
-ghost use Rattle.roff_layout.specs.declared.event.Event.TheVariants.{Break, WordEnd};
+ghost use Rattle.roff_layout.specs.declared.event.Event.TheVariants.{Break, Set, WordEnd};
 ghost use Rattle.roff_run.specs.declared.event.PageEvent.TheVariants.{Text};
 ghost use Rattle.std.specs.Option.{option_to_list};
 ghost use Rattle.roff_source.specs.Bytes.{backslash, is_dropped};
@@ -17,6 +17,7 @@ ghost use Rattle.roff_run.specs.Registers.Capped.{admitted, after};
 ghost use Rattle.roff_run.specs.Starts.{given_change};
 ghost use Rattle.roff_run.specs.declared.phase.Phase.{Phase};
 ghost use Rattle.roff_reader.specs.Clauses.{behind_return};
+ghost use Rattle.roff_run.specs.Requests.Effects.{behind_break};
 
 mod arguments;
 mod bytes;
@@ -28,6 +29,7 @@ mod ends;
 mod escapes;
 mod found;
 mod half_read;
+mod line_ends;
 mod messages;
 mod obeying;
 mod registers;
@@ -39,6 +41,7 @@ mod waiting;
 
 pub use calls::CALL_ARGUMENTS;
 use roff_composer::Composer;
+use roff_layout::Param;
 use roff_meaning::{Meaning, RequestEvents};
 use roff_num::{Limit, Num};
 use roff_obeying::report;
@@ -221,6 +224,16 @@ impl Reader {
         ensures others { result ≡ false → IsWithoutBreak self.now.meaning.events }
     {
         self.meaning.begins_with_break()
+    }
+
+    /// The parameter that the events of the meaning set that is kept, behind those of a break, if
+    /// one is to come, where they are no others.
+    #[inline(always)]
+    pub fn setting_behind(&self, breaks: bool) -> Option<Param>
+        ensures { IfSome result (λ param.
+            self.now.meaning.events ≡ behind_break breaks (Text (Set param) ∷ [])) }
+    {
+        self.meaning.setting_behind(breaks)
     }
 
     /// The event at an index of the meaning that is kept, if there are so many: 36 at most.

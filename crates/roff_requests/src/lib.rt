@@ -7,6 +7,6 @@ mod requests;
 
 pub use registers::{Facts, RunRegisters, is_page, page_name};
 pub use requests::{
-    Changes, Given, Numbers, RequestFacts, Response, numbers_given, register_named, response,
-    tab_stops,
+    Changes, Given, Numbers, RequestFacts, Response, length_wanted, numbers_given, register_named,
+    response, tab_stops,
 };

@@ -21,8 +21,8 @@ pub(crate) const LINE: u32 = 40;
 pub(crate) fn value_in(scale: Scale, text: &[u8]) -> Result<i32, NumFault>
     ensures { result ≡ value_in scale text.now }
 {
-    if let Some(digit) = lone_digit(scale, text) {
-        return Ok(digit);
+    if let Some(value) = short_value(scale, text) {
+        return Ok(value);
     }
     match eval(text, 0, scale, Some(0)) {
         Ok((value, _)) => Ok(value.0),
@@ -30,26 +30,45 @@ pub(crate) fn value_in(scale: Scale, text: &[u8]) -> Result<i32, NumFault>
     }
 }
 
-/// The value of a text that is one digit, where a number alone is one of basic units.
+/// The value of a text that is one digit, and maybe the letter of a column behind it.
 #[inline(always)]
-fn lone_digit(scale: Scale, text: &[u8]) -> Option<i32>
-    ensures { IfSome result (λ digit. value_in scale text.now ≡ Ok digit) }
+fn short_value(scale: Scale, text: &[u8]) -> Option<i32>
+    ensures { IfSome result (λ value. value_in scale text.now ≡ Ok value) }
 {
-    match (scale, text) {
-        (Scale::Units, [digit]) => digit_value(*digit),
+    match text {
+        [digit] => value_of_digit(scale, *digit),
+        [digit, b'n'] => columns_of_digit(*digit),
         _ => None,
     }
 }
 
 /// The value of a digit.
 #[inline(always)]
-fn digit_value(byte: u8) -> Option<i32>
-    ensures { IfSome result (λ digit. value_in Units (byte ∷ []) ≡ Ok digit) }
+fn value_of_digit(scale: Scale, byte: u8) -> Option<i32>
+    ensures { IfSome result (λ value. value_in scale (byte ∷ []) ≡ Ok value) }
 {
     if byte < b'0' || byte > b'9' {
         return None;
     }
-    Some(i32::from(byte - b'0'))
+    let number = u16::from(byte - b'0');
+    match scale {
+        Scale::Units => Some(i32::from(number)),
+        Scale::Columns => Some(i32::from(number * 24)),
+        Scale::Lines => Some(i32::from(number * 40)),
+    }
+}
+
+/// The value of so many columns as a digit says.
+#[inline(always)]
+fn columns_of_digit(byte: u8) -> Option<i32>
+    ensures { (scale : Scale)
+        → IfSome result (λ value. value_in scale (byte ∷ 110 ∷ []) ≡ Ok value) }
+{
+    if byte < b'0' || byte > b'9' {
+        return None;
+    }
+    let number = u16::from(byte - b'0');
+    Some(i32::from(number * 24))
 }
 
 /// The value of a height down the page, in basic units, where this is the place.

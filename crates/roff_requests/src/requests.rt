@@ -21,6 +21,7 @@ mod traps;
 use Request::{LeftOut, WithoutEffect};
 pub(crate) use effects::PageFacts;
 pub use effects::{Changes, RequestFacts, Response};
+pub use lengths::length_wanted;
 pub use numbering::{Numbers, numbers_given, register_named};
 use roff_layout::Param;
 use roff_run::Request;

@@ -4,3 +4,4 @@ pub mod Kept
 pub mod Lines
 pub mod Runs
 pub mod FirstArguments
+pub mod Texts

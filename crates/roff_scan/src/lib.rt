@@ -13,4 +13,4 @@ pub use roff_escape::{
 pub use roff_input::{Item, Looked, Place, Sight};
 pub use roff_source::{ByteSource, Note, ReadSource, Taken, is_dropped, is_silent, text_in_front};
 pub use run_kind::RunKind;
-pub use unread::{BehindHeld, Unread, begins_register};
+pub use unread::{BehindHeld, Unread, begins_named};

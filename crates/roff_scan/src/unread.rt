@@ -16,7 +16,7 @@ mod runs;
 mod skipped;
 mod taken;
 
-pub use lines::{BehindHeld, begins_register};
+pub use lines::{BehindHeld, begins_named};
 use roff_ahead::InputAhead;
 use roff_arguments::{ArgumentTexts, Calls};
 use roff_escape::OpenEscapes;

@@ -8,19 +8,19 @@ ghost use Rattle.roff_scan.specs.declared.run_kind.RunKind.TheVariants.{Text as 
 
 use super::Running;
 use roff_fronts::{
-    RunKind, hold_register, pass_register, register_ahead, run_half_read, run_kind, take_arguments,
-    take_branch_blanks, take_run, take_string_front, take_string_name,
+    RunKind, hold_register, pass_register, put_string, register_ahead, run_half_read, run_kind,
+    take_arguments, take_branch_blanks, take_run, take_string_front, take_string_name,
 };
 use roff_num::ShortName;
-use roff_scan::{ByteSource, begins_register};
+use roff_scan::ByteSource;
 
 /// What lies behind bytes that were told.
 #[derive(Clone, Copy)]
 pub(super) enum Behind {
     /// What wasn't looked at, as none was told.
     Untold,
-    /// A backslash and the letter of a register.
-    Register,
+    /// A backslash and the letter of a register or a string.
+    Named,
     /// Another backslash.
     Escape,
     /// Anything else, or nothing that is seen.
@@ -77,7 +77,7 @@ impl Running {
     }
 
     /// Takes bytes together that stand in front and are held in arguments. Returns whether the
-    /// escape of a register may stand behind them.
+    /// escape of a register or a string may stand behind them.
     #[inline(always)]
     fn take_arguments<S: ByteSource>(&mut self, source: &mut S) -> bool
         requires { IsRun ArgumentsRun self.old.interpreter.reader.reading
@@ -89,8 +89,8 @@ impl Running {
         take_arguments(&self.interpreter.reader, &mut self.unread, source)
     }
 
-    /// The same, and then takes the escape of a register behind them, and bytes behind that.
-    /// Returns whether it took one, and another may stand behind it.
+    /// The same, and then takes the escape of a register or a string behind them, and bytes behind
+    /// that. Returns whether it took one, and another may stand behind it.
     #[inline(always)]
     pub(super) fn hold_line<S: ByteSource>(&mut self, source: &mut S) -> bool
         requires { IsRun ArgumentsRun self.old.interpreter.reader.reading
@@ -103,18 +103,36 @@ impl Running {
         self.hold_on(source)
     }
 
-    /// Takes the escape of a register that stands whole in front of arguments, holds its text, and
-    /// takes bytes behind that. Returns whether it took one, and another may stand behind it.
+    /// Takes the escape of a register or a string that stands whole in front of arguments, and
+    /// bytes of its text and behind it. Returns whether it took one, and another may stand behind
+    /// it.
     #[inline(always)]
     pub(super) fn hold_on<S: ByteSource>(&mut self, source: &mut S) -> bool
         requires { IsRun ArgumentsRun self.old.interpreter.reader.reading
             self.old.unread.input.escapes }
         ensures { GoesFurtherOver result S.ByteSource source.old source.new self.old self.new }
     {
-        if !self.hold_register(source) {
+        if !self.hold_named(source) {
             return false;
         }
         self.take_arguments(source)
+    }
+
+    /// Takes the escape of a register that stands whole in front of arguments, and holds its text;
+    /// or that of a string, which is put in front. Returns whether it did.
+    #[inline(always)]
+    fn hold_named<S: ByteSource>(&mut self, source: &mut S) -> bool
+        requires { IsRun ArgumentsRun self.old.interpreter.reader.reading
+            self.old.unread.input.escapes }
+        ensures further { GoesFurtherOver result S.ByteSource source.old source.new
+            self.old self.new }
+        ensures half { self.new.unread.input.escapes ≡ self.old.unread.input.escapes }
+        ensures reads { self.new.interpreter ≡ self.old.interpreter }
+    {
+        if self.hold_register(source) {
+            return true;
+        }
+        self.put_string(source)
     }
 
     /// Takes the escape of a register that stands whole in front of arguments, and holds its text.
@@ -137,9 +155,9 @@ impl Running {
     }
 
     /// Takes the escape of a register that stands whole in front on a text line, and tells its
-    /// text. Returns whether it did.
+    /// text; or that of a string, and tells text of that. Returns whether it did.
     #[inline(never)]
-    pub(super) fn tell_register<S: ByteSource>(&mut self, source: &mut S) -> bool
+    pub(super) fn take_named<S: ByteSource>(&mut self, source: &mut S) -> bool
         requires { IsRun TextRun self.old.interpreter.reader.reading self.old.unread.input.escapes }
         ensures further { GoesFurtherOver result S.ByteSource source.old source.new
             self.old self.new }
@@ -151,11 +169,42 @@ impl Running {
                 self.tell_named(name, source);
                 true
             }
-            None => false,
+            None => self.tell_string(source),
         }
     }
 
-    /// The same of this name, whose escape stands in front.
+    /// Takes the escape of a string that stands whole in front on a text line, tells bytes of plain
+    /// text with which the string begins, and takes its end, if that stands behind them. Returns
+    /// whether it did.
+    #[inline(always)]
+    fn tell_string<S: ByteSource>(&mut self, source: &mut S) -> bool
+        requires { IsRun TextRun self.old.interpreter.reader.reading self.old.unread.input.escapes }
+        ensures further { GoesFurtherOver result S.ByteSource source.old source.new
+            self.old self.new }
+        ensures half { self.new.unread.input.escapes ≡ self.old.unread.input.escapes }
+        ensures reads { self.new.interpreter.reader ≡ self.old.interpreter.reader }
+    {
+        if !self.put_string(source) {
+            return false;
+        }
+        let _ = self.tell_front(source);
+        let _ = self.pass_end();
+        true
+    }
+
+    /// Takes the escape of a string that stands whole in front, where text or arguments are read,
+    /// and puts the string in front. Returns whether it did.
+    #[inline(always)]
+    fn put_string<S: ByteSource>(&mut self, source: &mut S) -> bool
+        ensures further { GoesFurtherOver result S.ByteSource source.old source.new
+            self.old self.new }
+        ensures half { self.new.unread.input.escapes ≡ self.old.unread.input.escapes }
+        ensures reads { self.new.interpreter ≡ self.old.interpreter }
+    {
+        put_string(&self.interpreter.reader, &mut self.unread, source)
+    }
+
+    /// Tells the text of the register of this name, whose escape stands in front.
     #[inline(always)]
     fn tell_named<S: ByteSource>(&mut self, name: ShortName, source: &mut S)
         requires run { IsRun TextRun self.old.interpreter.reader.reading
@@ -181,8 +230,8 @@ impl Running {
     }
 
     /// Takes bytes of plain text together that stand in front, and tells them, and then takes the
-    /// escape of a register behind them, or reads the front of another one. Returns whether it took
-    /// a whole one.
+    /// escape of a register or a string behind them, or reads the front of one. Returns whether it
+    /// took a whole one.
     #[inline(always)]
     pub(super) fn tell_line<S: ByteSource>(&mut self, source: &mut S) -> bool
         requires { IsRun TextRun self.old.interpreter.reader.reading self.old.unread.input.escapes }
@@ -192,7 +241,7 @@ impl Running {
             Behind::Untold => false,
             Behind::Other => false,
             Behind::Escape => self.read_escape(source),
-            Behind::Register => self.read_register(source),
+            Behind::Named => self.read_named(source),
         }
     }
 
@@ -226,8 +275,8 @@ impl Running {
                 let _ = self.read_escape(source);
                 false
             }
-            Behind::Register => {
-                let _ = self.read_register(source);
+            Behind::Named => {
+                let _ = self.read_named(source);
                 false
             }
         }
@@ -244,14 +293,14 @@ impl Running {
         false
     }
 
-    /// Takes the escape of a register in front, or reads the front of one. Returns whether it took
-    /// a whole one.
+    /// Takes the escape of a register or a string in front, and tells text behind that, or reads
+    /// the front of one. Returns whether it took a whole one.
     #[inline(always)]
-    fn read_register<S: ByteSource>(&mut self, source: &mut S) -> bool
+    fn read_named<S: ByteSource>(&mut self, source: &mut S) -> bool
         requires { IsRun TextRun self.old.interpreter.reader.reading self.old.unread.input.escapes }
         ensures { GoesFurtherOver result S.ByteSource source.old source.new self.old self.new }
     {
-        if self.tell_register(source) {
+        if self.take_named(source) {
             return self.tell_rest(source);
         }
         self.read_escape(source)
@@ -267,7 +316,7 @@ impl Running {
             Behind::Untold => false,
             Behind::Other => false,
             Behind::Escape => true,
-            Behind::Register => true,
+            Behind::Named => true,
         }
     }
 
@@ -303,14 +352,12 @@ fn begins_above_controls(bytes: &[u8]) -> bool {
 /// What stands at this place of some bytes.
 #[inline(always)]
 pub(super) fn behind_text(bytes: &[u8], place: usize) -> Behind {
-    if place >= bytes.len() {
+    if place > bytes.len() {
         return Behind::Other;
     }
-    if bytes[place] != b'\\' {
-        return Behind::Other;
+    match bytes.split_at(place).1 {
+        [b'\\', b'n' | b'*', ..] => Behind::Named,
+        [b'\\', ..] => Behind::Escape,
+        _ => Behind::Other,
     }
-    if begins_register(bytes, place) {
-        return Behind::Register;
-    }
-    Behind::Escape
 }

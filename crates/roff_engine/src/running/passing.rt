@@ -1,8 +1,6 @@
 //! Bytes that are taken at once: those that change nothing, and fronts of control lines.
 
-ghost use Rattle.std.specs.Prelude.{◌≡◌, ℕ, [], true, false, None};
-ghost use Rattle.roff_source.specs.Bytes.{newline};
-ghost use Rattle.roff_run.specs.Run.{byte_taken};
+ghost use Rattle.std.specs.Prelude.{◌≡◌, [], true, false, None};
 ghost use Rattle.roff_fronts.specs.ControlFronts.{BeginsControl, TakesAtBeginning};
 ghost use Rattle.roff_fronts.specs.Runs.{IsRun};
 ghost use Rattle.roff_scan.specs.declared.run_kind.RunKind.TheVariants.{Dropped as DroppedRun};
@@ -11,7 +9,7 @@ ghost use Rattle.roff_run.specs.Stages.{EndsLine};
 ghost use Rattle.roff_escape.specs.declared.open_escape.Waiting.TheVariants.{Takes};
 ghost use Rattle.roff_input.specs.Unread.{IsWithin};
 ghost use Rattle.roff_scan.specs.Unread.Calls.{PassesEnd, PassesReturn};
-ghost use Rattle.roff_engine.specs.Clauses.{due, seen, waiting_in};
+ghost use Rattle.roff_engine.specs.Clauses.{due, waiting_in};
 
 use super::Running;
 use roff_fronts::{
@@ -22,8 +20,7 @@ use roff_scan::ByteSource;
 use roff_sinks::ByteSink;
 
 impl Running {
-    ghost use Rattle.roff_engine.specs.Running.Turning.{ComesFurtherOver, DoesItem};
-    ghost use Rattle.roff_engine.specs.Running.Turning.{GoesFurtherOver};
+    ghost use Rattle.roff_engine.specs.Running.Turning.{ComesFurtherOver, GoesFurtherOver};
     ghost use Rattle.roff_engine.specs.Running.Turning.{going_on, says_fewer};
 
     /// What [`pass_over`](Running::pass_over) does, unless the bytes in front were told.
@@ -102,33 +99,20 @@ impl Running {
             source.old source.new out.old out.new err.old err.new
             self.old self.new (going_on result) }
     {
-        match read_control_front(&mut self.interpreter.reader, &mut self.unread, source) {
+        match read_control_front(
+            &mut self.interpreter.reader,
+            &self.interpreter.formatter.composer,
+            &mut self.unread,
+            source,
+        ) {
             ControlRead::Nothing => Ok(self.pass_return()),
             ControlRead::Front => Ok(self.pass_behind_front(source)),
             ControlRead::Dropped => Ok(true),
             ControlRead::Condition => Ok(self.pass_condition(source)),
             ControlRead::Decided => Ok(true),
             ControlRead::Held => Ok(self.pass_end()),
-            ControlRead::HeldToRegister => Ok(self.hold_on(source)),
+            ControlRead::HeldToEscape => Ok(self.hold_on(source)),
             ControlRead::HeldToEnd => self.end_control_line(out, err),
-        }
-    }
-
-    /// Ends a control line, whose newline was taken. Where the run goes on a line begins.
-    #[inline(never)]
-    fn end_control_line<O: ByteSink, E: ByteSink>(
-        &mut self,
-        out: &mut O,
-        err: &mut E,
-    ) -> Result<bool, Status>
-        ensures { (failures : ℕ) → DoesItem self.old.unread.input.line (byte_taken newline)
-            self.old self.new (seen failures (O.sunk out.old) (E.sunk err.old))
-            (seen failures (O.sunk out.new) (E.sunk err.new)) (going_on result) }
-    {
-        let line = self.unread.line();
-        match self.take(b'\n', line, out, err) {
-            Ok(()) => Ok(true),
-            Err(status) => Err(status),
         }
     }
 
@@ -231,7 +215,7 @@ impl Running {
     /// Takes the end of a text at once, if it stands in front, and nothing is due or waits for what
     /// follows. Returns whether it did.
     #[inline(always)]
-    fn pass_end(&mut self) -> bool
+    pub(super) fn pass_end(&mut self) -> bool
         ensures none_due { result ≡ true → due self.old.interpreter.reader.reading ≡ None }
         ensures takes { result ≡ true → waiting_in self.old.interpreter.reader.reading
             self.old.unread.input ≡ Takes }

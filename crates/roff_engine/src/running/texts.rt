@@ -4,7 +4,7 @@ ghost use Rattle.std.specs.Prelude.{◌≡◌, ℕ, [], None, true};
 ghost use Rattle.roff_engine.specs.Clauses.{LineStart, StandFor, due, going_on, seen};
 ghost use Rattle.roff_engine.specs.Running.Beginning.{BeginWithText, begins_text};
 ghost use Rattle.roff_num.specs.declared.limits.Limits.{Limits as LimitsOf};
-ghost use Rattle.roff_engine.specs.declared.running.fronts.Behind.TheVariants.{Register};
+ghost use Rattle.roff_engine.specs.declared.running.fronts.Behind.TheVariants.{Named};
 ghost use Rattle.roff_run.specs.Environments.{PageHistory, interrupted_line};
 ghost use Rattle.roff_run.specs.Run.{byte_taken, item_read};
 ghost use Rattle.roff_fronts.specs.Runs.{IsRun};
@@ -174,7 +174,8 @@ impl Running {
         }
     }
 
-    /// The same where a line begins, and then takes the escape of a register behind them.
+    /// The same where a line begins, and then takes the escape of a register or a string behind
+    /// them.
     #[inline(always)]
     fn begin_text_line<S: ByteSource>(&mut self, source: &mut S) -> bool
         requires begins { self.old.interpreter.reader.reading ≡ LineStart }
@@ -185,8 +186,8 @@ impl Running {
     {
         match self.begin_text(source) {
             Behind::Untold => true,
-            Behind::Register => {
-                let _ = self.tell_register(source);
+            Behind::Named => {
+                let _ = self.take_named(source);
                 false
             }
             _ => false,
@@ -201,7 +202,7 @@ impl Running {
         requires none_half { self.old.unread.input.escapes ≡ [] }
         ensures none_due { due self.new.interpreter.reader.reading ≡ None }
         ensures none_half { self.new.unread.input.escapes ≡ [] }
-        ensures prints { result ≡ Register → IsRun TextRun self.new.interpreter.reader.reading
+        ensures prints { result ≡ Named → IsRun TextRun self.new.interpreter.reader.reading
             self.new.unread.input.escapes }
         ensures past { TellsOver S.ByteSource source.old source.new self.old self.new }
     {
@@ -221,7 +222,7 @@ impl Running {
             → StandFor l h self.old.interpreter.formatter.composer → interrupted_line h ≡ None }
         ensures none_due { due self.new.interpreter.reader.reading ≡ None }
         ensures none_half { self.new.unread.input.escapes ≡ [] }
-        ensures prints { result ≡ Register → IsRun TextRun self.new.interpreter.reader.reading
+        ensures prints { result ≡ Named → IsRun TextRun self.new.interpreter.reader.reading
             self.new.unread.input.escapes }
         ensures past { TellsOver S.ByteSource source.old source.new self.old self.new }
     {
@@ -253,7 +254,7 @@ const BEHIND_GLYPH: TextLine = TextLine {
 /// or what a control line may begin with.
 #[inline(always)]
 fn instead_of_text(bytes: &[u8]) -> Behind
-    ensures { result ≡ Register → ⊥ }
+    ensures { result ≡ Named → ⊥ }
 {
     match bytes {
         [b' ', ..] => Behind::Other,

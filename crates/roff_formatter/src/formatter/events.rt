@@ -1,6 +1,7 @@
 //! Events by their kinds.
 
 ghost use Rattle.std.specs.Prelude.{[], ◌∷◌, Ok, None};
+ghost use Rattle.roff_layout.specs.declared.event.Event.TheVariants.{Set};
 ghost use Rattle.roff_run.specs.Events.Steps.{events_of};
 ghost use Rattle.roff_formatter.specs.Clauses.{PerformsEvents, PerformsOne};
 ghost use Rattle.roff_formatter.specs.Clauses.{Back, Environment, Interrupt, SetsTrap, Sunk, Text};
@@ -8,7 +9,7 @@ ghost use Rattle.roff_formatter.specs.Clauses.{Back, Environment, Interrupt, Set
 use super::Formatter;
 use crate::halt::Halt;
 use crate::sprung::Sprung;
-use roff_layout::{Event, Glyph};
+use roff_layout::{Event, Glyph, Param};
 use roff_run::{EnvironmentNumber, InputTrap, Step};
 use roff_sinks::ByteSink;
 
@@ -74,6 +75,15 @@ impl Formatter {
                 Ok(None)
             }
         }
+    }
+
+    /// Sets a parameter of the environment in force.
+    #[inline(always)]
+    pub fn set(&mut self, param: Param)
+        ensures { (told : Sunk) →
+            PerformsEvents (Text (Set param) ∷ []) self.old self.new told told (Ok None) }
+    {
+        self.composer.environments.in_force.lines.set(param);
     }
 
     /// Leaves the environment in force for another.

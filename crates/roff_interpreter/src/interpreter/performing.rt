@@ -1,6 +1,6 @@
 //! What is meant is done: the message is told, and the events are performed.
 
-ghost use Rattle.std.specs.Prelude.{[], ◌≡◌, ◌∷◌, IsOkUnless};
+ghost use Rattle.std.specs.Prelude.{[], ◌≡◌, ◌∷◌, IsOkUnless, if◌then◌else◌};
 ghost use Rattle.roff_run.specs.Events.Steps.{events_of, messages_of};
 ghost use Rattle.roff_interpreter.specs.Clauses.{option_to_list, message_lines, DoesMeaning};
 ghost use Rattle.roff_interpreter.specs.Clauses.{DoesEvent, PerformsAll, PerformsLeft, Puts, sinks};
@@ -61,12 +61,31 @@ impl Interpreter {
             (O.sunk out.old) (O.sunk out.new) result }
     {
         if !self.reader.begins_with_break() {
-            return self.perform_from(0, out);
+            return self.perform_behind(false, out);
         }
         match self.formatter.perform_step(Step::Break, out) {
-            Ok(None) => self.perform_from(2, out),
+            Ok(None) => self.perform_behind(true, out),
             Ok(Some(sprung)) => Ok(Some(sprung)),
             Err(halt) => Err(halt),
+        }
+    }
+
+    /// The same of those behind a break, if one came: often a parameter is set, and nothing else.
+    #[inline(always)]
+    fn perform_behind<O: ByteSink>(
+        &mut self,
+        breaks: bool,
+        out: &mut O,
+    ) -> Result<Option<Sprung>, Halt>
+        ensures { PerformsLeft (if breaks then 2 else 0) self.old self.new
+            (O.sunk out.old) (O.sunk out.new) result }
+    {
+        match self.reader.setting_behind(breaks) {
+            Some(param) => {
+                self.formatter.set(param);
+                Ok(None)
+            }
+            None => self.perform_from(if breaks { 2 } else { 0 }, out),
         }
     }
 

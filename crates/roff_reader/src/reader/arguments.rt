@@ -32,7 +32,7 @@ impl Reader {
 
     /// The end of a line that was read as arguments.
     #[inline(always)]
-    fn end_arguments(
+    pub(super) fn end_arguments(
         &mut self,
         breaks: bool,
         request: Request,

@@ -3,6 +3,8 @@
 ghost use Rattle.roff_reader.specs.Clauses.{ComposerOf, LineStart, TakesAs, call_unit};
 ghost use Rattle.roff_reader.specs.Clauses.{called_by, called_last, going_on, last_called};
 ghost use Rattle.roff_reader.specs.Reader.Springs.{Springs};
+ghost use Rattle.roff_escape.specs.declared.open_escape.CopyUnit.TheVariants.{Byte};
+ghost use Rattle.roff_source.specs.Bytes.{newline};
 ghost use Rattle.roff_run.specs.declared.request.Called.TheVariants as Called;
 
 use super::Reader;
@@ -28,10 +30,7 @@ impl Reader {
             es self.old self.new unread.old unread.new result }
     {
         match unit {
-            CopyUnit::Byte(b'\n') => {
-                unread.call(&whole_name(name))?;
-                return Ok(self.read_on(LineState::LineStart));
-            }
+            CopyUnit::Byte(b'\n') => return self.call_body(name, unread),
             CopyUnit::Byte(b'"') => {}
             _ => unread.settle(),
         }
@@ -39,6 +38,21 @@ impl Reader {
             unread.hold(unit)?;
         }
         Ok(self.read_on(LineState::Calling { name }))
+    }
+
+    /// The end of the line: the body is read.
+    #[inline(always)]
+    pub(super) fn call_body(
+        &mut self,
+        name: ShortName,
+        unread: &mut Unread<PageEvent>,
+    ) -> Result<Step, Limit>
+        ensures { (es : ComposerOf)
+            → TakesAs (λ k. call_unit unread.old.input name (Byte newline))
+            es self.old self.new unread.old unread.new result }
+    {
+        unread.call(&whole_name(name))?;
+        Ok(self.read_on(LineState::LineStart))
     }
 
     /// The last macro is read behind the input, if there is one, as the body of a call without

@@ -60,6 +60,7 @@ pub(super) fn query_of(name: &Name) -> Option<Query>
 }
 
 /// Whether a name is that of a read-only register.
+#[inline(always)]
 pub(super) fn is_read_only(name: &Name) -> bool
     ensures { result ≡ is_read_only name.now }
 {

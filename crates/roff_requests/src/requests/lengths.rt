@@ -75,11 +75,7 @@ pub(super) fn title_length(settings: Settings, argument: Option<&[u8]>) -> Respo
 }
 
 /// The length that is wanted, in columns: the previous one where none is given.
-pub(super) fn length_wanted(
-    in_force: u32,
-    previous: u32,
-    argument: Option<&[u8]>,
-) -> Result<u32, NumFault>
+pub fn length_wanted(in_force: u32, previous: u32, argument: Option<&[u8]>) -> Result<u32, NumFault>
     ensures { (as_given : List (List ℕ)) → option_copied argument.entry ≡ slice_get as_given 0
         → result ≡ length_wanted in_force previous as_given }
 {

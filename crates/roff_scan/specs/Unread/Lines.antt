@@ -1,5 +1,5 @@
 -- Bytes of a control line that are taken together, and the newline that ends it (manual, section 7).
-use Rattle.std.specs.Prelude.{◌≡◌, ℕ, ◌+◌, ◌-◌, ◌==◌, Bool, true, false, ◌&&◌, Option, List, [], ◌∷◌, ◌++◌, length, min, drop, take}
+use Rattle.std.specs.Prelude.{◌≡◌, ℕ, ◌+◌, ◌-◌, ◌==◌, Bool, true, false, ◌&&◌, ◌||◌, Option, List, [], ◌∷◌, ◌++◌, length, min, drop, take}
 use Rattle.std.specs.List.{AllByRecursion}
 use Rattle.roff_arguments.specs.ArgumentTexts.Kept.{StopsAt}
 use Rattle.roff_input.specs.Arguments.{Arguments, HeldFewer, bytes_held}
@@ -7,7 +7,7 @@ use Rattle.roff_input.specs.Input.{pushed}
 use Rattle.roff_input.specs.Unread.{IsWithin, Unread, asks_to_take}
 use Rattle.roff_scan.specs.Unread.Calls.{IsFront, PassesFront, front_bytes}
 use Rattle.roff_scan.specs.declared.unread.lines.BehindHeld.{BehindHeld}
-use Rattle.roff_scan.specs.declared.unread.lines.BehindHeld.TheVariants.{Newline, Register, Other}
+use Rattle.roff_scan.specs.declared.unread.lines.BehindHeld.TheVariants.{Newline, Named, Other}
 use Rattle.roff_source.specs.Bytes.{is_argument_byte, newline}
 use Rattle.roff_source.specs.Tape.{Tape}
 
@@ -19,13 +19,13 @@ pub record StandsNewline {E : Type 0} (count : ℕ) (ready : List ℕ) (u : Unre
 -- these bytes, and a newline behind them, if so the line ended
 abbrev pub ended_by : BehindHeld → List ℕ → List ℕ
 ended_by Newline bytes = bytes ++ newline ∷ []
-ended_by Register bytes = bytes
+ended_by Named bytes = bytes
 ended_by Other bytes = bytes
 
 -- whether it did
 abbrev pub is_ended : BehindHeld → Bool
 is_ended Newline = true
-is_ended Register = false
+is_ended Named = false
 is_ended Other = false
 
 -- whether a newline is the first of these bytes
@@ -33,11 +33,11 @@ abbrev pub begins_with_newline : List ℕ → Bool
 begins_with_newline [] = false
 begins_with_newline (b ∷ bytes) = b == newline
 
--- whether a backslash and the letter of a register are
-abbrev pub begins_register : List ℕ → Bool
-begins_register [] = false
-begins_register (b ∷ []) = false
-begins_register (b ∷ second ∷ bytes) = (b == 92) && (second == 110)
+-- whether a backslash and the letter of a register or of a string are
+abbrev pub begins_named : List ℕ → Bool
+begins_named [] = false
+begins_named (b ∷ []) = false
+begins_named (b ∷ second ∷ bytes) = (b == 92) && (second == 110 || second == 42)
 
 -- how many bytes of a line the limits have room for, of which all but the first so many are held
 abbrev pub line_room : {E : Type 0} → ℕ → Unread E → ℕ

@@ -3,7 +3,7 @@
 
 ghost use Rattle.std.specs.Prelude.{◌≡◌, ◌≤◌, ◌+◌, ◌-◌, ◌++◌, ◌∷◌, [], drop, None, Some, true};
 ghost use Rattle.roff_input.specs.Input.{is_none_ahead, pushed};
-ghost use Rattle.roff_scan.specs.Unread.Lines.{begins_register, begins_with_newline, is_ended};
+ghost use Rattle.roff_scan.specs.Unread.Lines.{begins_named, begins_with_newline, is_ended};
 ghost use Rattle.roff_source.specs.Bytes.{newline};
 
 use super::Unread;
@@ -15,8 +15,8 @@ use roff_source::ByteSource;
 pub enum BehindHeld {
     /// The newline that ended it, which was taken too, and isn't read yet.
     Newline,
-    /// A backslash and the letter of a register: its escape may stand there.
-    Register,
+    /// A backslash and the letter of a register or a string: its escape may stand there.
+    Named,
     /// Anything else, or nothing that is seen.
     Other,
 }
@@ -27,8 +27,8 @@ impl<E: Copy> Unread<E> {
     ghost use Rattle.roff_scan.specs.Unread.Lines.{HoldsLine, StandsNewline, ended_by, line_room};
 
     /// Takes so many bytes that stand in front, then bytes behind them that are held in the
-    /// arguments of the line, as they lie together, and a newline behind these, if one stands there:
-    /// no more than the limits have room for. Whether anything is half read isn't looked at.
+    /// arguments of the line, as they lie together, and a newline behind these, if one stands
+    /// there: no more than the limits have room for. Whether anything is half read isn't looked at.
     #[inline(never)]
     pub fn hold_line<S: ByteSource>(&mut self, source: &mut S, skipped: usize) -> BehindHeld
         requires front { IsFront skipped (S.ready source.old) self.old }
@@ -98,7 +98,7 @@ impl<E: Copy> Unread<E> {
     {
         match behind {
             BehindHeld::Newline => self.end_line(source, count),
-            BehindHeld::Register => self.pass_front(source, count, false),
+            BehindHeld::Named => self.pass_front(source, count, false),
             BehindHeld::Other => self.pass_front(source, count, false),
         }
     }
@@ -189,17 +189,17 @@ fn behind_held(bytes: &[u8], place: usize) -> BehindHeld
     if bytes[place] == b'\n' {
         return BehindHeld::Newline;
     }
-    if begins_register(bytes, place) {
-        return BehindHeld::Register;
+    if begins_named(bytes, place) {
+        return BehindHeld::Named;
     }
     BehindHeld::Other
 }
 
-/// Whether the escape of a register may begin at this place of some bytes: a backslash and its
-/// letter.
+/// Whether the escape of a register or a string may begin at this place of some bytes: a backslash
+/// and its letter.
 #[inline(always)]
-pub fn begins_register(bytes: &[u8], place: usize) -> bool
-    ensures { result ≡ begins_register (drop place bytes.now) }
+pub fn begins_named(bytes: &[u8], place: usize) -> bool
+    ensures { result ≡ begins_named (drop place bytes.now) }
 {
-    matches!(bytes_behind(bytes, place), [b'\\', b'n', ..])
+    matches!(bytes_behind(bytes, place), [b'\\', b'n' | b'*', ..])
 }

@@ -16,6 +16,7 @@ use roff_num::{Limit, Name};
 impl<E: Copy> Unread<E> {
     ghost use Rattle.roff_input.specs.Looking.{closing};
     ghost use Rattle.roff_input.specs.Unread.{changing};
+    ghost use Rattle.roff_scan.specs.Unread.Texts.{CountsText, HasRoomFor};
 
     /// Whether as many pushed texts haven't ended as may be.
     pub(super) fn is_deep(&self) -> bool
@@ -44,8 +45,8 @@ impl<E: Copy> Unread<E> {
         Ok(())
     }
 
-    /// Puts a text in front of which so many bytes were read already, each at its cost. Where that is
-    /// all of it, and no quote is waited for, its end is taken too. Returns whether it was.
+    /// Puts a text in front of which so many bytes were read already, each at its cost. Where that
+    /// is all of it, and no quote is waited for, its end is taken too. Returns whether it was.
     #[inline(always)]
     pub fn push_read(&mut self, text: &[u8], count: usize) -> bool
         requires among { count ≤ length text.now }
@@ -76,6 +77,43 @@ impl<E: Copy> Unread<E> {
         false
     }
 
+    /// Counts a text of so many bytes and its end as taken, as if it had been put in front and
+    /// read, where the limits have room for that, and for so many bytes more behind it. Returns
+    /// whether they have; else nothing happens.
+    #[inline(always)]
+    pub fn count_text(&mut self, len: usize, more: usize) -> bool
+        ensures counts { result ≡ true → CountsText len more self.old self.new }
+        ensures unchanged { result ≡ false → self.new ≡ self.old }
+    {
+        if !self.has_room_for(len, more) {
+            return false;
+        }
+        self.charge += len as u32 + 1;
+        true
+    }
+
+    /// Whether the limits have room for a text of so many bytes in front and its end, and for so
+    /// many bytes more behind it.
+    #[inline(always)]
+    fn has_room_for(&self, len: usize, more: usize) -> bool
+        ensures { result ≡ true → HasRoomFor len more self.now }
+    {
+        let bytes = (self.limits.bytes - self.charge) as usize;
+        if bytes <= len {
+            return false;
+        }
+        if bytes - len <= more {
+            return false;
+        }
+        if self.limits.stack as usize - self.pushed() < len {
+            return false;
+        }
+        if self.is_deep() {
+            return false;
+        }
+        true
+    }
+
     /// Puts the body of a name and its end in front, as it is now: it is read where it lies,
     /// whatever becomes of the name. A name without a body has an empty one.
     ///
@@ -97,6 +135,13 @@ impl<E: Copy> Unread<E> {
             return Err(Limit::Stack);
         }
         Ok(())
+    }
+
+    /// How many bytes the body of a name has that would be put in front.
+    pub fn body_len(&self, name: &Name) -> usize
+        ensures { result ≡ length (body_named name.now self.now.input) }
+    {
+        self.input_ahead.body_len(name)
     }
 
     /// Puts an event back in front. There is room for it where events are as few as those are that

@@ -16,7 +16,7 @@ ghost use Rattle.roff_scan.specs.declared.run_kind.RunKind.TheVariants.{Definiti
 
 use super::Unread;
 use super::fronts::front_of;
-use super::lines::begins_register;
+use super::lines::begins_named;
 use crate::run_kind::RunKind;
 use roff_arguments::ArgumentTexts;
 use roff_escape::OpenEscapes;
@@ -56,7 +56,7 @@ impl<E: Copy> Unread<E> {
     // Each kind that comes often has a copy of its own, for which the compiler knows the kind.
 
     /// The same of bytes that are held in arguments. Returns also whether the escape of a register
-    /// may stand behind them.
+    /// or a string may stand behind them.
     #[inline(never)]
     pub fn take_arguments<S: ByteSource>(&mut self, source: &mut S) -> (usize, bool)
         ensures takes { TakesRun Arguments (S.gives source.old) (S.gives source.new)
@@ -71,9 +71,9 @@ impl<E: Copy> Unread<E> {
         }
         let kind = RunKind::Arguments;
         let count = take_part(kind, front, &mut self.arguments, &mut self.escapes);
-        let meets_register = begins_register(front, count);
+        let meets_name = begins_named(front, count);
         self.pass_front(source, count, false);
-        (count, meets_register)
+        (count, meets_name)
     }
 
     /// The same where fewer than so many are whole.

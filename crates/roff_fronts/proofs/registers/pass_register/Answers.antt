@@ -1,5 +1,6 @@
 use Rattle.std.proofs.Common.{ℕ, List, length, ap, refl, sym, subst, ◌∙◌, arith}
 use Rattle.roff_scan.specs.Unread.Calls.{NoNewline, PassesFront, front_bytes}
+use Rattle.roff_fronts.specs.Registers.{OfRegister}
 use Rattle.roff_fronts.proofs.RegistersPut.{no_newline, puts_register, room_behind}
 use Rattle.roff_fronts.proofs.registers.pass_register.Goals as goal
 
@@ -11,7 +12,7 @@ pass-requires-clause-plain g c =
     let name = c.args.name in
     let ready = g.S.ByteSource.ready c.args.source.now in
     let is = ap (λ (n : ℕ). front_bytes n ready c.args.unread.now) c.escape_len.ensures ∙ c.requires.is in
-    subst (λ (bytes : List ℕ). NoNewline bytes) (sym is) (no_newline name.first name.second c.requires.named)
+    subst (λ (bytes : List ℕ). NoNewline bytes) (sym is) (no_newline OfRegister name.first name.second c.requires.named)
 
 pub returns-clause-puts : goal.returns-clause-puts
 returns-clause-puts g c =

@@ -48,3 +48,6 @@ returns-in-NoAdjust c = let done = c.set_always-in-NoAdjust in let events : List
   acts = λ l h stands. quiet-effect [] (behind_break (c.args.breaks && false) events) (kept c.args.registers.now c.args.meaning.now) (kept c.args.registers.now done.new.meaning) c.args.unread.now done.result
       refl done.ensures.says (done.ensures.kept ∙ unbroken c.args.breaks events);
 })
+
+pub returns-in-Indent : goal.returns-in-Indent
+returns-in-Indent c = rw c.in-Indent.is (c.set_indent.ensures c.args.registers.now)

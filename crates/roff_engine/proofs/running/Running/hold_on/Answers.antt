@@ -7,11 +7,11 @@ use Rattle.roff_engine.proofs.running.Running.hold_on.Goals as goal
 
 pub take_arguments-requires : goal.take_arguments-requires
 take_arguments-requires g c =
-    run-kept Arguments c.args.self.now c.hold_register.new.self (ap (λ (i : Interpreter). i.reader.reading) c.hold_register.ensures.reads) c.hold_register.ensures.half c.requires
+    run-kept Arguments c.args.self.now c.hold_named.new.self (ap (λ (i : Interpreter). i.reader.reading) c.hold_named.ensures.reads) c.hold_named.ensures.half c.requires
 
-pub returns-then-not-hold_register : goal.returns-then-not-hold_register
-returns-then-not-hold_register g c = λ out err. goes_further_none _ _ _ _ _ _ _ _ (c.hold_register.ensures.further out err).past
+pub returns-then-not-hold_named : goal.returns-then-not-hold_named
+returns-then-not-hold_named g c = λ out err. goes_further_none _ _ _ _ _ _ _ _ (c.hold_named.ensures.further out err).past
 
 pub returns : goal.returns
 returns g c = λ out err.
-    goes_further_on _ _ _ _ _ _ _ _ _ _ _ _ _ _ c.if-not-hold_register.false (c.hold_register.ensures.further out err) (c.take_arguments.ensures.past out err)
+    goes_further_on _ _ _ _ _ _ _ _ _ _ _ _ _ _ c.if-not-hold_named.false (c.hold_named.ensures.further out err) (c.take_arguments.ensures.past out err)

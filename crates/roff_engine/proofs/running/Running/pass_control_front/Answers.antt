@@ -38,15 +38,15 @@ returns-in-Held g c =
     (goes_further_passed _ _ _ ends.none_due ends.takes ends.passes ends.within ends.unchanged ends.others _ _ _))
 
 pub hold_on-requires : goal.hold_on-requires
-hold_on-requires g c = c.read_control_front.ensures.register c.in-HeldToRegister.is
+hold_on-requires g c = c.read_control_front.ensures.register c.in-HeldToEscape.is
 
-pub returns-in-HeldToRegister : goal.returns-in-HeldToRegister
-returns-in-HeldToRegister g c =
+pub returns-in-HeldToEscape : goal.returns-in-HeldToEscape
+returns-in-HeldToEscape g c =
     let out = g.O.ByteSink.sunk c.args.out.now in
     let err = g.E.ByteSink.sunk c.args.err.now in
     let read = c.read_control_front.ensures in
     comes_past _ _ _ _ _ _ _ _ _ (goes_further_both _ _ _ _ _ _ _ _ _ _ _ _ _
-    (goes_past_turned _ _ _ _ _ _ out err c.args.self.now _ _ (read.past (ap is_past c.in-HeldToRegister.is)) read.notes read.failures) (c.hold_on.ensures out err))
+    (goes_past_turned _ _ _ _ _ _ out err c.args.self.now _ _ (read.past (ap is_past c.in-HeldToEscape.is)) read.notes read.failures) (c.hold_on.ensures out err))
 
 pub returns-in-HeldToEnd : goal.returns-in-HeldToEnd
 returns-in-HeldToEnd g c =

@@ -9,5 +9,5 @@ returns-in-Other g c = c.tell_front.ensures.past
 pub returns-in-Escape : goal.returns-in-Escape
 returns-in-Escape g c = c.tell_front.ensures.past
 
-pub returns-in-Register : goal.returns-in-Register
-returns-in-Register g c = c.tell_front.ensures.past
+pub returns-in-Named : goal.returns-in-Named
+returns-in-Named g c = c.tell_front.ensures.past

@@ -14,9 +14,9 @@ returns-in-Other g c = c.tell_front.ensures.past
 pub returns-in-Escape : goal.returns-in-Escape
 returns-in-Escape g c = λ out err. goes_past_both _ _ _ _ _ _ _ _ _ _ _ _ (c.tell_front.ensures.past out err) (c.read_escape.ensures out err).past
 
-pub read_register-requires : goal.read_register-requires
-read_register-requires g c =
+pub read_named-requires : goal.read_named-requires
+read_named-requires g c =
     run-kept Text c.args.self.now c.tell_front.new.self (ap (λ (r : ReaderState). r.reading) c.tell_front.ensures.reads) c.tell_front.ensures.half c.requires
 
-pub returns-in-Register : goal.returns-in-Register
-returns-in-Register g c = λ out err. goes_past_both _ _ _ _ _ _ _ _ _ _ _ _ (c.tell_front.ensures.past out err) (c.read_register.ensures out err).past
+pub returns-in-Named : goal.returns-in-Named
+returns-in-Named g c = λ out err. goes_past_both _ _ _ _ _ _ _ _ _ _ _ _ (c.tell_front.ensures.past out err) (c.read_named.ensures out err).past

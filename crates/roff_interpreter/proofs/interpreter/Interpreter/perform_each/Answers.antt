@@ -21,15 +21,15 @@ returns-in-Ok-None g c =
           let did = performed_quietly l t before _ s (Text WordEnd ∷ Text Break ∷ []) h _ (others ++ rest) c.perform_step.result _ is
           (c.perform_step.ensures.performs l t before failures err s h (others ++ rest) stood (refl, (refl, tt)) (rw begins at reached)) in
           let h1 = behind_event s.registers (Text WordEnd) h in
-          c.perform_from-in-Ok-None.ensures.all l t before failures err s h rest same (record {
+          c.perform_behind-in-Ok-None.ensures.all l t before failures err s h rest same (record {
             history = behind_event s.registers (Text Break) h1;
             reaches = did.reaches;
             stands = did.stands;
             few = omega (arith, more_left s.registers (Text WordEnd) (Text Break ∷ others) h, more_left s.registers (Text Break) others h1, ap (λ (es : List PageEvent). most_left es (lines_left (interrupted_line h))) begins);
           });
       reader = record {
-        reading = c.perform_from-in-Ok-None.ensures.reader.reading;
-        registers = c.perform_from-in-Ok-None.ensures.reader.registers;
+        reading = c.perform_behind-in-Ok-None.ensures.reader.reading;
+        registers = c.perform_behind-in-Ok-None.ensures.reader.registers;
       };
     }
 
@@ -59,6 +59,6 @@ returns-in-Err g c =
 pub returns-then-not-begins_with_break : goal.returns-then-not-begins_with_break
 returns-then-not-begins_with_break g c = record {
   all = λ l t before failures err s h rest stood same reached.
-      c.perform_from.ensures.all l t before failures err s h rest same (record { history = h; reaches = reached; stands = stood; few = omega arith });
-  reader = c.perform_from.ensures.reader;
+      c.perform_behind.ensures.all l t before failures err s h rest same (record { history = h; reaches = reached; stands = stood; few = omega arith });
+  reader = c.perform_behind.ensures.reader;
 }

@@ -4,12 +4,8 @@ use Rattle.roff_reader.specs.Reader.Taken.{TakesAs}
 use Rattle.roff_run.specs.Reading.Items.{PageUnread}
 use Rattle.roff_run.specs.Reading.Calls.{call_unit, holding_call}
 use Rattle.roff_run.specs.Reading.Items.{going_on}
-use Rattle.roff_run.specs.declared.line_state.LineState.TheVariants.{Calling, LineStart}
-use Rattle.roff_input.specs.Input.Calls.{calling_body}
-use Rattle.roff_input.specs.Input.Names.{body_named}
+use Rattle.roff_run.specs.declared.line_state.LineState.TheVariants.{Calling}
 use Rattle.roff_escape.specs.declared.open_escape.CopyUnit.TheVariants.{Byte}
-use Rattle.roff_num.specs.ShortNames.{name_bytes}
-use Rattle.roff_reader.proofs.LinesTaken.{TakesAs-changed, TakesAs-not_changed}
 use Rattle.roff_reader.proofs.CalledBodies.{TakesAs-call_full, TakesAs-call_held, TakesAs-call_not_held, TakesAs-call_other, TakesAs-call_quote}
 use Rattle.roff_reader.proofs.reader.Reader.read_unit_of_call.Goals.{in-Byte-eq34, in_default, then-len-lt-CALL_ARGUMENTS+in_ok-hold, else-len-lt-CALL_ARGUMENTS}
 use Rattle.roff_reader.proofs.reader.Reader.read_unit_of_call.Goals as goal
@@ -23,7 +19,7 @@ returns-in_err-hold c = λ es.
     let name = c.args.name in
     let behind = c.hold.new.self in
     let limit = c.in_err-hold.field-0.0 in
-    let refused : c.from_residual-in_err-hold.result ≡ Err limit = search rules in
+    let refused : c.from_residual.result ≡ Err limit = search rules in
     let count = ap length c.arguments.ensures ∙ length-reverse mid.input.arguments.whole in
     let few : length mid.input.arguments.whole < 9 = omega (arith, count, c.len.ensures) in
     let took = TakesAs-call_not_held unit name es old old mid behind limit few c.in_err-hold.ensures.change in
@@ -39,7 +35,7 @@ returns c = λ es.
     let mid = c.match-unit.unread in
     let unit = c.args.unit in
     let name = c.args.name in
-    let read = c.read_on-2 in
+    let read = c.read_on in
     let new = read.new.self in
     let count = ap length c.arguments.ensures ∙ length-reverse mid.input.arguments.whole in
     let behind_line : (behind : PageUnread) → TakesAs (λ k. going_on (holding_call unit mid.input) (Calling name)) es old new mid behind (Ok read.result)
@@ -63,19 +59,5 @@ returns c = λ es.
 
 pub returns-in-Byte-eq10 : goal.returns-in-Byte-eq10
 returns-in-Byte-eq10 c = λ es.
-    let u = c.args.unread.now in
-    let called = calling_body (body_named (name_bytes c.args.name) u.input) u.input in
     let is : c.args.unit ≡ Byte 10 = search rules in
-    rw is
-    (TakesAs-changed called LineStart es c.args.self.now c.read_on.new.self u c.call.new.self c.read_on.result c.in_ok-call-in-Byte-eq10.field-0 (search rules)
-    c.read_on.ensures.reading c.read_on.ensures.step)
-
-pub returns-in_err-call-in-Byte-eq10 : goal.returns-in_err-call-in-Byte-eq10
-returns-in_err-call-in-Byte-eq10 c = λ es.
-    let old = c.args.self.now in
-    let u = c.args.unread.now in
-    let called = calling_body (body_named (name_bytes c.args.name) u.input) u.input in
-    let limit = c.in_err-call-in-Byte-eq10.field-0.0 in
-    let is : c.args.unit ≡ Byte 10 = search rules in
-    let refused : c.from_residual.result ≡ Err limit = search rules in
-    rw (is, refused) (TakesAs-not_changed called LineStart es old old u c.call.new.self limit (search rules))
+    rw is (c.call_body.ensures es)

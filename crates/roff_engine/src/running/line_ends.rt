@@ -1,0 +1,149 @@
+//! Ends of control lines, whose newlines were taken with their bytes.
+
+ghost use Rattle.std.specs.Prelude.{◌≡◌, ℕ, []};
+ghost use Rattle.roff_source.specs.Bytes.{newline};
+ghost use Rattle.roff_run.specs.Run.{byte_taken};
+ghost use Rattle.roff_run.specs.declared.line_state.LineState.TheVariants.{Arguments, Calling};
+ghost use Rattle.roff_run.specs.declared.request.Request.TheVariants.{Break};
+ghost use Rattle.roff_engine.specs.Clauses.{seen};
+
+use super::Running;
+use roff_num::ShortName;
+use roff_run::{LineState, Request, Status};
+use roff_sinks::ByteSink;
+
+impl Running {
+    ghost use Rattle.roff_engine.specs.Running.Turning.{DoesItem, going_on};
+
+    /// Ends a control line, whose newline was taken. Where the run goes on a line begins.
+    #[inline(always)]
+    pub(super) fn end_control_line<O: ByteSink, E: ByteSink>(
+        &mut self,
+        out: &mut O,
+        err: &mut E,
+    ) -> Result<bool, Status>
+        ensures { (failures : ℕ) → DoesItem self.old.unread.input.line (byte_taken newline)
+            self.old self.new (seen failures (O.sunk out.old) (E.sunk err.old))
+            (seen failures (O.sunk out.new) (E.sunk err.new)) (going_on result) }
+    {
+        match self.end_held_line(out, err) {
+            Ok(()) => Ok(true),
+            Err(status) => Err(status),
+        }
+    }
+
+    /// The same by what the line is.
+    #[inline(always)]
+    fn end_held_line<O: ByteSink, E: ByteSink>(
+        &mut self,
+        out: &mut O,
+        err: &mut E,
+    ) -> Result<(), Status>
+        ensures { (failures : ℕ) → DoesItem self.old.unread.input.line (byte_taken newline)
+            self.old self.new (seen failures (O.sunk out.old) (E.sunk err.old))
+            (seen failures (O.sunk out.new) (E.sunk err.new)) result }
+    {
+        if self.unread.has_open_escape() {
+            return self.end_any_line(out, err);
+        }
+        match self.interpreter.reader.reading() {
+            LineState::Calling { name } => self.end_call_line(name, out, err),
+            LineState::Arguments {
+                breaks,
+                request: Request::Break,
+            } => self.end_break(breaks, out, err),
+            LineState::Arguments { breaks, request } => {
+                self.end_request(breaks, request, out, err)
+            }
+            _ => self.end_any_line(out, err),
+        }
+    }
+
+    /// The same of any line.
+    #[inline(never)]
+    fn end_any_line<O: ByteSink, E: ByteSink>(
+        &mut self,
+        out: &mut O,
+        err: &mut E,
+    ) -> Result<(), Status>
+        ensures { (failures : ℕ) → DoesItem self.old.unread.input.line (byte_taken newline)
+            self.old self.new (seen failures (O.sunk out.old) (E.sunk err.old))
+            (seen failures (O.sunk out.new) (E.sunk err.new)) result }
+    {
+        let line = self.unread.line();
+        self.take(b'\n', line, out, err)
+    }
+
+    /// The same of a line that calls this body.
+    #[inline(never)]
+    fn end_call_line<O: ByteSink, E: ByteSink>(
+        &mut self,
+        name: ShortName,
+        out: &mut O,
+        err: &mut E,
+    ) -> Result<(), Status>
+        requires line { self.old.interpreter.reader.reading ≡ Calling name }
+        requires none_half { self.old.unread.input.escapes ≡ [] }
+        ensures { (failures : ℕ) → DoesItem self.old.unread.input.line (byte_taken newline)
+            self.old self.new (seen failures (O.sunk out.old) (E.sunk err.old))
+            (seen failures (O.sunk out.new) (E.sunk err.new)) result }
+    {
+        let line = self.unread.line();
+        match self
+            .interpreter
+            .end_call_line(name, &mut self.unread, out, err)
+        {
+            Ok(sprung) => self.go_on(sprung, err),
+            Err(halt) => Err(self.halted(halt, line, line, err)),
+        }
+    }
+
+    /// The same of a break.
+    #[inline(never)]
+    fn end_break<O: ByteSink, E: ByteSink>(
+        &mut self,
+        breaks: bool,
+        out: &mut O,
+        err: &mut E,
+    ) -> Result<(), Status>
+        requires line { self.old.interpreter.reader.reading ≡ Arguments breaks Break }
+        requires none_half { self.old.unread.input.escapes ≡ [] }
+        ensures { (failures : ℕ) → DoesItem self.old.unread.input.line (byte_taken newline)
+            self.old self.new (seen failures (O.sunk out.old) (E.sunk err.old))
+            (seen failures (O.sunk out.new) (E.sunk err.new)) result }
+    {
+        let line = self.unread.line();
+        match self
+            .interpreter
+            .end_break(breaks, &mut self.unread, out, err)
+        {
+            Ok(sprung) => self.go_on(sprung, err),
+            Err(halt) => Err(self.halted(halt, line, line, err)),
+        }
+    }
+
+    /// The same of this request.
+    #[inline(never)]
+    fn end_request<O: ByteSink, E: ByteSink>(
+        &mut self,
+        breaks: bool,
+        request: Request,
+        out: &mut O,
+        err: &mut E,
+    ) -> Result<(), Status>
+        requires line { self.old.interpreter.reader.reading ≡ Arguments breaks request }
+        requires none_half { self.old.unread.input.escapes ≡ [] }
+        ensures { (failures : ℕ) → DoesItem self.old.unread.input.line (byte_taken newline)
+            self.old self.new (seen failures (O.sunk out.old) (E.sunk err.old))
+            (seen failures (O.sunk out.new) (E.sunk err.new)) result }
+    {
+        let line = self.unread.line();
+        match self
+            .interpreter
+            .end_request(breaks, request, &mut self.unread, out, err)
+        {
+            Ok(sprung) => self.go_on(sprung, err),
+            Err(halt) => Err(self.halted(halt, line, line, err)),
+        }
+    }
+}

@@ -1,0 +1,149 @@
+-- What a condition answers that stands whole in front and asks for a register: where its bytes stand, and what is taken of them.
+use Rattle.std.proofs.Common.{◌≡◌, ℕ, ◌≤◌, true, false, List, [], ◌∷◌, ◌++◌, length, take, drop, get_or, ◌-◌, Option, Some, None, refl, sym, ap, subst, ◌∙◌, arith, append_assoc, length-append, take-append-drop}
+use Rattle.std.specs.Prelude.{IfSome}
+use Rattle.std.proofs.lemmas.List.{length-take-le}
+use Rattle.std.proofs.Math.Seq.{take-length}
+use Rattle.roff_num.specs.declared.short_name.ShortName.{ShortName}
+use Rattle.roff_source.specs.Bytes.{blank}
+use Rattle.roff_composer.specs.declared.composer.Composer.{Composer as ComposerOf}
+use Rattle.roff_reader.specs.Reader.State.{ReaderState}
+use Rattle.roff_run.specs.Reading.Items.{PageUnread}
+use Rattle.roff_run.specs.declared.line_state.LineState.TheVariants.{Deciding}
+use Rattle.roff_scan.specs.Unread.Calls.{IsFront, NoNewline, front_bytes}
+use Rattle.roff_scan.specs.Unread.Texts.{CountsText}
+use Rattle.roff_fronts.specs.Answered.{AnswersBehind, AnswersFront, AreOfExpression, AsksFor, BeginsNumber, EndsBehind, IsAnswer, asking_bytes, begins_number}
+use Rattle.roff_fronts.specs.ControlFronts.{StandsName, StandsReady}
+use Rattle.roff_fronts.specs.Registers.{OfRegister, BeginsRegister, register_escape}
+use Rattle.roff_fronts.specs.declared.answered.Answer.{Answer}
+use Rattle.roff_fronts.specs.declared.control.ControlFront.{ControlFront}
+use Rattle.roff_fronts.proofs.ConstantConditions.{no_newline-blank}
+use Rattle.roff_fronts.proofs.ControlFronts.{ready-some}
+use Rattle.roff_fronts.proofs.ExpressionFronts.{expression-plain}
+use Rattle.roff_fronts.proofs.LinesRead.{plain-append, three}
+use Rattle.roff_fronts.proofs.RegistersPut.{no_newline}
+
+-- all of these bytes belong to an expression where so many do as they have
+pub number-begun : (bytes others : List ℕ) (first count : ℕ) → bytes ≡ first ∷ others → begins_number first ≡ true → count ≡ length bytes → AreOfExpression (take count bytes)
+    → BeginsNumber bytes
+number-begun bytes others first count is begins all are = record {
+  first = first;
+  others = others;
+  is = is;
+  begins = begins;
+  are = subst AreOfExpression (ap (λ (n : ℕ). take n bytes) all ∙ take-length bytes) are;
+}
+
+-- behind the escape of a register with which bytes begin stands an expression that ends: they begin with a condition that asks for it
+asks-for : (name : ShortName) (bytes behind : List ℕ) (count : ℕ) → BeginsRegister bytes name → behind ≡ drop (length (register_escape name)) bytes → EndsBehind count behind
+    → AsksFor name (take count behind) bytes
+asks-for name bytes behind count begins is ends =
+    let escape : List ℕ = register_escape name in
+    let rest : List ℕ = take count behind in
+    let more : List ℕ = ends.more in
+    let parts : bytes ≡ escape ++ behind =
+    sym (take-append-drop (length escape) bytes) ∙ ap (λ (front : List ℕ). front ++ drop (length escape) bytes) begins.is ∙ ap (λ (others : List ℕ). escape ++ others) (sym is) in
+    let ended : behind ≡ rest ++ blank ∷ more = sym (take-append-drop count behind) ∙ ap (λ (others : List ℕ). rest ++ others) ends.ended in
+    record {
+      named = begins.named;
+      some = omega (arith, length-take-le count behind ends.few, ends.some);
+      are = ends.are;
+      more = more;
+      is = parts
+          ∙ ap (λ (others : List ℕ). escape ++ others) (ended ∙ sym (append_assoc rest (blank ∷ []) more))
+          ∙ sym (append_assoc escape (rest ++ blank ∷ []) more);
+    }
+
+-- and if that answers, they do
+pub answers-behind : (found : Option Answer) (r : ReaderState) (es : ComposerOf) (u : PageUnread) (name : ShortName) (bytes behind rest : List ℕ) (len count : ℕ)
+    → BeginsRegister bytes name → len ≡ length (register_escape name) → behind ≡ drop len bytes → EndsBehind count behind → rest ≡ take count behind
+    → IfSome found (λ answer. IsAnswer r es u name rest answer) → IfSome found (λ answer. AnswersBehind r es u bytes answer)
+answers-behind None r es u name bytes behind rest len count begins long is ends rest_is answered = tt
+answers-behind (Some answer) r es u name bytes behind rest len count begins long is ends rest_is answered = record {
+  name = name;
+  rest = rest;
+  asks = subst (λ (xs : List ℕ). AsksFor name xs bytes) (sym rest_is) (asks-for name bytes behind count begins (is ∙ ap (λ (n : ℕ). drop n bytes) long) ends);
+  is = answered;
+}
+
+-- where the fourth of some bytes is a blank, others stand behind it
+behind-four : (bytes : List ℕ) → 4 ≤ length bytes → get_or bytes 3 0 ≡ blank
+    → bytes ≡ get_or bytes 0 0 ∷ get_or bytes 1 0 ∷ get_or bytes 2 0 ∷ blank ∷ take (length bytes - 4) (drop 4 bytes)
+behind-four [] many is = absurd (omega (arith, many))
+behind-four (a ∷ []) many is = absurd (omega (arith, many))
+behind-four (a ∷ b ∷ []) many is = absurd (omega (arith, many))
+behind-four (a ∷ b ∷ c ∷ []) many is = absurd (omega (arith, many))
+behind-four (a ∷ b ∷ c ∷ d ∷ bytes) many is =
+    let all : length (a ∷ b ∷ c ∷ d ∷ bytes) - 4 ≡ length bytes = omega arith in
+    ap (λ (e : ℕ). a ∷ b ∷ c ∷ e ∷ bytes) is
+    ∙ ap (λ (others : List ℕ). a ∷ b ∷ c ∷ blank ∷ others) (sym (ap (λ (n : ℕ). take n bytes) all ∙ take-length bytes))
+
+-- they stand in front, behind three bytes and a blank
+pub answers-front : (found : Option Answer) (r : ReaderState) (es : ComposerOf) (u : PageUnread) (ready all : List ℕ) → 4 ≤ length all → get_or all 3 0 ≡ blank
+    → all ≡ front_bytes (length all) ready u → IsFront (length all) ready u
+    → IfSome found (λ answer. AnswersBehind r es u (take (length all - 4) (drop 4 all)) answer) → IfSome found (λ answer. AnswersFront r es ready u answer)
+answers-front None r es u ready all many is are front answered = tt
+answers-front (Some answer) r es u ready all many is are front answered = record {
+  mark = get_or all 0 0;
+  first = get_or all 1 0;
+  second = get_or all 2 0;
+  bytes = take (length all - 4) (drop 4 all);
+  stands = subst (λ (xs : List ℕ). StandsReady xs ready u) (behind-four all many is) (record { are = are; front = front });
+  answers = answered;
+}
+
+-- the bytes of a control line's front, and of a condition behind a blank that asks for a register
+abbrev pub asking_front : ControlFront → ShortName → List ℕ → List ℕ
+asking_front front name rest = three front ++ blank ∷ asking_bytes name rest
+
+-- such a condition stands behind the front of a line
+stands-asking : (front : ControlFront) (ready : List ℕ) (u : PageUnread) (mark first second : ℕ) (condition more : List ℕ)
+    → StandsReady (mark ∷ first ∷ second ∷ blank ∷ (condition ++ more)) ready u → StandsReady (three front) ready u → StandsReady (three front ++ blank ∷ condition) ready u
+stands-asking front ready u mark first second condition more all stands =
+    let bytes : List ℕ = mark ∷ first ∷ second ∷ [] in
+    let there : StandsReady (bytes ++ blank ∷ condition) ready u = ready-some (bytes ++ blank ∷ condition) more ready u all in
+    let some : StandsReady bytes ready u = ready-some bytes (blank ∷ condition) ready u there in
+    let same : bytes ≡ three front = some.are ∙ sym stands.are in
+    subst (λ (xs : List ℕ). StandsReady xs ready u) (ap (λ (xs : List ℕ). xs ++ blank ∷ condition) same) there
+
+module _ (r : ReaderState) (es : ComposerOf) (front : ControlFront) (ready : List ℕ) (before counted : PageUnread) (answer : Answer)
+    (named : StandsName front (Deciding false) r.reading ready before) (answers : AnswersFront r es ready before answer)
+    (counts : CountsText answer.len answer.count before counted) where
+  abbrev pub asks : AsksFor answers.answers.name answers.answers.rest answers.bytes
+  asks = answers.answers.asks
+
+  -- its bytes, and those in front of them
+  abbrev pub all_bytes : List ℕ
+  all_bytes = asking_front front answers.answers.name answers.answers.rest
+
+  stands-all : StandsReady all_bytes ready before
+  stands-all =
+      stands-asking front ready before answers.mark answers.first answers.second (asking_bytes answers.answers.name answers.answers.rest) asks.more
+      (subst (λ (xs : List ℕ). StandsReady (answers.mark ∷ answers.first ∷ answers.second ∷ blank ∷ xs) ready before) asks.is answers.stands)
+      named.stands
+
+  -- they are as many as are to be taken
+  pub count-all : answer.count ≡ length all_bytes
+  count-all =
+      let rest : List ℕ = answers.answers.rest in
+      let escape : List ℕ = register_escape answers.answers.name in
+      omega (arith, answers.answers.is.count, length-append escape (rest ++ blank ∷ []), length-append rest (blank ∷ []))
+
+  -- there they stand too where the register's text is counted
+  pub front-counted : IsFront answer.count ready counted
+  front-counted =
+      subst (λ (u : PageUnread). IsFront answer.count ready u) (sym counts.counted)
+      (record { among = omega (arith, count-all, stands-all.front.among); within = omega (arith, counts.room.bytes) })
+
+  pub bytes-counted : front_bytes answer.count ready counted ≡ all_bytes
+  bytes-counted =
+      ap (λ (n : ℕ). front_bytes n ready counted) count-all ∙ ap (λ (u : PageUnread). front_bytes (length all_bytes) ready u) counts.counted ∙ sym stands-all.are
+
+  -- no newline is among them
+  pub plain-counted : NoNewline (front_bytes answer.count ready counted)
+  plain-counted =
+      let name : ShortName = answers.answers.name in
+      let rest : List ℕ = answers.answers.rest in
+      subst NoNewline (sym bytes-counted)
+      (plain-append (three front ++ blank ∷ []) (asking_bytes name rest) (no_newline-blank front.breaks front.first front.second named.first named.second)
+      (plain-append (register_escape name) (rest ++ blank ∷ []) (no_newline OfRegister name.first name.second asks.named)
+      (plain-append rest (blank ∷ []) (expression-plain rest asks.are) (refl, tt))))

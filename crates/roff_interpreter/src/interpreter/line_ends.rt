@@ -1,0 +1,97 @@
+//! Newlines that end control lines: each is read, and its step is performed.
+
+ghost use Rattle.std.specs.Prelude.{◌≡◌, []};
+ghost use Rattle.roff_interpreter.specs.Clauses.{DoesTaking, sinks, taking};
+ghost use Rattle.roff_run.specs.declared.line_state.LineState.TheVariants.{Arguments, Calling};
+ghost use Rattle.roff_run.specs.declared.request.Request.TheVariants.{Break};
+ghost use Rattle.roff_source.specs.Bytes.{newline};
+
+use super::Interpreter;
+use roff_formatter::{Halt, Sprung};
+use roff_num::ShortName;
+use roff_run::{PageEvent, Request};
+use roff_scan::Unread;
+use roff_sinks::ByteSink;
+
+impl Interpreter {
+    /// Reads a newline behind the arguments of this request, where nothing is half read, and
+    /// performs what it means. Returns what that sprang.
+    ///
+    /// # Errors
+    ///
+    /// As those of [`Interpreter::take`].
+    #[inline(always)]
+    pub fn end_request<O: ByteSink, E: ByteSink>(
+        &mut self,
+        breaks: bool,
+        request: Request,
+        unread: &mut Unread<PageEvent>,
+        out: &mut O,
+        err: &mut E,
+    ) -> Result<Option<Sprung>, Halt>
+        requires line { self.old.reader.reading ≡ Arguments breaks request }
+        requires none_half { unread.old.input.escapes ≡ [] }
+        ensures { DoesTaking (λ k. taking k self.old.reader.reading unread.old.input newline) []
+            self.old self.new unread.old unread.new
+            (sinks (O.sunk out.old) (E.sunk err.old))
+            (sinks (O.sunk out.new) (E.sunk err.new)) result }
+    {
+        match self
+            .reader
+            .end_request(breaks, request, &self.formatter.composer, unread)
+        {
+            Ok(step) => self.perform(step, unread.line(), out, err),
+            Err(limit) => Err(Halt::Refused(limit)),
+        }
+    }
+
+    /// The same of a newline that ends the line of a break.
+    ///
+    /// # Errors
+    ///
+    /// As those of [`Interpreter::take`].
+    #[inline(always)]
+    pub fn end_break<O: ByteSink, E: ByteSink>(
+        &mut self,
+        breaks: bool,
+        unread: &mut Unread<PageEvent>,
+        out: &mut O,
+        err: &mut E,
+    ) -> Result<Option<Sprung>, Halt>
+        requires line { self.old.reader.reading ≡ Arguments breaks Break }
+        requires none_half { unread.old.input.escapes ≡ [] }
+        ensures { DoesTaking (λ k. taking k self.old.reader.reading unread.old.input newline) []
+            self.old self.new unread.old unread.new
+            (sinks (O.sunk out.old) (E.sunk err.old))
+            (sinks (O.sunk out.new) (E.sunk err.new)) result }
+    {
+        let step = self.reader.end_break(breaks, unread);
+        self.perform(step, unread.line(), out, err)
+    }
+
+    /// The same behind the arguments of a line that calls this body.
+    ///
+    /// # Errors
+    ///
+    /// As those of [`Interpreter::take`].
+    #[inline(always)]
+    pub fn end_call_line<O: ByteSink, E: ByteSink>(
+        &mut self,
+        name: ShortName,
+        unread: &mut Unread<PageEvent>,
+        out: &mut O,
+        err: &mut E,
+    ) -> Result<Option<Sprung>, Halt>
+        requires line { self.old.reader.reading ≡ Calling name }
+        requires none_half { unread.old.input.escapes ≡ [] }
+        ensures { DoesTaking (λ k. taking k self.old.reader.reading unread.old.input newline) []
+            self.old self.new unread.old unread.new
+            (sinks (O.sunk out.old) (E.sunk err.old))
+            (sinks (O.sunk out.new) (E.sunk err.new)) result }
+    {
+        match self.reader.end_call_line(name, unread) {
+            Ok(step) => self.perform(step, unread.line(), out, err),
+            Err(limit) => Err(Halt::Refused(limit)),
+        }
+    }
+}
