@@ -145,6 +145,48 @@ module _ {E : Type 0} (t : Texts) (full s : Held (EventOrBody E)) (id : LeaseId)
         let behind = ap (λ (h : Held (EventOrBody E)). record (kept h) { ahead = map ByteAhead bytes ++ (kept h).ahead }) (sym whole) in
         sym is ∙ before ∙ taken ∙ behind
 
+  -- all that it gives is taken of what stands ahead, and the body goes
+  ahead-gone : with_bodies t (with_body id s).ahead ≡ map ByteAhead (lease_bytes (lease_of id.0 t)) ++ with_bodies (after (Release id.0) t) s.ahead
+  ahead-gone =
+      let bytes = lease_bytes (lease_of id.0 t) in
+      ap (λ (rest : List (Ahead E)). map ByteAhead bytes ++ rest) (sym (with_bodies-same t (after (Release id.0) t) s.ahead others-released))
+
+  -- frames stay sound
+  pub IsSound-gone : IsSound {E = E} (record { pushed_texts = s; texts = after (Release id.0) t })
+  IsSound-gone =
+      let u = after (Release id.0) t in
+      let ids = leases_in s.ahead in
+      let bytes = lease_bytes (lease_of id.0 t) in
+      let items = with_bodies u s.ahead in
+      let same = λ (k d : ℕ) (within : k < length ids). ap rest_of (others-released k d within) in
+      let sums = sum_by-same (λ other. rest_of (lease_of other u)) (λ other. rest_of (lease_of other t)) ids same in
+      let before = sum_by-cons (λ other. rest_of (lease_of other t)) id.0 ids in
+      record {
+        ended = sound.ended.1;
+        give = λ k d within. rw (others-released k d within) (All-tail (Gives t) id.0 ids sound.give k d within);
+        once = once-behind id.0 ids sound.once;
+        live = omega (arith, live-released t id.0 lives, sound.live);
+        sum = omega (arith, kept-released t id.0 lives, sound.sum, before, sums);
+        cap_leases = sound.cap_leases;
+        cap_kept = sound.cap_kept;
+        bytes = omega (arith, ap bytes_ahead ahead-gone, bytes_ahead-bytes bytes items, sound.bytes);
+        ends = omega (arith, ap ends_ahead ahead-gone, ends_ahead-bytes bytes items, sound.ends);
+        events = omega (arith, ap events_ahead ahead-gone, events_ahead-bytes bytes items, sound.events);
+        frees = omega (arith, ap frees_ahead ahead-gone, frees_ahead-bytes bytes items, sound.frees);
+        small = sound.small;
+        store = sound.store;
+      }
+
+  -- and its bytes were in front
+  pub taken-gone : (old : AheadAndTexts E) → kept_by (record { pushed_texts = full; texts = t }) ≡ old
+      → old ≡ record (kept_by (record { pushed_texts = s; texts = after (Release id.0) t })) {
+        ahead = map ByteAhead (lease_bytes (lease_of id.0 t)) ++ with_bodies (after (Release id.0) t) s.ahead;
+      }
+  taken-gone old is =
+      let kept : AheadAndTexts E = kept_by (record { pushed_texts = s; texts = after (Release id.0) t }) in
+      let before = ap (λ (h : Held (EventOrBody E)). kept_by (record { pushed_texts = h; texts = t })) whole in
+      sym is ∙ before ∙ ap (λ (items : List (Ahead E)). record kept { ahead = items }) ahead-gone
+
   module _ (front : List ℕ) (is_front : front ≡ take (length front) (lease_bytes (lease_of id.0 t)))
       (some : 0 < rest_of (lease_of id.0 t) → 0 < length front) where
     -- the byte in front
@@ -181,27 +223,7 @@ module _ {E : Type 0} (t : Texts) (full s : Held (EventOrBody E)) (id : LeaseId)
     -- frames stay sound
     pub IsSound-released : rest_of (lease_of id.0 t) ≡ 1
         → IsSound {E = E} (record { pushed_texts = s; texts = after (Release id.0) t })
-    IsSound-released one =
-        let u = after (Release id.0) t in
-        let ids = leases_in s.ahead in
-        let same = λ (k d : ℕ) (within : k < length ids). ap rest_of (others-released k d within) in
-        let sums = sum_by-same (λ other. rest_of (lease_of other u)) (λ other. rest_of (lease_of other t)) ids same in
-        let before = sum_by-cons (λ other. rest_of (lease_of other t)) id.0 ids in
-        record {
-          ended = sound.ended.1;
-          give = λ k d within. rw (others-released k d within) (All-tail (Gives t) id.0 ids sound.give k d within);
-          once = once-behind id.0 ids sound.once;
-          live = omega (arith, live-released t id.0 lives, sound.live);
-          sum = omega (arith, kept-released t id.0 lives, sound.sum, before, sums);
-          cap_leases = sound.cap_leases;
-          cap_kept = sound.cap_kept;
-          bytes = omega (arith, ap bytes_ahead (ahead-released one), sound.bytes);
-          ends = omega (arith, ap ends_ahead (ahead-released one), sound.ends);
-          events = omega (arith, ap events_ahead (ahead-released one), sound.events);
-          frees = omega (arith, ap frees_ahead (ahead-released one), sound.frees);
-          small = sound.small;
-          store = sound.store;
-        }
+    IsSound-released one = IsSound-gone
 
     -- and the byte was in front
     pub taken-released : rest_of (lease_of id.0 t) ≡ 1

@@ -17,12 +17,20 @@ use std::alloc::{AllocError, Global};
 use std::marker::Model;
 
 /// What stands ahead beside bytes and ends.
-#[derive(Clone, Copy)]
+#[derive(Copy)]
 pub(crate) enum EventOrBody<E> {
     /// An event that was put back.
     Event(E),
     /// A body, by the lease on it.
     Body(LeaseId),
+}
+
+impl<E: Copy> Clone for EventOrBody<E> {
+    ghost is_clone = { λ old new. new ≡ old };
+
+    fn clone(&self) -> Result<Self, AllocError> {
+        Ok(*self)
+    }
 }
 
 /// How a line calls the body of a name.

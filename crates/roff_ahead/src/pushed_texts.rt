@@ -11,6 +11,8 @@ ghost use Rattle.roff_input.specs.Input.{FreeAhead};
 ghost use Rattle.roff_input.specs.Input.{EndAhead, ReturnAhead, DoAhead, bytes_ahead, ends_ahead};
 ghost use Rattle.roff_input.specs.Input.{events_ahead, frees_ahead, most_frees};
 
+mod copies;
+
 use std::alloc::{AllocError, Global};
 use std::marker::Model;
 
@@ -27,7 +29,7 @@ const FREES: usize = 21;
 const SHORT: usize = 8;
 
 /// An item taken from the front.
-#[derive(Clone, Copy)]
+#[derive(Copy)]
 pub(crate) enum PushedItem<E> {
     /// A byte of a pushed text.
     Byte(u8),
@@ -42,7 +44,7 @@ pub(crate) enum PushedItem<E> {
 }
 
 /// What stands behind the bytes of a text.
-#[derive(Clone, Copy)]
+#[derive(Copy)]
 enum Mark<E> {
     /// The end of a text, and so many more ends.
     Ends(usize),
@@ -55,7 +57,7 @@ enum Mark<E> {
 }
 
 /// A mark, and how many unread bytes lie below it.
-#[derive(Clone, Copy)]
+#[derive(Copy)]
 struct MarkAt<E> {
     height: usize,
     mark: Mark<E>,

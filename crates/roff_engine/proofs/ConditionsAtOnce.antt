@@ -23,7 +23,7 @@ use Rattle.roff_run.specs.Reading.Items.{PageUnread}
 use Rattle.roff_run.specs.declared.line_state.LineState.{LineState}
 use Rattle.roff_run.specs.declared.line_state.LineState.TheVariants.{Deciding}
 use Rattle.roff_fronts.specs.Registers.{OfRegister}
-use Rattle.roff_fronts.specs.Conditions.{DecidesAtOnce, DecidesBehind, DecidesConstant, DecidesRegister, OfConstant, OfRegister, PassesWaiting, deciding_reader, none_half}
+use Rattle.roff_fronts.specs.Conditions.{DecidesAtOnce, DecidesBehind, DecidesConstant, DecidesRegister, ByConstant, ByRegister, PassesWaiting, deciding_reader, none_half}
 use Rattle.roff_engine.specs.declared.running.Running.{Running as Coded}
 use Rattle.roff_interpreter.specs.Outcome.{Seen, seen}
 use Rattle.roff_engine.specs.Running.Turning.{GoesFurther, GoesPast}
@@ -159,7 +159,7 @@ goes_further_asking gave gives noted notes failed failures out err old after new
 pub goes_further_at_once : (gave gives : Tape → Type 0) (noted notes failed failures : ℕ) (out err : Sunk) (old : Coded) (after : PageUnread) (new : ReaderState)
     → DecidesAtOnce old.interpreter.formatter.composer gave gives old.interpreter.reader new old.unread after → notes ≤ noted → failures ≡ failed
     → GoesFurther true gave gives noted notes old (record old { unread = after; interpreter = record old.interpreter { reader = new } }) (seen failed out err) (seen failures out err)
-goes_further_at_once gave gives noted notes failed failures out err old after new (OfConstant d) fewer same =
+goes_further_at_once gave gives noted notes failed failures out err old after new (ByConstant d) fewer same =
     goes_further_constant gave gives noted notes failed failures out err old after new d fewer same
-goes_further_at_once gave gives noted notes failed failures out err old after new (OfRegister d) fewer same =
+goes_further_at_once gave gives noted notes failed failures out err old after new (ByRegister d) fewer same =
     goes_further_asking gave gives noted notes failed failures out err old after new d fewer same

@@ -26,3 +26,4 @@ pub mod PutRegisters
 pub mod LinesEnded
 pub mod ConditionsAtOnce
 pub mod EventsMeant
+pub mod SteppedRegisters

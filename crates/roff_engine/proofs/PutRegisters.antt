@@ -1,4 +1,4 @@
--- The escape of a register or a string that was taken at once, with its text in front: the run has come behind it.
+-- The escape of a register, a string or an argument that was taken at once, with its text in front: the run has come behind it.
 use Rattle.std.proofs.Common.{◌≡◌, ℕ, ◌+◌, ◌<◌, ◌≤◌, Bool, true, false, List, [], ◌∷◌, ◌++◌, length, take, None, refl, sym, ap, subst, ◌∙◌, arith}
 use Rattle.std.specs.Prelude.{map}
 use Rattle.std.proofs.Math.Seq.{take-length}
@@ -24,7 +24,7 @@ use Rattle.roff_run.specs.Registers.{AllRegisters}
 use Rattle.roff_run.specs.Run.{Leads, State, known_at}
 use Rattle.roff_run.specs.Run.Counts.{counts_in, first_passed}
 use Rattle.roff_run.specs.declared.line_state.LineState.{LineState}
-use Rattle.roff_fronts.specs.Registers.{Asked, OfRegister, OfString, HoldsRegister, PutsRegister, PutsText, ReadsNames, text_asked, with_text}
+use Rattle.roff_fronts.specs.Registers.{Asked, OfString, HoldsText, PutsText, ReadsNames, text_asked, with_text}
 use Rattle.roff_fronts.specs.Runs.{IsRun}
 use Rattle.roff_fronts.proofs.RegistersHeld.{ReadsText, next_bytes-put, passes-end, passes-read, read}
 use Rattle.roff_formatter.specs.Formatter.Telling.{TellsFront}
@@ -165,7 +165,7 @@ run-kept kind old new reading half run =
 
 -- past an escape whose text was held
 pub goes_further_held : (gave gives : Tape → Type 0) (noted notes failed failures : ℕ) (out err : Sunk) (old : Coded) (after : PageUnread)
-    → HoldsRegister gave gives old.interpreter.reader old.interpreter.formatter.composer old.unread after
+    → HoldsText gave gives old.interpreter.reader old.interpreter.formatter.composer old.unread after
     → due old.interpreter.reader.reading ≡ None → notes ≤ noted → failures ≡ failed
     → GoesFurther true gave gives noted notes old (record old { unread = after }) (seen failed out err) (seen failures out err)
 goes_further_held gave gives noted notes failed failures out err old after holds none_due few same =
@@ -176,21 +176,21 @@ goes_further_held gave gives noted notes failed failures out err old after holds
     let behind : Seen = seen failures out err in
     goes_further_then true gave gives gives noted notes notes old read new now behind behind
     (goes_further_then true gave gives gives noted notes notes old put read now behind behind
-    (goes_further_put OfRegister gave gives old holds.put holds.puts noted notes failed failures out err few same)
+    (goes_further_put holds.asked gave gives old holds.put holds.puts noted notes failed failures out err few same)
     (goes_past_turned gives gives notes notes failures failures out err put holds.read old.interpreter.reader holds.past (omega arith) refl))
     (goes_further_passed read new holds.is_ended (λ so. none_due) holds.takes holds.ends (λ so. holds.within)
     (λ so. ap (λ (u : PageUnread). record old { unread = u }) (holds.stays so)) refl gives notes behind).past
 
 -- past an escape whose text was told
-pub goes_further_told : (gave gives : Tape → Type 0) (noted notes failed failures : ℕ) (out err : Sunk) (old : Coded) (f : Formatter) (passed after : PageUnread)
+pub goes_further_told : (asked : Asked) (gave gives : Tape → Type 0) (noted notes failed failures : ℕ) (out err : Sunk) (old : Coded) (f : Formatter) (passed after : PageUnread)
     (text : List ℕ) (count : ℕ) (room : passed.input.charge + length text < passed.limits.bytes) (is_ended : Bool)
     (told : TellsFront text count old.interpreter.formatter f)
     → IsRun TextRun old.interpreter.reader.reading old.unread.input.escapes → ReadsNames old.interpreter.reader.reading
-    → PutsRegister gave gives old.interpreter.reader old.interpreter.formatter.composer old.unread (with_text text passed)
+    → PutsText asked gave gives old.interpreter.reader old.interpreter.formatter.composer old.unread (with_text text passed)
     → (is_ended ≡ true → is_behind_quote passed.input.arguments.place ≡ false)
     → ReadsText text count told.few passed passed.input.arguments room is_ended after → notes ≤ noted → failures ≡ failed
     → GoesFurther true gave gives noted notes old (record old { unread = after; interpreter = record old.interpreter { formatter = f } }) (seen failed out err) (seen failures out err)
-goes_further_told gave gives noted notes failed failures out err old f passed after text count room is_ended told run names puts none_waited reads few same =
+goes_further_told asked gave gives noted notes failed failures out err old f passed after text count room is_ended told run names puts none_waited reads few same =
     let a : Arguments = passed.input.arguments in
     let there : PageUnread = with_text text passed in
     let between : PageUnread = read text count told.few passed a room in
@@ -205,7 +205,7 @@ goes_further_told gave gives noted notes failed failures out err old f passed af
     let stood : text ≡ front_bytes (length text) [] there = sym (ap (take (length text)) bytes ∙ take-length text) in
     goes_further_then true gave gives gives noted notes notes old (record old { unread = between; interpreter = reader }) (record old { unread = after; interpreter = reader }) now behind behind
     (goes_further_then true gave gives gives noted notes notes old put (record old { unread = between; interpreter = reader }) now behind behind
-    (goes_further_put OfRegister gave gives old there puts noted notes failed failures out err few same)
+    (goes_further_put asked gave gives old there puts noted notes failed failures out err few same)
     (goes_past_told put f text count told none_half run.none_due run.does gives gives [] notes notes failures failures out err between stood passes (omega arith) refl))
     (goes_further_passed (record old { unread = between; interpreter = reader }) (record old { unread = after; interpreter = reader }) is_ended (λ so. run.none_due)
     (λ so. ap (λ (half : List OpenEscape). waiting_above old.interpreter.reader.reading a.place half) none_half ∙ names.takes a.place (none_waited so))
@@ -215,7 +215,7 @@ goes_further_told gave gives noted notes failed failures out err old f passed af
 -- past an escape that was taken and its text held, or past nothing
 pub goes_further_register : (gave gives : Tape → Type 0) (noted notes failed failures : ℕ) (out err : Sunk) (old new : Coded) (is_taken : Bool)
     → new ≡ record old { unread = new.unread } → due old.interpreter.reader.reading ≡ None
-    → (is_taken ≡ true → HoldsRegister gave gives old.interpreter.reader old.interpreter.formatter.composer old.unread new.unread)
+    → (is_taken ≡ true → HoldsText gave gives old.interpreter.reader old.interpreter.formatter.composer old.unread new.unread)
     → (is_taken ≡ false → (new.unread ≡ old.unread) × (gives ≡ gave) × (notes ≡ noted)) → notes ≤ noted → failures ≡ failed
     → GoesFurther is_taken gave gives noted notes old new (seen failed out err) (seen failures out err)
 goes_further_register gave gives noted notes failed failures out err old new true is none_due holds kept few same =
@@ -228,7 +228,7 @@ goes_further_register gave gives noted notes failed failures out err old new fal
 
 -- what is half read stays
 pub half_register : (gave gives : Tape → Type 0) (r : ReaderState) (es : ComposerOf) (before after : PageUnread) (is_taken : Bool)
-    → (is_taken ≡ true → HoldsRegister gave gives r es before after) → (is_taken ≡ false → after ≡ before) → after.input.escapes ≡ before.input.escapes
+    → (is_taken ≡ true → HoldsText gave gives r es before after) → (is_taken ≡ false → after ≡ before) → after.input.escapes ≡ before.input.escapes
 half_register gave gives r es before after true holds kept = (holds refl).half
 half_register gave gives r es before after false holds kept = ap (λ (u : PageUnread). u.input.escapes) (kept refl)
 

@@ -14,6 +14,7 @@ mod passing;
 mod settling;
 mod springing;
 mod starting;
+mod stepping;
 mod texts;
 
 use roff_formatter::Halt;

@@ -3,8 +3,8 @@ use Rattle.std.proofs.Common.{◌≡◌, ℕ, zero, suc, ◌+◌, ◌<◌, ◌�
 use Rattle.std.specs.Prelude.{cond, min, take_while}
 use Rattle.std.proofs.lemmas.Bool.Decides.{nat_tests}
 use Rattle.std.proofs.lemmas.List.Folds.{length-prefix_len}
-use Rattle.std.proofs.lemmas.List.Sums.{take_while-cons}
-use Rattle.std.specs.List.{AllByRecursion}
+use Rattle.std.proofs.lemmas.List.Sums.{prefix_len-le-length, take_while-cons}
+use Rattle.std.specs.List.{AllByRecursion, prefix_len}
 use Rattle.roff_layout.specs.Events.{History}
 use Rattle.roff_lines.specs.Env.Stands.{Stands}
 use Rattle.roff_layout.specs.Telling.{QuietlyTold, bytes_told}
@@ -131,6 +131,28 @@ tells_front front text count f lines is few takes quiet stands most_told =
           most_told l.line (text_of h) stood.environments.in_force.lines (omega (arith, counted, plain, some))
           (subst (λ (bytes : List ℕ). QuietlyTold l.line bytes (text_of h)) (sym one_more) can.quiet);
     }
+
+-- plain text in front is no longer than all
+pub plain_le : (bytes : List ℕ) → length (take_while is_text_byte bytes) ≤ length bytes
+plain_le bytes =
+    let same : length (take_while is_text_byte bytes) ≡ prefix_len is_text_byte bytes = length-prefix_len is_text_byte bytes in
+    omega (arith, same, prefix_len-le-length is_text_byte bytes)
+
+-- the same where they were counted
+pub tells_counted : (near : List ℕ) (n count : ℕ) (f : Formatter) (lines : Env) → n ≡ length (take_while is_text_byte near) → count ≤ n
+    → ((L : Layout) → StandsAs L f.composer.pages → takes_text L ≡ true)
+    → ((cap : ℕ) (h : History) → Stands cap h f.composer.environments.in_force.lines → QuietlyTold cap (take count near) h)
+    → ((cap : ℕ) (h : History) → Stands cap h f.composer.environments.in_force.lines → Stands cap (bytes_told (take count near) h) lines)
+    → ((cap : ℕ) (h : History) → Stands cap h f.composer.environments.in_force.lines → count < n → QuietlyTold cap (take (count + 1) near) h → ⊥)
+    → TellsFront near count f (record f { composer = record f.composer { environments = with_lines f.composer.environments lines } })
+tells_counted near n count f lines is few takes quiet stands most =
+    let within : n ≤ length near = omega (arith, is, plain_le near) in
+    let same : take count (take n near) ≡ take count near = take-take count n near few in
+    tells_front near (take n near) count f lines (ap (λ m. take m near) is) (omega (arith, few, within, length-take n near)) takes
+    (λ cap h s. subst (λ xs. QuietlyTold cap xs h) (sym same) (quiet cap h s))
+    (λ cap h s. subst (λ xs. Stands cap (bytes_told xs h) lines) (sym same) (stands cap h s))
+    (λ cap h s less told. let more : count < n = omega (arith, less, within, length-take n near) in
+    most cap h s more (subst (λ xs. QuietlyTold cap xs h) (take-take (count + 1) n near (omega (arith, more))) told))
 
 -- so it did of all that stand in front, of which those were as many as are told at once
 pub tells_of_all : (front near : List ℕ) (count : ℕ) (old new : Formatter) → near ≡ take most_at_once front → TellsFront near count old new → TellsFront front count old new

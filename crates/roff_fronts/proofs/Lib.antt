@@ -16,9 +16,13 @@ pub mod DroppedLines
 pub mod StringFronts
 pub mod RegisterNames
 pub mod RegistersPut
+pub mod ArgumentsPut
 pub mod RegistersHeld
 pub mod PuttingRuns
 pub mod ConstantConditions
 pub mod ExpressionFronts
 pub mod AnsweredConditions
 pub mod RegisterConditions
+pub mod SteppedNames
+pub mod SteppingRuns
+pub mod SteppedText

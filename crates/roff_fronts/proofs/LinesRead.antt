@@ -27,13 +27,13 @@ use Rattle.roff_run.specs.declared.line_state.LineState.{LineState}
 use Rattle.roff_reader.specs.Reader.State.{ReaderState}
 use Rattle.roff_fronts.specs.ControlFronts.{Fronts, HoldsArguments, StandsName, control_byte, is_past, read_for_call, read_to}
 use Rattle.roff_fronts.specs.declared.control.ControlRead.{ControlRead}
-use Rattle.roff_fronts.specs.declared.control.ControlRead.TheVariants.{Held, HeldToEnd, HeldToEscape}
+use Rattle.roff_fronts.specs.declared.control.ControlRead.TheVariants.{Held, HeldForCall, HeldToEnd, HeldToEscape}
 use Rattle.roff_fronts.specs.Stages.{ReadsLine, ReadsPast}
 use Rattle.roff_fronts.specs.declared.control.ControlFront.{ControlFront}
 use Rattle.roff_fronts.proofs.ControlFronts.{control_plain, stage_with, turned-named}
-use Rattle.roff_fronts.proofs.HeldRuns.{holds_request, turned-held}
+use Rattle.roff_fronts.proofs.HeldRuns.{holds_call_where, holds_request, turned-held}
 use Rattle.roff_fronts.specs.Runs.{IsRun}
-use Rattle.roff_scan.specs.declared.run_kind.RunKind.TheVariants.{Arguments as ArgumentsRun}
+use Rattle.roff_scan.specs.declared.run_kind.RunKind.TheVariants.{Arguments as ArgumentsRun, CallArguments}
 use Rattle.roff_run.specs.declared.line_state.LineState.TheVariants.{Arguments as InArguments, Calling}
 use Rattle.roff_run.specs.declared.request.Request.{Request}
 use Rattle.roff_fronts.proofs.RunsRead.{turned-behind}
@@ -242,7 +242,7 @@ call-past Other read is past = refl
 
 pub call-ended : (b : BehindHeld) (read : ControlRead) → read ≡ read_for_call b → read ≡ HeldToEnd → is_ended b ≡ true
 call-ended Newline read is ends = refl
-call-ended AtName read is ends = let wrong : Held ≡ HeldToEnd = sym is ∙ ends in absurd (cc)
+call-ended AtName read is ends = let wrong : HeldForCall ≡ HeldToEnd = sym is ∙ ends in absurd (cc)
 call-ended Other read is ends = let wrong : Held ≡ HeldToEnd = sym is ∙ ends in absurd (cc)
 
 -- behind a request's name arguments are held
@@ -250,6 +250,15 @@ pub runs-arguments : (breaks : Bool) (request : Request) (reading : LineState) (
 runs-arguments breaks request reading half is none =
     subst (λ (r : LineState). IsRun ArgumentsRun r half) (sym is) (record {
       does = λ b plain k i bare. holds_request breaks request b plain k i bare tt;
+      half_read = none;
+      none_due = refl;
+    })
+
+-- and behind that of a body, as long as fewer than eight are whole
+pub runs-call : (name : ShortName) (reading : LineState) (half : List OpenEscape) → reading ≡ Calling name → half ≡ [] → IsRun (CallArguments 8) reading half
+runs-call name reading half is none =
+    subst (λ (r : LineState). IsRun (CallArguments 8) r half) (sym is) (record {
+      does = λ b plain. holds_call_where (Calling name) name refl b plain;
       half_read = none;
       none_due = refl;
     })

@@ -32,7 +32,7 @@ abbrev pub before_byte : Origin → ℕ → Origin
 before_byte (FromAhead rest) b = FromAhead (ByteAhead b ∷ rest)
 before_byte (FromSource tape) b = FromSource (items_then (OneByte b ∷ []) tape)
 
-open-before : (from : Origin) (b : ℕ) (closed : Bool) → IsOpenFor from closed → IsOpenFor (before_byte from b) closed
+pub open-before : (from : Origin) (b : ℕ) (closed : Bool) → IsOpenFor from closed → IsOpenFor (before_byte from b) closed
 open-before (FromAhead rest) b closed is_open = tt
 open-before (FromSource tape) b closed is_open = is_open
 
@@ -41,29 +41,29 @@ last_behind : (A B : Type 0) (f : A → B) (front : List A) (last : A) (behind :
 last_behind A B f [] last behind = refl
 last_behind A B f (x ∷ front) last behind = ap (λ (others : List B). f x ∷ others) (last_behind A B f front last behind)
 
-ahead-before : (from : Origin) (front : List ℕ) (last : ℕ) → ahead_at from (front ++ last ∷ []) ≡ ahead_at (before_byte from last) front
+pub ahead-before : (from : Origin) (front : List ℕ) (last : ℕ) → ahead_at from (front ++ last ∷ []) ≡ ahead_at (before_byte from last) front
 ahead-before (FromAhead rest) front last = last_behind ℕ (Ahead PageEvent) ByteAhead front last rest
 ahead-before (FromSource tape) front last = refl
 
-tape-before : (from : Origin) (front : List ℕ) (last : ℕ) (tape : Tape) → tape_at from (front ++ last ∷ []) tape ≡ tape_at (before_byte from last) front tape
+pub tape-before : (from : Origin) (front : List ℕ) (last : ℕ) (tape : Tape) → tape_at from (front ++ last ∷ []) tape ≡ tape_at (before_byte from last) front tape
 tape-before (FromAhead rest) front last tape = refl
 tape-before (FromSource behind) front last tape =
     ap (λ (items : List Item). let t : Tape = record { items = items; ending = behind.ending } in t) (last_behind ℕ Item OneByte front last behind.items)
 
 -- what is counted of bytes is the same there
-counts-before : (from : Origin) (b : ℕ) (bytes : List ℕ) (i : PageInput) → behind_bytes (before_byte from b) bytes i ≡ behind_bytes from bytes i
+pub counts-before : (from : Origin) (b : ℕ) (bytes : List ℕ) (i : PageInput) → behind_bytes (before_byte from b) bytes i ≡ behind_bytes from bytes i
 counts-before (FromAhead rest) b [] i = refl
 counts-before (FromSource tape) b [] i = refl
 counts-before (FromAhead rest) b (c ∷ bytes) i = counts-before (FromAhead rest) b bytes (behind_byte (FromAhead rest) c i)
 counts-before (FromSource tape) b (c ∷ bytes) i = counts-before (FromSource tape) b bytes (behind_byte (FromSource tape) c i)
 
 -- at the last byte
-run-last : (s : State) (names : Named Entry) (q : Stage) (from : Origin) (b : ℕ) (j : PageInput) → run_at s names q (before_byte from b) [] j ≡ run_at s names q from (b ∷ []) j
+pub run-last : (s : State) (names : Named Entry) (q : Stage) (from : Origin) (b : ℕ) (j : PageInput) → run_at s names q (before_byte from b) [] j ≡ run_at s names q from (b ∷ []) j
 run-last s names q (FromAhead rest) b j = refl
 run-last s names q (FromSource tape) b j = refl
 
 -- no more is counted at a stage in which as much is held, behind the bytes that lead to it
-NoMore-led : (names : Named Entry) (p q : Stage) (from : Origin) (bytes : List ℕ) (i : PageInput) (charge newlines line : ℕ) → held_at q ≤ held_at p → q.texts ≡ p.texts
+pub NoMore-led : (names : Named Entry) (p q : Stage) (from : Origin) (bytes : List ℕ) (i : PageInput) (charge newlines line : ℕ) → held_at q ≤ held_at p → q.texts ≡ p.texts
     → NoMore (stage_input names q from [] (record i { charge = charge; newlines = newlines; line = line })) (stage_input names p from bytes i)
 NoMore-led names p q (FromAhead rest) bytes i charge newlines line held texts =
     let now : PageInput = stage_input names q (FromAhead rest) [] (record i { charge = charge; newlines = newlines; line = line }) in
@@ -123,9 +123,14 @@ step-put asked l s names (FromSource tape) p q b name text j on none_due stays f
     ∙ ap (λ (r : Option Limit). unless_refused l r before (behind text)) fits
 
 -- the bytes that are counted are within the limit
-charged-behind : (from : Origin) (bytes : List ℕ) (i : PageInput) → (behind_bytes from bytes i).charge ≡ i.charge + length bytes
+pub charged-behind : (from : Origin) (bytes : List ℕ) (i : PageInput) → (behind_bytes from bytes i).charge ≡ i.charge + length bytes
 charged-behind from [] i = omega arith
 charged-behind from (b ∷ bytes) i = let rest = charged-behind from bytes (behind_byte from b i) in omega (arith, rest)
+
+-- so many bytes are in front of the last one
+pub length-last : (front : List ℕ) (b : ℕ) → length (front ++ b ∷ []) ≡ length front + 1
+length-last [] b = refl
+length-last (c ∷ front) b = let rest = length-last front b in omega (arith, rest)
 
 -- the input behind the escape, with its text in front
 abbrev pub input_put : LineState → List ℕ → Origin → List ℕ → PageInput → PageInput
@@ -177,7 +182,3 @@ leads-put purpose l s from bytes name text going idle unsprung is_open asked ahe
     (subst (λ (k : PageInput). first_passed l (counts_in s.registers (pushing text k)) ≡ None) (sym is) fits) in
     Leads-to l s (run_at s i.names q from (b ∷ []) j) _ comes
     (steps ∙ ap (λ (k : PageInput). record s { tape = tape_at from [] s.tape; input = pushing text k }) is)
-  where
-    length-last : (front : List ℕ) (b : ℕ) → length (front ++ b ∷ []) ≡ length front + 1
-    length-last [] b = refl
-    length-last (c ∷ front) b = let rest = length-last front b in omega (arith, rest)

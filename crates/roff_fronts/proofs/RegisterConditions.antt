@@ -34,7 +34,7 @@ use Rattle.roff_fronts.proofs.ControlFronts.{stage_with}
 use Rattle.roff_fronts.proofs.ExpressionFronts.{halves-more, halves-number, sees-more}
 use Rattle.roff_fronts.proofs.LinesRead.{three}
 use Rattle.roff_fronts.proofs.RegisterNames.{asks_text, reads_escape-choice, reads_names-deciding}
-use Rattle.roff_fronts.proofs.RegistersPut.{free_ahead-bytes, some_bytes}
+use Rattle.roff_fronts.proofs.RegistersPut.{free_ahead-bytes, name_for, some_bytes}
 
 -- bytes behind others stand in front
 ahead-parts : (front rest : List ℕ) (items : List (Ahead PageEvent)) → map ByteAhead (front ++ rest) ++ items ≡ map ByteAhead front ++ (map ByteAhead rest ++ items)
@@ -202,7 +202,7 @@ module _ (gave gives : Tape → Type 0) (r : ReaderState) (es : ComposerOf) (fro
         name = name_bytes name;
         text = is.text;
         passed = passed;
-        asked = asks_text OfRegister i.names (Deciding false) reads_names-deciding choice reads_escape-choice i.arguments i.open_texts name.first name.second asks.named;
+        asked = asks_text OfRegister i.names (Deciding false) reads_names-deciding choice reads_escape-choice i.arguments i.open_texts name.first name.second (name_for OfRegister name.first name.second tt asks.named);
         passes = OfTexts (record {
           behind = behind_escape;
           in_front = refl;

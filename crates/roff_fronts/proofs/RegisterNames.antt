@@ -1,4 +1,4 @@
--- The escape of a register or a string: what is half read on its way, and what is read in its place.
+-- The escape of a register, a string or an argument: what is half read on its way, and what is read in its place.
 use Rattle.std.proofs.Common.{◌≡◌, ℕ, ◌==◌, Bool, true, false, List, [], ◌∷◌, Option, Some, None, refl, ap, ◌∙◌, arith}
 use Rattle.std.specs.Prelude.{if◌then◌else◌}
 use Rattle.roff_input.proofs.Settling.{held-only_kept-settled, settled-only_kept}
@@ -7,33 +7,36 @@ use Rattle.roff_escape.specs.EscapeFronts.{ReadsOn}
 use Rattle.roff_escape.specs.OpenEscape.{OpenEscape, Backslash, Condition, Name, Reads}
 use Rattle.roff_escape.specs.OpenEscapes.{byte_read, name_given}
 use Rattle.roff_escape.specs.declared.open_escape.ConditionPart.TheVariants.{Choice}
-use Rattle.roff_escape.specs.declared.escapes.NameUse.TheVariants.{Register, Text}
+use Rattle.roff_escape.specs.declared.escapes.NameUse.TheVariants.{Argument, Register, Text}
 use Rattle.roff_escape.specs.declared.open_escape.Found.TheVariants.{Asks, GoesOn}
 use Rattle.roff_escape.specs.declared.open_escape.NamePart.{NamePart}
 use Rattle.roff_escape.specs.declared.open_escape.NamePart.TheVariants.{First, Nothing, Opened}
 use Rattle.roff_escape.specs.declared.open_escape.Surroundings.{Surroundings}
 use Rattle.roff_escape.specs.declared.open_escape.Waiting.TheVariants.{Takes, Waits}
 use Rattle.roff_input.specs.Input.{pushing}
+use Rattle.roff_input.specs.Input.Calls.{arguments_live}
 use Rattle.roff_input.specs.Input.Names.{body_named}
 use Rattle.roff_num.specs.ShortNames.{name_bytes}
+use Rattle.roff_num.specs.declared.short_name.ShortName.{ShortName}
 use Rattle.roff_run.specs.Reading.{taking, undropped_taking}
+use Rattle.roff_run.specs.Reading.Escapes.{argument_named}
 use Rattle.roff_run.specs.Reading.Found.{place_in, read_in}
 use Rattle.roff_run.specs.Reading.Items.{PageInput, going_on}
 use Rattle.roff_run.specs.Reading.Units.{interrupted, settled_for}
 use Rattle.roff_run.specs.Registers.{Known, text_of_register}
 use Rattle.roff_run.specs.Stages.{Here, Onward, Stage, Turned, Turns, input_at}
 use Rattle.roff_run.specs.declared.line_state.LineState.{LineState}
-use Rattle.roff_run.specs.declared.line_state.LineState.TheVariants.{Arguments as InArguments, Deciding, Text as InText}
+use Rattle.roff_run.specs.declared.line_state.LineState.TheVariants.{Arguments as InArguments, Calling, Deciding, LineStart, Text as InText}
 use Rattle.roff_run.specs.declared.line_state.TextLine.{TextLine}
 use Rattle.roff_run.specs.declared.request.Request.{Request}
 use Rattle.roff_source.specs.Bytes.{backslash, is_argument_byte, is_dropped, newline}
 use Rattle.roff_store.specs.Named.{Named}
 use Rattle.roff_store.specs.Texts.{Entry}
-use Rattle.roff_fronts.specs.Registers.{Asked, OfRegister, OfString, AsksText, IsNameOf, ReadsNames, escape_behind, letter_of, purpose_of, text_asked}
+use Rattle.roff_fronts.specs.Registers.{Asked, OfArgument, OfRegister, OfString, AsksText, HasLongNames, IsNameFor, ReadsNames, escape_behind, letter_of, purpose_of, text_asked}
 use Rattle.roff_fronts.proofs.HeldRuns.{none_of_three}
 
 -- a byte that isn't dropped is read by what is half read
-undropped : (k : Known) (reading : LineState) (i : PageInput) (b : ℕ) → is_dropped b ≡ false → taking k reading i b ≡ undropped_taking k reading i b
+pub undropped : (k : Known) (reading : LineState) (i : PageInput) (b : ℕ) → is_dropped b ≡ false → taking k reading i b ≡ undropped_taking k reading i b
 undropped k reading i b stands = ap (λ (c : Bool). if c then going_on (interrupted reading i) reading else undropped_taking k reading i b) stands
 
 -- where a name's text is put in front behind it, that is so of its last byte
@@ -43,14 +46,18 @@ asked_in : (reading : LineState)
     read_in k reading i (Asks (Register None) (Some name), rest) ≡ going_on (pushing (text_of_register k name) behind) reading)
     → ((k : Known) (i : PageInput) (rest : List OpenEscape) (name : List ℕ) → let behind : PageInput = record (interrupted reading i) { escapes = rest } in
     read_in k reading i (Asks Text (Some name), rest) ≡ going_on (pushing (body_named name behind) behind) reading)
+    → ((k : Known) (i : PageInput) (rest : List OpenEscape) (name : List ℕ) → let behind : PageInput = record (interrupted reading i) { escapes = rest } in
+    read_in k reading i (Asks Argument (Some name), rest) ≡ going_on (pushing (argument_named name (arguments_live behind)) behind) reading)
     → (asked : Asked) (k : Known) (i : PageInput) (b : ℕ) (rest : List OpenEscape) (name : List ℕ) → is_dropped b ≡ false
     → ((base : Surroundings) → byte_read base i.escapes b ≡ (Asks (purpose_of asked) (Some name), rest))
     → let behind : PageInput = record (interrupted reading i) { escapes = rest } in
     taking k reading i b ≡ going_on (pushing (text_asked asked k behind name) behind) reading
-asked_in reading reads register string OfRegister k i b rest name stands goes =
+asked_in reading reads register string argument OfRegister k i b rest name stands goes =
     undropped k reading i b stands ∙ reads k i b ∙ ap (λ (r : Reads). read_in k reading i r) (goes (place_in k reading)) ∙ register k i rest name
-asked_in reading reads register string OfString k i b rest name stands goes =
+asked_in reading reads register string argument OfString k i b rest name stands goes =
     undropped k reading i b stands ∙ reads k i b ∙ ap (λ (r : Reads). read_in k reading i r) (goes (place_in k reading)) ∙ string k i rest name
+asked_in reading reads register string argument OfArgument k i b rest name stands goes =
+    undropped k reading i b stands ∙ reads k i b ∙ ap (λ (r : Reads). read_in k reading i r) (goes (place_in k reading)) ∙ argument k i rest name
 
 -- a text line reads names so
 pub reads_names-text : (line : TextLine) → ReadsNames (InText line)
@@ -58,7 +65,19 @@ reads_names-text line = record {
   none_due = refl;
   goes_on = λ k i b next stands goes.
       undropped k (InText line) i b stands ∙ ap (λ (r : Reads). read_in k (InText line) i r) (goes (place_in k (InText line)));
-  asks = λ asked. asked_in (InText line) (λ k i b. refl) (λ k i rest name. refl) (λ k i rest name. refl) asked;
+  asks = λ asked. asked_in (InText line) (λ k i b. refl) (λ k i rest name. refl) (λ k i rest name. refl) (λ k i rest name. refl) asked;
+  twice = λ a. refl;
+  same_held = λ a. refl;
+  takes = λ place none. refl;
+}
+
+-- so it does where a line begins, and one begins still behind it
+pub reads_names-start : ReadsNames LineStart
+reads_names-start = record {
+  none_due = refl;
+  goes_on = λ k i b next stands goes.
+      undropped k LineStart i b stands ∙ ap (λ (r : Reads). read_in k LineStart i r) (goes (place_in k LineStart));
+  asks = λ asked. asked_in LineStart (λ k i b. refl) (λ k i rest name. refl) (λ k i rest name. refl) (λ k i rest name. refl) asked;
   twice = λ a. refl;
   same_held = λ a. refl;
   takes = λ place none. refl;
@@ -71,7 +90,20 @@ reads_names-arguments breaks request =
     record {
       none_due = refl;
       goes_on = λ k i b next stands goes. undropped k reading i b stands ∙ ap (λ (r : Reads). read_in k reading i r) (goes (place_in k reading));
-      asks = λ asked. asked_in reading (λ k i b. refl) (λ k i rest name. refl) (λ k i rest name. refl) asked;
+      asks = λ asked. asked_in reading (λ k i b. refl) (λ k i rest name. refl) (λ k i rest name. refl) (λ k i rest name. refl) asked;
+      twice = λ a. settled-only_kept a;
+      same_held = λ a. held-only_kept-settled a;
+      takes = λ place none. ap (λ (c : Bool). if c then Waits else Takes) none;
+    }
+
+-- and so do those of a line that calls a body
+pub reads_names-calling : (called : ShortName) → ReadsNames (Calling called)
+reads_names-calling called =
+    let reading : LineState = Calling called in
+    record {
+      none_due = refl;
+      goes_on = λ k i b next stands goes. undropped k reading i b stands ∙ ap (λ (r : Reads). read_in k reading i r) (goes (place_in k reading));
+      asks = λ asked. asked_in reading (λ k i b. refl) (λ k i rest name. refl) (λ k i rest name. refl) (λ k i rest name. refl) asked;
       twice = λ a. settled-only_kept a;
       same_held = λ a. held-only_kept-settled a;
       takes = λ place none. ap (λ (c : Bool). if c then Waits else Takes) none;
@@ -84,21 +116,21 @@ reads_names-deciding =
     record {
       none_due = refl;
       goes_on = λ k i b next stands goes. undropped k reading i b stands ∙ ap (λ (r : Reads). read_in k reading i r) (goes (place_in k reading));
-      asks = λ asked. asked_in reading (λ k i b. refl) (λ k i rest name. refl) (λ k i rest name. refl) asked;
+      asks = λ asked. asked_in reading (λ k i b. refl) (λ k i rest name. refl) (λ k i rest name. refl) (λ k i rest name. refl) asked;
       twice = λ a. refl;
       same_held = λ a. refl;
       takes = λ place none. refl;
     }
 
 -- what a byte of a name is none of
-name_byte : (b : ℕ) → is_argument_byte b ≡ true → ((b == backslash) ≡ false) × ((is_dropped b ≡ false) × ((b == newline) ≡ false))
+pub name_byte : (b : ℕ) → is_argument_byte b ≡ true → ((b == backslash) ≡ false) × ((is_dropped b ≡ false) × ((b == newline) ≡ false))
 name_byte b plain = none_of_three (b == backslash) (is_dropped b) (b == newline) plain
 
 -- Where these are half read an escape is read: its first two bytes, and a name, which is asked for.
 pub record ReadsEscape (asked : Asked) (rest : List OpenEscape) : Type 0 where
   begins : ReadsOn rest 92 (Backslash ∷ rest)
   named : ReadsOn (Backslash ∷ rest) (letter_of asked) (Name (purpose_of asked) Nothing ∷ rest)
-  opened : ReadsOn (Name (purpose_of asked) Nothing ∷ rest) 40 (Name (purpose_of asked) Opened ∷ rest)
+  opened : HasLongNames asked → ReadsOn (Name (purpose_of asked) Nothing ∷ rest) 40 (Name (purpose_of asked) Opened ∷ rest)
   short : (b : ℕ) → is_argument_byte b ≡ true → (b == 40) ≡ false → (b == 43) ≡ false → (b == 45) ≡ false
       → (base : Surroundings) → byte_read base (Name (purpose_of asked) Nothing ∷ rest) b ≡ name_given rest (purpose_of asked) (Some (b ∷ []))
   given : (name : List ℕ) → name_given rest (purpose_of asked) (Some name) ≡ (Asks (purpose_of asked) (Some name), rest)
@@ -113,15 +145,22 @@ pub reads_escape-alone : (asked : Asked) → ReadsEscape asked []
 reads_escape-alone OfRegister = record {
   begins = record { stands = refl; no_newline = refl; stays = refl; goes_on = λ base. refl; held = refl };
   named = record { stands = refl; no_newline = refl; stays = refl; goes_on = λ base. refl; held = refl };
-  opened = record { stands = refl; no_newline = refl; stays = refl; goes_on = λ base. refl; held = refl };
+  opened = λ long. record { stands = refl; no_newline = refl; stays = refl; goes_on = λ base. refl; held = refl };
   short = short_register [];
   given = λ name. refl;
 }
 reads_escape-alone OfString = record {
   begins = record { stands = refl; no_newline = refl; stays = refl; goes_on = λ base. refl; held = refl };
   named = record { stands = refl; no_newline = refl; stays = refl; goes_on = λ base. refl; held = refl };
-  opened = record { stands = refl; no_newline = refl; stays = refl; goes_on = λ base. refl; held = refl };
+  opened = λ long. record { stands = refl; no_newline = refl; stays = refl; goes_on = λ base. refl; held = refl };
   short = λ b plain no_paren no_plus no_minus base. (let none = name_byte b plain in rw (none.0, no_paren) refl);
+  given = λ name. refl;
+}
+reads_escape-alone OfArgument = record {
+  begins = record { stands = refl; no_newline = refl; stays = refl; goes_on = λ base. refl; held = refl };
+  named = record { stands = refl; no_newline = refl; stays = refl; goes_on = λ base. refl; held = refl };
+  opened = λ long. absurd long;
+  short = λ b plain no_paren no_plus no_minus base. (let none = name_byte b plain in rw (none.0) refl);
   given = λ name. refl;
 }
 
@@ -130,7 +169,7 @@ pub reads_escape-choice : ReadsEscape OfRegister (Condition (Choice false) [] �
 reads_escape-choice = record {
   begins = record { stands = refl; no_newline = refl; stays = refl; goes_on = λ base. refl; held = refl };
   named = record { stands = refl; no_newline = refl; stays = refl; goes_on = λ base. refl; held = refl };
-  opened = record { stands = refl; no_newline = refl; stays = refl; goes_on = λ base. refl; held = refl };
+  opened = λ long. record { stands = refl; no_newline = refl; stays = refl; goes_on = λ base. refl; held = refl };
   short = short_register (Condition (Choice false) [] ∷ []);
   given = λ name. refl;
 }
@@ -201,7 +240,7 @@ module _ (asked : Asked) (names : Named Entry) (reading : LineState) (reads : Re
       Onward before (within (Backslash ∷ rest)) q 92 bytes reads.none_due escape.begins.stays turns-begins refl (omega (arith, same)) (omega (arith, same)) others
 
   -- the escape asks for the name's text
-  pub asks_text : (first : ℕ) (second : Option ℕ) → IsNameOf first second → AsksText asked names before (escape_behind asked first second) (name_bytes (record { first = first; second = second }))
+  pub asks_text : (first : ℕ) (second : Option ℕ) → IsNameFor asked first second → AsksText asked names before (escape_behind asked first second) (name_bytes (record { first = first; second = second }))
   asks_text first None is =
       let half : List OpenEscape = Name (purpose_of asked) Nothing ∷ rest in
       let none = name_byte first is.0 in
@@ -220,7 +259,7 @@ module _ (asked : Asked) (names : Named Entry) (reading : LineState) (reads : Re
       }
   asks_text first (Some second) is =
       let half : List OpenEscape = Name (purpose_of asked) (First first) ∷ rest in
-      let none = name_byte second is.1 in
+      let none = name_byte second is.0.1 in
       let same = reads.same_held a in
       record {
         front = 92 ∷ letter_of asked ∷ 40 ∷ first ∷ [];
@@ -229,11 +268,11 @@ module _ (asked : Asked) (names : Named Entry) (reading : LineState) (reads : Re
         there = within half;
         turned = begun (letter_of asked ∷ 40 ∷ first ∷ []) (within half)
             (read_on (Backslash ∷ rest) (Name (purpose_of asked) Nothing ∷ rest) (letter_of asked) (40 ∷ first ∷ []) (within half) escape.named
-            (read_on (Name (purpose_of asked) Nothing ∷ rest) (Name (purpose_of asked) Opened ∷ rest) 40 (first ∷ []) (within half) escape.opened
-            (read_on (Name (purpose_of asked) Opened ∷ rest) half first [] (within half) (first_read asked rest escape first is.0) (Here (within half)))));
+            (read_on (Name (purpose_of asked) Nothing ∷ rest) (Name (purpose_of asked) Opened ∷ rest) 40 (first ∷ []) (within half) (escape.opened is.1)
+            (read_on (Name (purpose_of asked) Opened ∷ rest) half first [] (within half) (first_read asked rest escape first is.0.0) (Here (within half)))));
         none_due = reads.none_due;
         stays = none.1.1;
         held = omega (arith, same);
         texts = refl;
-        asks = asks-last half second (first ∷ second ∷ []) none.1.0 (long_asked asked rest escape first second is.1);
+        asks = asks-last half second (first ∷ second ∷ []) none.1.0 (long_asked asked rest escape first second is.0.1);
       }

@@ -1,11 +1,11 @@
--- The text of a register of which bytes were read at once, as if it had been put in front.
-use Rattle.std.proofs.Common.{◌≡◌, ℕ, suc, zero, ◌+◌, ◌<◌, ◌≤◌, Bool, true, false, List, [], ◌∷◌, ◌++◌, length, map, take, drop, None, refl, sym, ap, subst, ◌∙◌, arith}
+-- The text of a register or an argument of which bytes were read at once, as if it had been put in front.
+use Rattle.std.proofs.Common.{◌≡◌, ℕ, suc, zero, ◌+◌, ◌<◌, ◌≤◌, Bool, true, false, List, [], ◌∷◌, ◌++◌, length, map, take, drop, Option, None, Some, refl, sym, ap, subst, ◌∙◌, arith}
 use Rattle.std.specs.List.{AllByRecursion}
 use Rattle.std.proofs.lemmas.List.{length-drop, length-take-le}
 use Rattle.roff_composer.specs.declared.composer.Composer.{Composer as ComposerOf}
 use Rattle.roff_escape.specs.OpenEscape.{OpenEscape}
 use Rattle.roff_input.proofs.Counts.{bytes_ahead-bytes, ends_ahead-bytes}
-use Rattle.roff_input.specs.Arguments.{Arguments as ArgumentsOf, HeldFewer, bytes_held, is_behind_quote, only_kept, with_argument_byte}
+use Rattle.roff_input.specs.Arguments.{Arguments as ArgumentsOf, HeldFewer, bytes_held, is_behind_quote}
 use Rattle.roff_arguments.proofs.HeldBytes.{held-bytes_held}
 use Rattle.roff_input.specs.Input.{Ahead, ByteAhead, EndAhead, depth, leading, pushed, pushing}
 use Rattle.roff_input.specs.Unread.{IsWithin}
@@ -15,13 +15,14 @@ use Rattle.roff_run.specs.PageEvents.{PageEvent}
 use Rattle.roff_run.specs.Reading.Items.{PageInput, PageUnread}
 use Rattle.roff_scan.proofs.PassingAhead.{bytes_taken-is}
 use Rattle.roff_scan.specs.Unread.Calls.{OfTexts, PassesEnd, PassesFront, next_bytes}
-use Rattle.roff_scan.specs.Unread.Runs.{TakesRun}
-use Rattle.roff_scan.specs.declared.run_kind.RunKind.TheVariants.{Arguments}
+use Rattle.roff_scan.specs.RunKinds.{goes_by_bytes, is_of, most_whole}
+use Rattle.roff_scan.specs.Unread.Runs.{HalvesBehind, TakesRun, arguments_behind, texts_behind}
+use Rattle.roff_scan.specs.declared.run_kind.RunKind.TheVariants.{Blanks}
 use Rattle.roff_source.specs.Bytes.{is_argument_byte}
 use Rattle.roff_source.specs.Tape.{Tape}
 use Rattle.roff_run.specs.Reading.Waiting.{waiting_above}
-use Rattle.roff_fronts.specs.Registers.{HoldsRegister, PutsRegister, ReadsNames, with_text}
-use Rattle.roff_fronts.specs.Runs.{IsRun}
+use Rattle.roff_fronts.specs.Registers.{Asked, HoldsText, PutsText, ReadsNames, with_text}
+use Rattle.roff_fronts.specs.Runs.{IsRun, run_holding}
 use Rattle.roff_fronts.proofs.TakenRuns.{reads-a_run}
 
 -- the first bytes of a text stand in front of the others
@@ -40,11 +41,6 @@ pub next_bytes-put : (text : List ℕ) (items : List (Ahead PageEvent)) (looked 
     → next_bytes (map ByteAhead text ++ EndAhead ∷ items) looked ready ≡ text
 next_bytes-put [] items looked ready = refl
 next_bytes-put (b ∷ text) items looked ready = leading-put (b ∷ text) items
-
--- where there is no bound, no argument is one too many
-fewer-none : (bytes : List ℕ) (a : ArgumentsOf) → HeldFewer None bytes a
-fewer-none [] a = tt
-fewer-none (b ∷ bytes) a = (tt, fewer-none bytes (only_kept (with_argument_byte a b)))
 
 -- where a text has room in front, it has room elsewhere
 pub room-put : (text : List ℕ) (u : PageUnread) → IsWithin (with_text text u) → (pushed u.input + length text ≤ u.limits.stack) × (depth u.input < u.limits.depth)
@@ -170,34 +166,65 @@ module _ (text : List ℕ) (count : ℕ) (few : count ≤ length text) (before :
         by_end true is stays = ap (λ (u : PageUnread). u.input.escapes) (is refl)
         by_end false is stays = ap (λ (u : PageUnread). u.input.escapes) (stays refl)
 
+-- bytes are of a run that is held, where they are held as they are read
+holds-of : (most : Option ℕ) (text : List ℕ) → AllByRecursion (λ b. is_argument_byte b ≡ true) text → AllByRecursion (λ b. is_of (run_holding most) b ≡ true) text
+holds-of None text plain = plain
+holds-of (Some most) text plain = plain
+
+holds-fewer : (most : Option ℕ) (text : List ℕ) (a : ArgumentsOf) → HeldFewer most text a → HeldFewer (most_whole (run_holding most)) text a
+holds-fewer None text a fewer = fewer
+holds-fewer (Some most) text a fewer = fewer
+
+holds-arguments : (most : Option ℕ) (text : List ℕ) (a : ArgumentsOf) → bytes_held text a ≡ arguments_behind (run_holding most) text a
+holds-arguments None text a = refl
+holds-arguments (Some most) text a = refl
+
+holds-half : (most : Option ℕ) (text : List ℕ) (half : List OpenEscape) → HalvesBehind (run_holding most) half text half
+holds-half None text half = refl
+holds-half (Some most) text half = refl
+
+holds-texts : (most : Option ℕ) (text : List ℕ) (i : PageInput) → i.open_texts ≡ texts_behind (run_holding most) text i
+holds-texts None text i = refl
+holds-texts (Some most) text i = refl
+
+-- and how far it goes isn't told by bytes alone
+holds-whole : (most : Option ℕ) → goes_by_bytes (run_holding most) ≡ true → ⊥
+holds-whole None goes = cc
+holds-whole (Some most) goes = cc
+
+holds-other : (most : Option ℕ) → run_holding most ≡ Blanks → ⊥
+holds-other None is = cc
+holds-other (Some most) is = cc
+
 -- its first bytes are held in arguments
-pub holds_register : (gave gives : Tape → Type 0) (r : ReaderState) (es : ComposerOf) (before passed after : PageUnread) (text : List ℕ) (count : ℕ) (few : count ≤ length text)
+pub holds_text : (asked : Asked) (most : Option ℕ) (gave gives : Tape → Type 0) (r : ReaderState) (es : ComposerOf) (before passed after : PageUnread) (text : List ℕ) (count : ℕ) (few : count ≤ length text)
     (room : passed.input.charge + length text < passed.limits.bytes) (is_ended : Bool)
-    → IsRun Arguments r.reading before.input.escapes → ReadsNames r.reading → before.input.escapes ≡ [] → PutsRegister gave gives r es before (with_text text passed)
-    → AllByRecursion (λ b. is_argument_byte b ≡ true) (take count text)
+    → IsRun (run_holding most) r.reading before.input.escapes → ReadsNames r.reading → before.input.escapes ≡ [] → PutsText asked gave gives r es before (with_text text passed)
+    → AllByRecursion (λ b. is_argument_byte b ≡ true) (take count text) → HeldFewer most (take count text) passed.input.arguments
     → (is_ended ≡ true → is_behind_quote (bytes_held (take count text) passed.input.arguments).place ≡ false)
     → ReadsText text count few passed (bytes_held (take count text) passed.input.arguments) room is_ended after
-    → HoldsRegister gave gives r es before after
-holds_register gave gives r es before passed after text count few room is_ended run names none_half puts plain none_waited reads =
+    → HoldsText gave gives r es before after
+holds_text asked most gave gives r es before passed after text count few room is_ended run names none_half puts plain fewer none_waited reads =
     let a : ArgumentsOf = bytes_held (take count text) passed.input.arguments in
     let put : PageUnread = with_text text passed in
     let there : PageUnread = read text count few passed a room in
-    let took : TakesRun Arguments gives gives [] count put there = record {
+    let took : TakesRun (run_holding most) gives gives [] count put there = record {
       bytes = take count text;
       length_is = length-take-le count text few;
-      are_of = plain;
-      fewer = fewer-none (take count text) passed.input.arguments;
+      are_of = holds-of most (take count text) plain;
+      fewer = holds-fewer most (take count text) passed.input.arguments fewer;
       passes = passes-read text count few passed a room gives;
-      arguments = refl;
-      half_read = refl;
-      texts = refl;
-      whole = λ goes. absurd (cc);
+      arguments = holds-arguments most (take count text) passed.input.arguments;
+      half_read = holds-half most (take count text) passed.input.escapes;
+      texts = holds-texts most (take count text) put.input;
+      whole = λ goes. absurd (holds-whole most goes);
     } in
     record {
+      asked = asked;
       put = put;
       puts = puts;
       read = there;
-      past = reads-a_run Arguments gives gives [] count r put there took (subst (λ (half : List OpenEscape). IsRun Arguments r.reading half) (sym puts.half) run) (λ is. cc)
+      past = reads-a_run (run_holding most) gives gives [] count r put there took (subst (λ (half : List OpenEscape). IsRun (run_holding most) r.reading half) (sym puts.half) run) (holds-other most)
           (within-read text count few passed a room puts.within is_ended after reads);
       is_ended = is_ended;
       takes = λ so.

@@ -1,5 +1,5 @@
 -- The escape of a register or a string that was taken at once, and its text in front.
-use Rattle.std.proofs.Common.{◌≡◌, ℕ, ◌+◌, ◌<◌, ◌≤◌, ◌==◌, Bool, true, false, not, List, [], ◌∷◌, ◌++◌, length, map, take, Option, Some, None, Result, refl, sym, ap, subst, ◌∙◌, arith}
+use Rattle.std.proofs.Common.{◌≡◌, ℕ, ◌+◌, ◌<◌, ◌≤◌, ◌==◌, Bool, true, false, not, List, [], ◌∷◌, ◌++◌, length, map, Option, Some, None, Result, refl, sym, ap, subst, ◌∙◌, arith}
 use Rattle.std.specs.Prelude.{IfSome}
 use Rattle.std.proofs.lemmas.Bool.{ne_eqb}
 use Rattle.roff_composer.specs.Composer.Standing.{StandFor}
@@ -29,7 +29,7 @@ use Rattle.roff_scan.proofs.PassingAhead.{bytes_taken-is}
 use Rattle.roff_scan.specs.Unread.Calls.{IsFront, NoNewline, OfSource, OfTexts, PassesFront, front_bytes}
 use Rattle.roff_source.specs.Bytes.{backslash, is_dropped, newline}
 use Rattle.roff_source.specs.Tape.{Tape}
-use Rattle.roff_fronts.specs.Registers.{Asked, OfRegister, OfString, AsksText, BeginsEscape, IsNameOf, IsRegisterAhead, IsRegisterName, IsStringAhead, NamesRegister, PutsRegister, PutsText, ReadsNames, escape_behind, escape_of, letter_of, register_escape, text_asked, with_text}
+use Rattle.roff_fronts.specs.Registers.{Asked, OfArgument, OfRegister, OfString, AsksText, BeginsEscape, HasLongNames, IsNameFor, IsNameOf, IsRegisterAhead, IsStringAhead, PutsRegister, PutsText, ReadsNames, escape_behind, escape_of, letter_of, register_escape, text_asked, with_text}
 use Rattle.roff_fronts.proofs.HeldRuns.{none_of_three}
 use Rattle.roff_fronts.proofs.RunsRead.{first_of_front, passed-charge}
 use Rattle.roff_fronts.proofs.RegisterNames.{asks_text, reads_escape-alone}
@@ -38,6 +38,7 @@ use Rattle.roff_fronts.proofs.RegisterNames.{asks_text, reads_escape-alone}
 letter_no_newline : (asked : Asked) → (letter_of asked == newline) ≡ false
 letter_no_newline OfRegister = refl
 letter_no_newline OfString = refl
+letter_no_newline OfArgument = refl
 
 pub no_newline : (asked : Asked) (first : ℕ) (second : Option ℕ) → IsNameOf first second → NoNewline (escape_behind asked first second)
 no_newline asked first None is = (refl, (letter_no_newline asked, ((none_of_three (first == backslash) (is_dropped first) (first == newline) is.0).1.1, tt)))
@@ -61,7 +62,7 @@ free_ahead-bytes [] items = refl
 free_ahead-bytes (b ∷ text) items = free_ahead-bytes text items
 
 -- bytes of the source change what is counted alone
-lines_taken-counts : (bytes : List ℕ) (i : PageInput) → let j : PageInput = lines_taken bytes i in j ≡ record i { charge = j.charge; newlines = j.newlines; line = j.line }
+pub lines_taken-counts : (bytes : List ℕ) (i : PageInput) → let j : PageInput = lines_taken bytes i in j ≡ record i { charge = j.charge; newlines = j.newlines; line = j.line }
 lines_taken-counts [] i = refl
 lines_taken-counts (b ∷ bytes) i = lines_taken-counts bytes (counting b i)
 
@@ -72,11 +73,11 @@ lines_taken-charge (b ∷ bytes) i =
 
 -- What bytes that were taken at once leave: no more is counted, the limits are the same, and fewer turns are to come.
 pub record Leaves (before passed : PageUnread) : Type 0 where
-  same : passed.limits ≡ before.limits
-  less : pushed passed.input ≤ pushed before.input
-  fewer : depth passed.input ≤ depth before.input
+  pub same : passed.limits ≡ before.limits
+  pub less : pushed passed.input ≤ pushed before.input
+  pub fewer : depth passed.input ≤ depth before.input
   pub turns : turns_to_come passed < turns_to_come before
-  half : passed.input.escapes ≡ before.input.escapes
+  pub half : passed.input.escapes ≡ before.input.escapes
 
 pub leaves : (gave gives : Tape → Type 0) (bytes : List ℕ) (before passed : PageUnread) → 1 ≤ length bytes → PassesFront gave gives bytes before passed → Leaves before passed
 leaves gave gives bytes before passed some (OfSource passes) =
@@ -128,7 +129,7 @@ same_bodies gave gives bytes name reading before passed passes =
         ap (λ (u : PageUnread). body_named name u.input) (passes.input ∙ ap (λ (k : PageInput). record before { input = k }) (bytes_taken-is bytes passes.behind before.input passes.in_front))
 
 -- no more turns are to come where a text was put in front
-turns-pushed : (text : List ℕ) (u : PageUnread) → turns_to_come (with_text text u) ≤ turns_to_come u
+pub turns-pushed : (text : List ℕ) (u : PageUnread) → turns_to_come (with_text text u) ≤ turns_to_come u
 turns-pushed text u = let free = free_ahead-bytes text (EndAhead ∷ u.input.ahead) in omega (arith, free)
 
 -- an escape has some bytes, and few
@@ -140,9 +141,14 @@ few_bytes : (asked : Asked) (first : ℕ) (second : Option ℕ) → length (esca
 few_bytes asked first None = omega arith
 few_bytes asked first (Some second) = omega arith
 
+-- a name of one byte or two, where it may have two
+pub name_for : (asked : Asked) (first : ℕ) (second : Option ℕ) → HasLongNames asked → IsNameOf first second → IsNameFor asked first second
+name_for asked first None long is = is
+name_for asked first (Some second) long is = (is, long)
+
 -- An escape was taken, and what it asks for would be in front, where the limits have room for it.
 pub puts_text : (asked : Asked) (gave gives : Tape → Type 0) (r : ReaderState) (es : ComposerOf) (before passed settled : PageUnread) (name : ShortName) (text : List ℕ)
-    → IsRegisterName name → ReadsNames r.reading → before.input.escapes ≡ [] → pushed before.input + length text ≤ before.limits.stack → depth before.input < before.limits.depth
+    → IsNameFor asked name.first name.second → ReadsNames r.reading → before.input.escapes ≡ [] → pushed before.input + length text ≤ before.limits.stack → depth before.input < before.limits.depth
     → PassesFront gave gives (escape_of asked name) before passed → settled ≡ record passed { input = interrupted r.reading passed.input } → IsWithin settled
     → ((limits : Limits) (h : PageHistory) → StandFor limits h es → text ≡ text_asked asked (known_at h r.registers.all settled.input) settled.input (name_bytes name))
     → PutsText asked gave gives r es before (with_text text settled)
@@ -189,7 +195,7 @@ module _ (gave gives : Tape → Type 0) (ready : List ℕ) (reading : LineState)
       → ((limits : Limits) (h : PageHistory) → StandFor limits h es → text ≡ text_of_register (known_at h r.registers.all settled.input) (name_bytes name))
       → PutsRegister gave gives r es before (with_text text settled)
   puts_register r es is_reading fits text_is =
-      puts_text OfRegister gave gives r es before passed settled name text ahead.named (subst ReadsNames (sym is_reading) ahead.reads) ahead.none_half (omega (arith, few, ahead.room)) ahead.shallow passes
+      puts_text OfRegister gave gives r es before passed settled name text (name_for OfRegister name.first name.second tt ahead.named) (subst ReadsNames (sym is_reading) ahead.reads) ahead.none_half (omega (arith, few, ahead.room)) ahead.shallow passes
       (subst (λ (reads : LineState). settled ≡ record passed { input = interrupted reads passed.input }) (sym is_reading) is_settled) fits text_is
 
 -- nothing is half read
@@ -256,7 +262,7 @@ module _ (gave gives : Tape → Type 0) (r : ReaderState) (es : ComposerOf) (rea
 
   puts : PutsText OfString gave gives r es before (with_text text_put settled)
   puts =
-      puts_text OfString gave gives r es before passed settled name text_put ahead.named ahead.reads ahead.none_half
+      puts_text OfString gave gives r es before passed settled name text_put (name_for OfString name.first name.second tt ahead.named) ahead.reads ahead.none_half
       (omega (arith, ahead.room, ap (λ (text : List ℕ). length text) same_text)) ahead.shallow passes is_settled fits (λ limits h stands. refl)
 
   pub puts_string : PutsText OfString gave gives r es before after

@@ -111,5 +111,5 @@ pub record DecidesRegister (es : ComposerOf) (gave gives : Tape → Type 0) (old
 
 -- a condition was read at once with the front of its line, and decided
 pub data DecidesAtOnce (es : ComposerOf) (gave gives : Tape → Type 0) (old new : ReaderState) (before after : PageUnread) : Type 0 where
-  OfConstant : DecidesConstant gave gives old new before after → DecidesAtOnce es gave gives old new before after
-  OfRegister : DecidesRegister es gave gives old new before after → DecidesAtOnce es gave gives old new before after
+  ByConstant : DecidesConstant gave gives old new before after → DecidesAtOnce es gave gives old new before after
+  ByRegister : DecidesRegister es gave gives old new before after → DecidesAtOnce es gave gives old new before after

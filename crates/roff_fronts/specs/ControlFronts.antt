@@ -19,7 +19,7 @@ use Rattle.roff_run.specs.Reading.Waiting.{line_waits}
 use Rattle.roff_run.specs.Registers.{Known}
 use Rattle.roff_fronts.specs.declared.control.ControlFront.{ControlFront}
 use Rattle.roff_fronts.specs.declared.control.ControlRead.{ControlRead}
-use Rattle.roff_fronts.specs.declared.control.ControlRead.TheVariants.{Nothing, Front, Dropped, Condition, Decided, Held, HeldToEscape, HeldToEnd}
+use Rattle.roff_fronts.specs.declared.control.ControlRead.TheVariants.{Nothing, Escape, Front, Dropped, Condition, Decided, Held, HeldToEscape, HeldForCall, HeldToEnd}
 use Rattle.roff_run.specs.declared.line_state.LineState.{LineState}
 use Rattle.roff_run.specs.declared.line_state.LineState.TheVariants.{Control}
 
@@ -51,23 +51,27 @@ pub record StandsReady (bytes ready : List ℕ) (u : PageUnread) : Type 0 where
 -- whether anything was read of one
 abbrev pub is_read : ControlRead → Bool
 is_read Nothing = false
+is_read Escape = false
 is_read Front = true
 is_read Dropped = true
 is_read Condition = true
 is_read Decided = true
 is_read Held = true
 is_read HeldToEscape = true
+is_read HeldForCall = true
 is_read HeldToEnd = true
 
 -- whether its bytes were read past: no newline that isn't read yet was taken behind them, and no condition decided
 abbrev pub is_past : ControlRead → Bool
 is_past Nothing = false
+is_past Escape = false
 is_past Front = true
 is_past Dropped = true
 is_past Condition = true
 is_past Decided = false
 is_past Held = true
 is_past HeldToEscape = true
+is_past HeldForCall = true
 is_past HeldToEnd = false
 
 -- what was read of one, by what stands behind the bytes that were held in its arguments
@@ -76,10 +80,10 @@ read_to BehindHeld.Newline = HeldToEnd
 read_to BehindHeld.Named = HeldToEscape
 read_to BehindHeld.Other = Held
 
--- the same of a line that calls a body, where no escape is read at once
+-- the same of a line that calls a body
 abbrev pub read_for_call : BehindHeld → ControlRead
 read_for_call BehindHeld.Newline = HeldToEnd
-read_for_call BehindHeld.Named = Held
+read_for_call BehindHeld.Named = HeldForCall
 read_for_call BehindHeld.Other = Held
 
 -- what was read of a line that is dropped, by whether its newline was taken

@@ -6,3 +6,5 @@ pub mod StringFronts
 pub mod Registers
 pub mod Conditions
 pub mod Answered
+pub mod SteppedNames
+pub mod Stepped

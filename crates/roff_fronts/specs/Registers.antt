@@ -1,5 +1,5 @@
--- Registers and strings that are read at once, where their escapes stand whole in front (manual, sections 7 and 8).
-use Rattle.std.specs.Prelude.{◌≡◌, ℕ, ◌+◌, ◌<◌, ◌≤◌, ◌==◌, ◌++◌, Bool, true, false, List, [], ◌∷◌, length, take, Option, Some, None}
+-- Registers, strings and arguments that are read at once, where their escapes stand whole in front (manual, sections 7 and 8).
+use Rattle.std.specs.Prelude.{◌≡◌, ℕ, ◌+◌, ◌-◌, ◌<◌, ◌≤◌, ◌==◌, ◌++◌, Bool, true, false, List, [], ◌∷◌, length, take, Option, Some, None}
 use Rattle.roff_input.specs.Arguments.{Arguments, held, is_behind_quote}
 use Rattle.roff_input.specs.declared.place.Place.{Place}
 use Rattle.roff_composer.specs.Composer.Standing.{StandFor}
@@ -8,11 +8,12 @@ use Rattle.roff_escape.specs.OpenEscape.{OpenEscape}
 use Rattle.roff_escape.specs.OpenEscapes.{byte_read}
 use Rattle.roff_escape.specs.Waiting.{is_ended_by}
 use Rattle.roff_escape.specs.declared.escapes.NameUse.{NameUse}
-use Rattle.roff_escape.specs.declared.escapes.NameUse.TheVariants.{Register, Text}
+use Rattle.roff_escape.specs.declared.escapes.NameUse.TheVariants.{Argument, Register, Text}
 use Rattle.roff_escape.specs.declared.open_escape.Found.TheVariants.{Asks, GoesOn}
 use Rattle.roff_escape.specs.declared.open_escape.Surroundings.{Surroundings}
 use Rattle.roff_escape.specs.declared.open_escape.Waiting.TheVariants.{Takes}
 use Rattle.roff_input.specs.Input.{depth, pushed, pushing}
+use Rattle.roff_input.specs.Input.Calls.{argument_live, arguments_live}
 use Rattle.roff_input.specs.Input.Names.{body_named}
 use Rattle.roff_input.specs.Unread.{IsWithin}
 use Rattle.roff_num.specs.declared.limits.Limits.{Limits}
@@ -22,6 +23,7 @@ use Rattle.roff_reader.specs.Reader.State.{ReaderState}
 use Rattle.roff_run.specs.Environments.{PageHistory}
 use Rattle.roff_run.specs.Reading.{taking}
 use Rattle.roff_run.specs.Reading.Ends.{due}
+use Rattle.roff_run.specs.Reading.Escapes.{argument_named}
 use Rattle.roff_run.specs.Reading.Items.{PageInput, PageUnread, going_on}
 use Rattle.roff_run.specs.Reading.Units.{interrupted, settled_for}
 use Rattle.roff_run.specs.Reading.Waiting.{line_waits, waiting_in}
@@ -34,6 +36,8 @@ use Rattle.roff_scan.specs.Unread.Calls.{IsFront, PassesEnd, PassesFront, front_
 use Rattle.roff_source.specs.Bytes.{is_argument_byte, is_dropped}
 use Rattle.roff_source.specs.Tape.{Tape}
 use Rattle.roff_fronts.specs.Stages.{ReadsPast}
+use Rattle.roff_fronts.specs.declared.registers.TextAhead.{TextAhead}
+use Rattle.roff_fronts.specs.declared.registers.TextAhead.TheVariants.{Register as RegisterAhead, Argument as ArgumentAhead}
 use Rattle.roff_store.specs.Named.{Named}
 use Rattle.roff_store.specs.Texts.{Entry}
 
@@ -41,20 +45,24 @@ use Rattle.roff_store.specs.Texts.{Entry}
 pub data Asked : Type 0 where
   OfRegister : Asked
   OfString : Asked
+  OfArgument : Asked
 
 -- what its name is read for, and the letter behind the backslash
 abbrev pub purpose_of : Asked → NameUse
 purpose_of OfRegister = Register None
 purpose_of OfString = Text
+purpose_of OfArgument = Argument
 
 abbrev pub letter_of : Asked → ℕ
 letter_of OfRegister = 110
 letter_of OfString = 42
+letter_of OfArgument = 36
 
 -- the text that is read
 abbrev pub text_asked : Asked → Known → PageInput → List ℕ → List ℕ
 text_asked OfRegister k i name = text_of_register k name
 text_asked OfString k i name = body_named name i
+text_asked OfArgument k i name = argument_named name (arguments_live i)
 
 -- the bytes of the escape of a name
 abbrev pub escape_behind : Asked → ℕ → Option ℕ → List ℕ
@@ -76,6 +84,17 @@ IsNameOf first (Some second) = (is_argument_byte first ≡ true) × (is_argument
 abbrev pub IsRegisterName : ShortName → Type 0
 IsRegisterName name = IsNameOf name.first name.second
 
+-- whether it may have a name of two bytes: an argument's has one
+abbrev pub HasLongNames : Asked → Type 0
+HasLongNames OfRegister = Unit {0}
+HasLongNames OfString = Unit {0}
+HasLongNames OfArgument = ⊥
+
+-- such a name
+abbrev pub IsNameFor : Asked → ℕ → Option ℕ → Type 0
+IsNameFor asked first None = IsNameOf first None
+IsNameFor asked first (Some second) = IsNameOf first (Some second) × HasLongNames asked
+
 -- the name of these bytes, which is a register's
 pub record NamesRegister (first : ℕ) (second : Option ℕ) (name : ShortName) : Type 0 where
   pub named : IsRegisterName name
@@ -89,6 +108,13 @@ pub record BeginsEscape (asked : Asked) (bytes : List ℕ) (name : ShortName) : 
 
 abbrev pub BeginsRegister : List ℕ → ShortName → Type 0
 BeginsRegister bytes name = BeginsEscape OfRegister bytes name
+
+-- the same of an argument's
+pub record BeginsArgument (bytes : List ℕ) (digit : ℕ) : Type 0 where
+  pub above : 49 ≤ digit
+  pub below : digit ≤ 57
+  pub among : 3 ≤ length bytes
+  pub is : take 3 bytes ≡ escape_behind OfArgument digit None
 
 -- Where this is read, a byte that gives nothing yet changes only what is half read, once no quote follows the one before; and behind
 -- the name of a register or a string its text is read in its escape's place. Nothing is waited for but a quote behind one.
@@ -139,6 +165,53 @@ pub record IsRegisterAhead (name : ShortName) (reading : LineState) (ready : Lis
   pub shallow : depth u.input < u.limits.depth
   pub bytes : u.input.charge + 54 ≤ u.limits.bytes
 
+-- the name of an argument
+abbrev pub argument_name : ℕ → ShortName
+argument_name digit = record { first = digit; second = None }
+
+-- The escape of the argument of a digit stands whole in front, where it is read at once: the same, and the argument is as short as any
+-- number.
+pub record IsArgumentAhead (digit : ℕ) (reading : LineState) (ready : List ℕ) (u : PageUnread) : Type 0 where
+  pub above : 49 ≤ digit
+  pub below : digit ≤ 57
+  pub reads : ReadsNames reading
+  pub none_half : u.input.escapes ≡ []
+  pub front : IsFront 3 ready u
+  pub is : front_bytes 3 ready u ≡ escape_of OfArgument (argument_name digit)
+  pub room : pushed u.input + 48 ≤ u.limits.stack
+  pub shallow : depth u.input < u.limits.depth
+  pub bytes : u.input.charge + 54 ≤ u.limits.bytes
+  pub short : length (argument_live (digit - 49) u.input) ≤ 48
+
+-- the text of this is no longer than any number
+abbrev pub IsShort : TextAhead → PageInput → Type 0
+IsShort (RegisterAhead name) i = Unit {0}
+IsShort (ArgumentAhead digit) i = length (argument_live (digit - 49) i) ≤ 48
+
+-- This is read at once where its escape stands whole in front: names are read there, nothing is half read, and the limits have room.
+pub record MayRead (ahead : TextAhead) (reading : LineState) (u : PageUnread) : Type 0 where
+  pub reads : ReadsNames reading
+  pub none_half : u.input.escapes ≡ []
+  pub room : pushed u.input + 48 ≤ u.limits.stack
+  pub shallow : depth u.input < u.limits.depth
+  pub bytes : u.input.charge + 54 ≤ u.limits.bytes
+  pub short : IsShort ahead u.input
+
+-- this escape stands so in front
+abbrev pub IsTextAhead : TextAhead → LineState → List ℕ → PageUnread → Type 0
+IsTextAhead (RegisterAhead name) reading ready u = IsRegisterAhead name reading ready u
+IsTextAhead (ArgumentAhead digit) reading ready u = IsArgumentAhead digit reading ready u
+
+-- what it asks for
+abbrev pub asked_by : TextAhead → Asked
+asked_by (RegisterAhead name) = OfRegister
+asked_by (ArgumentAhead digit) = OfArgument
+
+-- bytes begin with it
+abbrev pub BeginsText : List ℕ → TextAhead → Type 0
+BeginsText bytes (RegisterAhead name) = BeginsRegister bytes name
+BeginsText bytes (ArgumentAhead digit) = BeginsArgument bytes digit
+
 -- An escape that stood whole in front was taken at once, and its text is in front. Fewer turns are to come.
 pub record PutsText (asked_for : Asked) (gave gives : Tape → Type 0) (r : ReaderState) (es : ComposerOf) (before after : PageUnread) : Type 0 where
   pub bytes : List ℕ
@@ -168,10 +241,12 @@ pub record IsStringAhead (name : ShortName) (reading : LineState) (ready : List 
   pub room : pushed u.input + length (body_named (name_bytes name) u.input) ≤ u.limits.stack
   pub shallow : depth u.input < u.limits.depth
 
--- A register's escape was taken so, and behind it bytes of the text were read past, and the end of that too, if it is said.
-pub record HoldsRegister (gave gives : Tape → Type 0) (r : ReaderState) (es : ComposerOf) (before after : PageUnread) : Type 0 where
+-- The escape of a register or an argument was taken so, and behind it bytes of the text were read past, and the end of that too, if it
+-- is said.
+pub record HoldsText (gave gives : Tape → Type 0) (r : ReaderState) (es : ComposerOf) (before after : PageUnread) : Type 0 where
+  pub asked : Asked
   pub put : PageUnread
-  pub puts : PutsRegister gave gives r es before put
+  pub puts : PutsText asked gave gives r es before put
   pub read : PageUnread
   pub past : ReadsPast gives gives r r put read
   pub is_ended : Bool

@@ -1,5 +1,5 @@
 -- Runs: bytes that do alike where something is read.
-use Rattle.std.specs.Prelude.{◌≡◌, ℕ, ◌+◌, ◌-◌, ◌==◌, Bool, true, false, List, [], length, take, take_while, None, Some}
+use Rattle.std.specs.Prelude.{◌≡◌, ℕ, ◌+◌, ◌-◌, ◌==◌, Bool, true, false, List, [], length, take, take_while, None, Option, Some}
 use Rattle.roff_input.specs.Unread.{asks_to_take}
 use Rattle.roff_run.specs.Reading.Items.{PageUnread}
 use Rattle.roff_source.specs.Bytes.{blank, is_argument_byte, is_passed, is_text_byte}
@@ -38,6 +38,11 @@ pub record IsRun (kind : RunKind) (reading : LineState) (half : List OpenEscape)
   pub does : Does kind reading
   pub half_read : MayBeHalfRead kind half
   pub none_due : due reading ≡ None
+
+-- the run of bytes that are held in arguments, as long as fewer than so many are whole, where there is a bound
+abbrev pub run_holding : Option ℕ → RunKind
+run_holding None = Arguments
+run_holding (Some most) = CallArguments most
 
 -- a run of this kind leaves the reader as it was, but for one of blanks
 abbrev pub KeepsReader : RunKind → ReaderState → ReaderState → Type 0

@@ -13,6 +13,7 @@ ghost use Rattle.roff_fronts.specs.Stages.{ReadsPast};
 ghost use Rattle.roff_fronts.specs.declared.conditions.BehindName.TheVariants.{Constant};
 ghost use Rattle.roff_fronts.specs.declared.control.ControlRead.TheVariants.{Condition, Decided};
 ghost use Rattle.roff_fronts.specs.declared.control.ControlRead.TheVariants.{Dropped, HeldToEnd};
+ghost use Rattle.roff_fronts.specs.declared.control.ControlRead.TheVariants.{HeldForCall};
 ghost use Rattle.roff_fronts.specs.declared.control.ControlRead.TheVariants.{HeldToEscape};
 ghost use Rattle.roff_scan.specs.declared.run_kind.RunKind.TheVariants.{Condition as ConditionRun};
 
@@ -55,7 +56,8 @@ pub(super) fn read_condition<S: ByteSource>(
     ensures decides { result ≡ Decided → DecidesAtOnce composer.now (S.gives source.old)
         (S.gives source.new) reader.old reader.new unread.old unread.new }
     ensures line { result ≡ HeldToEnd → ⊥ }
-    ensures register { result ≡ HeldToEscape → ⊥ }
+    ensures escape { result ≡ HeldToEscape → ⊥ }
+    ensures call { result ≡ HeldForCall → ⊥ }
     ensures dropped { result ≡ Dropped → ⊥ }
     ensures read { is_read result ≡ true }
     ensures notes { S.notes source.new ≤ S.notes source.old }

@@ -15,9 +15,10 @@ ghost use Rattle.roff_fronts.specs.Conditions.{DecidesAtOnce};
 ghost use Rattle.roff_fronts.specs.declared.control.ControlRead.TheVariants.{Condition, Decided};
 ghost use Rattle.roff_fronts.specs.declared.control.ControlRead.TheVariants.{Dropped};
 ghost use Rattle.roff_fronts.specs.declared.control.ControlRead.TheVariants.{HeldToEnd};
+ghost use Rattle.roff_fronts.specs.declared.control.ControlRead.TheVariants.{HeldForCall};
 ghost use Rattle.roff_fronts.specs.declared.control.ControlRead.TheVariants.{HeldToEscape};
 ghost use Rattle.roff_fronts.specs.Runs.{IsRun};
-ghost use Rattle.roff_scan.specs.declared.run_kind.RunKind.TheVariants.{Arguments};
+ghost use Rattle.roff_scan.specs.declared.run_kind.RunKind.TheVariants.{Arguments, CallArguments};
 ghost use Rattle.roff_scan.specs.declared.run_kind.RunKind.TheVariants.{Condition as ConditionRun};
 ghost use Rattle.roff_scan.specs.Unread.Lines.{StandsNewline, begins_with_newline};
 ghost use Rattle.roff_fronts.specs.ControlFronts.{is_front_read, prints_in_name, reads_front};
@@ -48,6 +49,8 @@ pub(super) struct ControlFront {
 pub enum ControlRead {
     /// Nothing.
     Nothing,
+    /// Nothing, and the escape of a string, a register or an argument may stand in front.
+    Escape,
     /// The bytes up to its name's end, or a dropped line's beginning.
     Front,
     /// All of a dropped line, with its newline: a line begins.
@@ -58,8 +61,10 @@ pub enum ControlRead {
     Decided,
     /// The bytes up to its name's end, and bytes behind it that are held in its arguments.
     Held,
-    /// The same, where the escape of a register may stand behind them.
+    /// The same, where the escape of a register, a string or an argument may stand behind them.
     HeldToEscape,
+    /// The same of a line that calls a body.
+    HeldForCall,
     /// The same up to its newline, which was taken too, and isn't read yet.
     HeldToEnd,
 }
@@ -97,8 +102,10 @@ pub fn read_control_front<S: ByteSource>(
         reader.old reader.new unread.old unread.new }
     ensures line { result ≡ HeldToEnd → ReadsLine (S.gives source.old) (S.gives source.new)
         reader.old reader.new unread.old unread.new }
-    ensures register { result ≡ HeldToEscape
+    ensures escape { result ≡ HeldToEscape
         → IsRun Arguments reader.new.reading unread.new.input.escapes }
+    ensures call { result ≡ HeldForCall
+        → IsRun (CallArguments 8) reader.new.reading unread.new.input.escapes }
     ensures condition { result ≡ Condition → IsRun ConditionRun reader.new.reading
         unread.new.input.escapes }
     ensures decides { result ≡ Decided → DecidesAtOnce composer.now (S.gives source.old)
@@ -112,9 +119,10 @@ pub fn read_control_front<S: ByteSource>(
     ensures notes { S.notes source.new ≤ S.notes source.old }
     ensures failures { S.failures source.new ≡ S.failures source.old }
 {
-    match control_front(unread.front(source)) {
+    let bytes = unread.front(source);
+    match control_front(bytes) {
         Some(front) => read_control(reader, front, composer, unread, source),
-        None => ControlRead::Nothing,
+        None => unread_front(bytes),
     }
 }
 
@@ -137,8 +145,10 @@ fn read_control<S: ByteSource>(
         reader.old reader.new unread.old unread.new }
     ensures line { result ≡ HeldToEnd → ReadsLine (S.gives source.old) (S.gives source.new)
         reader.old reader.new unread.old unread.new }
-    ensures register { result ≡ HeldToEscape
+    ensures escape { result ≡ HeldToEscape
         → IsRun Arguments reader.new.reading unread.new.input.escapes }
+    ensures call { result ≡ HeldForCall
+        → IsRun (CallArguments 8) reader.new.reading unread.new.input.escapes }
     ensures condition { result ≡ Condition → IsRun ConditionRun reader.new.reading
         unread.new.input.escapes }
     ensures decides { result ≡ Decided → DecidesAtOnce composer.now (S.gives source.old)
@@ -164,6 +174,18 @@ fn read_control<S: ByteSource>(
     match behind_called(front.breaks, called_by(name, unread)) {
         None => ControlRead::Nothing,
         Some(reading) => read_behind_name(reader, front, reading, composer, unread, source),
+    }
+}
+
+/// That nothing was read, with which bytes in front.
+#[inline(always)]
+fn unread_front(bytes: &[u8]) -> ControlRead
+    ensures unread { is_read result ≡ false }
+    ensures past { is_past result ≡ false }
+{
+    match bytes {
+        [b'\\', b'*' | b'n' | b'$', ..] => ControlRead::Escape,
+        _ => ControlRead::Nothing,
     }
 }
 
@@ -201,8 +223,10 @@ fn read_behind_name<S: ByteSource>(
         reader.old reader.new unread.old unread.new }
     ensures line { result ≡ HeldToEnd → ReadsLine (S.gives source.old) (S.gives source.new)
         reader.old reader.new unread.old unread.new }
-    ensures register { result ≡ HeldToEscape
+    ensures escape { result ≡ HeldToEscape
         → IsRun Arguments reader.new.reading unread.new.input.escapes }
+    ensures call { result ≡ HeldForCall
+        → IsRun (CallArguments 8) reader.new.reading unread.new.input.escapes }
     ensures condition { result ≡ Condition → IsRun ConditionRun reader.new.reading
         unread.new.input.escapes }
     ensures decides { result ≡ Decided → DecidesAtOnce composer.now (S.gives source.old)
@@ -281,14 +305,14 @@ fn held_to(behind: BehindHeld) -> ControlRead
     }
 }
 
-/// The same of a line that calls a body, where no register is read at once.
+/// The same of a line that calls a body.
 #[inline(always)]
 fn held_for_call(behind: BehindHeld) -> ControlRead
     ensures { result ≡ read_for_call behind }
 {
     match behind {
         BehindHeld::Newline => ControlRead::HeldToEnd,
-        BehindHeld::Named => ControlRead::Held,
+        BehindHeld::Named => ControlRead::HeldForCall,
         BehindHeld::Other => ControlRead::Held,
     }
 }

@@ -8,12 +8,14 @@ mod control;
 mod dropped;
 mod registers;
 mod runs;
+mod stepped;
 mod strings;
 mod strings_ahead;
 
 pub use control::{ControlRead, begins_control_line, read_control_front};
-pub use registers::{hold_register, pass_register, register_ahead};
+pub use registers::{TextAhead, hold_text, pass_text, text_ahead};
 pub use roff_scan::RunKind;
 pub use runs::{run_half_read, run_kind, take_arguments, take_branch_blanks, take_run};
+pub use stepped::step_register;
 pub use strings::{begins_apart, take_string_front, take_string_name};
 pub use strings_ahead::put_string;

@@ -4,9 +4,9 @@ ghost use Rattle.std.specs.Prelude.{◌≡◌, ◌≤◌, IfSome, List, []};
 ghost use Rattle.roff_escape.specs.OpenEscape.{OpenEscape};
 ghost use Rattle.roff_run.specs.declared.line_state.LineState.TheVariants.{Text as InText};
 ghost use Rattle.roff_fronts.specs.Runs.{IsRun, KeepsReader, TakesReady};
-ghost use Rattle.roff_fronts.specs.Runs.{branch_blanks, ready_allowed};
+ghost use Rattle.roff_fronts.specs.Runs.{branch_blanks, ready_allowed, run_holding};
 ghost use Rattle.roff_fronts.specs.Stages.{ReadsPast};
-ghost use Rattle.roff_scan.specs.declared.run_kind.RunKind.TheVariants.{Arguments, Blanks};
+ghost use Rattle.roff_scan.specs.declared.run_kind.RunKind.TheVariants.{Blanks};
 ghost use Rattle.roff_scan.specs.declared.run_kind.RunKind.TheVariants.{Condition};
 
 use roff_reader::{CALL_ARGUMENTS, Reader};
@@ -131,24 +131,35 @@ fn take_staying<S: ByteSource>(
     unread.stays_within();
 }
 
-/// Takes bytes in front that are held in arguments. Returns whether the escape of a register may
-/// stand behind them.
+/// Takes bytes in front that are held in arguments, as long as fewer than so many are whole, where
+/// there is a bound. Returns whether the escape of a register, a string or an argument may stand
+/// behind them.
 #[inline(always)]
 pub fn take_arguments<S: ByteSource>(
     reader: &Reader,
+    most: Option<usize>,
     unread: &mut Unread<PageEvent>,
     source: &mut S,
 ) -> bool
-    requires { IsRun Arguments reader.now.reading unread.old.input.escapes }
+    requires { IsRun (run_holding most) reader.now.reading unread.old.input.escapes }
     ensures past { ReadsPast (S.gives source.old) (S.gives source.new)
         reader.now reader.now unread.old unread.new }
     ensures half { unread.new.input.escapes ≡ unread.old.input.escapes }
     ensures notes { S.notes source.new ≤ S.notes source.old }
     ensures failures { S.failures source.new ≡ S.failures source.old }
 {
-    let (_, meets_register) = unread.take_arguments(source);
-    unread.stays_within();
-    meets_register
+    match most {
+        None => {
+            let (_, meets_name) = unread.take_arguments(source);
+            unread.stays_within();
+            meets_name
+        }
+        Some(most) => {
+            let (_, meets_name) = unread.take_call_arguments(most, source);
+            unread.stays_within();
+            meets_name
+        }
+    }
 }
 
 /// Counts leading blanks that stand in front.

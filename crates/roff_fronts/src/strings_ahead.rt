@@ -96,7 +96,7 @@ fn has_room_for(name: ShortName, unread: &Unread<PageEvent>) -> bool
     unread.stays_within();
     let limits = unread.limits();
     let room = (limits.stack as usize).saturating_sub(unread.pushed());
-    if unread.body_len(&name.name()) > room {
+    if !unread.body_fits(name, room) {
         return false;
     }
     unread.depth() < limits.depth as usize

@@ -1,6 +1,9 @@
 pub mod GlyphsInFront
 pub mod Steps
 pub mod Widths
+pub mod CopiedSteps
+pub mod TextFront
+pub mod ReadingWords
 pub mod Sentences
 pub mod PendingLine
 pub mod LastLine

@@ -64,6 +64,11 @@ ends_glyphs [] k ends = tt
 ends_glyphs (b ∷ rest) k (inl full) = λ above. full
 ends_glyphs (b ∷ rest) k (inr blank) = λ above. absurd (omega arith)
 
+-- where none was counted, none is let through
+pub EndsGlyphs-none : (room : ℕ) (text : List ℕ) (k : Kept) → take 0 text ≡ take room (glyphs_in_front text) → room ≡ glyph_room k → EndsGlyphs text k
+EndsGlyphs-none room text k taken all =
+    ends_glyphs text k (elim (behind-front 0 room text (omega arith) taken) [ inl same ↦ inl (omega (arith, same, all)) | inr ends ↦ inr ends ])
+
 module _ (bytes front rest : List ℕ) (k : Kept) (count room : ℕ) (some : 0 < count) (within : count ≤ length bytes)
     (taken : take count bytes ≡ take room (glyphs_in_front bytes)) (all : room ≡ glyph_room k)
     (is_front : front ≡ take count bytes) (is_rest : rest ≡ drop count bytes) where

@@ -46,11 +46,11 @@ module _ (bytes : List ℕ) where
       ap gaps_in (take_more bytes k 0 within) ∙ omega (arith, sum_by-append (λ x. cond (x == gap_blank) 1 0) front (b ∷ []), one)
 
   -- a blank more is one gap more
-  gaps_in-blank : (k : ℕ) → k < length bytes → slice_index_or bytes k 0 ≡ 32 → gaps_in (take (k + 1) bytes) ≡ gaps_in (take k bytes) + 1
+  pub gaps_in-blank : (k : ℕ) → k < length bytes → slice_index_or bytes k 0 ≡ 32 → gaps_in (take (k + 1) bytes) ≡ gaps_in (take k bytes) + 1
   gaps_in-blank k within blank = gaps_in-take_more k within ∙ ap (λ b. gaps_in (take k bytes) + cond (b == 32) 1 0) blank
 
   -- what is no blank is no gap
-  gaps_in-no : (k : ℕ) → k < length bytes → (slice_index_or bytes k 0 ≡ 32 → ⊥) → gaps_in (take (k + 1) bytes) ≡ gaps_in (take k bytes)
+  pub gaps_in-no : (k : ℕ) → k < length bytes → (slice_index_or bytes k 0 ≡ 32 → ⊥) → gaps_in (take (k + 1) bytes) ≡ gaps_in (take k bytes)
   gaps_in-no k within other =
       let no_blank : (slice_index_or bytes k 0 == 32) ≡ false = grind (arith, nat_tests) in
       omega (arith, gaps_in-take_more k within, ap {B = ℕ} (λ v. cond v 1 0) no_blank)

@@ -8,3 +8,4 @@ pub mod Filling
 pub mod FirstLine
 pub mod Interruptions
 pub mod Clauses
+pub mod Buffers

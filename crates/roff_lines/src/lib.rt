@@ -5,6 +5,7 @@
 //! finished. What a finished line writes is in `roff_sinks`.
 #![tactic(auto)]
 
+mod copying;
 mod env;
 mod fill;
 mod glyph;

@@ -1,18 +1,23 @@
 //! A part of a line's text, in a buffer reserved from the start.
 
-ghost use Rattle.std.specs.Prelude.{◌≡◌, ℕ, ◌+◌, ◌<◌, ◌≤◌, [], ◌∷◌, ◌++◌, length, replicate, IfOk};
-ghost use Rattle.std.specs.List.{AllByRecursion};
+ghost use Rattle.std.specs.Prelude.{◌≡◌, ◌+◌, ◌<◌, ◌≤◌, ◌^◌, [], ◌∷◌, ◌++◌, length, take};
+ghost use Rattle.std.specs.Prelude.{IfOk, replicate, vec_capacity};
+ghost use Rattle.roff_lines.specs.Buffers.{Keeps};
 ghost use Rattle.roff_lines.specs.Clauses.{text_width, gaps_in};
 
+use crate::copying::{copy_front, put_times};
 use roff_layout::GAP;
+use roff_num::lanes::STEP;
 use roff_num::width_of_byte;
 use std::alloc::{AllocError, Global};
 use std::marker::Model;
 
-/// The text of a word or a line, with its width and its gaps counted.
+/// The text of a word or a line, with its width and its gaps counted. Its buffer has bytes behind
+/// the text, a step of them where a text was copied.
 #[derive(Drop)]
 pub(crate) struct Stretch {
     bytes: Vec<u8>,
+    len: usize,
     room: usize,
     width: u64,
     gaps: u64,
@@ -33,10 +38,12 @@ impl Stretch {
 
     /// An empty text, with room for so many bytes.
     pub(crate) fn new(alloc: Global, room: usize) -> Result<Self, AllocError>
+        requires { room < 2 ^ 32 }
         ensures { IfOk result (λ s. s ≡ record { text = []; room = room }) }
     {
         Ok(Stretch {
-            bytes: Vec::with_capacity(alloc, room)?,
+            bytes: Vec::with_capacity(alloc, room + STEP)?,
+            len: 0,
             room,
             width: 0,
             gaps: 0,
@@ -48,7 +55,7 @@ impl Stretch {
         ensures length { result ≡ length self.now.text }
         ensures within { result ≤ self.now.room }
     {
-        self.bytes.len()
+        self.len
     }
 
     /// The width, in columns.
@@ -71,7 +78,7 @@ impl Stretch {
     pub(crate) fn as_slice(&self) -> &[u8]
         ensures { result.now ≡ self.now.text }
     {
-        self.bytes.as_slice()
+        &self.bytes[..self.len]
     }
 
     /// Adds one byte.
@@ -80,11 +87,13 @@ impl Stretch {
         requires { length self.old.text < self.old.room }
         ensures { self.new ≡ record self.old { text = self.old.text ++ byte ∷ [] } }
     {
+        fill(&mut self.bytes, self.len + 1 + STEP);
         self.width += width_of_byte(byte);
         if byte == GAP {
             self.gaps += 1;
         }
-        self.bytes.push(byte).unwrap();
+        self.bytes[self.len] = byte;
+        self.len += 1;
     }
 
     /// Adds one byte so many times.
@@ -92,34 +101,44 @@ impl Stretch {
         requires { length self.old.text + times ≤ self.old.room }
         ensures { self.new ≡ record self.old { text = self.old.text ++ replicate times byte } }
     {
-        for _ in 0..times {
-            self.push(byte);
+        fill(&mut self.bytes, self.len + times + STEP);
+        self.width += width_of_byte(byte) * times as u64;
+        if byte == GAP {
+            self.gaps += times as u64;
         }
+        put_times(self.bytes.as_mut_slice(), self.len, byte, times);
+        self.len += times;
     }
 
-    /// Adds bytes above the blank, which are so many columns wide.
+    /// Adds the first of these bytes, so many and so many columns wide, of which none is a gap.
     #[tactic(auto, using(crate::proofs::Widths::text_width_le))]
-    pub(crate) fn extend(&mut self, bytes: &[u8], width: u64)
-        requires room { length self.old.text + length bytes.now ≤ self.old.room }
-        requires above { AllByRecursion (λ b. 32 < b) bytes.now }
-        requires width { text_width bytes.now ≡ width }
-        ensures { self.new ≡ record self.old { text = self.old.text ++ bytes.now } }
+    pub(crate) fn extend(&mut self, bytes: &[u8], count: usize, width: u64)
+        requires count { count ≤ length bytes.now }
+        requires room { length self.old.text + count ≤ self.old.room }
+        requires gaps { gaps_in (take count bytes.now) ≡ 0 }
+        requires width { text_width (take count bytes.now) ≡ width }
+        ensures { self.new ≡ record self.old { text = self.old.text ++ take count bytes.now } }
     {
+        fill(&mut self.bytes, self.len + count + STEP);
+        copy_front(bytes, count, self.bytes.as_mut_slice(), self.len);
         self.width += width;
-        self.bytes.extend_from_slice(bytes).unwrap();
+        self.len += count;
     }
 
-    /// Adds words with so many gaps. Each of their bytes is a column wide.
+    /// Adds words, so many bytes in front with so many gaps. Each is a column wide.
     #[tactic(auto, using(crate::proofs::Widths::text_width_le))]
-    pub(crate) fn push_words(&mut self, text: &[u8], gaps: u64)
-        requires room { length self.old.text + length text.now ≤ self.old.room }
-        requires gaps { gaps_in text.now ≡ gaps }
-        requires width { text_width text.now ≡ length text.now }
-        ensures { self.new ≡ record self.old { text = self.old.text ++ text.now } }
+    pub(crate) fn push_words(&mut self, text: &[u8], count: usize, gaps: u64)
+        requires count { count ≤ length text.now }
+        requires room { length self.old.text + count ≤ self.old.room }
+        requires gaps { gaps_in (take count text.now) ≡ gaps }
+        requires width { text_width (take count text.now) ≡ count }
+        ensures { self.new ≡ record self.old { text = self.old.text ++ take count text.now } }
     {
-        self.width += text.len() as u64;
+        fill(&mut self.bytes, self.len + count + STEP);
+        copy_front(text, count, self.bytes.as_mut_slice(), self.len);
+        self.width += count as u64;
         self.gaps += gaps;
-        self.bytes.extend_from_slice(text).unwrap();
+        self.len += count;
     }
 
     /// Adds another text.
@@ -128,19 +147,49 @@ impl Stretch {
         requires { length self.old.text + length other.now.text ≤ self.old.room }
         ensures { self.new ≡ record self.old { text = self.old.text ++ other.now.text } }
     {
+        fill(&mut self.bytes, self.len + other.len + STEP);
+        copy_front(
+            other.bytes.as_slice(),
+            other.len,
+            self.bytes.as_mut_slice(),
+            self.len,
+        );
         self.width += other.width;
         self.gaps += other.gaps;
-        self.bytes
-            .extend_from_slice(other.bytes.as_slice())
-            .unwrap();
+        self.len += other.len;
     }
 
     /// Removes everything.
     pub(crate) fn clear(&mut self)
         ensures { self.new ≡ record self.old { text = [] } }
     {
-        self.bytes.clear();
+        self.len = 0;
         self.width = 0;
         self.gaps = 0;
     }
+}
+
+/// Lets a buffer have so many bytes.
+#[inline(always)]
+fn fill(bytes: &mut Vec<u8>, needed: usize)
+    requires { needed ≤ vec_capacity bytes.old }
+    ensures capacity { vec_capacity bytes.old ≤ vec_capacity bytes.new }
+    ensures filled { needed ≤ length bytes.new.items }
+    ensures kept { Keeps bytes.old.items bytes.new.items }
+{
+    if bytes.len() < needed {
+        fill_more(bytes, needed);
+    }
+}
+
+/// The same where it has fewer.
+#[inline(never)]
+fn fill_more(bytes: &mut Vec<u8>, needed: usize)
+    requires capacity { needed ≤ vec_capacity bytes.old }
+    requires fewer { length bytes.old.items < needed }
+    ensures capacity { vec_capacity bytes.old ≤ vec_capacity bytes.new }
+    ensures filled { needed ≤ length bytes.new.items }
+    ensures kept { Keeps bytes.old.items bytes.new.items }
+{
+    bytes.resize(needed, b' ').unwrap();
 }

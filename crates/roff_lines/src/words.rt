@@ -1,9 +1,10 @@
 //! Whole words in front of a text line, and the glyphs of one.
 
 ghost use Rattle.std.specs.Prelude.{◌≡◌, ◌+◌, ◌-◌, ◌<◌, ◌≤◌, length, take, true, slice_index_or};
-ghost use Rattle.roff_lines.specs.Clauses.{gaps_in, text_width};
+ghost use Rattle.std.specs.Prelude.{nat_lt, if◌then◌else◌};
+ghost use Rattle.roff_lines.specs.Clauses.{text_width};
 ghost use Rattle.roff_lines.specs.GlyphsInFront.{glyphs_in_front};
-ghost use Rattle.roff_lines.specs.Env.Tells.{GoesOn, IsRun, WholeWords};
+ghost use Rattle.roff_lines.specs.Env.Tells.{GoesOn, ReadsWords, WholeWords};
 
 use crate::lanes::{behind_last_blank, gaps_of_step, glyphs_of_step, run_of_step, width_of_step};
 use roff_num::lanes::STEP;
@@ -13,83 +14,124 @@ use roff_num::width_of_byte;
 /// themselves: at most so many bytes. Tells also how many words these are.
 #[inline(always)]
 pub(crate) fn whole_words(bytes: &[u8], most: usize) -> (usize, u64)
-    ensures text { result.0 ≤ length bytes.now }
+    requires { most ≤ length bytes.now }
     ensures most { result.0 ≤ most }
     ensures words { WholeWords result.1 (take result.0 bytes.now) }
 {
-    let (count, words) = run_in_front(bytes, most.min(bytes.len()));
-    let mut told = near_last_blank(bytes, count);
-    while told > 0 && bytes[told - 1] != b' ' {
-        told -= 1;
-    }
-    (told, words)
-}
-
-/// Where the last blank of so many bytes in front ends, if it is one of the last sixteen, and else
-/// a place behind it.
-#[inline(always)]
-fn near_last_blank(bytes: &[u8], count: usize) -> usize
-    requires { count ≤ length bytes.now }
-    ensures few { result ≤ count }
-    ensures blank { 16 ≤ length bytes.now → count - 16 < result
-        → slice_index_or bytes.now (result - 1) 0 ≡ 32 }
-    ensures others { gaps_in (take result bytes.now) ≡ gaps_in (take count bytes.now) }
-{
-    if bytes.len() < STEP {
-        return count;
-    }
-    let start = count.saturating_sub(STEP);
-    behind_last_blank(bytes, start, count - start)
-}
-
-/// How many bytes in front, of so many, are words with one blank between two of them. Tells also
-/// how many blanks are among them.
-#[inline(always)]
-fn run_in_front(bytes: &[u8], end: usize) -> (usize, u64)
-    requires { end ≤ length bytes.now }
-    ensures few { result.0 ≤ end }
-    ensures less { result.1 ≤ result.0 }
-    ensures run { IsRun bytes.now result.0 }
-    ensures blanks { gaps_in (take result.0 bytes.now) ≡ result.1 }
-{
-    if end == 0 || !goes_on(b' ', bytes[0]) {
+    if most == 0 || !goes_on(b' ', bytes[0]) {
         return (0, 0);
     }
-    let (mut count, mut words) = run_by_steps(bytes, end);
-    while count < end && goes_on(bytes[count - 1], bytes[count]) {
-        words += u64::from(bytes[count] == b' ');
-        count += 1;
+    let steps = words_by_steps(bytes, most);
+    if bytes.len() - steps.read >= STEP {
+        return (steps.told, steps.words);
     }
-    (count, words)
+    words_behind(bytes, most, steps)
 }
 
-/// The same, by steps alone behind the first byte. The first step is as short as leaves whole ones.
+/// How far words were read.
+#[derive(Clone, Copy)]
+struct Read {
+    /// How many bytes of them.
+    read: usize,
+    /// How many of these are whole words with a blank behind each.
+    told: usize,
+    /// How many words these are.
+    words: u64,
+}
+
+/// Reads words by steps behind the first byte, as far as they go on and steps lie there: at most so
+/// many bytes.
 #[inline(always)]
-fn run_by_steps(bytes: &[u8], end: usize) -> (usize, u64)
-    requires end { end ≤ length bytes.now }
-    requires some { 0 < end }
+fn words_by_steps(bytes: &[u8], most: usize) -> Read
+    requires some { 0 < most }
+    requires text { most ≤ length bytes.now }
     requires first { GoesOn 32 (slice_index_or bytes.now 0 0) }
-    ensures some { 0 < result.0 }
-    ensures few { result.0 ≤ end }
-    ensures less { result.1 ≤ result.0 }
-    ensures run { IsRun bytes.now result.0 }
-    ensures blanks { gaps_in (take result.0 bytes.now) ≡ result.1 }
+    ensures few { result.read ≤ most }
+    ensures reads { ReadsWords bytes.now result.read result.told result.words }
 {
-    if bytes.len() <= STEP {
-        return (1, 0);
-    }
-    let short = run_of_step(bytes, 1).min((end - 1) % STEP);
-    let mut words = gaps_of_step(bytes, 1, short);
-    let mut count = 1 + short;
-    while end - count >= STEP {
-        let run = run_of_step(bytes, count);
-        words += gaps_of_step(bytes, count, run);
-        count += run;
+    let mut from = Read {
+        read: 1,
+        told: 0,
+        words: 0,
+    };
+    while from.read < most && bytes.len() - from.read >= STEP {
+        let behind = read_step(bytes, most, from);
+        let run = behind.read - from.read;
+        from = behind;
         if run < STEP {
             break;
         }
     }
-    (count, words)
+    from
+}
+
+/// Reads words on by a step, as far as they go on in it: at most so many bytes.
+#[inline(always)]
+fn read_step(bytes: &[u8], most: usize, from: Read) -> Read
+    requires more { from.read ≤ most }
+    requires within { from.read + 16 ≤ length bytes.now }
+    requires reads { ReadsWords bytes.now from.read from.told from.words }
+    ensures few { result.read ≤ most }
+    ensures on { from.read ≤ result.read }
+    ensures reads { ReadsWords bytes.now result.read result.told result.words }
+{
+    let run = run_of_step(bytes, from.read).min(most - from.read);
+    let place = behind_last_blank(bytes, from.read, run);
+    let words = from.words + gaps_of_step(bytes, from.read, run);
+    Read {
+        read: from.read + run,
+        told: last_told(from.told, from.read, place),
+        words,
+    }
+}
+
+/// Where whole words end: at this place, where it is behind those that were read before.
+#[inline(always)]
+fn last_told(told: usize, read: usize, place: usize) -> usize
+    ensures { result ≡ (if nat_lt read place then place else told) }
+{
+    if read < place { place } else { told }
+}
+
+/// Reads on byte by byte.
+#[inline(never)]
+fn words_behind(bytes: &[u8], most: usize, steps: Read) -> (usize, u64)
+    requires text { most ≤ length bytes.now }
+    requires few { steps.read ≤ most }
+    requires reads { ReadsWords bytes.now steps.read steps.told steps.words }
+    ensures most { result.0 ≤ most }
+    ensures words { WholeWords result.1 (take result.0 bytes.now) }
+{
+    let mut from = steps;
+    while from.read < most && goes_on(bytes[from.read - 1], bytes[from.read]) {
+        from = read_byte(bytes, from);
+    }
+    (from.told, from.words)
+}
+
+/// Reads words on by a byte.
+#[inline(always)]
+fn read_byte(bytes: &[u8], from: Read) -> Read
+    requires within { from.read < length bytes.now }
+    requires goes { GoesOn (slice_index_or bytes.now (from.read - 1) 0)
+        (slice_index_or bytes.now from.read 0) }
+    requires reads { ReadsWords bytes.now from.read from.told from.words }
+    ensures on { result.read ≡ from.read + 1 }
+    ensures reads { ReadsWords bytes.now result.read result.told result.words }
+{
+    let read = from.read + 1;
+    if bytes[from.read] == b' ' {
+        return Read {
+            read,
+            told: read,
+            words: from.words + 1,
+        };
+    }
+    Read {
+        read,
+        told: from.told,
+        words: from.words,
+    }
 }
 
 /// Whether words with one blank between two of them go on with a byte behind another one.

@@ -53,6 +53,7 @@ impl Name {
             ([first, second], [other_first, other_second]) => {
                 first == other_first && second == other_second
             }
+            ([first], [other_first]) => first == other_first,
             (bytes, others) => are_same(bytes, others),
         }
     }

@@ -27,11 +27,14 @@ impl ShortName {
     }
 
     /// The same as a name.
+    #[inline(always)]
     pub fn name(self) -> Name
         ensures { result ≡ name_bytes self }
     {
-        let bytes = [self.first, self.second.unwrap_or(0)];
-        let count = if self.second.is_some() { 2 } else { 1 };
-        Name::new(&bytes[..count]).unwrap()
+        // The compiler knows how long each of them is.
+        match self.second {
+            Some(second) => Name::new(&[self.first, second]).unwrap(),
+            None => Name::new(&[self.first]).unwrap(),
+        }
     }
 }

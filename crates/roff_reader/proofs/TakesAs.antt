@@ -219,7 +219,7 @@ pub short_title : (r : Capped) (u : PageUnread) → IsReady r u → nat_lt u.lim
 short_title r u ready = short_title_in u.limits r.all u.input ready.within
 
 -- behind a step the input's counts decide
-passed-stepped : (step : Option Direction) (name : List ℕ) (r : Capped) (u : PageUnread) (i : PageInput) → IsReady r u
+pub passed-stepped : (step : Option Direction) (name : List ℕ) (r : Capped) (u : PageUnread) (i : PageInput) → IsReady r u
     → first_passed u.limits (counts_in (changed_by_all (step_changes step name) r.all) i) ≡ input_refusal u.limits i
 passed-stepped step name r u i ready =
     let names : nat_lt u.limits.names (length (changed_by_all (step_changes step name) r.all).named) ≡ false =

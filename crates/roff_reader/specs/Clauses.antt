@@ -4,6 +4,7 @@ pub use Rattle.roff_composer.specs.Composer.Standing.{StandFor}
 pub use Rattle.roff_composer.specs.declared.composer.Composer.{Composer as ComposerOf}
 pub use Rattle.roff_reader.specs.Reader.State.{fresh_reader}
 pub use Rattle.roff_reader.specs.Reader.Taken.{TakesAs}
+pub use Rattle.roff_reader.specs.Reader.Stepping.{StepsReader}
 pub use Rattle.roff_names.specs.Inputs.{InputCameTo}
 pub use Rattle.roff_run.specs.Reading.Items.{PageUnread}
 pub use Rattle.roff_source.specs.Bytes.{is_passed}

@@ -3,3 +3,4 @@ pub mod State
 pub mod Taken
 pub mod Springs
 pub mod Titles
+pub mod Stepping

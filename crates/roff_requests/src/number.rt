@@ -9,6 +9,9 @@ ghost use Rattle.roff_run.specs.Numbers.{at_least_zero, value_in};
 
 use roff_num::{NumFault, Scale, eval, round_h, round_v};
 
+/// The basic units of a column.
+pub(crate) const COLUMN: u32 = 24;
+
 /// The basic units of a line.
 pub(crate) const LINE: u32 = 40;
 
@@ -50,11 +53,11 @@ fn value_of_digit(scale: Scale, byte: u8) -> Option<i32>
     if byte < b'0' || byte > b'9' {
         return None;
     }
-    let number = u16::from(byte - b'0');
+    let number = u32::from(byte - b'0');
     match scale {
-        Scale::Units => Some(i32::from(number)),
-        Scale::Columns => Some(i32::from(number * 24)),
-        Scale::Lines => Some(i32::from(number * 40)),
+        Scale::Units => Some(number as i32),
+        Scale::Columns => Some((number * COLUMN) as i32),
+        Scale::Lines => Some((number * LINE) as i32),
     }
 }
 
@@ -67,8 +70,8 @@ fn columns_of_digit(byte: u8) -> Option<i32>
     if byte < b'0' || byte > b'9' {
         return None;
     }
-    let number = u16::from(byte - b'0');
-    Some(i32::from(number * 24))
+    let number = u32::from(byte - b'0');
+    Some((number * COLUMN) as i32)
 }
 
 /// The value of a height down the page, in basic units, where this is the place.

@@ -10,6 +10,7 @@ ghost use Rattle.roff_run.specs.Registers.{is_page, number_in_range, page_name};
 ghost use Rattle.roff_run.specs.declared.message.Message.TheVariants.{BadNumber};
 
 mod read_only;
+mod stepping;
 mod titles;
 
 use read_only::{is_read_only, query_of};

@@ -1,6 +1,7 @@
 //! The unread input: what stands ahead of the source, and what is counted.
 
-ghost use Rattle.std.specs.Prelude.{◌≡◌, IfOk};
+ghost use Rattle.std.specs.Prelude.{◌≡◌, ◌≤◌, [], IfOk, vec_capacity};
+ghost use Rattle.roff_input.specs.Arguments.{no_arguments};
 ghost use Rattle.roff_input.specs.Input.{is_none_ahead, pushed, depth};
 
 mod arguments;
@@ -25,6 +26,9 @@ use roff_num::Limits;
 use std::alloc::{AllocError, Global};
 use std::marker::Model;
 
+/// Results of conditions, each with how many calls weren't over.
+type KeptResults = Vec<(bool, u32)>;
+
 /// The unread input: what stands ahead of the source, and what is counted.
 ///
 /// All its memory is reserved as it is made.
@@ -37,7 +41,7 @@ pub struct Unread<E> {
     escapes: OpenEscapes,
     /// The results of conditions that are kept for their other branch, the newest at the back, each
     /// with how many calls weren't over then.
-    results: Vec<(bool, u32)>,
+    results: KeptResults,
     /// What was looked at of the source.
     looked: Looked,
     charge: u32,
@@ -67,13 +71,16 @@ impl<E: Copy> Unread<E> {
     pub fn new(alloc: Global, limits: Limits, first_names: u32) -> Result<Self, AllocError>
         ensures { IfOk result (λ u. u ≡ initial_unread limits first_names) }
     {
+        let input_ahead = InputAhead::new(alloc, &limits, first_names)?;
+        let (arguments, calls) = no_calls(alloc, &limits)?;
+        let (escapes, results) = none_open(alloc, &limits)?;
         Ok(Unread {
             limits,
-            input_ahead: InputAhead::new(alloc, &limits, first_names)?,
-            arguments: ArgumentTexts::new(alloc, limits.stack)?,
-            calls: Calls::new(alloc, limits.stack, limits.depth)?,
-            escapes: OpenEscapes::new(alloc, limits.stack)?,
-            results: Vec::with_capacity(alloc, limits.conditions as usize)?,
+            input_ahead,
+            arguments,
+            calls,
+            escapes,
+            results,
             looked: Looked::Nothing,
             charge: 0,
             newlines: 0,
@@ -147,4 +154,28 @@ impl<E: Copy> Unread<E> {
     {
         self.input_ahead.is_empty()
     }
+}
+
+/// No arguments of a line, and no calls.
+fn no_calls(alloc: Global, limits: &Limits) -> Result<(ArgumentTexts, Calls), AllocError>
+    ensures arguments { IfOk result (λ t.
+        t.0 ≡ record { arguments = no_arguments; room = limits.now.stack }) }
+    ensures calls { IfOk result (λ t. t.1
+        ≡ record { calls = []; most_bytes = limits.now.stack; most_calls = limits.now.depth }) }
+{
+    let arguments = ArgumentTexts::new(alloc, limits.stack)?;
+    let calls = Calls::new(alloc, limits.stack, limits.depth)?;
+    Ok((arguments, calls))
+}
+
+/// Nothing half read, and no result of a condition, with room for those of the limit.
+fn none_open(alloc: Global, limits: &Limits) -> Result<(OpenEscapes, KeptResults), AllocError>
+    ensures escapes { IfOk result (λ t.
+        t.0 ≡ record { escapes = []; room = limits.now.stack }) }
+    ensures results { IfOk result (λ t. t.1.items ≡ []) }
+    ensures room { IfOk result (λ t. limits.now.conditions ≤ vec_capacity t.1) }
+{
+    let escapes = OpenEscapes::new(alloc, limits.stack)?;
+    let results = Vec::with_capacity(alloc, limits.conditions as usize)?;
+    Ok((escapes, results))
 }

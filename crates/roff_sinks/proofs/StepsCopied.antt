@@ -3,22 +3,12 @@ use Rattle.std.proofs.Common.{◌≡◌, ℕ, ◌+◌, ◌≤◌, List, ◌++◌
 use Rattle.std.specs.Prelude.{nat_lt}
 use Rattle.std.specs.List.{prefix_len}
 use Rattle.std.specs.Simd.Lanes.{chunk, put_chunk}
-use Rattle.std.proofs.Math.Seq.{take-append-add}
-use Rattle.std.proofs.lemmas.Simd.{length-chunk, put_chunk_is}
-use Rattle.std.proofs.lemmas.List.{length-take, length-replicate, take-append-le, take-take}
+use Rattle.std.proofs.lemmas.Simd.{length-chunk}
+use Rattle.std.proofs.lemmas.List.{length-replicate, take-take}
 use Rattle.std.proofs.lemmas.List.Sums.{prefix_len-le-length}
 use Rattle.roff_layout.specs.Columns.{spaces}
+use Rattle.roff_lines.proofs.CopiedSteps.{take-put_chunk}
 use Rattle.roff_sinks.proofs.SpreadsOver.{take-spaces}
-
--- what stands up to a place within a step that was written
-take-put_chunk : (place n r : ℕ) (out step : List ℕ) → length step ≡ n → place + n ≤ length out → r ≤ n
-    → take (place + r) (put_chunk place out step) ≡ take place out ++ take r step
-take-put_chunk place n r out step long room few =
-    let front : List ℕ = take place out in
-    let rest : List ℕ = drop (length step) (drop place out) in
-    let here : place ≡ length front = omega (arith, length-take place out, room) in
-    ap (take (place + r)) (put_chunk_is place out step (omega (arith, long, room))) ∙ ap (λ m. take (m + r) (front ++ (step ++ rest))) here
-    ∙ take-append-add front (step ++ rest) r ∙ ap (λ (xs : List ℕ). front ++ xs) (take-append-le r step rest (omega (arith, long, few)))
 
 -- so many glyphs of a step that was copied
 pub copied_step : (taken end n r : ℕ) (text out : List ℕ) → taken + n ≤ length text → end + n ≤ length out

@@ -34,9 +34,6 @@ few_answer t few =
     let no : nat_lt t.names.cap (length t.names.entries) ≡ false = grind (arith, nat_tests) in
     ap answer_by no
 
-no_answer : (t : Texts) → IsCounted t → answer_of t ≡ Ok tt
-no_answer t counted = within_answer t (names_answer t) counted.bytes ∙ few_answer t counted.names
-
 -- a name that finds no room would be one too many
 room-counts : (name : List ℕ) (entry : Entry) (names : Table Entry) → length names.entries ≤ names.cap
     → nat_lt names.cap (length (with_entry name entry names.entries)) ≡ not (has_room name names)

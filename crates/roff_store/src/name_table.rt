@@ -171,7 +171,7 @@ fn bucket_of_bytes(bytes: &[u8]) -> usize
 }
 
 /// The place of the slot of a name.
-#[inline]
+#[inline(always)]
 fn find<E>(slots: &[Slot<E>], heads: &[u32], name: &Name) -> Option<usize>
     requires { IsIndexed slots.now heads.now }
     ensures inside { IfSome result (λ place. place < length slots.now) }

@@ -2,7 +2,7 @@
 //! section 7).
 
 ghost use Rattle.std.specs.Prelude.{◌≡◌, ◌≤◌, ◌+◌, ◌-◌, ℕ, [], All, length, option_map, sum_by};
-ghost use Rattle.std.specs.Prelude.{IsTrue, ◌↔◌, IfOk, None};
+ghost use Rattle.std.specs.Prelude.{IsTrue, ◌↔◌, ◌*◌, IfOk, None, vec_capacity};
 ghost use Rattle.std.specs.List.{last_or};
 ghost use Rattle.roff_store.specs.Chains.{has, share, shares_in, AreSameChunks, IsShared, IsStrand};
 ghost use Rattle.roff_store.specs.Named.{entry_of};
@@ -31,6 +31,12 @@ pub(crate) enum Meaning {
 /// a text is copied behind another one.
 const SPARE: usize = 4;
 
+/// Texts in the making.
+type Strands = Vec<Strand>;
+
+/// For each number that a lease has or had, what it still gives, if it lives.
+type Leases = Vec<Option<Strand>>;
+
 /// Strings, macros, diversions and requests under their names, texts in the making, and leases.
 ///
 /// All its memory is reserved as it is made. A body is read where it lies, by a lease, which goes
@@ -40,9 +46,9 @@ pub struct TextStore {
     names: NameTable<Meaning>,
     chunks: Chunks,
     /// The texts in the making.
-    open: Vec<Strand>,
+    open: Strands,
     /// For each number that a lease has or had, what it still gives, if it lives.
-    leases: Vec<Option<Strand>>,
+    leases: Leases,
     /// The numbers of leases that have ended.
     ended: Vec<u32>,
     /// How many bytes bodies and texts in the making have.
@@ -90,14 +96,16 @@ impl TextStore {
           cap_leases = cap_leases;
         }) }
     {
-        let full = (cap_bytes as usize + cap_kept as usize) / CHUNK;
-        let begun = cap_names as usize + cap_open as usize + 2 * cap_leases as usize;
+        let most = chunks_wanted(cap_bytes, cap_names, cap_open, cap_leases, cap_kept);
+        let names = NameTable::new(alloc, cap_names)?;
+        let chunks = Chunks::new(alloc, most)?;
+        let (open, leases, ended) = no_strands(alloc, cap_open, cap_leases)?;
         Ok(TextStore {
-            names: NameTable::new(alloc, cap_names)?,
-            chunks: Chunks::new(alloc, full + begun + SPARE)?,
-            open: Vec::with_capacity(alloc, cap_open as usize)?,
-            leases: Vec::with_capacity(alloc, cap_leases as usize)?,
-            ended: Vec::with_capacity(alloc, cap_leases as usize)?,
+            names,
+            chunks,
+            open,
+            leases,
+            ended,
             used: 0,
             kept: 0,
             cap_bytes,
@@ -190,4 +198,38 @@ fn body_len(meaning: Option<Meaning>) -> usize
         Some(Meaning::Body(strand)) => strand.rest,
         _ => 0,
     }
+}
+
+/// How many chunks so many bytes, names, texts in the making, leases, and bytes that these still
+/// give, may want.
+fn chunks_wanted(
+    cap_bytes: u32,
+    cap_names: u32,
+    cap_open: u32,
+    cap_leases: u32,
+    cap_kept: u32,
+) -> usize
+    ensures { cap_bytes + cap_kept + 120 * (cap_names + cap_open + 2 * cap_leases) + 360
+        ≤ 120 * result }
+{
+    let full = (cap_bytes as usize + cap_kept as usize) / CHUNK;
+    let begun = cap_names as usize + cap_open as usize + 2 * cap_leases as usize;
+    full + begun + SPARE
+}
+
+/// No text in the making and no lease, with room for so many of each.
+fn no_strands(
+    alloc: Global,
+    cap_open: u32,
+    cap_leases: u32,
+) -> Result<(Strands, Leases, Vec<u32>), AllocError>
+    ensures none { IfOk result (λ t. (t.0.items ≡ []) × (t.1.items ≡ []) × (t.2.items ≡ [])) }
+    ensures open { IfOk result (λ t. cap_open ≤ vec_capacity t.0) }
+    ensures leases { IfOk result (λ t. cap_leases ≤ vec_capacity t.1) }
+    ensures ended { IfOk result (λ t. cap_leases ≤ vec_capacity t.2) }
+{
+    let open = Vec::with_capacity(alloc, cap_open as usize)?;
+    let leases = Vec::with_capacity(alloc, cap_leases as usize)?;
+    let ended = Vec::with_capacity(alloc, cap_leases as usize)?;
+    Ok((open, leases, ended))
 }

@@ -100,8 +100,8 @@ impl<E: Copy> InputAhead<E> {
         }
     }
 
-    /// Takes some of so many bytes in front: those of a body but for its last one, or else one.
-    /// Returns how many.
+    /// Takes some of so many bytes in front: those of a body, or else one. Returns how many.
+    #[inline(always)]
     fn pass_some(&mut self, most: usize) -> usize
         requires some { 1 ≤ most }
         requires among { most ≤ length (leading self.old.ahead) }
@@ -111,11 +111,13 @@ impl<E: Copy> InputAhead<E> {
     {
         if let Some(lease) = body_in_front(&self.pushed_texts) {
             let rest = self.texts.lease_rest(lease);
-            if rest > 1 {
-                let count = most.min(rest - 1);
-                self.texts.lease_pass(lease, count);
-                return count;
+            if most < rest {
+                self.texts.lease_pass(lease, most);
+                return most;
             }
+            self.texts.release(lease);
+            let _ = self.pushed_texts.take_known();
+            return rest;
         }
         let _ = self.take();
         1

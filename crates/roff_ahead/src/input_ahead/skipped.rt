@@ -32,8 +32,7 @@ impl<E: Copy> InputAhead<E> {
         }
     }
 
-    /// Takes a newline in front, if it is one of a body that goes on behind it. Returns whether it
-    /// did.
+    /// Takes a newline in front, if it is one of a body. Returns whether it did.
     #[inline(always)]
     pub fn pass_newline(&mut self) -> bool
         ensures taken { result ≡ true
@@ -43,12 +42,40 @@ impl<E: Copy> InputAhead<E> {
         match self.pushed_texts.front() {
             Some(PushedItem::Do(EventOrBody::Body(lease))) => {
                 if self.texts.lease_rest(lease) < 2 {
-                    return false;
+                    return self.pass_last_newline();
                 }
                 if self.texts.lease_front(lease)[0] != b'\n' {
                     return false;
                 }
                 self.texts.lease_pass(lease, 1);
+                true
+            }
+            Some(PushedItem::Do(EventOrBody::Event(_))) => false,
+            Some(PushedItem::Byte(_)) => false,
+            Some(PushedItem::Free(_)) => false,
+            Some(PushedItem::End) => false,
+            Some(PushedItem::Return(_)) => false,
+            None => false,
+        }
+    }
+
+    /// The same, if it is the last byte of its body.
+    #[inline(never)]
+    fn pass_last_newline(&mut self) -> bool
+        ensures taken { result ≡ true
+            → self.old ≡ record self.new { ahead = ByteAhead newline ∷ self.new.ahead } }
+        ensures unchanged { result ≡ false → self.new ≡ self.old }
+    {
+        match self.pushed_texts.front() {
+            Some(PushedItem::Do(EventOrBody::Body(lease))) => {
+                if self.texts.lease_rest(lease) != 1 {
+                    return false;
+                }
+                if self.texts.lease_front(lease)[0] != b'\n' {
+                    return false;
+                }
+                self.texts.release(lease);
+                self.pushed_texts.take();
                 true
             }
             Some(PushedItem::Do(EventOrBody::Event(_))) => false,

@@ -1,17 +1,16 @@
 //! Runs: bytes in front that do alike, and are taken together.
 
 ghost use Rattle.std.specs.Prelude.{◌≡◌, [], true};
-ghost use Rattle.roff_fronts.specs.Registers.{IsRegisterAhead};
-ghost use Rattle.roff_fronts.specs.Runs.{IsRun};
-ghost use Rattle.roff_scan.specs.declared.run_kind.RunKind.TheVariants.{Arguments as ArgumentsRun};
+ghost use Rattle.roff_fronts.specs.Registers.{IsTextAhead};
+ghost use Rattle.roff_fronts.specs.Runs.{IsRun, run_holding};
+ghost use Rattle.roff_scan.specs.declared.run_kind.RunKind.TheVariants.{CallArguments};
 ghost use Rattle.roff_scan.specs.declared.run_kind.RunKind.TheVariants.{Text as TextRun};
 
 use super::Running;
 use roff_fronts::{
-    RunKind, hold_register, pass_register, put_string, register_ahead, run_half_read, run_kind,
-    take_arguments, take_branch_blanks, take_run, take_string_front, take_string_name,
+    RunKind, TextAhead, hold_text, pass_text, put_string, run_half_read, run_kind, take_arguments,
+    take_branch_blanks, take_run, take_string_front, take_string_name, text_ahead,
 };
-use roff_num::ShortName;
 use roff_scan::ByteSource;
 
 /// What lies behind bytes that were told.
@@ -19,7 +18,7 @@ use roff_scan::ByteSource;
 pub(super) enum Behind {
     /// What wasn't looked at, as none was told.
     Untold,
-    /// A backslash and the letter of a register or a string.
+    /// A backslash and the letter of a register, a string or an argument.
     Named,
     /// Another backslash.
     Escape,
@@ -76,100 +75,125 @@ impl Running {
         take_string_front(&mut self.interpreter.reader, &mut self.unread, source);
     }
 
-    /// Takes bytes together that stand in front and are held in arguments. Returns whether the
-    /// escape of a register or a string may stand behind them.
+    /// Takes bytes together that stand in front and are held in arguments, as long as fewer than so
+    /// many are whole, where there is a bound. Returns whether the escape of a register, a string
+    /// or an argument may stand behind them.
     #[inline(always)]
-    fn take_arguments<S: ByteSource>(&mut self, source: &mut S) -> bool
-        requires { IsRun ArgumentsRun self.old.interpreter.reader.reading
+    fn take_arguments<S: ByteSource>(&mut self, most: Option<usize>, source: &mut S) -> bool
+        requires { IsRun (run_holding most) self.old.interpreter.reader.reading
             self.old.unread.input.escapes }
         ensures past { GoesPastOver S.ByteSource source.old source.new self.old self.new }
         ensures half { self.new.unread.input.escapes ≡ self.old.unread.input.escapes }
         ensures reads { self.new.interpreter ≡ self.old.interpreter }
     {
-        take_arguments(&self.interpreter.reader, &mut self.unread, source)
+        take_arguments(&self.interpreter.reader, most, &mut self.unread, source)
     }
 
-    /// The same, and then takes the escape of a register or a string behind them, and bytes behind
-    /// that. Returns whether it took one, and another may stand behind it.
-    #[inline(always)]
-    pub(super) fn hold_line<S: ByteSource>(&mut self, source: &mut S) -> bool
-        requires { IsRun ArgumentsRun self.old.interpreter.reader.reading
+    /// What [`hold_on`](Running::hold_on) does on a line that calls a body.
+    #[inline(never)]
+    pub(super) fn hold_call_on<S: ByteSource>(&mut self, most: usize, source: &mut S) -> bool
+        requires { IsRun (CallArguments most) self.old.interpreter.reader.reading
             self.old.unread.input.escapes }
         ensures { GoesFurtherOver result S.ByteSource source.old source.new self.old self.new }
     {
-        if !self.take_arguments(source) {
-            return false;
-        }
-        self.hold_on(source)
+        self.hold_on(Some(most), source)
     }
 
-    /// Takes the escape of a register or a string that stands whole in front of arguments, and
-    /// bytes of its text and behind it. Returns whether it took one, and another may stand behind
-    /// it.
-    #[inline(always)]
-    pub(super) fn hold_on<S: ByteSource>(&mut self, source: &mut S) -> bool
-        requires { IsRun ArgumentsRun self.old.interpreter.reader.reading
+    /// What [`hold_line`](Running::hold_line) does on a line that calls a body.
+    #[inline(never)]
+    pub(super) fn hold_call<S: ByteSource>(&mut self, most: usize, source: &mut S) -> bool
+        requires { IsRun (CallArguments most) self.old.interpreter.reader.reading
             self.old.unread.input.escapes }
         ensures { GoesFurtherOver result S.ByteSource source.old source.new self.old self.new }
     {
-        if !self.hold_named(source) {
-            return false;
-        }
-        self.take_arguments(source)
+        self.hold_line(Some(most), source)
     }
 
-    /// Takes the escape of a register that stands whole in front of arguments, and holds its text;
-    /// or that of a string, which is put in front. Returns whether it did.
+    /// Takes bytes together that stand in front and are held in arguments, and then the escape of a
+    /// register, a string or an argument behind them, and bytes behind that. Returns whether it
+    /// took one, and another may stand behind it.
     #[inline(always)]
-    fn hold_named<S: ByteSource>(&mut self, source: &mut S) -> bool
-        requires { IsRun ArgumentsRun self.old.interpreter.reader.reading
+    pub(super) fn hold_line<S: ByteSource>(&mut self, most: Option<usize>, source: &mut S) -> bool
+        requires { IsRun (run_holding most) self.old.interpreter.reader.reading
+            self.old.unread.input.escapes }
+        ensures { GoesFurtherOver result S.ByteSource source.old source.new self.old self.new }
+    {
+        if !self.take_arguments(most, source) {
+            return false;
+        }
+        self.hold_on(most, source)
+    }
+
+    /// Takes the escape of a register, a string or an argument that stands whole in front of
+    /// arguments, and bytes of its text and behind it. Returns whether it took one, and another may
+    /// stand behind it.
+    #[inline(always)]
+    pub(super) fn hold_on<S: ByteSource>(&mut self, most: Option<usize>, source: &mut S) -> bool
+        requires { IsRun (run_holding most) self.old.interpreter.reader.reading
+            self.old.unread.input.escapes }
+        ensures { GoesFurtherOver result S.ByteSource source.old source.new self.old self.new }
+    {
+        if !self.hold_named(most, source) {
+            return false;
+        }
+        self.take_arguments(most, source)
+    }
+
+    /// Takes the escape of a register or an argument that stands whole in front of arguments, and
+    /// holds its text; or that of a string, which is put in front. Returns whether it did.
+    #[inline(always)]
+    fn hold_named<S: ByteSource>(&mut self, most: Option<usize>, source: &mut S) -> bool
+        requires { IsRun (run_holding most) self.old.interpreter.reader.reading
             self.old.unread.input.escapes }
         ensures further { GoesFurtherOver result S.ByteSource source.old source.new
             self.old self.new }
         ensures half { self.new.unread.input.escapes ≡ self.old.unread.input.escapes }
         ensures reads { self.new.interpreter ≡ self.old.interpreter }
     {
-        if self.hold_register(source) {
+        if self.hold_text(most, source) {
             return true;
         }
         self.put_string(source)
     }
 
-    /// Takes the escape of a register that stands whole in front of arguments, and holds its text.
-    /// Returns whether it did.
+    /// Takes the escape of a register or an argument that stands whole in front of arguments, and
+    /// holds its text. Returns whether it did.
     #[inline(always)]
-    fn hold_register<S: ByteSource>(&mut self, source: &mut S) -> bool
-        requires { IsRun ArgumentsRun self.old.interpreter.reader.reading
+    fn hold_text<S: ByteSource>(&mut self, most: Option<usize>, source: &mut S) -> bool
+        requires { IsRun (run_holding most) self.old.interpreter.reader.reading
             self.old.unread.input.escapes }
         ensures further { GoesFurtherOver result S.ByteSource source.old source.new
             self.old self.new }
         ensures half { self.new.unread.input.escapes ≡ self.old.unread.input.escapes }
         ensures reads { self.new.interpreter ≡ self.old.interpreter }
     {
-        hold_register(
+        hold_text(
             &self.interpreter.reader,
+            most,
             &self.interpreter.formatter.composer,
             &mut self.unread,
             source,
         )
     }
 
-    /// Takes the escape of a register that stands whole in front on a text line, and tells its
-    /// text; or that of a string, and tells text of that. Returns whether it did.
+    /// Takes the escape of a register or an argument that stands whole in front on a text line,
+    /// steps a register that is to be, and tells its text; or that of a string, and tells text of
+    /// that. Returns whether it did.
     #[inline(never)]
     pub(super) fn take_named<S: ByteSource>(&mut self, source: &mut S) -> bool
         requires { IsRun TextRun self.old.interpreter.reader.reading self.old.unread.input.escapes }
         ensures further { GoesFurtherOver result S.ByteSource source.old source.new
             self.old self.new }
         ensures half { self.new.unread.input.escapes ≡ self.old.unread.input.escapes }
-        ensures reads { self.new.interpreter.reader ≡ self.old.interpreter.reader }
+        ensures reads { self.new.interpreter.reader.reading
+            ≡ self.old.interpreter.reader.reading }
     {
-        match register_ahead(&self.interpreter.reader, &self.unread, source) {
-            Some(name) => {
-                self.tell_named(name, source);
+        match text_ahead(&self.interpreter.reader, &self.unread, source) {
+            Some(ahead) => {
+                self.tell_named(ahead, source);
                 true
             }
-            None => self.tell_string(source),
+            None => self.tell_other(source),
         }
     }
 
@@ -177,7 +201,7 @@ impl Running {
     /// text with which the string begins, and takes its end, if that stands behind them. Returns
     /// whether it did.
     #[inline(always)]
-    fn tell_string<S: ByteSource>(&mut self, source: &mut S) -> bool
+    pub(super) fn tell_string<S: ByteSource>(&mut self, source: &mut S) -> bool
         requires { IsRun TextRun self.old.interpreter.reader.reading self.old.unread.input.escapes }
         ensures further { GoesFurtherOver result S.ByteSource source.old source.new
             self.old self.new }
@@ -192,10 +216,10 @@ impl Running {
         true
     }
 
-    /// Takes the escape of a string that stands whole in front, where text or arguments are read,
-    /// and puts the string in front. Returns whether it did.
+    /// Takes the escape of a string that stands whole in front, where text or arguments are read or
+    /// a line begins, and puts the string in front. Returns whether it did.
     #[inline(always)]
-    fn put_string<S: ByteSource>(&mut self, source: &mut S) -> bool
+    pub(super) fn put_string<S: ByteSource>(&mut self, source: &mut S) -> bool
         ensures further { GoesFurtherOver result S.ByteSource source.old source.new
             self.old self.new }
         ensures half { self.new.unread.input.escapes ≡ self.old.unread.input.escapes }
@@ -204,21 +228,21 @@ impl Running {
         put_string(&self.interpreter.reader, &mut self.unread, source)
     }
 
-    /// Tells the text of the register of this name, whose escape stands in front.
+    /// Tells the text of the register or the argument whose escape stands in front.
     #[inline(always)]
-    fn tell_named<S: ByteSource>(&mut self, name: ShortName, source: &mut S)
+    fn tell_named<S: ByteSource>(&mut self, ahead: TextAhead, source: &mut S)
         requires run { IsRun TextRun self.old.interpreter.reader.reading
             self.old.unread.input.escapes }
-        requires ahead { IsRegisterAhead name self.old.interpreter.reader.reading
+        requires ahead { IsTextAhead ahead self.old.interpreter.reader.reading
             (S.ready source.old) self.old.unread }
         ensures further { GoesFurtherOver true S.ByteSource source.old source.new
             self.old self.new }
         ensures half { self.new.unread.input.escapes ≡ self.old.unread.input.escapes }
         ensures reads { self.new.interpreter.reader ≡ self.old.interpreter.reader }
     {
-        let text = pass_register(
+        let text = pass_text(
             &self.interpreter.reader,
-            name,
+            ahead,
             &self.interpreter.formatter.composer,
             &mut self.unread,
             source,
@@ -356,7 +380,7 @@ pub(super) fn behind_text(bytes: &[u8], place: usize) -> Behind {
         return Behind::Other;
     }
     match bytes.split_at(place).1 {
-        [b'\\', b'n' | b'*', ..] => Behind::Named,
+        [b'\\', b'n' | b'*' | b'$', ..] => Behind::Named,
         [b'\\', ..] => Behind::Escape,
         _ => Behind::Other,
     }

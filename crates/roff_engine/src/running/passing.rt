@@ -15,6 +15,7 @@ use super::Running;
 use roff_fronts::{
     ControlRead, RunKind, begins_apart, begins_control_line, read_control_front, run_kind, take_run,
 };
+use roff_reader::CALL_ARGUMENTS;
 use roff_run::Status;
 use roff_scan::ByteSource;
 use roff_sinks::ByteSink;
@@ -106,12 +107,14 @@ impl Running {
             source,
         ) {
             ControlRead::Nothing => Ok(self.pass_return()),
+            ControlRead::Escape => Ok(self.put_string(source)),
             ControlRead::Front => Ok(self.pass_behind_front(source)),
             ControlRead::Dropped => Ok(true),
             ControlRead::Condition => Ok(self.pass_condition(source)),
             ControlRead::Decided => Ok(true),
             ControlRead::Held => Ok(self.pass_end()),
-            ControlRead::HeldToEscape => Ok(self.hold_on(source)),
+            ControlRead::HeldToEscape => Ok(self.hold_on(None, source)),
+            ControlRead::HeldForCall => Ok(self.hold_call_on(CALL_ARGUMENTS - 1, source)),
             ControlRead::HeldToEnd => self.end_control_line(out, err),
         }
     }
@@ -195,8 +198,8 @@ impl Running {
         }
     }
 
-    /// Takes bytes in front that do this, and the escape of a register behind those of text or of
-    /// arguments. Returns whether it took that.
+    /// Takes bytes in front that do this, and the escape of a register or a string behind those of
+    /// text or of arguments. Returns whether it took that.
     #[inline(always)]
     fn take_bytes<S: ByteSource>(&mut self, kind: RunKind, source: &mut S) -> bool
         requires { IsRun kind self.old.interpreter.reader.reading self.old.unread.input.escapes }
@@ -204,7 +207,8 @@ impl Running {
     {
         match kind {
             RunKind::Text => self.tell_line(source),
-            RunKind::Arguments => self.hold_line(source),
+            RunKind::Arguments => self.hold_line(None, source),
+            RunKind::CallArguments(most) => self.hold_call(most, source),
             _ => {
                 self.take_run(kind, source);
                 false

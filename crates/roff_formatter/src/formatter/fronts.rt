@@ -21,8 +21,12 @@ impl Formatter {
             return 0;
         }
         let near = told_at_once(front);
-        let (text, _) = near.split_at(text_in_front(near));
-        self.composer.environments.in_force.lines.text(text)
+        let count = text_in_front(near);
+        self.composer
+            .environments
+            .in_force
+            .lines
+            .text_front(near, count)
     }
 }
 

@@ -1,7 +1,7 @@
 -- Bytes of a text line that an environment is told at once.
-use Rattle.std.specs.Prelude.{◌≡◌, ℕ, ◌+◌, ◌-◌, ◌<◌, ◌≤◌, true, List, [], ◌∷◌, ◌++◌, length, slice_index_or}
+use Rattle.std.specs.Prelude.{◌≡◌, ℕ, ◌+◌, ◌-◌, ◌<◌, ◌≤◌, true, List, [], ◌∷◌, ◌++◌, length, take, drop, slice_index_or}
 use Rattle.std.specs.List.{AllByRecursion}
-use Rattle.roff_layout.specs.Glyphs.{text_width}
+use Rattle.roff_layout.specs.Glyphs.{gaps_in, text_width}
 use Rattle.roff_layout.specs.Events.{History}
 use Rattle.roff_layout.specs.Fitting.{may_be_wide}
 use Rattle.roff_layout.specs.Telling.{bytes_told, QuietlyTold}
@@ -19,6 +19,10 @@ pub record TellsFront (bytes rest : List ℕ) (old new : Kept) : Type 0 where
   pub front : List ℕ
   pub joined : front ++ rest ≡ bytes
   pub told : Tells front old new
+
+-- of so many bytes in front these are told, and the rest is left
+abbrev pub TellsOf : ℕ → List ℕ → ℕ → Kept → Kept → Type 0
+TellsOf count bytes told old new = TellsFront (take count bytes) (drop told (take count bytes)) old new
 
 -- a byte above the blank that is a character by itself
 abbrev pub IsOneCharacter : ℕ → Type 0
@@ -41,6 +45,16 @@ pub data IsRun (bytes : List ℕ) : ℕ → Type 0 where
   Nothing : IsRun bytes 0
   Begins : GoesOn 32 (slice_index_or bytes 0 0) → IsRun bytes 1
   Further : (k : ℕ) → 0 < k → IsRun bytes k → GoesOn (slice_index_or bytes (k - 1) 0) (slice_index_or bytes k 0) → IsRun bytes (k + 1)
+
+-- so many bytes in front were read as such words: of them so many are whole words with a blank behind each
+pub record ReadsWords (bytes : List ℕ) (read told words : ℕ) : Type 0 where
+  pub some : 0 < read
+  pub within : told ≤ read
+  pub run : IsRun bytes read
+  pub blank : 0 < told → slice_index_or bytes (told - 1) 0 ≡ 32
+  pub others : gaps_in (take told bytes) ≡ gaps_in (take read bytes)
+  pub gaps : gaps_in (take read bytes) ≡ words
+  pub less : words ≤ read
 
 -- behind a gap, of which there are blanks, the pending line has room for text of so many columns and bytes
 pub record HasRoom (room : ℕ) (k : Kept) : Type 0 where

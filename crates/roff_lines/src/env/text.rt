@@ -1,12 +1,11 @@
 //! Bytes of a text line that are told at once.
 
 ghost use Rattle.std.specs.Prelude.{◌≡◌, ℕ, ◌+◌, ◌<◌, ◌≤◌, ◌^◌, [], ◌∷◌, length, ◌-◌, take, true};
-ghost use Rattle.std.specs.Prelude.{false, MatchOption};
+ghost use Rattle.std.specs.Prelude.{drop, false};
 ghost use Rattle.std.specs.Bool.{MatchBool};
 ghost use Rattle.std.specs.List.{AllByRecursion};
 ghost use Rattle.roff_lines.specs.Clauses.{History, bytes_told, QuietlyTold, text_width, gaps_in};
 ghost use Rattle.roff_lines.specs.Clauses.{may_be_wide};
-ghost use Rattle.roff_lines.specs.Env.Kept.{Kept};
 ghost use Rattle.roff_lines.specs.Env.Tells.{EndsGlyphs};
 
 use super::Env;
@@ -22,7 +21,7 @@ const MOST_COLUMNS: u64 = 1 << 35;
 impl Env {
     ghost use Rattle.roff_lines.specs.Env.Kept.{with_glyphs, with_words, glyph_room, word_finishes};
     ghost use Rattle.roff_lines.specs.Env.Stands.{Stands};
-    ghost use Rattle.roff_lines.specs.Env.Tells.{Tells, TellsFront, HasRoom};
+    ghost use Rattle.roff_lines.specs.Env.Tells.{Tells, TellsOf, HasRoom};
     ghost use Rattle.roff_lines.specs.Env.Tells.{EndsBlanks};
 
     /// Adds bytes of a text line, which are blanks and bytes above the blank: as many of those in
@@ -39,56 +38,76 @@ impl Env {
             → result < length bytes.now
             → QuietlyTold line_cap (take (result + 1) bytes.now) h → ⊥ }
     {
-        if bytes.is_empty() {
-            return 0;
+        self.text_front(bytes, bytes.len())
+    }
+
+    /// The same of so many bytes in front. Those behind them are none of the text line; that they
+    /// lie there lets steps of sixteen be looked at.
+    pub fn text_front(&mut self, bytes: &[u8], count: usize) -> usize
+        requires text { count ≤ length bytes.now }
+        requires above { AllByRecursion (λ b. 31 < b) (take count bytes.now) }
+        ensures within { result ≤ count }
+        ensures quiet { (line_cap : ℕ) (h : History) → Stands line_cap h self.old
+            → QuietlyTold line_cap (take result bytes.now) h }
+        ensures stands { (line_cap : ℕ) (h : History) → Stands line_cap h self.old
+            → Stands line_cap (bytes_told (take result bytes.now) h) self.new }
+        ensures most { (line_cap : ℕ) (h : History) → Stands line_cap h self.old → result < count
+            → QuietlyTold line_cap (take (result + 1) bytes.now) h → ⊥ }
+    {
+        let mut told = self.text_in_front(bytes, count);
+        while self.blank_in_front(bytes, told, count) {
+            let next = told + 1;
+            let (_, rest) = bytes.split_at(next);
+            told = next + self.text_in_front(rest, count - next);
         }
-        let mut rest = self.text_in_front(bytes);
-        while let Some(behind) = self.blank_in_front(rest) {
-            rest = self.text_in_front(behind);
-        }
-        bytes.len() - rest.len()
+        told
     }
 
     /// Adds whole words in front, and then glyphs, as many as the limit on the pending line lets
-    /// through. Gives back what is left: all where a blank is in front.
+    /// through. Tells how many bytes these are: none where a blank is in front.
     #[inline(always)]
-    fn text_in_front<'a>(&mut self, bytes: &'a [u8]) -> &'a [u8]
-        ensures told { TellsFront bytes.now result.now self.old self.new }
-        ensures ends { EndsGlyphs result.now self.new }
+    fn text_in_front(&mut self, bytes: &[u8], count: usize) -> usize
+        requires { count ≤ length bytes.now }
+        ensures few { result ≤ count }
+        ensures told { TellsOf count bytes.now result self.old self.new }
+        ensures ends { EndsGlyphs (drop result (take count bytes.now)) self.new }
     {
-        if begins_with_blank(bytes) {
-            return bytes;
+        if count == 0 || bytes[0] == b' ' {
+            return 0;
         }
-        self.words_and_glyphs(bytes)
+        self.words_and_glyphs(bytes, count)
     }
 
     /// The same, whatever is in front.
     #[inline(never)]
-    fn words_and_glyphs<'a>(&mut self, bytes: &'a [u8]) -> &'a [u8]
-        ensures told { TellsFront bytes.now result.now self.old self.new }
-        ensures ends { EndsGlyphs result.now self.new }
+    fn words_and_glyphs(&mut self, bytes: &[u8], count: usize) -> usize
+        requires { count ≤ length bytes.now }
+        ensures few { result ≤ count }
+        ensures told { TellsOf count bytes.now result self.old self.new }
+        ensures ends { EndsGlyphs (drop result (take count bytes.now)) self.new }
     {
-        let rest = self.words_in_front(bytes);
-        self.glyphs_in_front(rest)
+        let words = self.words_in_front(bytes, count);
+        let (_, rest) = bytes.split_at(words);
+        words + self.glyphs_in_front(rest, count - words)
     }
 
-    /// Adds whole words in front that fit into the pending line, behind its gap. Gives back what is
-    /// left.
+    /// Adds whole words in front that fit into the pending line, behind its gap. Tells how many
+    /// bytes these are.
     #[inline(always)]
-    fn words_in_front<'a>(&mut self, bytes: &'a [u8]) -> &'a [u8]
-        ensures { TellsFront bytes.now result.now self.old self.new }
+    fn words_in_front(&mut self, bytes: &[u8], count: usize) -> usize
+        requires { count ≤ length bytes.now }
+        ensures few { result ≤ count }
+        ensures told { TellsOf count bytes.now result self.old self.new }
     {
         if self.is_open || !self.has_line || self.blanks == 0 {
-            return bytes;
+            return 0;
         }
-        let (told, words) = whole_words(bytes, self.word_room());
+        let (told, words) = whole_words(bytes, self.word_room().min(count));
         if told == 0 {
-            return bytes;
+            return 0;
         }
-        let (text, _) = bytes.split_at(told - 1);
-        let (_, rest) = bytes.split_at(told);
-        self.words(text, words - 1);
-        rest
+        self.words(bytes, told - 1, words - 1);
+        told
     }
 
     /// How many bytes of words, which are a column wide each, the pending line has room for behind
@@ -106,38 +125,42 @@ impl Env {
         )
     }
 
-    /// Puts words into the pending line, behind its gap, with a gap of one blank behind them. Each
-    /// of their bytes is a column wide.
+    /// Puts words, so many bytes in front, into the pending line, behind its gap, with a gap of one
+    /// blank behind them. Each of their bytes is a column wide.
     #[inline(always)]
-    fn words(&mut self, text: &[u8], gaps: u64)
+    fn words(&mut self, bytes: &[u8], count: usize, gaps: u64)
+        requires text { count ≤ length bytes.now }
         requires line { self.old.has_line ≡ true }
         requires closed { self.old.is_open ≡ false }
-        requires room { HasRoom (length text.now) self.old }
-        requires gaps { gaps_in text.now ≡ gaps }
-        requires width { text_width text.now ≡ length text.now }
-        ensures { self.new ≡ with_words text.now self.old }
+        requires room { HasRoom count self.old }
+        requires gaps { gaps_in (take count bytes.now) ≡ gaps }
+        requires width { text_width (take count bytes.now) ≡ count }
+        ensures { self.new ≡ with_words (take count bytes.now) self.old }
     {
         push_gap(&mut self.line, self.blanks as usize);
-        self.line.push_words(text, gaps);
+        self.line.push_words(bytes, count, gaps);
         self.blanks = 1;
         self.has_glyph = true;
+        let (text, _) = bytes.split_at(count);
         self.ends_sentence = ends_sentence_behind_words(text, self.ends_sentence);
-        self.place = moved(self.place, text.len() as u64 + 1);
+        self.place = moved(self.place, count as u64 + 1);
     }
 
-    /// Adds the glyphs in front, as many as the limit on the pending line lets through. Gives back
-    /// what is left.
-    fn glyphs_in_front<'a>(&mut self, bytes: &'a [u8]) -> &'a [u8]
-        ensures told { TellsFront bytes.now result.now self.old self.new }
-        ensures ends { EndsGlyphs result.now self.new }
+    /// Adds the glyphs in front, as many as the limit on the pending line lets through. Tells how
+    /// many bytes these are.
+    #[inline(always)]
+    fn glyphs_in_front(&mut self, bytes: &[u8], count: usize) -> usize
+        requires { count ≤ length bytes.now }
+        ensures few { result ≤ count }
+        ensures told { TellsOf count bytes.now result self.old self.new }
+        ensures ends { EndsGlyphs (drop result (take count bytes.now)) self.new }
     {
-        let (count, width) = measured_glyphs(bytes, self.glyph_room());
-        if count == 0 {
-            return bytes;
+        let (told, width) = measured_glyphs(bytes, self.glyph_room().min(count));
+        if told == 0 {
+            return 0;
         }
-        let (front, rest) = bytes.split_at(count);
-        self.glyphs(front, width);
-        rest
+        self.glyphs(bytes, told, width);
+        told
     }
 
     /// How many bytes of glyphs the limit on the pending line lets through.
@@ -153,38 +176,39 @@ impl Env {
         (self.cap as u64).saturating_sub(bytes) as usize
     }
 
-    /// Adds glyphs of these bytes, so many columns wide, to the open word, or opens one with them.
-    fn glyphs(&mut self, bytes: &[u8], width: u64)
-        requires some { 0 < length bytes.now }
-        requires room { length bytes.now ≤ glyph_room self.old }
-        requires above { AllByRecursion (λ b. 32 < b) bytes.now }
-        requires width { text_width bytes.now ≡ width }
-        ensures { self.new ≡ with_glyphs bytes.now self.old }
+    /// Adds glyphs of so many bytes in front, so many columns wide, to the open word, or opens one
+    /// with them.
+    fn glyphs(&mut self, bytes: &[u8], count: usize, width: u64)
+        requires text { count ≤ length bytes.now }
+        requires some { 0 < count }
+        requires room { count ≤ glyph_room self.old }
+        requires above { AllByRecursion (λ b. 32 < b) (take count bytes.now) }
+        requires width { text_width (take count bytes.now) ≡ width }
+        ensures { self.new ≡ with_glyphs (take count bytes.now) self.old }
     {
         self.begin_gap();
-        self.word.extend(bytes, width);
+        self.word.extend(bytes, count, width);
         self.is_open = true;
         self.has_glyph = true;
-        self.ends_sentence = ends_sentence_behind(bytes, self.ends_sentence);
+        let (front, _) = bytes.split_at(count);
+        self.ends_sentence = ends_sentence_behind(front, self.ends_sentence);
         self.place = moved(self.place, width);
     }
 
-    /// Adds the blank in front, where it finishes no line. Gives back what is behind it; else the
-    /// environment is as it was.
-    fn blank_in_front<'a>(&mut self, bytes: &'a [u8]) -> Option<&'a [u8]>
-        ensures { MatchOption result ((self.new ≡ self.old) × EndsBlanks bytes.now self.old)
-            (λ behind. (32 ∷ behind.now ≡ bytes.now) × Tells (32 ∷ []) self.old self.new) }
+    /// Adds the blank at a place of so many bytes, where it finishes no line. Says whether it did;
+    /// else the environment is as it was.
+    fn blank_in_front(&mut self, bytes: &[u8], place: usize, count: usize) -> bool
+        requires within { place ≤ count }
+        requires text { count ≤ length bytes.now }
+        ensures { MatchBool result
+            ((place < count) × ((32 ∷ drop (place + 1) (take count bytes.now)
+            ≡ drop place (take count bytes.now)) × Tells (32 ∷ []) self.old self.new))
+            ((self.new ≡ self.old) × EndsBlanks (drop place (take count bytes.now)) self.old) }
     {
-        let Some((&byte, behind)) = bytes.split_first() else {
-            return None;
-        };
-        if byte != b' ' {
-            return None;
+        if place == count || bytes[place] != b' ' {
+            return false;
         }
-        if !self.blank() {
-            return None;
-        }
-        Some(behind)
+        self.blank()
     }
 
     /// Ends the open word, with a gap of one blank behind it, where that finishes no line. Says
@@ -199,14 +223,6 @@ impl Env {
         self.gap(1);
         true
     }
-}
-
-/// Whether a blank is the first of these bytes.
-#[inline(always)]
-fn begins_with_blank(bytes: &[u8]) -> bool
-    ensures { result ≡ true → (k : Kept) → EndsGlyphs bytes.now k }
-{
-    matches!(bytes, [b' ', ..])
 }
 
 /// How many bytes of words, which are a column wide each, may stand behind a line and a gap, with a

@@ -1,8 +1,8 @@
 //! Number registers: their values and texts, and those that go.
 
-ghost use Rattle.std.specs.Prelude.{◌≡◌, None, Some};
+ghost use Rattle.std.specs.Prelude.{◌≡◌, None, Some, false, true};
 ghost use Rattle.std.specs.Option.{option_to_list};
-ghost use Rattle.roff_reader.specs.Clauses.{TakesAs};
+ghost use Rattle.roff_reader.specs.Clauses.{StepsReader, TakesAs};
 ghost use Rattle.roff_reader.specs.Clauses.{interpolating};
 ghost use Rattle.roff_run.specs.Events.Steps.{events_of, messages_of};
 ghost use Rattle.roff_composer.specs.Composer.Standing.{StandFor};
@@ -82,5 +82,15 @@ impl Reader {
             (known_at h self.now.registers.all unread.now.input) (name_bytes name) }
     {
         self.registers.text(&name.name(), facts(composer, unread))
+    }
+
+    /// Steps the register of a name, unless something is said of that, or the page gets a number.
+    /// Returns whether it did; else nothing happens.
+    #[inline(always)]
+    pub fn step_quietly(&mut self, direction: Direction, name: ShortName) -> bool
+        ensures steps { result ≡ true → StepsReader direction (name_bytes name) self.old self.new }
+        ensures unchanged { result ≡ false → self.new ≡ self.old }
+    {
+        self.registers.step_quietly(direction, &name.name())
     }
 }

@@ -8,6 +8,7 @@ ghost use Rattle.roff_requests.specs.Registers.ReadOnly.{begins_read_only};
 ghost use Rattle.roff_requests.specs.Registers.Coded.{AreOf};
 
 use super::Facts;
+use crate::number::{COLUMN, LINE};
 use roff_num::Name;
 use roff_run::Query;
 
@@ -44,12 +45,6 @@ static READ_ONLY: [ReadOnly; 17] = [
 
 /// A count above this reads as this.
 const GREATEST_NUMBER: u64 = 2147483647;
-
-/// The basic units of a column.
-const COLUMN: u64 = 24;
-
-/// The basic units of a line.
-const LINE: u64 = 40;
 
 /// What a read-only register asks for, if a name is one's.
 #[inline(always)]
@@ -122,14 +117,14 @@ impl Facts<'_> {
 fn columns_told(columns: u32) -> i32
     ensures { result ≡ at_greatest (in_units columns) }
 {
-    at_greatest(u64::from(columns) * COLUMN)
+    at_greatest(u64::from(columns) * u64::from(COLUMN))
 }
 
 /// A height in lines, in basic units.
 fn lines_told(lines: u64) -> i32
     ensures { result ≡ at_greatest (in_heights lines) }
 {
-    at_greatest(lines.saturating_mul(LINE))
+    at_greatest(lines.saturating_mul(u64::from(LINE)))
 }
 
 /// A count; one above the greatest number reads as that.

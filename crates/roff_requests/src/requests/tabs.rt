@@ -6,16 +6,13 @@ ghost use Rattle.roff_arguments.specs.ArgumentList.{listed};
 ghost use Rattle.roff_requests.specs.Request.Coded.{stops_response};
 ghost use Rattle.roff_run.specs.Requests.Tabs.{stop_place, tab_stops};
 
-use crate::number::{rounded_to_columns, value_beside, value_in};
+use crate::number::{COLUMN, rounded_to_columns, value_beside, value_in};
 use roff_arguments::ArgumentList;
 use roff_meaning::Stops;
 use roff_num::{NumFault, Scale};
 
 /// Of more stops than this the others are ignored.
 const MOST_STOPS: usize = 32;
-
-/// The basic units of a column.
-const COLUMN: u32 = 24;
 
 /// `ta`: the tab stops that these arguments are, none where none are given; `None` if one of them
 /// isn't a number, or is out of range.

@@ -33,11 +33,11 @@ abbrev pub begins_with_newline : List ℕ → Bool
 begins_with_newline [] = false
 begins_with_newline (b ∷ bytes) = b == newline
 
--- whether a backslash and the letter of a register or of a string are
+-- whether a backslash and the letter of a register, of a string or of an argument are
 abbrev pub begins_named : List ℕ → Bool
 begins_named [] = false
 begins_named (b ∷ []) = false
-begins_named (b ∷ second ∷ bytes) = (b == 92) && (second == 110 || second == 42)
+begins_named (b ∷ second ∷ bytes) = (b == 92) && (second == 110 || second == 42 || second == 36)
 
 -- how many bytes of a line the limits have room for, of which all but the first so many are held
 abbrev pub line_room : {E : Type 0} → ℕ → Unread E → ℕ

@@ -1,6 +1,7 @@
 //! The arguments of the line that is being read.
 
-ghost use Rattle.roff_input.specs.Arguments.{bytes_held, is_behind_quote, with_unit, settled};
+ghost use Rattle.roff_input.specs.Arguments.{HeldFewer, bytes_held, is_behind_quote, settled};
+ghost use Rattle.roff_input.specs.Arguments.{with_unit};
 ghost use Rattle.roff_input.specs.Arguments.{finished};
 ghost use Rattle.roff_arguments.specs.ArgumentList.{listed};
 ghost use Rattle.roff_source.specs.Bytes.{is_argument_byte};
@@ -65,20 +66,22 @@ impl<E: Copy> Unread<E> {
         Ok(())
     }
 
-    /// Holds the first bytes of a text in arguments, up to one that isn't held as it is read.
-    /// Returns how many. They aren't counted as taken.
+    /// Holds the first bytes of a text in arguments, up to one that isn't held as it is read, and
+    /// where there is a bound as long as fewer arguments than that are whole. Returns how many.
+    /// They aren't counted as taken.
     #[inline(always)]
-    pub fn hold_bytes(&mut self, text: &[u8]) -> usize
+    pub fn hold_bytes(&mut self, text: &[u8], most: Option<usize>) -> usize
         requires { pushed self.old.input + length text.now ≤ self.old.limits.stack }
         ensures few { result ≤ length text.now }
         ensures plain { AllByRecursion (λ b. is_argument_byte b ≡ true) (take result text.now) }
+        ensures fewer { HeldFewer most (take result text.now) self.old.input.arguments }
         ensures holds { self.new ≡ record self.old {
           input = record self.old.input {
             arguments = bytes_held (take result text.now) self.old.input.arguments;
           };
         } }
     {
-        self.arguments.take_front(text, None)
+        self.arguments.take_front(text, most)
     }
 
     /// The argument that is being read, as far as it is.

@@ -77,6 +77,14 @@ impl<E: Copy> Unread<E> {
         self.calls.arguments().len()
     }
 
+    /// An argument of that call, by its index from 0 on. One that it wasn't given is empty.
+    #[inline]
+    pub fn argument(&self, index: usize) -> &[u8]
+        ensures { result.now ≡ argument_live index self.now.input }
+    {
+        argument_at(self.calls.arguments(), index)
+    }
+
     /// Puts an argument of that call and its end in front, by its index from 0 on. One that it
     /// wasn't given is empty.
     ///

@@ -15,7 +15,8 @@ use roff_source::ByteSource;
 pub enum BehindHeld {
     /// The newline that ended it, which was taken too, and isn't read yet.
     Newline,
-    /// A backslash and the letter of a register or a string: its escape may stand there.
+    /// A backslash and the letter of a register, a string or an argument: its escape may stand
+    /// there.
     Named,
     /// Anything else, or nothing that is seen.
     Other,
@@ -195,11 +196,11 @@ fn behind_held(bytes: &[u8], place: usize) -> BehindHeld
     BehindHeld::Other
 }
 
-/// Whether the escape of a register or a string may begin at this place of some bytes: a backslash
-/// and its letter.
+/// Whether the escape of a register, a string or an argument may begin at this place of some bytes:
+/// a backslash and its letter.
 #[inline(always)]
 pub fn begins_named(bytes: &[u8], place: usize) -> bool
     ensures { result ≡ begins_named (drop place bytes.now) }
 {
-    matches!(bytes_behind(bytes, place), [b'\\', b'n' | b'*', ..])
+    matches!(bytes_behind(bytes, place), [b'\\', b'n' | b'*' | b'$', ..])
 }

@@ -7,11 +7,12 @@ ghost use Rattle.roff_input.specs.Input.{most_events, most_frees, depth, pushed,
 ghost use Rattle.roff_input.specs.Input.{putting_back};
 ghost use Rattle.roff_input.specs.Input.{freeing};
 ghost use Rattle.roff_input.specs.Input.Names.{body_named};
+ghost use Rattle.roff_num.specs.ShortNames.{name_bytes};
 
 use super::Unread;
 use super::results::drop_results;
 use roff_arguments::ArgumentTexts;
-use roff_num::{Limit, Name};
+use roff_num::{Limit, Name, ShortName};
 
 impl<E: Copy> Unread<E> {
     ghost use Rattle.roff_input.specs.Looking.{closing};
@@ -84,6 +85,7 @@ impl<E: Copy> Unread<E> {
     pub fn count_text(&mut self, len: usize, more: usize) -> bool
         ensures counts { result ≡ true → CountsText len more self.old self.new }
         ensures unchanged { result ≡ false → self.new ≡ self.old }
+        ensures lacks { result ≡ false → HasRoomFor len more self.old → ⊥ }
     {
         if !self.has_room_for(len, more) {
             return false;
@@ -96,7 +98,8 @@ impl<E: Copy> Unread<E> {
     /// many bytes more behind it.
     #[inline(always)]
     fn has_room_for(&self, len: usize, more: usize) -> bool
-        ensures { result ≡ true → HasRoomFor len more self.now }
+        ensures room { result ≡ true → HasRoomFor len more self.now }
+        ensures lacks { result ≡ false → HasRoomFor len more self.now → ⊥ }
     {
         let bytes = (self.limits.bytes - self.charge) as usize;
         if bytes <= len {
@@ -137,11 +140,19 @@ impl<E: Copy> Unread<E> {
         Ok(())
     }
 
-    /// How many bytes the body of a name has that would be put in front.
-    pub fn body_len(&self, name: &Name) -> usize
-        ensures { result ≡ length (body_named name.now self.now.input) }
+    /// Whether the body of a name has so many bytes at the most. Where all texts have no more the
+    /// name isn't looked up.
+    #[inline(always)]
+    pub fn body_fits(&self, name: ShortName, most: usize) -> bool
+        ensures fits { result ≡ true
+            → length (body_named (name_bytes name) self.now.input) ≤ most }
+        ensures exceeds { result ≡ false
+            → most < length (body_named (name_bytes name) self.now.input) }
     {
-        self.input_ahead.body_len(name)
+        if self.input_ahead.stored() <= most {
+            return true;
+        }
+        self.input_ahead.body_len(&name.name()) <= most
     }
 
     /// Puts an event back in front. There is room for it where events are as few as those are that

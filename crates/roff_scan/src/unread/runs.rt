@@ -42,7 +42,7 @@ impl<E: Copy> Unread<E> {
     {
         match kind {
             RunKind::Arguments => self.take_arguments(source).0,
-            RunKind::CallArguments(most) => self.take_call_arguments(most, source),
+            RunKind::CallArguments(most) => self.take_call_arguments(most, source).0,
             RunKind::Name => self.take_name(source),
             RunKind::Condition => self.take_condition(source),
             RunKind::Definition => self.add_run(source),
@@ -55,8 +55,8 @@ impl<E: Copy> Unread<E> {
 
     // Each kind that comes often has a copy of its own, for which the compiler knows the kind.
 
-    /// The same of bytes that are held in arguments. Returns also whether the escape of a register
-    /// or a string may stand behind them.
+    /// The same of bytes that are held in arguments. Returns also whether the escape of a register,
+    /// a string or an argument may stand behind them.
     #[inline(never)]
     pub fn take_arguments<S: ByteSource>(&mut self, source: &mut S) -> (usize, bool)
         ensures takes { TakesRun Arguments (S.gives source.old) (S.gives source.new)
@@ -64,27 +64,22 @@ impl<E: Copy> Unread<E> {
         ensures notes { S.notes source.new ≤ S.notes source.old }
         ensures failures { S.failures source.new ≡ S.failures source.old }
     {
-        let most = self.room_for(RunKind::Arguments);
-        let front = front_of(&self.input_ahead, self.looked, source, most);
-        if front.is_empty() {
-            return (0, false);
-        }
-        let kind = RunKind::Arguments;
-        let count = take_part(kind, front, &mut self.arguments, &mut self.escapes);
-        let meets_name = begins_named(front, count);
-        self.pass_front(source, count, false);
-        (count, meets_name)
+        self.take_held(RunKind::Arguments, source)
     }
 
     /// The same where fewer than so many are whole.
     #[inline(never)]
-    fn take_call_arguments<S: ByteSource>(&mut self, most: usize, source: &mut S) -> usize
+    pub fn take_call_arguments<S: ByteSource>(
+        &mut self,
+        most: usize,
+        source: &mut S,
+    ) -> (usize, bool)
         ensures takes { TakesRun (CallArguments most) (S.gives source.old) (S.gives source.new)
-            (S.ready source.old) result self.old self.new }
+            (S.ready source.old) result.0 self.old self.new }
         ensures notes { S.notes source.new ≤ S.notes source.old }
         ensures failures { S.failures source.new ≡ S.failures source.old }
     {
-        self.take_lying(RunKind::CallArguments(most), source)
+        self.take_held(RunKind::CallArguments(most), source)
     }
 
     /// The same of blanks.
@@ -136,6 +131,27 @@ impl<E: Copy> Unread<E> {
         self.take_lying(kind, source)
     }
 
+    /// The same of bytes of the source or of a body, as they lie together. Returns also whether the
+    /// escape of a register, a string or an argument may stand behind them.
+    #[inline(always)]
+    fn take_held<S: ByteSource>(&mut self, kind: RunKind, source: &mut S) -> (usize, bool)
+        requires { kind ≡ Definition → ⊥ }
+        ensures takes { TakesRun kind (S.gives source.old) (S.gives source.new)
+            (S.ready source.old) result.0 self.old self.new }
+        ensures notes { S.notes source.new ≤ S.notes source.old }
+        ensures failures { S.failures source.new ≡ S.failures source.old }
+    {
+        let most = self.room_for(kind);
+        let front = front_of(&self.input_ahead, self.looked, source, most);
+        if front.is_empty() {
+            return (0, false);
+        }
+        let count = take_part(kind, front, &mut self.arguments, &mut self.escapes);
+        let meets_name = begins_named(front, count);
+        self.pass_front(source, count, kind.has_newlines());
+        (count, meets_name)
+    }
+
     /// The same of bytes of the source or of a body, as they lie together, but for those that are
     /// put behind a text.
     #[inline(always)]
@@ -146,14 +162,7 @@ impl<E: Copy> Unread<E> {
         ensures notes { S.notes source.new ≤ S.notes source.old }
         ensures failures { S.failures source.new ≡ S.failures source.old }
     {
-        let most = self.room_for(kind);
-        let front = front_of(&self.input_ahead, self.looked, source, most);
-        if front.is_empty() {
-            return 0;
-        }
-        let count = take_part(kind, front, &mut self.arguments, &mut self.escapes);
-        self.pass_front(source, count, kind.has_newlines());
-        count
+        self.take_held(kind, source).0
     }
 
     /// How many bytes of a run the limits have room for: each counts once, and each that is held.

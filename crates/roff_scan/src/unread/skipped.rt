@@ -12,9 +12,8 @@ impl<E: Copy> Unread<E> {
     ghost use Rattle.roff_scan.specs.Unread.Calls.{PassesEnd, PassesFront, PassesNewline};
     ghost use Rattle.roff_scan.specs.Unread.Calls.{PassesReturn};
 
-    /// Takes a newline at once that stands in front, of the source or of a body that goes on behind
-    /// it, if the limit on bytes allows it. Whether anything is half read isn't looked at. Returns
-    /// whether it did.
+    /// Takes a newline at once that stands in front, of the source or of a body, if the limit on
+    /// bytes allows it. Whether anything is half read isn't looked at. Returns whether it did.
     #[inline(always)]
     pub fn pass_newline<S: ByteSource>(&mut self, source: &mut S) -> bool
         ensures passes { result ≡ true → PassesFront (S.gives source.old) (S.gives source.new)

@@ -4,7 +4,7 @@ use Rattle.roff_run.specs.Reading.ControlLines.{behind_called}
 use Rattle.roff_run.specs.Requests.{called_by}
 use Rattle.roff_run.specs.declared.line_state.LineState.{LineState}
 use Rattle.roff_run.specs.declared.line_state.LineState.TheVariants.{Deciding}
-use Rattle.roff_fronts.specs.Conditions.{AsksNothing, OfConstant, StandsBehind}
+use Rattle.roff_fronts.specs.Conditions.{AsksNothing, ByConstant, StandsBehind}
 use Rattle.roff_fronts.specs.declared.conditions.BehindName.{BehindName}
 use Rattle.roff_fronts.proofs.ConstantConditions.{decides-constant, stands-constant}
 use Rattle.roff_fronts.proofs.conditions.read_condition.Goals as goal
@@ -17,7 +17,7 @@ returns-in-Some-clause-decides g c = λ decided.
     let ready = g.S.ByteSource.ready c.args.source.now in
     let bytes = c.front.result.now in
     let asks : AsksNothing bytes so = subst (λ (b : BehindName). StandsBehind bytes b) c.in-Some.ensures.constant c.behind_name-behind.ensures in
-    OfConstant (decides-constant _ _ c.args.reader.now c.go_on.new.self front.breaks front.first front.second so ready u c.take_front.new.unread
+    ByConstant (decides-constant _ _ c.args.reader.now c.go_on.new.self front.breaks front.first front.second so ready u c.take_front.new.unread
     c.requires.none_half c.requires.none_due c.requires.begins c.requires.first c.requires.second
     (subst (λ (keeps : Bool). LeadsTo (λ i. behind_called i front.breaks (called_by (record { first = front.first; second = Some front.second }) u.input.names)) (Deciding keeps))
     c.in-Some.ensures.deciding c.requires.leads)

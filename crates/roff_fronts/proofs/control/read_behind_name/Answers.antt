@@ -3,7 +3,7 @@ use Rattle.roff_reader.specs.Reader.State.{ReaderState}
 use Rattle.roff_fronts.proofs.ControlFronts.{reads-named}
 use Rattle.roff_fronts.proofs.DroppedLines.{name-leads}
 use Rattle.roff_fronts.proofs.HeldRuns.{holds_call_where}
-use Rattle.roff_fronts.proofs.LinesRead.{call-ended, call-holds, call-past, held-half, held-line, held-past, line-ended, past-left, request-each, request-holds, runs-arguments}
+use Rattle.roff_fronts.proofs.LinesRead.{call-ended, call-holds, call-past, held-half, held-line, held-past, line-ended, past-left, request-each, request-holds, runs-arguments, runs-call}
 use Rattle.roff_fronts.proofs.control.read_behind_name.Goals as goal
 
 pub returns-else-front-clause-past : goal.returns-else-front-clause-past
@@ -20,8 +20,8 @@ returns-else-front-clause-line g c = λ ends.
     held-line _ _ c.args.reader.now c.go_on.new.self there c.args.front _ c.hold_line-behind.result c.args.unread.now c.hold_line-behind.new.self None c.requires
     (request-holds _ _ there is) (request-each _ _ there is) c.hold_line-behind.ensures.holds c.go_on.ensures (line-ended _ _ c.held_to.ensures ends)
 
-pub returns-else-front-clause-register : goal.returns-else-front-clause-register
-returns-else-front-clause-register g c = λ register.
+pub returns-else-front-clause-escape : goal.returns-else-front-clause-escape
+returns-else-front-clause-escape g c = λ escape.
     let there = c.args.reading in
     let is = c.in-Arguments.is in
     runs-arguments c.in-Arguments.breaks c.in-Arguments.request _ _ (ap (λ (r : ReaderState). r.reading) c.go_on.ensures ∙ is)
@@ -42,6 +42,14 @@ returns-else-front-2-clause-line g c = λ ends.
     held-line _ _ c.args.reader.now c.go_on-in-Calling.new.self there c.args.front _ c.hold_call-behind.result c.args.unread.now c.hold_call-behind.new.self (Some 8) c.requires
     (call-holds _ there is) (holds_call_where there _ is) c.hold_call-behind.ensures.holds c.go_on-in-Calling.ensures (call-ended _ _ c.held_for_call.ensures ends)
 
+pub returns-else-front-2-clause-call : goal.returns-else-front-2-clause-call
+returns-else-front-2-clause-call g c = λ call.
+    let there = c.args.reading in
+    let is = c.in-Calling.is in
+    runs-call c.in-Calling.name _ _ (ap (λ (r : ReaderState). r.reading) c.go_on-in-Calling.ensures ∙ is)
+    (held-half _ _ c.args.reader.now c.go_on-in-Calling.new.self there c.args.front _ c.hold_call-behind.result c.args.unread.now c.hold_call-behind.new.self (Some 8) c.requires
+    (call-holds _ there is) (holds_call_where there _ is) c.hold_call-behind.ensures.holds c.go_on-in-Calling.ensures)
+
 pub drop_line-requires : goal.drop_line-requires
 drop_line-requires g c = name-leads c.args.front c.args.reading _ _ c.args.unread.now c.requires c.in-Dropped.is
 
@@ -55,7 +63,8 @@ returns-in_default g c = record {
       named.none_due named.begins named.none_half named.first named.second named.leads
       named.stands c.take_front.ensures.passes begun.ensures c.stays_within-in_default.ensures c.go_on-in_default.ensures;
   line = λ wrong. absurd (cc);
-  register = λ wrong. absurd (cc);
+  escape = λ wrong. absurd (cc);
+  call = λ wrong. absurd (cc);
   condition = λ wrong. absurd (cc);
   decides = λ wrong. absurd (cc);
   dropped = λ wrong. absurd (cc);

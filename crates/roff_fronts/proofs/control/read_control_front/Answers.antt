@@ -6,18 +6,18 @@ use Rattle.roff_fronts.proofs.control.read_control_front.Goals as goal
 
 pub read_control-requires-clause-ends : goal.read_control-requires-clause-ends
 read_control-requires-clause-ends g c =
-    ended-front c.in-Some.front c.front.result.now (g.S.ByteSource.ready c.args.source.now) c.args.unread.now c.in-Some.ensures.fronts c.front.ensures.bytes c.front.ensures.front
+    ended-front c.in-Some.front c.front-bytes.result.now (g.S.ByteSource.ready c.args.source.now) c.args.unread.now c.in-Some.ensures.fronts c.front-bytes.ensures.bytes c.front-bytes.ensures.front
 
 pub returns-in-Some-clause-whole : goal.returns-in-Some-clause-whole
 returns-in-Some-clause-whole g c = λ asks reads.
     let names = c.args.unread.now.input.names in
     c.read_control.ensures.whole
-    (two-read names c.front.result.now c.in-Some.front c.in-Some.ensures.fronts
-    (subst (λ (bytes : List ℕ). reads_front names bytes ≡ true) (sym (c.front.ensures.whole asks)) reads))
+    (two-read names c.front-bytes.result.now c.in-Some.front c.in-Some.ensures.fronts
+    (subst (λ (bytes : List ℕ). reads_front names bytes ≡ true) (sym (c.front-bytes.ensures.whole asks)) reads))
 
 pub returns-in-None-clause-whole : goal.returns-in-None-clause-whole
 returns-in-None-clause-whole g c = λ asks reads.
     let names = c.args.unread.now.input.names in
-    let none : reads_front names c.front.result.now ≡ false = c.in-None.ensures.none refl names in
-    let some : reads_front names c.front.result.now ≡ true = subst (λ (bytes : List ℕ). reads_front names bytes ≡ true) (sym (c.front.ensures.whole asks)) reads in
+    let none : reads_front names c.front-bytes.result.now ≡ false = c.in-None.ensures.none refl names in
+    let some : reads_front names c.front-bytes.result.now ≡ true = subst (λ (bytes : List ℕ). reads_front names bytes ≡ true) (sym (c.front-bytes.ensures.whole asks)) reads in
     absurd (cc (none, some))

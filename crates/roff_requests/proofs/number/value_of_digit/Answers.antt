@@ -1,4 +1,4 @@
-use Rattle.std.proofs.Common.{◌≡◌, ◌≤◌, ◌-◌, ◌*◌, ℕ, ℤ, pos, [], ◌∷◌, Ok, ap, arith, rules, subst, ◌∙◌, to_z, of_z, w32}
+use Rattle.std.proofs.Common.{◌≡◌, ◌≤◌, ◌-◌, ◌*◌, ℕ, ℤ, pos, [], ◌∷◌, Ok, ap, arith, rules, subst, ◌∙◌, to_z, w32}
 use Rattle.roff_num.specs.declared.num.Scale.TheVariants.{Units, Columns, Lines}
 use Rattle.roff_run.specs.Numbers.{value_in}
 use Rattle.roff_requests.proofs.LoneDigits.{value_in-digit, value_in-digit_columns, value_in-digit_lines}
@@ -9,8 +9,8 @@ returns-in-Units c =
     let digit : ℕ = c.args.byte - 48 in
     let least : 48 ≤ c.args.byte = search rules in
     let most : c.args.byte ≤ 57 = search rules in
-    let value : pos digit ≡ to_z w32 (of_z w32 c.from.result) = search rules in
-    rw c.in-Units.is (subst (λ (b : ℕ). value_in Units (b ∷ []) ≡ Ok (to_z w32 (of_z w32 c.from.result))) (omega (arith, least))
+    let value : pos digit ≡ to_z w32 c.from-number.result = search rules in
+    rw c.in-Units.is (subst (λ (b : ℕ). value_in Units (b ∷ []) ≡ Ok (to_z w32 c.from-number.result)) (omega (arith, least))
     (value_in-digit digit (omega (arith, most)) ∙ ap (λ (v : ℤ). Ok v) value))
 
 pub returns-in-Columns : goal.returns-in-Columns
@@ -18,8 +18,8 @@ returns-in-Columns c =
     let digit : ℕ = c.args.byte - 48 in
     let least : 48 ≤ c.args.byte = search rules in
     let most : c.args.byte ≤ 57 = search rules in
-    let value : pos (digit * 24) ≡ to_z w32 (of_z w32 c.from-in-Columns.result) = search rules in
-    rw c.in-Columns.is (subst (λ (b : ℕ). value_in Columns (b ∷ []) ≡ Ok (to_z w32 (of_z w32 c.from-in-Columns.result))) (omega (arith, least))
+    let value : pos (digit * 24) ≡ to_z w32 (c.from-number.result * 24) = search rules in
+    rw c.in-Columns.is (subst (λ (b : ℕ). value_in Columns (b ∷ []) ≡ Ok (to_z w32 (c.from-number.result * 24))) (omega (arith, least))
     (value_in-digit_columns digit (omega (arith, most)) ∙ ap (λ (v : ℤ). Ok v) value))
 
 pub returns-in-Lines : goal.returns-in-Lines
@@ -27,6 +27,6 @@ returns-in-Lines c =
     let digit : ℕ = c.args.byte - 48 in
     let least : 48 ≤ c.args.byte = search rules in
     let most : c.args.byte ≤ 57 = search rules in
-    let value : pos (digit * 40) ≡ to_z w32 (of_z w32 c.from-in-Lines.result) = search rules in
-    rw c.in-Lines.is (subst (λ (b : ℕ). value_in Lines (b ∷ []) ≡ Ok (to_z w32 (of_z w32 c.from-in-Lines.result))) (omega (arith, least))
+    let value : pos (digit * 40) ≡ to_z w32 (c.from-number.result * 40) = search rules in
+    rw c.in-Lines.is (subst (λ (b : ℕ). value_in Lines (b ∷ []) ≡ Ok (to_z w32 (c.from-number.result * 40))) (omega (arith, least))
     (value_in-digit_lines digit (omega (arith, most)) ∙ ap (λ (v : ℤ). Ok v) value))

@@ -1,6 +1,5 @@
 use Rattle.std.proofs.Common.{ap, ◌∙◌}
 use Rattle.roff_run.specs.Reading.Ends.{due}
-use Rattle.roff_reader.specs.Reader.State.{ReaderState}
 use Rattle.roff_engine.proofs.PassingOn.{goes_past_if_both}
 use Rattle.roff_engine.proofs.running.Running.begin_text_line.Goals as goal
 
@@ -13,7 +12,7 @@ returns-in-Named-clause-none_half g c = c.take_named.ensures.half ∙ c.begin_te
 
 pub returns-in-Named-clause-none_due : goal.returns-in-Named-clause-none_due
 returns-in-Named-clause-none_due g c =
-    ap (λ (r : ReaderState). due r.reading) c.take_named.ensures.reads ∙ c.begin_text.ensures.none_due
+    ap due c.take_named.ensures.reads ∙ c.begin_text.ensures.none_due
 
 pub take_named-requires : goal.take_named-requires
 take_named-requires g c = c.begin_text.ensures.prints c.in-Named.is

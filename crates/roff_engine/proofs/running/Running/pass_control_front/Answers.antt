@@ -38,7 +38,7 @@ returns-in-Held g c =
     (goes_further_passed _ _ _ ends.none_due ends.takes ends.passes ends.within ends.unchanged ends.others _ _ _))
 
 pub hold_on-requires : goal.hold_on-requires
-hold_on-requires g c = c.read_control_front.ensures.register c.in-HeldToEscape.is
+hold_on-requires g c = c.read_control_front.ensures.escape c.in-HeldToEscape.is
 
 pub returns-in-HeldToEscape : goal.returns-in-HeldToEscape
 returns-in-HeldToEscape g c =
@@ -47,6 +47,17 @@ returns-in-HeldToEscape g c =
     let read = c.read_control_front.ensures in
     comes_past _ _ _ _ _ _ _ _ _ (goes_further_both _ _ _ _ _ _ _ _ _ _ _ _ _
     (goes_past_turned _ _ _ _ _ _ out err c.args.self.now _ _ (read.past (ap is_past c.in-HeldToEscape.is)) read.notes read.failures) (c.hold_on.ensures out err))
+
+pub hold_call_on-requires : goal.hold_call_on-requires
+hold_call_on-requires g c = c.read_control_front.ensures.call c.in-HeldForCall.is
+
+pub returns-in-HeldForCall : goal.returns-in-HeldForCall
+returns-in-HeldForCall g c =
+    let out = g.O.ByteSink.sunk c.args.out.now in
+    let err = g.E.ByteSink.sunk c.args.err.now in
+    let read = c.read_control_front.ensures in
+    comes_past _ _ _ _ _ _ _ _ _ (goes_further_both _ _ _ _ _ _ _ _ _ _ _ _ _
+    (goes_past_turned _ _ _ _ _ _ out err c.args.self.now _ _ (read.past (ap is_past c.in-HeldForCall.is)) read.notes read.failures) (c.hold_call_on.ensures out err))
 
 pub returns-in-HeldToEnd : goal.returns-in-HeldToEnd
 returns-in-HeldToEnd g c =
@@ -89,3 +100,16 @@ returns-in-Nothing g c =
     goes_further_returned _ _ _ (ap (λ (r : ReaderState). due r.reading) kept.0 ∙ c.requires.none_due)
     (λ place. ap (λ (r : ReaderState). line_waits r.reading place) kept.0 ∙ c.requires.takes place) (ap (λ (u : PageUnread). u.input.escapes) kept.1 ∙ c.requires.none_half)
     ends.passes ends.within ends.reads ends.unchanged _ _ _))
+
+pub returns-in-Escape : goal.returns-in-Escape
+returns-in-Escape g c =
+    let kept = c.read_control_front.ensures.unchanged (ap is_read c.in-Escape.is) in
+    let old = c.args.self.now in
+    let source = kept.2 in
+    let out = g.O.ByteSink.sunk c.args.out.now in
+    let err = g.E.ByteSink.sunk c.args.err.now in
+    comes_past _ _ _ _ _ _ _ _ _ (goes_further_both _ _ _ _ _ _ _ _ _ _ _ _ _
+    (goes_past_kept _ _ _ _ _ _ out err old _ (ap g.S.ByteSource.gives source) (ap g.S.ByteSource.notes source) (ap g.S.ByteSource.failures source)
+    (ap (λ (r : ReaderState). record old { interpreter = record old.interpreter { reader = r }; unread = c.read_control_front.new.unread }) kept.0
+    ∙ ap (λ (u : PageUnread). record old { unread = u }) kept.1))
+    (c.put_string.ensures.further out err))

@@ -1,5 +1,3 @@
-use Rattle.std.proofs.Common.{ap}
-use Rattle.roff_reader.specs.Reader.State.{ReaderState}
 use Rattle.roff_scan.specs.declared.run_kind.RunKind.TheVariants.{Text}
 use Rattle.roff_engine.proofs.PassingOn.{goes_further_both}
 use Rattle.roff_engine.proofs.PutRegisters.{goes_further_on, run-kept}
@@ -7,7 +5,7 @@ use Rattle.roff_engine.proofs.running.Running.read_named.Goals as goal
 
 pub tell_rest-requires : goal.tell_rest-requires
 tell_rest-requires g c =
-    run-kept Text c.args.self.now c.take_named.new.self (ap (λ (r : ReaderState). r.reading) c.take_named.ensures.reads) c.take_named.ensures.half c.requires
+    run-kept Text c.args.self.now c.take_named.new.self c.take_named.ensures.reads c.take_named.ensures.half c.requires
 
 pub returns-then-take_named : goal.returns-then-take_named
 returns-then-take_named g c = λ out err.

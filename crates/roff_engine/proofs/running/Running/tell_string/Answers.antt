@@ -1,5 +1,4 @@
-use Rattle.std.proofs.Common.{Bool, true, false, ap, refl, ◌≡◌, ◌∙◌}
-use Rattle.roff_reader.specs.Reader.State.{ReaderState}
+use Rattle.std.proofs.Common.{true, ap, ◌∙◌}
 use Rattle.roff_scan.specs.declared.run_kind.RunKind.TheVariants.{Text}
 use Rattle.roff_interpreter.specs.declared.interpreter.Interpreter.{Interpreter}
 use Rattle.roff_engine.specs.declared.running.Running.{Running as Coded}

@@ -1,11 +1,14 @@
-use Rattle.std.proofs.Common.{take, sym, ap, ◌∙◌}
-use Rattle.roff_formatter.proofs.Telling.{tells_front, tells_none, tells_of_all, text_above}
+use Rattle.std.proofs.Common.{◌≤◌, length, take, sym, ap, ◌∙◌, arith}
+use Rattle.roff_formatter.proofs.Telling.{plain_le, tells_counted, tells_none, tells_of_all, text_above}
 use Rattle.roff_formatter.proofs.formatter.Formatter.text_front.Goals as goal
 
-pub text-requires : goal.text-requires
-text-requires c =
+pub text_front-requires-clause-text : goal.text_front-requires-clause-text
+text_front-requires-clause-text c = omega (arith, c.text_in_front-count.ensures, plain_le c.told_at_once-near.result.now)
+
+pub text_front-requires-clause-above : goal.text_front-requires-clause-above
+text_front-requires-clause-above c =
     let near = c.told_at_once-near.result.now in
-    text_above near _ (c.split_at.ensures.front ∙ ap (λ n. take n near) c.text_in_front.ensures)
+    text_above near _ (ap (λ n. take n near) c.text_in_front-count.ensures)
 
 pub returns-then-not-takes_text : goal.returns-then-not-takes_text
 returns-then-not-takes_text c = tells_none c.args.front.now c.args.self.now (λ L stands. sym (c.takes_text.ensures L stands) ∙ c.if-not-takes_text.true)
@@ -14,6 +17,5 @@ pub returns : goal.returns
 returns c =
     let near = c.told_at_once-near.result.now in
     tells_of_all c.args.front.now near _ _ _ c.told_at_once-near.ensures
-    (tells_front near _ _ c.args.self.now _ (c.split_at.ensures.front ∙ ap (λ n. take n near) c.text_in_front.ensures)
-    c.text.ensures.within (λ L stands. sym (c.takes_text.ensures L stands) ∙ c.if-not-takes_text.false)
-    c.text.ensures.quiet c.text.ensures.stands c.text.ensures.most)
+    (tells_counted near c.text_in_front-count.result _ c.args.self.now _ c.text_in_front-count.ensures c.text_front.ensures.within
+    (λ L stands. sym (c.takes_text.ensures L stands) ∙ c.if-not-takes_text.false) c.text_front.ensures.quiet c.text_front.ensures.stands c.text_front.ensures.most)

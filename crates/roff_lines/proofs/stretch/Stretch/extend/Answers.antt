@@ -1,19 +1,17 @@
-use Rattle.std.proofs.Common.{◌≡◌, ◌+◌, ◌++◌, rules, sym, ap, ◌∙◌}
-use Rattle.std.proofs.lemmas.List.Sums.{sum_by-append}
-use Rattle.roff_num.specs.Widths.{byte_width}
-use Rattle.roff_layout.specs.Glyphs.{text_width, gaps_in}
-use Rattle.roff_lines.proofs.Widths.{gaps_in-append_above}
+use Rattle.std.proofs.Common.{◌+◌, ◌≤◌, ℕ, List, length, take, subst, sym, arith}
+use Rattle.std.proofs.lemmas.Grind.{common_steps}
+use Rattle.std.proofs.lemmas.Int.{ints}
+use Rattle.std.proofs.lemmas.List.{length-take}
+use Rattle.roff_lines.specs.Stretch.Held.{Held}
+use Rattle.roff_lines.proofs.Widths.{text_width_le}
 use Rattle.roff_lines.proofs.stretch.Stretch.extend.Goals as goal
 
-pub invariant_of-self : goal.invariant_of-self
-invariant_of-self c =
-    let text = c.self.inside.bytes.items in
-    let bytes = c.args.bytes.now in
-    let items : c.extend_from_slice.new.self.items ≡ text ++ bytes = search rules in record {
-      reserved = search rules;
-      within = search rules;
-      width =
-          ap (λ n. n + c.args.width) c.self.invariant.width ∙ ap (λ n. text_width text + n) (sym c.requires.width)
-          ∙ sym (sum_by-append byte_width text bytes) ∙ ap text_width (sym items);
-      gaps = c.self.invariant.gaps ∙ sym (gaps_in-append_above text bytes c.requires.above) ∙ ap gaps_in (sym items);
-    }
+pub overflow_add-self : goal.overflow_add-self
+overflow_add-self c =
+    let a = c.self.inside in
+    let text : List ℕ = take a.len a.bytes.items in
+    let added : List ℕ = take c.args.count c.args.bytes.now in
+    let room : length text + c.args.count ≤ a.room = subst (λ (h : Held). length h.text + c.args.count ≤ h.room) (sym c.self.view_is) c.requires.room in
+    let few : a.width + c.args.width ≤ a.room =
+    omega (arith, c.self.invariant.width, text_width_le text, c.requires.width, text_width_le added, length-take c.args.count c.args.bytes.now, room) in
+    grind (ints, arith, common_steps)

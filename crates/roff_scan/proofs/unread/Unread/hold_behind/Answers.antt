@@ -1,3 +1,5 @@
+use Rattle.std.proofs.lemmas.Int.{ints}
+use Rattle.std.proofs.lemmas.Grind.{common_steps}
 use Rattle.std.proofs.Common.{◌≡◌, ◌≤◌, ◌+◌, ◌-◌, ℕ, true, length, take, ap, sym, subst, ◌∙◌, arith}
 use Rattle.roff_arguments.specs.ArgumentTexts.Kept.{KeptArguments, StopsAt}
 use Rattle.roff_input.specs.Arguments.{Arguments, bytes_held}
@@ -48,3 +50,12 @@ returns-clause-holds g c =
     (ended_by c.behind_held-behind.result (front_bytes (c.args.skipped + c.take_front-count.result) ready kept)) (with_held a kept) c.pass_to.new.self) there c.pass_to.ensures.passes)
     c.front_of-front.ensures.whole room
     (subst (λ (a : Arguments). StopsAt c.args.most c.bytes_behind-rest.result.now c.take_front-count.result a) there c.take_front-count.ensures.stops) c.behind_held-behind.ensures)
+
+pub take_front-count-requires : goal.take_front-count-requires
+take_front-count-requires g c = grind (ints, arith, common_steps)
+
+pub pass_to-requires-clause-front : goal.pass_to-requires-clause-front
+pass_to-requires-clause-front g c = grind (ints, arith, common_steps)
+
+pub pass_to-requires-clause-ended : goal.pass_to-requires-clause-ended
+pass_to-requires-clause-ended g c = grind (ints, arith, common_steps)

@@ -1,3 +1,5 @@
+use Rattle.std.proofs.lemmas.Int.{ints}
+use Rattle.std.proofs.lemmas.Grind.{common_steps}
 use Rattle.std.proofs.Common.{sym, ◌∙◌, arith}
 use Rattle.roff_store.proofs.Entering.{admitted-answer, after-alone, after-behind, refused-answer, refused-texts, room-behind, shared-behind, short-behind, sound-alone, sound-behind, text-behind, old-fits, old-strands, old-shared}
 use Rattle.roff_store.proofs.text_store.TextStore.enter.Goals as goal
@@ -100,3 +102,9 @@ returns-in-None-clause-texts c =
     c.release_body.ensures.same c.body_len.result c.body_len.ensures
     c.remove-text.new.self c.remove-text.ensures.items c.remove-text.ensures.len c.remove-text.ensures.capacity
     c.put-in-None.new.self c.put-in-None.ensures.table
+
+pub remove-text-requires : goal.remove-text-requires
+remove-text-requires c = grind (ints, arith, common_steps)
+
+pub append-body-requires-clause-strand : goal.append-body-requires-clause-strand
+append-body-requires-clause-strand c = grind (ints, arith, common_steps)

@@ -1,3 +1,5 @@
+use Rattle.std.proofs.lemmas.Int.{ints}
+use Rattle.std.proofs.lemmas.Grind.{common_steps}
 use Rattle.std.proofs.Common.{arith}
 use Rattle.roff_store.proofs.Opening.{sound-begun}
 use Rattle.roff_store.proofs.text_store.TextStore.open.Goals as goal
@@ -9,3 +11,12 @@ invariant_of-self c =
     sound-begun c.self.inside c.args.self.now c.self.invariant c.self.view_is c.requires c.push.new.self c.empty.result
     c.empty.ensures.chunks c.empty.ensures.at c.empty.ensures.rest
     (let last = c.empty.ensures.last in let most = c.self.invariant.most in omega arith) items len c.push.ensures.capacity
+
+pub unwrap-requires : goal.unwrap-requires
+unwrap-requires c = grind (ints, arith, common_steps)
+
+pub returns-clause-number : goal.returns-clause-number
+returns-clause-number c = grind (ints, arith, common_steps)
+
+pub returns-clause-texts : goal.returns-clause-texts
+returns-clause-texts c = grind (ints, arith, common_steps)

@@ -1,3 +1,5 @@
+use Rattle.std.proofs.lemmas.Int.{ints}
+use Rattle.std.proofs.lemmas.Grind.{common_steps}
 use Rattle.std.proofs.Common.{length, arith}
 use Rattle.roff_store.proofs.Opening.{room-in-hand, short-in-hand, sound-pushed, after-pushed}
 use Rattle.roff_store.proofs.text_store.TextStore.push_open.Goals as goal
@@ -28,3 +30,24 @@ returns-clause-texts c =
     c.index.ensures
     c.extend-longer.new.self c.extend-longer.result c.args.text.now c.if-self-text.false c.extend-longer.ensures.extended
     c.extend-longer.ensures.sum
+
+pub returns-then-self-text-clause-answer : goal.returns-then-self-text-clause-answer
+returns-then-self-text-clause-answer c = grind (ints, arith, common_steps)
+
+pub returns-then-self-text-clause-texts : goal.returns-then-self-text-clause-texts
+returns-then-self-text-clause-texts c = grind (ints, arith, common_steps)
+
+pub index-requires : goal.index-requires
+index-requires c = grind (ints, arith, common_steps)
+
+pub extend-longer-requires-clause-strand : goal.extend-longer-requires-clause-strand
+extend-longer-requires-clause-strand c = grind (ints, arith, common_steps)
+
+pub extend-longer-requires-clause-shared : goal.extend-longer-requires-clause-shared
+extend-longer-requires-clause-shared c = grind (ints, arith, common_steps)
+
+pub index_mut-requires : goal.index_mut-requires
+index_mut-requires c = grind (ints, arith, common_steps)
+
+pub returns-clause-answer : goal.returns-clause-answer
+returns-clause-answer c = grind (ints, arith, common_steps)
