@@ -120,7 +120,7 @@ fn input_behind_parts_that_ended(rt: HostRuntime) -> Result<(), Fail> {
 }
 
 /// A writer of which one write fails, behind three bytes.
-fn paper(alloc: Global, error: ErrorKind) -> StdWrite<Paper> {
+fn failing_writer(alloc: Global, error: ErrorKind) -> StdWrite<Paper> {
     StdWrite::new(Paper {
         fails_once_at: Some(3),
         error,
@@ -132,7 +132,7 @@ fn paper(alloc: Global, error: ErrorKind) -> StdWrite<Paper> {
 #[test]
 fn sink(rt: HostRuntime) {
     for error in &ERRORS {
-        let mut sink = WriteSink::new(paper(rt.alloc(), *error));
+        let mut sink = WriteSink::new(failing_writer(rt.alloc(), *error));
         assert!(rt; sink.put(b"abcdef").is_err());
         assert!(rt; sink.put(b"gh").is_ok());
         assert_eq!(rt;
@@ -152,7 +152,7 @@ fn fails_behind_abc(buffered: Buffered<StdWrite<Paper>>) -> bool {
 #[test]
 fn buffer(rt: HostRuntime) {
     for error in &ERRORS {
-        let Ok(buffered) = Buffered::new(rt.alloc(), paper(rt.alloc(), *error)) else {
+        let Ok(buffered) = Buffered::new(rt.alloc(), failing_writer(rt.alloc(), *error)) else {
             assert!(rt; false, "no memory");
             return;
         };
