@@ -37,6 +37,7 @@ STAGES = {
     "unread": ["roff_scan::unread", "roff_ahead", "roff_input"],
     "reader": [
         "roff_reader",
+        "roff_reading",
         "roff_fronts",
         "roff_requests",
         "roff_meaning",

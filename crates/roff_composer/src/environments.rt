@@ -80,6 +80,15 @@ impl Environment {
             input_trap: None,
         })
     }
+
+    /// Two of them.
+    fn pair(alloc: Global, line_cap: u32) -> Result<(Self, Self), AllocError>
+        ensures { IfOk result (λ es. StandsAs line_cap fresh_environment es.0
+            × StandsAs line_cap fresh_environment es.1) }
+    {
+        let first = Environment::new(alloc, line_cap)?;
+        Ok((first, Environment::new(alloc, line_cap)?))
+    }
 }
 
 impl Left {
@@ -126,7 +135,7 @@ impl Left {
 }
 
 impl Environments {
-    ghost use Rattle.roff_composer.specs.Environments.Standing.{Becomes, StandBy};
+    ghost use Rattle.roff_composer.specs.Environments.Standing.{Becomes, StandBy, StandsAs};
 
     /// Three in which nothing has happened; the one of number 0 is in force.
     ///
@@ -136,13 +145,24 @@ impl Environments {
     pub fn new(alloc: Global, limits: Limits) -> Result<Self, AllocError>
         ensures { IfOk result (λ es. StandBy limits (environments []) es) }
     {
+        let (in_force, left) = Self::none_left(alloc, limits)?;
+        let (next, last) = Environment::pair(alloc, limits.line)?;
         Ok(Environments {
             number: EnvironmentNumber::Zero,
-            in_force: Environment::new(alloc, limits.line)?,
-            next: Environment::new(alloc, limits.line)?,
-            last: Environment::new(alloc, limits.line)?,
-            left: Left::new(alloc, limits.environments)?,
+            in_force,
+            next,
+            last,
+            left,
         })
+    }
+
+    /// The environment in force in which nothing has happened, and none that was left.
+    fn none_left(alloc: Global, limits: Limits) -> Result<(Environment, Left), AllocError>
+        ensures { IfOk result (λ made. StandsAs limits.line fresh_environment made.0
+            × (made.1 ≡ record { numbers = []; cap = limits.environments })) }
+    {
+        let in_force = Environment::new(alloc, limits.line)?;
+        Ok((in_force, Left::new(alloc, limits.environments)?))
     }
 
     /// Whether one was left that may be gone back to.

@@ -117,11 +117,23 @@ comes_some fewer gave gives noted notes old new now behind r one = record {
     no_more (Ok done) less = left_some fewer (turns_with new notes) (turns_with old noted) less
     no_more (Err status) less = tt
 
+-- the same, with the answer by another name
+pub comes_some_as : (fewer : Bool) (gave gives : Tape → Type 0) (noted notes : ℕ) (old new : Coded) (now behind : Seen) (r other : Result (Unit {0}) Status)
+    → r ≡ other → ComesFurther fewer gave gives noted notes old new now behind r → ComesFurther false gave gives noted notes old new now behind other
+comes_some_as fewer gave gives noted notes old new now behind r other is one =
+    subst (λ (x : Result (Unit {0}) Status). ComesFurther false gave gives noted notes old new now behind x) is (comes_some fewer gave gives noted notes old new now behind r one)
+
 -- further with fewer turns to come, whether that is said or not
 pub comes_any : (fewer : Bool) (gave gives : Tape → Type 0) (noted notes : ℕ) (old new : Coded) (now behind : Seen) (r : Result (Unit {0}) Status)
     → ComesFurther true gave gives noted notes old new now behind r → ComesFurther fewer gave gives noted notes old new now behind r
 comes_any true gave gives noted notes old new now behind r one = one
 comes_any false gave gives noted notes old new now behind r one = comes_some true gave gives noted notes old new now behind r one
+
+-- the same, with the answer by another name
+pub comes_any_as : (fewer : Bool) (gave gives : Tape → Type 0) (noted notes : ℕ) (old new : Coded) (now behind : Seen) (r other : Result (Unit {0}) Status)
+    → r ≡ other → ComesFurther true gave gives noted notes old new now behind r → ComesFurther fewer gave gives noted notes old new now behind other
+comes_any_as fewer gave gives noted notes old new now behind r other is one =
+    subst (λ (x : Result (Unit {0}) Status). ComesFurther fewer gave gives noted notes old new now behind x) is (comes_any fewer gave gives noted notes old new now behind r one)
 
 -- to the run's end, where it doesn't matter whether fewer turns are to come
 pub comes_ended : (said fewer : Bool) (gave gives : Tape → Type 0) (noted notes : ℕ) (old new : Coded) (now behind : Seen) (status : Status)

@@ -24,6 +24,8 @@ pub mod TitleRuns
 pub mod DueDone
 pub mod PutRegisters
 pub mod LinesEnded
+pub mod OtherBranches
 pub mod ConditionsAtOnce
 pub mod EventsMeant
 pub mod SteppedRegisters
+pub mod Unfilled

@@ -19,19 +19,9 @@ use Rattle.roff_engine.proofs.Beginning.{turns_behind}
 use Rattle.roff_engine.proofs.ComingFurther.{comes_some, comes_turned}
 use Rattle.roff_interpreter.proofs.LinesSplit.{between, line-between, mid, passes-bytes, takes-newline, within-between}
 use Rattle.roff_engine.proofs.Turned.{goes_past_turned}
+use Rattle.roff_engine.proofs.PassingOn.{goes_past_known}
 use Rattle.roff_engine.proofs.WaitedBytes.{byte_alone}
 use Rattle.roff_engine.proofs.WholeRuns.{read_turn}
-
--- past bytes, whatever is known of the history
-past-if : (P : Type 0) (gave gives : Tape → Type 0) (noted notes : ℕ) (old new : Coded) (now behind : Seen) → GoesPast gave gives noted notes old new now behind
-    → GoesPastIf P gave gives noted notes old new now behind
-past-if P gave gives noted notes old new now behind past = record {
-  limits = past.limits;
-  taken = past.taken;
-  before = past.before;
-  past = past.past;
-  turns = λ so. past.turns;
-}
 
 -- with fewer turns to come, whether that is said or not
 pub comes-as : (fewer : Bool) (gave gives : Tape → Type 0) (noted notes : ℕ) (old new : Coded) (now behind : Seen) (r : Result (Unit {0}) Status)
@@ -90,4 +80,4 @@ module _ (gave gives : Tape → Type 0) (noted notes failed failures : ℕ) (out
       (byte_alone run_there failed failures out err noted notes more fewer newline after.input.line new behind result (takes-newline gave gives line.bytes changed after all) none_half line_is acts) in
       comes_turned gave gives noted notes old new (seen failed out err) behind result
       (turns_behind gave (mid gave gives line.bytes changed after all) gives noted noted notes old run_there new (seen failed out err) (seen failed out err) behind result
-      (past-if (StandsForSome old) gave (mid gave gives line.bytes changed after all) noted noted old run_there (seen failed out err) (seen failed out err) past) turn)
+      (goes_past_known (StandsForSome old) gave (mid gave gives line.bytes changed after all) noted noted old run_there (seen failed out err) (seen failed out err) past) turn)

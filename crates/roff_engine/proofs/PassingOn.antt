@@ -61,28 +61,6 @@ goes_past_known P gave gives noted notes old new now behind past = record {
   turns = λ known. past.turns;
 }
 
--- a turn, and then past bytes, is that turn
-pub turned_past : (does : State → State) (gave mid gives : Tape → Type 0) (noted kept notes : ℕ) (old between new : Coded) (now halfway behind : Seen)
-    → TurnsBy does gave mid noted kept old between now halfway (Ok tt) → GoesPastIf (StandsForSome between) mid gives kept notes between new halfway behind
-    → TurnsBy does gave gives noted notes old new now behind (Ok tt)
-turned_past does gave mid gives noted kept notes old between new now halfway behind first second = record {
-  limits = second.limits ∙ first.limits;
-  taken = first.taken ++ second.taken;
-  before = λ t given. subst gave (sym (items_then-append first.taken second.taken t)) (first.before (items_then second.taken t) (second.before t given));
-  turns = λ t tape start given.
-      let P : Tape → Type 0 = λ whole. (at : IsAt t whole start now old) → StepDoes does whole old at.history at.messages → IsAt t tape start behind new in
-      subst P (sym (items_then-append first.taken second.taken tape))
-      (λ at goes. second.past t tape start given (first.turns t (items_then second.taken tape) start (second.before tape given) at goes));
-  falls = λ t tape start given.
-      let P : Tape → Type 0 = λ whole. (at : IsAt t whole start now old) → StepDoes does whole old at.history at.messages → turns_with new notes < turns_with old noted in
-      subst P (sym (items_then-append first.taken second.taken tape))
-      (λ at goes.
-      let between_at = first.turns t (items_then second.taken tape) start (second.before tape given) at goes in
-      let less = first.falls t (items_then second.taken tape) start (second.before tape given) at goes in
-      let few = second.turns (between_at.history, between_at.stands) in
-      omega (arith, less, few));
-}
-
 -- past none
 pub goes_past_none : (gave : Tape → Type 0) (notes : ℕ) (old : Coded) (now : Seen) → GoesPast gave gave notes notes old old now now
 goes_past_none gave notes old now = record {

@@ -5,3 +5,4 @@ pub mod Springing
 pub mod Leaving
 pub mod Beginning
 pub mod EndsAtOnce
+pub mod Unfilled

@@ -16,6 +16,7 @@ mod springing;
 mod starting;
 mod stepping;
 mod texts;
+mod unfilled;
 
 use roff_formatter::Halt;
 use roff_interpreter::Interpreter;
@@ -109,6 +110,28 @@ impl Running {
     /// The same where nothing is half read: the front of a text line that begins is told before.
     #[inline(always)]
     fn turn_beginning<S: ByteSource, O: ByteSink, E: ByteSink>(
+        &mut self,
+        is_told: bool,
+        source: &mut S,
+        out: &mut O,
+        err: &mut E,
+    ) -> Result<bool, Status>
+        requires none_due { due self.old.interpreter.reader.reading ≡ None }
+        requires none_half { self.old.unread.input.escapes ≡ [] }
+        ensures { ComesFurtherOver S.ByteSource O.ByteSink E.ByteSink (falls_told is_told result)
+            source.old source.new out.old out.new err.old err.new
+            self.old self.new (going_on result) }
+    {
+        match self.begin_and_end_line(source, out, err) {
+            None => self.turn_told(is_told, source, out, err),
+            Some(Ok(())) => Ok(true),
+            Some(Err(status)) => Err(status),
+        }
+    }
+
+    /// The same where no line can be put at once.
+    #[inline(always)]
+    fn turn_told<S: ByteSource, O: ByteSink, E: ByteSink>(
         &mut self,
         is_told: bool,
         source: &mut S,

@@ -11,3 +11,4 @@ pub mod Springing
 pub mod Telling
 pub mod TitleNumbers
 pub mod Titling
+pub mod Unfilled

@@ -5,3 +5,4 @@ pub mod Paging
 pub mod Setting
 pub mod Telling
 pub mod Titling
+pub mod Unfilled

@@ -9,6 +9,7 @@ mod fronts;
 mod paging;
 mod text_events;
 mod titles;
+mod unfilled;
 
 use roff_composer::Composer;
 use roff_num::Limits;

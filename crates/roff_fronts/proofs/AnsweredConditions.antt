@@ -1,5 +1,5 @@
 -- What a condition answers that stands whole in front and asks for a register: where its bytes stand, and what is taken of them.
-use Rattle.std.proofs.Common.{◌≡◌, ℕ, ◌≤◌, true, false, List, [], ◌∷◌, ◌++◌, length, take, drop, get_or, ◌-◌, Option, Some, None, refl, sym, ap, subst, ◌∙◌, arith, append_assoc, length-append, take-append-drop}
+use Rattle.std.proofs.Common.{◌≡◌, ℕ, ◌≤◌, Bool, true, List, [], ◌∷◌, ◌++◌, length, take, drop, get_or, ◌-◌, Option, Some, None, refl, sym, ap, subst, ◌∙◌, arith, append_assoc, length-append, take-append-drop}
 use Rattle.std.specs.Prelude.{IfSome}
 use Rattle.std.proofs.lemmas.List.{length-take-le}
 use Rattle.std.proofs.Math.Seq.{take-length}
@@ -13,6 +13,7 @@ use Rattle.roff_scan.specs.Unread.Calls.{IsFront, NoNewline, front_bytes}
 use Rattle.roff_scan.specs.Unread.Texts.{CountsText}
 use Rattle.roff_fronts.specs.Answered.{AnswersBehind, AnswersFront, AreOfExpression, AsksFor, BeginsNumber, EndsBehind, IsAnswer, asking_bytes, begins_number}
 use Rattle.roff_fronts.specs.ControlFronts.{StandsName, StandsReady}
+use Rattle.roff_fronts.specs.KeptResults.{kept_unread}
 use Rattle.roff_fronts.specs.Registers.{OfRegister, BeginsRegister, register_escape}
 use Rattle.roff_fronts.specs.declared.answered.Answer.{Answer}
 use Rattle.roff_fronts.specs.declared.control.ControlFront.{ControlFront}
@@ -96,7 +97,7 @@ abbrev pub asking_front : ControlFront → ShortName → List ℕ → List ℕ
 asking_front front name rest = three front ++ blank ∷ asking_bytes name rest
 
 -- such a condition stands behind the front of a line
-stands-asking : (front : ControlFront) (ready : List ℕ) (u : PageUnread) (mark first second : ℕ) (condition more : List ℕ)
+pub stands-asking : (front : ControlFront) (ready : List ℕ) (u : PageUnread) (mark first second : ℕ) (condition more : List ℕ)
     → StandsReady (mark ∷ first ∷ second ∷ blank ∷ (condition ++ more)) ready u → StandsReady (three front) ready u → StandsReady (three front ++ blank ∷ condition) ready u
 stands-asking front ready u mark first second condition more all stands =
     let bytes : List ℕ = mark ∷ first ∷ second ∷ [] in
@@ -105,9 +106,9 @@ stands-asking front ready u mark first second condition more all stands =
     let same : bytes ≡ three front = some.are ∙ sym stands.are in
     subst (λ (xs : List ℕ). StandsReady xs ready u) (ap (λ (xs : List ℕ). xs ++ blank ∷ condition) same) there
 
-module _ (r : ReaderState) (es : ComposerOf) (front : ControlFront) (ready : List ℕ) (before counted : PageUnread) (answer : Answer)
-    (named : StandsName front (Deciding false) r.reading ready before) (answers : AnswersFront r es ready before answer)
-    (counts : CountsText answer.len answer.count before counted) where
+module _ (keeps : Bool) (r : ReaderState) (es : ComposerOf) (front : ControlFront) (ready : List ℕ) (before counted : PageUnread) (answer : Answer)
+    (named : StandsName front (Deciding keeps) r.reading ready before) (answers : AnswersFront r es ready before answer)
+    (counts : CountsText answer.len answer.count (kept_unread keeps answer.so before) counted) where
   abbrev pub asks : AsksFor answers.answers.name answers.answers.rest answers.bytes
   asks = answers.answers.asks
 

@@ -32,7 +32,7 @@ use Rattle.roff_run.specs.Requests.{called_by}
 use Rattle.roff_run.specs.Stages.{Ignores, Stage, TakesHalf, Turned, stage_of}
 use Rattle.roff_run.specs.declared.line_state.LineState.{LineState}
 use Rattle.roff_run.specs.declared.line_state.LineState.TheVariants.{Deciding, Skipping}
-use Rattle.roff_fronts.specs.Conditions.{AsksNothing, DecidesConstant, HasBlank, constant_front, digit_of, none_half}
+use Rattle.roff_fronts.specs.Conditions.{AsksNothing, DecidesConstant, HasBlank, constant_front, digit_of, kept_half}
 use Rattle.roff_fronts.specs.Runs.{IsRun}
 use Rattle.roff_fronts.specs.ControlFronts.{BeginsControl, StandsReady, control_byte}
 use Rattle.roff_fronts.specs.Stages.{ReadsPast}
@@ -134,6 +134,18 @@ module _ (gave gives : Tape → Type 0) (r : ReaderState) (breaks : Bool) (first
         making = within.making;
       }
 
+  within-decided : IsWithin (kept_half false so between)
+  within-decided = record {
+    charge = within-between.charge;
+    newlines = within-between.newlines;
+    pushed = omega (arith, within-between.pushed);
+    depth = within-between.depth;
+    results = within-between.results;
+    stored = within-between.stored;
+    names = within-between.names;
+    making = within-between.making;
+  }
+
   past-front : ReadsPast gave gives r (record r { reading = Deciding false }) before between
   past-front = record {
     bytes = front;
@@ -151,7 +163,7 @@ module _ (gave gives : Tape → Type 0) (r : ReaderState) (breaks : Bool) (first
   }
 
   -- the blank
-  past-blank : ReadsPast gives gives (record r { reading = branch_of so }) (record r { reading = branch_of so }) (none_half between) passed
+  past-blank : ReadsPast gives gives (record r { reading = branch_of so }) (record r { reading = branch_of so }) (kept_half false so between) passed
   past-blank =
       let p : Stage = stage_with (branch_of so) [] i.arguments i.open_texts in
       let same : stage_of (branch_of so) passed.input ≡ p =
@@ -164,7 +176,7 @@ module _ (gave gives : Tape → Type 0) (r : ReaderState) (breaks : Bool) (first
           behind = passes.behind;
           in_front = refl;
           stays = record { before = λ t may. may; after = λ t may. may };
-          input = ap (λ (u : PageUnread). record u { input = with_stage_of (none_half between).input u.input }) passes.input;
+          input = ap (λ (u : PageUnread). record u { input = with_stage_of (kept_half false so between).input u.input }) passes.input;
           within = omega (arith, passes.within);
         });
         registers = refl;
@@ -174,6 +186,7 @@ module _ (gave gives : Tape → Type 0) (r : ReaderState) (breaks : Bool) (first
 
   decides-texts : DecidesConstant gave gives r (record r { reading = branch_of so }) before passed
   decides-texts = record {
+    keeps = false;
     between = between;
     past = past-front;
     decides = record {
@@ -183,7 +196,8 @@ module _ (gave gives : Tape → Type 0) (r : ReaderState) (breaks : Bool) (first
       sees = refl;
       value = number_of so;
       is_number = is_number-digit so;
-      behind = subst (λ (is : Bool). ReadsPast gives gives (record r { reading = branch_of is }) (record r { reading = branch_of so }) (none_half between) passed) (sym (so-digit so)) past-blank;
+      within = subst (λ (is : Bool). IsWithin (kept_half false is between)) (sym (so-digit so)) within-decided;
+      behind = subst (λ (is : Bool). ReadsPast gives gives (record r { reading = branch_of is }) (record r { reading = branch_of so }) (kept_half false is between) passed) (sym (so-digit so)) past-blank;
     };
   }
 

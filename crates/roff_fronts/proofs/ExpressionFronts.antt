@@ -22,7 +22,7 @@ use Rattle.roff_fronts.specs.Answered.{AreOfExpression, BeginsNumber, begins_num
 use Rattle.roff_fronts.proofs.ConstantConditions.{choice, expression}
 
 -- what holds of the first of some, and of the next one, holds of those
-all_suc : (P : ℕ → Type 0) (xs : List ℕ) (n : ℕ) → n < length xs → AllByRecursion P (take n xs) → P (get_or xs n 0) → AllByRecursion P (take (suc n) xs)
+pub all_suc : (P : ℕ → Type 0) (xs : List ℕ) (n : ℕ) → n < length xs → AllByRecursion P (take n xs) → P (get_or xs n 0) → AllByRecursion P (take (suc n) xs)
 all_suc P [] n less all next = absurd (omega (arith, less))
 all_suc P (x ∷ xs) zero less all next = (next, tt)
 all_suc P (x ∷ xs) (suc n) less all next = (all.0, all_suc P xs n (omega (arith, less)) all.1 next)

@@ -2,8 +2,6 @@
 use Rattle.std.proofs.Common.{◌≡◌, ◌==◌, ℕ, Bool, true, false, List, subst}
 use Rattle.std.specs.Prelude.{◌&&◌, ◌||◌}
 use Rattle.roff_source.specs.Bytes.{apostrophe, dot}
-use Rattle.roff_store.specs.Named.{Named}
-use Rattle.roff_store.specs.Texts.{Entry}
 use Rattle.roff_fronts.specs.ControlFronts.{Fronts, control_byte, is_front_read, reads_front}
 use Rattle.roff_fronts.specs.declared.control.ControlFront.{ControlFront}
 
@@ -13,9 +11,7 @@ second-true true second so = so
 second-true false second so = absurd (cc)
 
 -- bytes that begin with a front that is read have one whose two bytes are read
-pub two-read : (names : Named Entry) (bytes : List ℕ) (front : ControlFront) → Fronts bytes front → reads_front names bytes ≡ true
-    → is_front_read names front.first front.second ≡ true
-two-read names bytes front fronts reads =
+pub two-read : (bytes : List ℕ) (front : ControlFront) → Fronts bytes front → reads_front bytes ≡ true → is_front_read front.first front.second ≡ true
+two-read bytes front fronts reads =
     let mark : ℕ = control_byte front.breaks in
-    second-true (mark == dot || mark == apostrophe) (is_front_read names front.first front.second)
-    (subst (λ (all : List ℕ). reads_front names all ≡ true) fronts.are reads)
+    second-true (mark == dot || mark == apostrophe) (is_front_read front.first front.second) (subst (λ (all : List ℕ). reads_front all ≡ true) fronts.are reads)

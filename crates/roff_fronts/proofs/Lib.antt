@@ -23,6 +23,11 @@ pub mod ConstantConditions
 pub mod ExpressionFronts
 pub mod AnsweredConditions
 pub mod RegisterConditions
+pub mod KeptResults
+pub mod ComparedTexts
+pub mod ComparedConditions
+pub mod ComparedFronts
+pub mod OtherBranches
 pub mod SteppedNames
 pub mod SteppingRuns
 pub mod SteppedText

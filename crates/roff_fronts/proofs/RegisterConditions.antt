@@ -20,8 +20,9 @@ use Rattle.roff_scan.proofs.PassingAhead.{bytes_taken-is}
 use Rattle.roff_scan.specs.Unread.Calls.{OfSource, OfTexts, PassesFront, front_bytes}
 use Rattle.roff_scan.specs.Unread.Texts.{CountsText, HasRoomFor}
 use Rattle.roff_fronts.specs.Answered.{AnswersFront, AsksFor, IsAnswer, asking_bytes}
-use Rattle.roff_fronts.specs.Conditions.{DecidesBehind, DecidesRegister, PassesWaiting, deciding_reader, none_half}
+use Rattle.roff_fronts.specs.Conditions.{DecidesBehind, DecidesRegister, PassesWaiting, deciding_reader, kept_half}
 use Rattle.roff_fronts.specs.ControlFronts.{StandsName}
+use Rattle.roff_fronts.specs.KeptResults.{kept_unread, results_kept}
 use Rattle.roff_fronts.specs.Registers.{OfRegister, PutsRegister, register_escape, with_text}
 use Rattle.roff_fronts.specs.Stages.{ReadsPast}
 use Rattle.roff_fronts.specs.declared.answered.Answer.{Answer}
@@ -37,22 +38,22 @@ use Rattle.roff_fronts.proofs.RegisterNames.{asks_text, reads_escape-choice, rea
 use Rattle.roff_fronts.proofs.RegistersPut.{free_ahead-bytes, name_for, some_bytes}
 
 -- bytes behind others stand in front
-ahead-parts : (front rest : List ℕ) (items : List (Ahead PageEvent)) → map ByteAhead (front ++ rest) ++ items ≡ map ByteAhead front ++ (map ByteAhead rest ++ items)
+pub ahead-parts : (front rest : List ℕ) (items : List (Ahead PageEvent)) → map ByteAhead (front ++ rest) ++ items ≡ map ByteAhead front ++ (map ByteAhead rest ++ items)
 ahead-parts [] rest items = refl
 ahead-parts (b ∷ front) rest items = ap (λ (others : List (Ahead PageEvent)). ByteAhead b ∷ others) (ahead-parts front rest items)
 
 -- where this is half read and stands in front, and so much was taken
-abbrev at : PageUnread → List OpenEscape → List (Ahead PageEvent) → ℕ → PageUnread
+abbrev pub at : PageUnread → List OpenEscape → List (Ahead PageEvent) → ℕ → PageUnread
 at u half items charge = record u { input = record u.input { escapes = half; ahead = items; charge = charge } }
 
 module _ (gives : Tape → Type 0) (u : PageUnread) where
   -- bytes that are held of a condition were read past
-  reads-held : (r : ReaderState) (half last : List OpenEscape) (bytes : List ℕ) (items : List (Ahead PageEvent)) (charge : ℕ) → HalvesTaken half bytes last
+  pub reads-held : (keeps : Bool) (r : ReaderState) (half last : List OpenEscape) (bytes : List ℕ) (items : List (Ahead PageEvent)) (charge : ℕ) → HalvesTaken half bytes last
       → IsWithin (at u last items (charge + length bytes))
-      → ReadsPast gives gives (deciding_reader r) (deciding_reader r) (at u half (map ByteAhead bytes ++ items) charge) (at u last items (charge + length bytes))
-  reads-held r half last bytes items charge halves within = record {
+      → ReadsPast gives gives (deciding_reader keeps r) (deciding_reader keeps r) (at u half (map ByteAhead bytes ++ items) charge) (at u last items (charge + length bytes))
+  reads-held keeps r half last bytes items charge halves within = record {
     bytes = bytes;
-    turned = turned-taken u.input.names (Deciding false) u.input.arguments u.input.open_texts half last bytes refl (takes-half false) halves;
+    turned = turned-taken u.input.names (Deciding keeps) u.input.arguments u.input.open_texts half last bytes refl (takes-half keeps) halves;
     passes = OfTexts (record {
       behind = items;
       in_front = refl;
@@ -83,10 +84,11 @@ module _ (gives : Tape → Type 0) (u : PageUnread) where
     within = within;
   }
 
-module _ (gave gives : Tape → Type 0) (r : ReaderState) (es : ComposerOf) (front : ControlFront) (ready : List ℕ) (name : ShortName) (rest bytes : List ℕ) (answer : Answer)
-    (before : PageUnread) (behind : List (Ahead PageEvent)) (named : StandsName front (Deciding false) r.reading ready before) (asks : AsksFor name rest bytes)
+module _ (keeps : Bool) (gave gives : Tape → Type 0) (r : ReaderState) (es : ComposerOf) (front : ControlFront) (ready : List ℕ) (name : ShortName) (rest bytes : List ℕ) (answer : Answer)
+    (before : PageUnread) (behind : List (Ahead PageEvent)) (named : StandsName front (Deciding keeps) r.reading ready before) (asks : AsksFor name rest bytes)
     (is : IsAnswer r es before name rest answer) (room : HasRoomFor answer.len answer.count before)
-    (in_front : before.input.ahead ≡ map ByteAhead (asking_front front name rest) ++ behind) (stays : Stays gave gives) (within : IsWithin before) where
+    (in_front : before.input.ahead ≡ map ByteAhead (asking_front front name rest) ++ behind) (stays : Stays gave gives) (within : IsWithin before)
+    (few : length (results_kept keeps answer.so before.input) ≤ before.limits.conditions) where
   abbrev i : PageInput
   i = before.input
 
@@ -163,12 +165,12 @@ module _ (gave gives : Tape → Type 0) (r : ReaderState) (es : ComposerOf) (fro
       let ends = ends_ahead-bytes escape behind_escape in
       within-at choice behind_front charge_asked (omega (arith, bytes, bytes-front)) (omega (arith, ends, ends-escape, ends-front, within.depth)) (omega arith) (omega (arith, charges))
 
-  past-front : ReadsPast gave gives r (deciding_reader r) before asked
+  past-front : ReadsPast gave gives r (deciding_reader keeps r) before asked
   past-front = record {
     bytes = three front ++ blank ∷ [];
     turned = subst
-        (λ (half : List OpenEscape). Turned i.names (stage_with r.reading half i.arguments i.open_texts) (three front ++ blank ∷ []) (stage_of (Deciding false) asked.input)) (sym named.none_half)
-        (turned-blank i.names r.reading false front.breaks front.first front.second i.arguments i.open_texts named.none_due named.begins named.first named.second named.leads);
+        (λ (half : List OpenEscape). Turned i.names (stage_with r.reading half i.arguments i.open_texts) (three front ++ blank ∷ []) (stage_of (Deciding keeps) asked.input)) (sym named.none_half)
+        (turned-blank i.names r.reading keeps front.breaks front.first front.second i.arguments i.open_texts named.none_due named.begins named.first named.second named.leads);
     passes = OfTexts (record {
       behind = behind_front;
       in_front = front-parts;
@@ -192,7 +194,7 @@ module _ (gave gives : Tape → Type 0) (r : ReaderState) (es : ComposerOf) (fro
       within-at choice (map ByteAhead is.text ++ EndAhead ∷ behind_escape) charge_put (omega (arith, bytes, bytes-front))
       (omega (arith, ends, ends-escape, ends-front, room.shallow)) (omega arith) (omega (arith, charges))
 
-  puts-text : PutsRegister gives gives (deciding_reader r) es asked (with_text is.text passed)
+  puts-text : PutsRegister gives gives (deciding_reader keeps r) es asked (with_text is.text passed)
   puts-text =
       let free_text = free_ahead-bytes is.text (EndAhead ∷ behind_escape) in
       let free_escape = free_ahead-bytes escape behind_escape in
@@ -202,7 +204,7 @@ module _ (gave gives : Tape → Type 0) (r : ReaderState) (es : ComposerOf) (fro
         name = name_bytes name;
         text = is.text;
         passed = passed;
-        asked = asks_text OfRegister i.names (Deciding false) reads_names-deciding choice reads_escape-choice i.arguments i.open_texts name.first name.second (name_for OfRegister name.first name.second tt asks.named);
+        asked = asks_text OfRegister i.names (Deciding keeps) (reads_names-deciding keeps) choice reads_escape-choice i.arguments i.open_texts name.first name.second (name_for OfRegister name.first name.second tt asks.named);
         passes = OfTexts (record {
           behind = behind_escape;
           in_front = refl;
@@ -226,7 +228,7 @@ module _ (gave gives : Tape → Type 0) (r : ReaderState) (es : ComposerOf) (fro
   within-over =
       within-at (expression is.text) behind_escape charge_over (omega (arith, bytes-front)) (omega (arith, ends-escape, ends-front, within.depth)) (omega arith) (omega (arith, charges))
 
-  passes-end : PassesWaiting (at before (expression is.text) (EndAhead ∷ behind_escape) charge_ended) (at before (expression is.text) behind_escape charge_over)
+  passes-end : PassesWaiting keeps (at before (expression is.text) (EndAhead ∷ behind_escape) charge_ended) (at before (expression is.text) behind_escape charge_over)
   passes-end =
       let more = sees-more is.text rest (ByteAhead blank ∷ behind) asks.some asks.are in
       record {
@@ -242,8 +244,11 @@ module _ (gave gives : Tape → Type 0) (r : ReaderState) (es : ComposerOf) (fro
   abbrev between : PageUnread
   between = at before (expression (is.text ++ rest)) (ByteAhead blank ∷ behind) charge_between
 
+  abbrev kept : PageUnread
+  kept = kept_unread keeps answer.so before
+
   abbrev last : PageUnread
-  last = at before [] behind (charge_between + 1)
+  last = at kept [] behind (charge_between + 1)
 
   within-between : IsWithin between
   within-between =
@@ -251,10 +256,29 @@ module _ (gave gives : Tape → Type 0) (r : ReaderState) (es : ComposerOf) (fro
       within-at (expression (is.text ++ rest)) (ByteAhead blank ∷ behind) charge_between (omega (arith, more, bytes-front, bytes-escape)) (omega (arith, ends-front, within.depth)) (omega arith)
       (omega (arith, charges))
 
-  within-last : IsWithin last
-  within-last = within-at [] behind (charge_between + 1) (omega (arith, bytes-front, bytes-escape)) (omega (arith, ends-front, within.depth)) (omega arith) (omega (arith, charges))
+  within-kept : (items : List (Ahead PageEvent)) (charge : ℕ) → IsWithin (at before [] items charge) → IsWithin (at kept [] items charge)
+  within-kept items charge inside = record {
+    charge = inside.charge;
+    newlines = inside.newlines;
+    pushed = inside.pushed;
+    depth = inside.depth;
+    results = few;
+    stored = inside.stored;
+    names = inside.names;
+    making = inside.making;
+  }
 
-  decides-behind : DecidesBehind gives (deciding_reader r) (record r { reading = branch_of answer.so }) between last
+  within-decided : IsWithin (at kept [] (ByteAhead blank ∷ behind) charge_between)
+  within-decided =
+      within-kept (ByteAhead blank ∷ behind) charge_between
+      (within-at [] (ByteAhead blank ∷ behind) charge_between (omega (arith, bytes-front, bytes-escape)) (omega (arith, ends-front, within.depth)) (omega arith) (omega (arith, charges)))
+
+  within-last : IsWithin last
+  within-last =
+      within-kept behind (charge_between + 1)
+      (within-at [] behind (charge_between + 1) (omega (arith, bytes-front, bytes-escape)) (omega (arith, ends-front, within.depth)) (omega arith) (omega (arith, charges)))
+
+  decides-behind : DecidesBehind keeps gives (deciding_reader keeps r) (record r { reading = branch_of answer.so }) between last
   decides-behind = record {
     deciding = refl;
     text = is.text ++ rest;
@@ -262,57 +286,63 @@ module _ (gave gives : Tape → Type 0) (r : ReaderState) (es : ComposerOf) (fro
     sees = refl;
     value = is.value;
     is_number = is.is_number;
-    behind = subst (λ (so : Bool). ReadsPast gives gives (record r { reading = branch_of so }) (record r { reading = branch_of answer.so }) (none_half between) last) is.so
-        (reads-blank_behind gives before r answer.so behind charge_between within-last);
+    within = subst (λ (so : Bool). IsWithin (kept_half keeps so between)) is.so within-decided;
+    behind = subst (λ (so : Bool). ReadsPast gives gives (record r { reading = branch_of so }) (record r { reading = branch_of answer.so }) (kept_half keeps so between) last) is.so
+        (reads-blank_behind gives kept r answer.so behind charge_between within-last);
   }
 
   decides-last : DecidesRegister es gave gives r (record r { reading = branch_of answer.so }) before last
   decides-last = record {
+    keeps = keeps;
     asked = asked;
     past = past-front;
     put = with_text is.text passed;
     puts = puts-text;
     ended = at before (expression is.text) (EndAhead ∷ behind_escape) charge_ended;
-    text = reads-held gives before r choice (expression is.text) is.text (EndAhead ∷ behind_escape) charge_put (halves-number is.text is.number) within-ended;
+    text = reads-held gives before keeps r choice (expression is.text) is.text (EndAhead ∷ behind_escape) charge_put (halves-number is.text is.number) within-ended;
     over = at before (expression is.text) behind_escape charge_over;
     passes = passes-end;
     between = between;
-    rest = reads-held gives before r (expression is.text) (expression (is.text ++ rest)) rest (ByteAhead blank ∷ behind) charge_over (halves-more is.text rest asks.are) within-between;
+    rest = reads-held gives before keeps r (expression is.text) (expression (is.text ++ rest)) rest (ByteAhead blank ∷ behind) charge_over (halves-more is.text rest asks.are) within-between;
     decides = decides-behind;
   }
 
   -- there the input is once its bytes were taken, and the text was counted
-  pub decides-texts : (after : PageUnread) → after ≡ record before { input = record i { ahead = behind; charge = i.charge + (answer.len + 1) + length (asking_front front name rest) } }
+  pub decides-texts : (after : PageUnread)
+      → after ≡ record before { input = record i { ahead = behind; charge = i.charge + (answer.len + 1) + length (asking_front front name rest); results = results_kept keeps answer.so i } }
       → DecidesRegister es gave gives r (record r { reading = branch_of answer.so }) before after
   decides-texts after taken =
       let long : length (asking_bytes name rest) ≡ length escape + (length rest + 1) = omega (arith, length-append escape (rest ++ blank ∷ []), length-append rest (blank ∷ [])) in
       let charge : i.charge + (answer.len + 1) + length (asking_front front name rest) ≡ charge_between + 1 = omega (arith, long, is.len) in
       subst (λ (u : PageUnread). DecidesRegister es gave gives r (record r { reading = branch_of answer.so }) before u)
       (sym (taken
-      ∙ ap (λ (n : ℕ). record before { input = record i { ahead = behind; charge = n } }) charge
-      ∙ ap (λ (half : List OpenEscape). record before { input = record i { escapes = half; ahead = behind; charge = charge_between + 1 } }) named.none_half))
+      ∙ ap (λ (n : ℕ). record before { input = record i { ahead = behind; charge = n; results = results_kept keeps answer.so i } }) charge
+      ∙ ap (λ (half : List OpenEscape). record before { input = record i { escapes = half; ahead = behind; charge = charge_between + 1; results = results_kept keeps answer.so i } })
+      named.none_half))
       decides-last
 
 -- it was taken at once
-module _ (gave gives : Tape → Type 0) (r : ReaderState) (es : ComposerOf) (front : ControlFront) (ready : List ℕ) (before counted after : PageUnread) (answer : Answer)
-    (named : StandsName front (Deciding false) r.reading ready before) (answers : AnswersFront r es ready before answer) (counts : CountsText answer.len answer.count before counted)
-    (ahead : is_none_ahead before.input.ahead ≡ false) (within : IsWithin before) where
+module _ (keeps : Bool) (gave gives : Tape → Type 0) (r : ReaderState) (es : ComposerOf) (front : ControlFront) (ready : List ℕ) (before counted after : PageUnread) (answer : Answer)
+    (named : StandsName front (Deciding keeps) r.reading ready before) (answers : AnswersFront r es ready before answer)
+    (counts : CountsText answer.len answer.count (kept_unread keeps answer.so before) counted)
+    (ahead : is_none_ahead before.input.ahead ≡ false) (within : IsWithin before) (inside : IsWithin after) where
   abbrev all : List ℕ
-  all = all_bytes r es front ready before counted answer named answers counts
+  all = all_bytes keeps r es front ready before counted answer named answers counts
 
   abbrev there : PageUnread
-  there = record before { input = record before.input { charge = before.input.charge + (answer.len + 1) } }
+  there = record before { input = record before.input { charge = before.input.charge + (answer.len + 1); results = results_kept keeps answer.so before.input } }
 
   of_texts : PassesFront gave gives all there after → DecidesRegister es gave gives r (record r { reading = branch_of answer.so }) before after
   of_texts (OfSource passes) = let wrong = ap (λ (items : List (Ahead PageEvent)). is_none_ahead items) passes.ahead in absurd (cc)
   of_texts (OfTexts passes) =
-      decides-texts gave gives r es front ready answers.answers.name answers.answers.rest answers.bytes answer before passes.behind named answers.answers.asks answers.answers.is
-      counts.room passes.in_front passes.stays within after
-      (passes.input ∙ ap (λ (j : PageInput). record there { input = j }) (bytes_taken-is all passes.behind there.input passes.in_front))
+      let is = passes.input ∙ ap (λ (j : PageInput). record there { input = j }) (bytes_taken-is all passes.behind there.input passes.in_front) in
+      let few : length (results_kept keeps answer.so before.input) ≤ before.limits.conditions = (subst IsWithin is inside).results in
+      decides-texts keeps gave gives r es front ready answers.answers.name answers.answers.rest answers.bytes answer before passes.behind named answers.answers.asks answers.answers.is
+      (record { stack = counts.room.stack; shallow = counts.room.shallow; bytes = counts.room.bytes }) passes.in_front passes.stays within few after is
 
   pub decides-register : (new : ReaderState) → PassesFront gave gives (front_bytes answer.count ready counted) counted after → new ≡ record r { reading = branch_of answer.so }
       → DecidesRegister es gave gives r new before after
   decides-register new passes is =
       subst (λ (n : ReaderState). DecidesRegister es gave gives r n before after) (sym is)
       (of_texts (subst (λ (u : PageUnread). PassesFront gave gives all u after) counts.counted
-      (subst (λ (bytes : List ℕ). PassesFront gave gives bytes counted after) (bytes-counted r es front ready before counted answer named answers counts) passes)))
+      (subst (λ (bytes : List ℕ). PassesFront gave gives bytes counted after) (bytes-counted keeps r es front ready before counted answer named answers counts) passes)))

@@ -110,9 +110,9 @@ reads_names-calling called =
     }
 
 -- and so does a condition
-pub reads_names-deciding : ReadsNames (Deciding false)
-reads_names-deciding =
-    let reading : LineState = Deciding false in
+pub reads_names-deciding : (keeps : Bool) → ReadsNames (Deciding keeps)
+reads_names-deciding keeps =
+    let reading : LineState = Deciding keeps in
     record {
       none_due = refl;
       goes_on = λ k i b next stands goes. undropped k reading i b stands ∙ ap (λ (r : Reads). read_in k reading i r) (goes (place_in k reading));
@@ -128,12 +128,12 @@ name_byte b plain = none_of_three (b == backslash) (is_dropped b) (b == newline)
 
 -- Where these are half read an escape is read: its first two bytes, and a name, which is asked for.
 pub record ReadsEscape (asked : Asked) (rest : List OpenEscape) : Type 0 where
-  begins : ReadsOn rest 92 (Backslash ∷ rest)
-  named : ReadsOn (Backslash ∷ rest) (letter_of asked) (Name (purpose_of asked) Nothing ∷ rest)
-  opened : HasLongNames asked → ReadsOn (Name (purpose_of asked) Nothing ∷ rest) 40 (Name (purpose_of asked) Opened ∷ rest)
-  short : (b : ℕ) → is_argument_byte b ≡ true → (b == 40) ≡ false → (b == 43) ≡ false → (b == 45) ≡ false
+  pub begins : ReadsOn rest 92 (Backslash ∷ rest)
+  pub named : ReadsOn (Backslash ∷ rest) (letter_of asked) (Name (purpose_of asked) Nothing ∷ rest)
+  pub opened : HasLongNames asked → ReadsOn (Name (purpose_of asked) Nothing ∷ rest) 40 (Name (purpose_of asked) Opened ∷ rest)
+  pub short : (b : ℕ) → is_argument_byte b ≡ true → (b == 40) ≡ false → (b == 43) ≡ false → (b == 45) ≡ false
       → (base : Surroundings) → byte_read base (Name (purpose_of asked) Nothing ∷ rest) b ≡ name_given rest (purpose_of asked) (Some (b ∷ []))
-  given : (name : List ℕ) → name_given rest (purpose_of asked) (Some name) ≡ (Asks (purpose_of asked) (Some name), rest)
+  pub given : (name : List ℕ) → name_given rest (purpose_of asked) (Some name) ≡ (Asks (purpose_of asked) (Some name), rest)
 
 -- a register's name of one byte
 short_register : (rest : List OpenEscape) (b : ℕ) → is_argument_byte b ≡ true → (b == 40) ≡ false → (b == 43) ≡ false → (b == 45) ≡ false

@@ -1,5 +1,5 @@
 -- Conditions that are read at once, where they stand whole in front and decide (manual, section 16).
-use Rattle.std.specs.Prelude.{◌≡◌, ℕ, Bool, if◌then◌else◌, pos, int_lt, false, List, [], ◌∷◌, Some, Ok}
+use Rattle.std.specs.Prelude.{◌≡◌, ℕ, Bool, if◌then◌else◌, pos, int_lt, false, List, [], ◌∷◌, None, Some, Ok}
 use Rattle.roff_num.specs.Expressions.{value_at}
 use Rattle.roff_num.specs.declared.num.Num.{Num}
 use Rattle.roff_num.specs.declared.num.Scale.TheVariants.{Units}
@@ -7,7 +7,8 @@ use Rattle.roff_source.specs.Bytes.{blank}
 use Rattle.roff_source.specs.Tape.{Tape}
 use Rattle.roff_escape.specs.OpenEscape.{Condition}
 use Rattle.roff_escape.specs.Waiting.{is_ended_by}
-use Rattle.roff_escape.specs.declared.open_escape.ConditionPart.TheVariants.{Expression}
+use Rattle.roff_escape.specs.declared.open_escape.ConditionPart.TheVariants.{Decided, Expression}
+use Rattle.roff_escape.specs.declared.open_escape.Decision.TheVariants.{Is}
 use Rattle.roff_escape.specs.declared.open_escape.Waiting.TheVariants.{Waits}
 use Rattle.roff_input.specs.Shown.{SeesByte, seen_ahead}
 use Rattle.roff_input.specs.Unread.{IsWithin}
@@ -19,10 +20,12 @@ use Rattle.roff_run.specs.Reading.Items.{PageUnread}
 use Rattle.roff_run.specs.Reading.Waiting.{waiting_in}
 use Rattle.roff_run.specs.declared.line_state.LineState.TheVariants.{Deciding}
 use Rattle.roff_fronts.specs.ControlFronts.{StandsReady, control_byte}
-use Rattle.roff_fronts.specs.Registers.{PutsRegister}
+use Rattle.roff_fronts.specs.KeptResults.{results_kept}
+use Rattle.roff_fronts.specs.OtherBranches.{TakesOther}
+use Rattle.roff_fronts.specs.Registers.{OfArgument, PutsRegister, PutsText}
 use Rattle.roff_fronts.specs.Stages.{ReadsPast}
 use Rattle.roff_fronts.specs.declared.conditions.BehindName.{BehindName}
-use Rattle.roff_fronts.specs.declared.conditions.BehindName.TheVariants.{Constant, Blank, Other}
+use Rattle.roff_fronts.specs.declared.conditions.BehindName.TheVariants.{Constant, Blank, Texts, Other}
 
 -- the digit of a condition that asks nothing, by whether it is so
 abbrev pub digit_of : Bool → ℕ
@@ -52,6 +55,7 @@ pub record HasBlank (bytes : List ℕ) : Type 0 where
 abbrev pub StandsBehind : List ℕ → BehindName → Type 0
 StandsBehind bytes (Constant so) = AsksNothing bytes so
 StandsBehind bytes (Blank asks) = HasBlank bytes
+StandsBehind bytes Texts = HasBlank bytes
 StandsBehind bytes Other = Unit {0}
 
 -- this stands behind the first three of the bytes in front
@@ -60,34 +64,36 @@ pub record SeesBehind (behind : BehindName) (ready : List ℕ) (u : PageUnread) 
   pub stands : StandsReady bytes ready u
   pub are : StandsBehind bytes behind
 
--- a reader that reads a condition, whose result isn't kept
-abbrev pub deciding_reader : ReaderState → ReaderState
-deciding_reader r = record r { reading = Deciding false }
+-- a reader that reads a condition, whose result is kept or isn't
+abbrev pub deciding_reader : Bool → ReaderState → ReaderState
+deciding_reader keeps r = record r { reading = Deciding keeps }
 
--- what is unread, with nothing half read
-abbrev pub none_half : PageUnread → PageUnread
-none_half u = record u { input = record u.input { escapes = [] } }
+-- what is unread where a condition has decided: nothing is half read, and its result is kept, if it is to be
+abbrev pub kept_half : Bool → Bool → PageUnread → PageUnread
+kept_half keeps so u = record u { input = record u.input { escapes = []; results = results_kept keeps so u.input } }
 
 -- An expression that is a number is half read of a condition, and a blank stands in front, before which it ends; it decides, and bytes
 -- behind that were read past.
-pub record DecidesBehind (gives : Tape → Type 0) (old new : ReaderState) (before after : PageUnread) : Type 0 where
-  pub deciding : old.reading ≡ Deciding false
+pub record DecidesBehind (keeps : Bool) (gives : Tape → Type 0) (old new : ReaderState) (before after : PageUnread) : Type 0 where
+  pub deciding : old.reading ≡ Deciding keeps
   pub text : List ℕ
   pub half : before.input.escapes ≡ Condition (Expression false) text ∷ []
   pub sees : seen_ahead before.input.ahead ≡ Some (SeesByte blank)
   pub value : Num × ℕ
   pub is_number : value_at text 0 Units (Some (pos 0)) ≡ Ok value
-  pub behind : ReadsPast gives gives (record old { reading = branch_of (int_lt (pos 0) value.0.0) }) new (none_half before) after
+  pub within : IsWithin (kept_half keeps (int_lt (pos 0) value.0.0) before)
+  pub behind : ReadsPast gives gives (record old { reading = branch_of (int_lt (pos 0) value.0.0) }) new (kept_half keeps (int_lt (pos 0) value.0.0) before) after
 
 -- A control line's front was read at once, and a condition behind it that asks nothing, which decided.
 pub record DecidesConstant (gave gives : Tape → Type 0) (old new : ReaderState) (before after : PageUnread) : Type 0 where
+  pub keeps : Bool
   pub between : PageUnread
-  pub past : ReadsPast gave gives old (deciding_reader old) before between
-  pub decides : DecidesBehind gives (deciding_reader old) new between after
+  pub past : ReadsPast gave gives old (deciding_reader keeps old) before between
+  pub decides : DecidesBehind keeps gives (deciding_reader keeps old) new between after
 
 -- the end of a text was passed in front of a byte that is seen, for which what is half read waits
-pub record PassesWaiting (before after : PageUnread) : Type 0 where
-  pub waits : waiting_in (Deciding false) before.input ≡ Waits
+pub record PassesWaiting (keeps : Bool) (before after : PageUnread) : Type 0 where
+  pub waits : waiting_in (Deciding keeps) before.input ≡ Waits
   pub byte : ℕ
   pub sees : seen_ahead before.input.ahead ≡ Some (SeesByte byte)
   pub stays : is_ended_by before.input.escapes (Some byte) ≡ false
@@ -97,19 +103,43 @@ pub record PassesWaiting (before after : PageUnread) : Type 0 where
 -- A control line's front was read at once, and a condition behind it that asks for a register: the register's text was read in its
 -- escape's place, then the text's end and an expression behind that, which decided.
 pub record DecidesRegister (es : ComposerOf) (gave gives : Tape → Type 0) (old new : ReaderState) (before after : PageUnread) : Type 0 where
+  pub keeps : Bool
   pub asked : PageUnread
-  pub past : ReadsPast gave gives old (deciding_reader old) before asked
+  pub past : ReadsPast gave gives old (deciding_reader keeps old) before asked
   pub put : PageUnread
-  pub puts : PutsRegister gives gives (deciding_reader old) es asked put
+  pub puts : PutsRegister gives gives (deciding_reader keeps old) es asked put
   pub ended : PageUnread
-  pub text : ReadsPast gives gives (deciding_reader old) (deciding_reader old) put ended
+  pub text : ReadsPast gives gives (deciding_reader keeps old) (deciding_reader keeps old) put ended
   pub over : PageUnread
-  pub passes : PassesWaiting ended over
+  pub passes : PassesWaiting keeps ended over
   pub between : PageUnread
-  pub rest : ReadsPast gives gives (deciding_reader old) (deciding_reader old) over between
-  pub decides : DecidesBehind gives (deciding_reader old) new between after
+  pub rest : ReadsPast gives gives (deciding_reader keeps old) (deciding_reader keeps old) over between
+  pub decides : DecidesBehind keeps gives (deciding_reader keeps old) new between after
 
--- a condition was read at once with the front of its line, and decided
+-- A control line's front was read at once, and a condition behind it that compares an argument with a text: the argument's text was read
+-- in its escape's place, then that text's end and the other text, and the condition decided.
+pub record DecidesTexts (es : ComposerOf) (gave gives : Tape → Type 0) (old new : ReaderState) (before after : PageUnread) : Type 0 where
+  pub keeps : Bool
+  pub asked : PageUnread
+  pub past : ReadsPast gave gives old (deciding_reader keeps old) before asked
+  pub put : PageUnread
+  pub puts : PutsText OfArgument gives gives (deciding_reader keeps old) es asked put
+  pub ended : PageUnread
+  pub text : ReadsPast gives gives (deciding_reader keeps old) (deciding_reader keeps old) put ended
+  pub over : PageUnread
+  pub passes : PassesWaiting keeps ended over
+  pub between : PageUnread
+  pub rest : ReadsPast gives gives (deciding_reader keeps old) (deciding_reader keeps old) over between
+  pub so : Bool
+  pub texts : List ℕ
+  pub half : between.input.escapes ≡ Condition (Decided (Is so) None) texts ∷ []
+  pub is : after ≡ kept_half keeps so between
+  pub reads : new ≡ record old { reading = branch_of so }
+  pub within : IsWithin after
+
+-- a condition was read at once with the front of its line, and decided, or a kept result decided of the other branch
 pub data DecidesAtOnce (es : ComposerOf) (gave gives : Tape → Type 0) (old new : ReaderState) (before after : PageUnread) : Type 0 where
   ByConstant : DecidesConstant gave gives old new before after → DecidesAtOnce es gave gives old new before after
   ByRegister : DecidesRegister es gave gives old new before after → DecidesAtOnce es gave gives old new before after
+  ByTexts : DecidesTexts es gave gives old new before after → DecidesAtOnce es gave gives old new before after
+  ByOther : TakesOther gave gives old new before after → DecidesAtOnce es gave gives old new before after

@@ -7,9 +7,7 @@ use Rattle.roff_run.specs.Reading.Items.{PageUnread}
 use Rattle.roff_run.specs.Reading.{taking}
 use Rattle.roff_run.specs.Reading.Items.{PageInput, going_on}
 use Rattle.roff_input.specs.declared.place.Place.{Place}
-use Rattle.roff_store.specs.Named.{Named}
-use Rattle.roff_store.specs.Texts.{Entry}
-use Rattle.roff_names.specs.NamesRead.{LeadsTo, is_deciding, reads_other_branch}
+use Rattle.roff_names.specs.NamesRead.{LeadsTo, is_deciding}
 use Rattle.roff_scan.specs.declared.unread.lines.BehindHeld.{BehindHeld}
 use Rattle.roff_run.specs.Reading.ControlLines.{BelongsToName, behind_called}
 use Rattle.roff_run.specs.Reading.Ends.{due}
@@ -110,15 +108,11 @@ pub record StandsName (front : ControlFront) (there reading : LineState) (ready 
 abbrev pub prints_in_name : ℕ → Bool
 prints_in_name b = nat_lt blank b && (not (b == 127) && not (b == backslash))
 
--- whether these two bytes are read at once behind it: a backslash is, and a name that doesn't stand for the other branch of a
--- condition
-abbrev pub is_front_read : Named Entry → ℕ → ℕ → Bool
-is_front_read names first second =
-    first == backslash
-    || (prints_in_name first
-    && (prints_in_name second && not (reads_other_branch (called_by (record { first = first; second = Some second }) names))))
+-- whether these two bytes are read at once behind it: a backslash is, and a name of two bytes that print
+abbrev pub is_front_read : ℕ → ℕ → Bool
+is_front_read first second = first == backslash || (prints_in_name first && prints_in_name second)
 
 -- whether the front of a control line is read at once, with which these bytes begin
-abbrev pub reads_front : Named Entry → List ℕ → Bool
-reads_front names (mark ∷ first ∷ second ∷ rest) = (mark == dot || mark == apostrophe) && is_front_read names first second
-reads_front names (_) = false
+abbrev pub reads_front : List ℕ → Bool
+reads_front (mark ∷ first ∷ second ∷ rest) = (mark == dot || mark == apostrophe) && is_front_read first second
+reads_front (_) = false

@@ -4,7 +4,10 @@ pub mod ControlFronts
 pub mod DroppedLines
 pub mod StringFronts
 pub mod Registers
+pub mod KeptResults
+pub mod OtherBranches
 pub mod Conditions
 pub mod Answered
+pub mod Compared
 pub mod SteppedNames
 pub mod Stepped

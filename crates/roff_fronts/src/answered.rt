@@ -9,6 +9,7 @@ ghost use Rattle.roff_fronts.specs.Conditions.{DecidesRegister};
 ghost use Rattle.roff_fronts.specs.ControlFronts.{StandsName};
 
 use crate::control::{ControlFront, take_front};
+use crate::kept::{forget_if, keep_if};
 use crate::registers::{escape_len, register_in_front};
 use roff_composer::Composer;
 use roff_num::{Scale, ShortName, eval};
@@ -17,31 +18,31 @@ use roff_run::{LineState, PageEvent};
 use roff_scan::{ByteSource, Unread};
 use roff_source::is_argument_byte;
 
-/// What a condition in front answers that asks for a register.
+/// What a condition in front answers that asks for a register, or for an argument.
 #[derive(Clone, Copy)]
-struct Answer {
+pub(super) struct Answer {
     /// How many bytes stand in front up to its end: those of the line's front and its own, and the
     /// blank behind it.
-    count: usize,
+    pub(super) count: usize,
     /// How many bytes the register's text has.
-    len: usize,
+    pub(super) len: usize,
     /// Whether it is so.
-    so: bool,
+    pub(super) so: bool,
 }
 
 /// Takes a name of two bytes that stands in front, with its dot or apostrophe, and a condition
-/// behind it that asks for a register, whose result isn't kept: it decides. It stands whole ahead
-/// of the source, and the limits have room for what is read of it. Else nothing happens. Returns
-/// whether it did.
+/// behind it that asks for a register: it decides. It stands whole ahead of the source, and the
+/// limits have room for what is read of it. Else nothing happens. Returns whether it did.
 #[inline(never)]
 pub(super) fn decide_register<S: ByteSource>(
     reader: &mut Reader,
+    keeps: bool,
     front: ControlFront,
     composer: &Composer,
     unread: &mut Unread<PageEvent>,
     source: &mut S,
 ) -> bool
-    requires { StandsName front (Deciding false) reader.old.reading
+    requires { StandsName front (Deciding keeps) reader.old.reading
         (S.ready source.old) unread.old }
     ensures decides { result ≡ true → DecidesRegister composer.now (S.gives source.old)
         (S.gives source.new) reader.old reader.new unread.old unread.new }
@@ -56,10 +57,15 @@ pub(super) fn decide_register<S: ByteSource>(
     match answer_in_front(reader, composer, unread, source) {
         Some(answer) => {
             unread.stays_within();
+            if !keep_if(keeps, answer.so, unread) {
+                return false;
+            }
             if !unread.count_text(answer.len, answer.count) {
+                forget_if(keeps, unread);
                 return false;
             }
             take_front(unread, source, answer.count);
+            unread.stays_within();
             reader.go_on(LineState::branch(answer.so));
             true
         }

@@ -5,7 +5,7 @@ ghost use Rattle.roff_input.specs.Input.{is_none_ahead};
 ghost use Rattle.roff_input.specs.Unread.{IsWithin};
 ghost use Rattle.roff_names.specs.NamesRead.{input_begun};
 ghost use Rattle.roff_run.specs.declared.line_state.LineState.TheVariants.{Deciding};
-ghost use Rattle.roff_fronts.specs.Conditions.{DecidesAtOnce, DecidesRegister};
+ghost use Rattle.roff_fronts.specs.Conditions.{DecidesAtOnce};
 ghost use Rattle.roff_fronts.specs.Conditions.{SeesBehind, StandsBehind};
 ghost use Rattle.roff_fronts.specs.ControlFronts.{StandsName, is_past, is_read};
 ghost use Rattle.roff_fronts.specs.Runs.{IsRun};
@@ -18,6 +18,7 @@ ghost use Rattle.roff_fronts.specs.declared.control.ControlRead.TheVariants.{Hel
 ghost use Rattle.roff_scan.specs.declared.run_kind.RunKind.TheVariants.{Condition as ConditionRun};
 
 use crate::answered::decide_register;
+use crate::compared::decide_texts;
 use crate::control::{ControlFront, ControlRead, take_front};
 use roff_composer::Composer;
 use roff_names::begin_deciding;
@@ -32,6 +33,8 @@ enum BehindName {
     Constant(bool),
     /// A blank, and whether the escape of a register may stand behind it, and more behind that.
     Blank { asks: bool },
+    /// A blank, and a text between delimiters that an argument may begin.
+    Texts,
     /// Anything else, or nothing that is seen.
     Other,
 }
@@ -81,8 +84,8 @@ pub(super) fn read_condition<S: ByteSource>(
     }
 }
 
-/// What [`decide_register`] does, where a register may be asked for behind the name, and the
-/// condition's result isn't kept. Returns whether it decided.
+/// What [`decide_register`] does, where a register may be asked for behind the name, or
+/// [`decide_texts`], where an argument may be compared. Returns whether it decided.
 #[inline(always)]
 fn decide_asking<S: ByteSource>(
     reader: &mut Reader,
@@ -95,7 +98,7 @@ fn decide_asking<S: ByteSource>(
 ) -> bool
     requires { StandsName front (Deciding keeps) reader.old.reading
         (S.ready source.old) unread.old }
-    ensures decides { result ≡ true → DecidesRegister composer.now (S.gives source.old)
+    ensures decides { result ≡ true → DecidesAtOnce composer.now (S.gives source.old)
         (S.gives source.new) reader.old reader.new unread.old unread.new }
     ensures unchanged { result ≡ false
         → (reader.new ≡ reader.old) × (unread.new ≡ unread.old) × (source.new ≡ source.old) }
@@ -104,11 +107,9 @@ fn decide_asking<S: ByteSource>(
 {
     match behind {
         BehindName::Blank { asks: true } => {
-            if keeps {
-                return false;
-            }
-            decide_register(reader, front, composer, unread, source)
+            decide_register(reader, keeps, front, composer, unread, source)
         }
+        BehindName::Texts => decide_texts(reader, keeps, front, unread, source),
         _ => false,
     }
 }
@@ -135,6 +136,10 @@ fn read_undecided<S: ByteSource>(
 {
     match behind {
         BehindName::Blank { .. } => {
+            take_front(unread, source, 4);
+            begin_condition(reader, keeps, unread)
+        }
+        BehindName::Texts => {
             take_front(unread, source, 4);
             begin_condition(reader, keeps, unread)
         }
@@ -178,6 +183,7 @@ fn decided_at_once(keeps: bool, behind: BehindName, unread: &Unread<PageEvent>) 
             }
         }
         BehindName::Blank { .. } => None,
+        BehindName::Texts => None,
         BehindName::Other => None,
     }
 }
@@ -193,6 +199,8 @@ fn behind_name(bytes: &[u8]) -> BehindName
         [_, _, _, b' ', b'\\', b'n', _, b' ', ..] => BehindName::Blank { asks: false },
         [_, _, _, b' ', b'\\', b'n', b'(', _, _, b' ', ..] => BehindName::Blank { asks: false },
         [_, _, _, b' ', b'\\', b'n', ..] => BehindName::Blank { asks: true },
+        [_, _, _, b' ', b'\'' | b'"', b'\\', b'$', ..] => BehindName::Texts,
+        [_, _, _, b' ', b'!', b'\'' | b'"', b'\\', b'$', ..] => BehindName::Texts,
         [_, _, _, b' ', ..] => BehindName::Blank { asks: false },
         _ => BehindName::Other,
     }

@@ -2,8 +2,6 @@
 
 ghost use Rattle.std.specs.Prelude.{◌≡◌, ◌≤◌, ◌-◌, ◌∷◌, [], None, Some, true, false, IfSome, take};
 ghost use Rattle.roff_input.specs.Unread.{asks_to_take};
-ghost use Rattle.roff_store.specs.Named.{Named};
-ghost use Rattle.roff_store.specs.Texts.{Entry};
 ghost use Rattle.roff_run.specs.Reading.ControlLines.{BelongsToName};
 ghost use Rattle.roff_reader.specs.Clauses.{due};
 ghost use Rattle.roff_fronts.specs.ControlFronts.{BeginsControl, Fronts, StandsReady, control_byte};
@@ -27,6 +25,7 @@ ghost use Rattle.roff_scan.specs.Unread.Calls.{IsFront, NoNewline, PassesFront, 
 
 use crate::conditions::read_condition;
 use crate::dropped::drop_line;
+use crate::other_branch::take_other;
 use roff_composer::Composer;
 use roff_names::{begin_deciding, behind_called, called_by};
 use roff_num::ShortName;
@@ -57,7 +56,7 @@ pub enum ControlRead {
     Dropped,
     /// The same, where a condition is next.
     Condition,
-    /// A condition too, and it decided: a branch begins, or is skipped.
+    /// A condition too, and it decided; or the other branch of one: a branch begins, or is skipped.
     Decided,
     /// The bytes up to its name's end, and bytes behind it that are held in its arguments.
     Held,
@@ -86,8 +85,8 @@ pub fn begins_control_line(reader: &Reader) -> bool
 }
 
 /// Reads at once the front of a control line, if it stands in front: the dot or apostrophe and a
-/// name of two bytes, or a backslash, behind which the line is dropped. Else nothing happens, nor
-/// where the name stands for the other branch of a condition. Whether it was read.
+/// name of two bytes, or a backslash, behind which the line is dropped. Else nothing happens.
+/// Returns what was read.
 #[inline(always)]
 pub fn read_control_front<S: ByteSource>(
     reader: &mut Reader,
@@ -113,7 +112,7 @@ pub fn read_control_front<S: ByteSource>(
     ensures dropped { result ≡ Dropped → LineBegun reader.new unread.old unread.new }
     ensures unchanged { is_read result ≡ false
         → (reader.new ≡ reader.old) × (unread.new ≡ unread.old) × (source.new ≡ source.old) }
-    ensures whole { asks_to_take unread.old ≡ true → reads_front unread.old.input.names
+    ensures whole { asks_to_take unread.old ≡ true → reads_front
         (take (unread.old.limits.bytes - unread.old.input.charge) (S.ready source.old)) ≡ true
         → is_read result ≡ true }
     ensures notes { S.notes source.new ≤ S.notes source.old }
@@ -156,7 +155,7 @@ fn read_control<S: ByteSource>(
     ensures dropped { result ≡ Dropped → LineBegun reader.new unread.old unread.new }
     ensures unchanged { is_read result ≡ false
         → (reader.new ≡ reader.old) × (unread.new ≡ unread.old) × (source.new ≡ source.old) }
-    ensures whole { is_front_read unread.old.input.names front.first front.second ≡ true
+    ensures whole { is_front_read front.first front.second ≡ true
         → is_read result ≡ true }
     ensures notes { S.notes source.new ≤ S.notes source.old }
     ensures failures { S.failures source.new ≡ S.failures source.old }
@@ -172,7 +171,10 @@ fn read_control<S: ByteSource>(
         second: Some(front.second),
     };
     match behind_called(front.breaks, called_by(name, unread)) {
-        None => ControlRead::Nothing,
+        None => {
+            take_other(reader, front, unread, source);
+            ControlRead::Decided
+        }
         Some(reading) => read_behind_name(reader, front, reading, composer, unread, source),
     }
 }
@@ -333,7 +335,7 @@ fn dropped_to(is_ended: bool) -> ControlRead
 #[inline(always)]
 fn control_front(bytes: &[u8]) -> Option<ControlFront>
     ensures fronts { IfSome result (λ front. Fronts bytes.now front) }
-    ensures none { result ≡ None → (names : Named Entry) → reads_front names bytes.now ≡ false }
+    ensures none { result ≡ None → reads_front bytes.now ≡ false }
 {
     match bytes {
         [b'.', first, second, rest @ ..] => Some(ControlFront {

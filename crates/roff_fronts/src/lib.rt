@@ -3,9 +3,12 @@
 #![tactic(auto)]
 
 mod answered;
+mod compared;
 mod conditions;
 mod control;
 mod dropped;
+mod kept;
+mod other_branch;
 mod registers;
 mod runs;
 mod stepped;

@@ -20,7 +20,7 @@ use roff_scan::{ByteSource, Unread};
 use roff_source::is_argument_byte;
 
 /// The most bytes that the text of a number has.
-const TEXT: usize = 48;
+pub(super) const TEXT: usize = 48;
 
 /// The most bytes that are taken of a register: its escape, its text, and the end of that.
 const TAKEN: usize = 5 + TEXT + 1;
@@ -85,8 +85,8 @@ fn hold_ahead<S: ByteSource>(
     unread.stays_within();
 }
 
-/// The escape of a register or an argument that stands whole in front, where a text line or
-/// arguments are read and nothing is half read, if the limits have room for any.
+/// The escape of a register or an argument that stands whole in front, where a line begins, or a
+/// text line or arguments are read, and nothing is half read, if the limits have room for any.
 #[inline(always)]
 pub fn text_ahead<S: ByteSource>(
     reader: &Reader,
@@ -139,7 +139,7 @@ fn is_short(ahead: TextAhead, unread: &Unread<PageEvent>) -> bool
 
 /// The place of the argument of a digit, from 0 on.
 #[inline(always)]
-fn place_of(digit: u8) -> usize
+pub(super) fn place_of(digit: u8) -> usize
     ensures { result ≡ digit - 49 }
 {
     (digit as usize).saturating_sub(49)

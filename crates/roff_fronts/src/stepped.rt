@@ -6,7 +6,7 @@ ghost use Rattle.roff_fronts.specs.Stepped.{IsStepAhead, StepsText};
 ghost use Rattle.roff_fronts.specs.SteppedNames.{BeginsStep, sign_of, step_escape};
 ghost use Rattle.roff_input.specs.Input.{depth, pushed};
 
-use crate::registers::{has_room, long_name, short_name};
+use crate::registers::{TEXT, has_room, long_name, short_name};
 use roff_composer::Composer;
 use roff_num::{Direction, NumText, ShortName};
 use roff_reader::Reader;
@@ -15,7 +15,7 @@ use roff_scan::{ByteSource, Unread};
 
 /// The most bytes that are taken of a register that is stepped: its escape, its text, and the end
 /// of that.
-const TAKEN: usize = 6 + 48 + 1;
+const TAKEN: usize = 6 + TEXT + 1;
 
 /// The escape of a register that is stepped: which way, and its name.
 #[derive(Clone, Copy)]

@@ -13,8 +13,9 @@ use roff_reader::Reader;
 use roff_run::PageEvent;
 use roff_scan::{ByteSource, Unread};
 
-/// Takes the escape of a string at once that stands whole in front, where a text line or arguments
-/// are read, and puts the string in front, if the limits have room for it. Returns whether it did.
+/// Takes the escape of a string at once that stands whole in front, where a line begins, or a text
+/// line or arguments are read, and puts the string in front, if the limits have room for it.
+/// Returns whether it did.
 #[inline(never)]
 pub fn put_string<S: ByteSource>(
     reader: &Reader,
@@ -57,8 +58,8 @@ fn put_named<S: ByteSource>(
     let _ = unread.push_body(&name.name());
 }
 
-/// The name of the string whose escape stands whole in front, where a text line or arguments are
-/// read and nothing is half read, if the limits have room for its text.
+/// The name of the string whose escape stands whole in front, where a line begins, or a text line
+/// or arguments are read, and nothing is half read, if the limits have room for its text.
 #[inline(always)]
 fn string_ahead<S: ByteSource>(
     reader: &Reader,

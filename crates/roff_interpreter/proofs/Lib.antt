@@ -13,3 +13,4 @@ pub mod NumberedPages
 pub mod TakenBytes
 pub mod NamedSteps
 pub mod LinesSplit
+pub mod Unfilled

@@ -4,4 +4,5 @@ pub mod Giving
 pub mod Room
 pub mod Halting
 pub mod Ending
+pub mod Unfilled
 pub mod Clauses

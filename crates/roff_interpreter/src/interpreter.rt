@@ -7,6 +7,7 @@ mod ending;
 mod line_ends;
 mod performing;
 mod taking;
+mod unfilled;
 
 use roff_formatter::Formatter;
 use roff_num::{Limit, Limits, Num};

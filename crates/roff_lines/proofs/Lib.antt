@@ -18,6 +18,7 @@ pub mod Tells
 pub mod TextRuns
 pub mod WholeWords
 pub mod WordRuns
+pub mod Unfilled
 pub mod NearestStop
 pub mod Interruptions
 pub mod Telling

@@ -121,7 +121,7 @@ gaps_in-append : (text others : List ℕ) → gaps_in (text ++ others) ≡ gaps_
 gaps_in-append text others = sum_by-append (λ x. if x == gap_blank then 1 else 0) text others
 
 -- behind a gap where no word is open
-abbrev with_gap : ℕ → Kept → Kept
+abbrev pub with_gap : ℕ → Kept → Kept
 with_gap n k = record k { blanks = min (k.blanks + n) (2 ^ 33); place = moved n k.place }
 
 -- blanks that are counted up to a limit
@@ -129,7 +129,7 @@ counted-more : (blanks n : ℕ) → min (min blanks (2 ^ 33) + n) (2 ^ 33) ≡ m
 counted-more blanks n = omega arith
 
 -- what is kept behind the gap stands for the history with it, where a glyph stands on the line
-Stands-gap : (n : ℕ) (k : Kept) → k.is_open ≡ false → k.has_glyph ≡ true → StandsBehind k (Gap n) (with_gap n k)
+pub Stands-gap : (n : ℕ) (k : Kept) → k.is_open ≡ false → k.has_glyph ≡ true → StandsBehind k (Gap n) (with_gap n k)
 Stands-gap n k o some line_cap h s =
     let closed : has_open_word h ≡ false = sym s.is_open ∙ o in
     let glyph : has_line_glyph h ≡ true = sym s.has_glyph ∙ some in

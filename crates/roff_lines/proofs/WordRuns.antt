@@ -10,7 +10,7 @@ use Rattle.roff_lines.proofs.Widths.{gaps_in-cons}
 use Rattle.roff_lines.proofs.WholeWords.{Counts, Counts-blank, Counts-character}
 
 -- a byte that isn't below the blank is one, or is above it
-blank_or_above : (b d : ℕ) → b ≡ 32 + d → (b ≡ 32) ⊎ (32 < b)
+pub blank_or_above : (b d : ℕ) → b ≡ 32 + d → (b ≡ 32) ⊎ (32 < b)
 blank_or_above b zero sum = inl (omega (arith, sum))
 blank_or_above b (suc d) sum = inr (omega (arith, sum))
 

@@ -3,3 +3,4 @@ pub mod Kept
 pub mod Stands
 pub mod Rests
 pub mod Tells
+pub mod Unfilled

@@ -2,7 +2,9 @@
 
 ghost use Rattle.std.specs.Prelude.{◌≡◌, ◌+◌, ◌<◌, ◌≤◌, ◌++◌, length, take, replicate};
 ghost use Rattle.std.specs.Simd.Lanes.{chunk, put_chunk};
+ghost use Rattle.roff_lines.specs.Clauses.{gap_text};
 
+use roff_layout::{FURTHER_BLANK, GAP};
 use roff_num::lanes::STEP;
 use std::simd::prelude::*;
 
@@ -53,6 +55,21 @@ pub(crate) fn put_times(out: &mut [u8], place: usize, byte: u8, times: usize)
 {
     for put in 0..times {
         out[place + put] = byte;
+    }
+}
+
+/// Writes a gap of so many blanks, from a place of a buffer on.
+#[inline(always)]
+pub(crate) fn put_gap(out: &mut [u8], place: usize, blanks: usize)
+    requires some { 0 < blanks }
+    requires room { place + blanks ≤ length out.old }
+    ensures same { length out.new ≡ length out.old }
+    ensures written { take (place + blanks) out.new ≡ take place out.old ++ gap_text blanks }
+{
+    out[place] = GAP;
+    if blanks > 1 {
+        out[place + 1] = FURTHER_BLANK;
+        put_times(out, place + 2, FURTHER_BLANK, blanks - 2);
     }
 }
 

@@ -7,6 +7,7 @@ ghost use Rattle.roff_lines.specs.Clauses.{has_line_glyph, has_open_word};
 
 mod finishing;
 mod text;
+mod unfilled;
 mod words;
 
 use crate::stops::StopTable;

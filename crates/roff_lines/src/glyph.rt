@@ -1,6 +1,6 @@
 //! What stands in a line's text for a printed byte, and the ends of sentences.
 
-ghost use Rattle.std.specs.Prelude.{◌≡◌, if◌then◌else◌};
+ghost use Rattle.std.specs.Prelude.{◌≡◌, ◌<◌, if◌then◌else◌, true};
 ghost use Rattle.roff_lines.specs.Clauses.{text_byte, is_closer};
 ghost use Rattle.roff_lines.specs.Clauses.{is_sentence_mark, ends_sentence_behind};
 ghost use Rattle.roff_lines.specs.Clauses.{ends_sentence_behind_words};
@@ -21,6 +21,15 @@ fn is_closer(glyph: Glyph) -> bool
     matches!(glyph, Glyph::Printed(b'"' | b'\'' | b')' | b']' | b'*'))
 }
 
+/// Whether a byte is above those that end a sentence and those that may stand behind its end, as
+/// most letters are.
+#[inline(always)]
+fn is_above_marks(byte: u8) -> bool
+    ensures { result ≡ true → 93 < byte }
+{
+    byte > b']'
+}
+
 /// Whether a sentence ends behind a glyph: a closer leaves that as it was before it.
 pub(crate) fn ends_sentence_behind_glyph(glyph: Glyph, before: bool) -> bool
     ensures { result ≡ (if is_closer glyph then before else is_sentence_mark glyph) }
@@ -39,6 +48,9 @@ pub(crate) fn ends_sentence_behind(bytes: &[u8], before: bool) -> bool
 {
     let mut front = bytes;
     while let Some((last, others)) = front.split_last() {
+        if is_above_marks(*last) {
+            return false;
+        }
         let glyph = Glyph::Printed(*last);
         if !is_closer(glyph) {
             return ends_sentence_behind_glyph(glyph, before);
@@ -56,6 +68,9 @@ pub(crate) fn ends_sentence_behind_words(text: &[u8], before: bool) -> bool
 {
     let mut front = text;
     while let Some((last, others)) = front.split_last() {
+        if is_above_marks(*last) {
+            return false;
+        }
         let printed = Glyph::Printed(*last);
         if *last != b' ' && !is_closer(printed) {
             return ends_sentence_behind_glyph(printed, before);

@@ -3,14 +3,15 @@
 ghost use Rattle.std.specs.Prelude.{◌≡◌, ◌+◌, ◌<◌, ◌≤◌, ◌^◌, [], ◌∷◌, ◌++◌, length, take};
 ghost use Rattle.std.specs.Prelude.{IfOk, replicate, vec_capacity};
 ghost use Rattle.roff_lines.specs.Buffers.{Keeps};
-ghost use Rattle.roff_lines.specs.Clauses.{text_width, gaps_in};
+ghost use Rattle.roff_lines.specs.Clauses.{text_width, gaps_in, gap_text};
 
-use crate::copying::{copy_front, put_times};
+use crate::copying::{copy_front, put_gap, put_times};
 use roff_layout::GAP;
 use roff_num::lanes::STEP;
 use roff_num::width_of_byte;
 use std::alloc::{AllocError, Global};
 use std::marker::Model;
+use std::mem;
 
 /// The text of a word or a line, with its width and its gaps counted. Its buffer has bytes behind
 /// the text, a step of them where a text was copied.
@@ -125,9 +126,32 @@ impl Stretch {
         self.len += count;
     }
 
-    /// Adds words, so many bytes in front with so many gaps. Each is a column wide.
+    /// Adds a gap of so many blanks, and words behind it: so many bytes in front with so many gaps.
+    /// Each is a column wide.
     #[tactic(auto, using(crate::proofs::Widths::text_width_le))]
-    pub(crate) fn push_words(&mut self, text: &[u8], count: usize, gaps: u64)
+    pub(crate) fn push_words(&mut self, blanks: usize, text: &[u8], count: usize, gaps: u64)
+        requires some { 0 < blanks }
+        requires count { count ≤ length text.now }
+        requires room { length self.old.text + (blanks + count) ≤ self.old.room }
+        requires gaps { gaps_in (take count text.now) ≡ gaps }
+        requires width { text_width (take count text.now) ≡ count }
+        ensures { self.new ≡ record self.old {
+          text = self.old.text ++ (gap_text blanks ++ take count text.now);
+        } }
+    {
+        let begin = self.len + blanks;
+        fill(&mut self.bytes, begin + count + STEP);
+        put_gap(self.bytes.as_mut_slice(), self.len, blanks);
+        copy_front(text, count, self.bytes.as_mut_slice(), begin);
+        self.width += (blanks + count) as u64;
+        self.gaps += gaps + 1;
+        self.len = begin + count;
+    }
+
+    /// Adds words directly behind the text, so many bytes in front with so many gaps. Each is a column
+    /// wide.
+    #[tactic(auto, using(crate::proofs::Widths::text_width_le))]
+    pub(crate) fn extend_by_words(&mut self, text: &[u8], count: usize, gaps: u64)
         requires count { count ≤ length text.now }
         requires room { length self.old.text + count ≤ self.old.room }
         requires gaps { gaps_in (take count text.now) ≡ gaps }
@@ -157,6 +181,22 @@ impl Stretch {
         self.width += other.width;
         self.gaps += other.gaps;
         self.len += other.len;
+    }
+
+    /// Takes the text of another one, of the same room, for its own; the other one is empty then.
+    #[inline(always)]
+    pub(crate) fn take_over(&mut self, other: &mut Stretch)
+        requires { self.old.room ≡ other.old.room }
+        ensures taken { self.new ≡ other.old }
+        ensures empty { other.new ≡ record other.old { text = [] } }
+    {
+        mem::swap(&mut self.bytes, &mut other.bytes);
+        self.len = other.len;
+        self.width = other.width;
+        self.gaps = other.gaps;
+        other.len = 0;
+        other.width = 0;
+        other.gaps = 0;
     }
 
     /// Removes everything.

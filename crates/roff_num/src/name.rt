@@ -2,6 +2,7 @@
 
 ghost use Rattle.std.specs.Prelude.{◌≡◌, ◌≤◌, ◌==◌, ℕ, List, Option, IsTrue, ◌↔◌, length};
 ghost use Rattle.roff_num.specs.Clauses.{name_of};
+ghost use Rattle.roff_num.specs.Names.{IsCode};
 
 use arrayvec::ArrayVec;
 use std::marker::Model;
@@ -10,6 +11,8 @@ use std::marker::Model;
 #[derive(Drop)]
 pub struct Name {
     bytes: ArrayVec<u8, 12>,
+    /// A number of its own for a name of one or two bytes, and 0 for a longer one.
+    code: u32,
 }
 
 impl Model for Name {
@@ -17,7 +20,7 @@ impl Model for Name {
 
     ghost view = { λ n. n.bytes.items };
 
-    ghost invariant = { λ n. 1 ≤ length n.bytes.items };
+    ghost invariant = { λ n. (1 ≤ length n.bytes.items) × IsCode n.code n.bytes.items };
 }
 
 impl Name {
@@ -30,7 +33,10 @@ impl Name {
         }
         let mut kept = ArrayVec::new();
         match kept.try_extend_from_slice(bytes) {
-            Ok(()) => Some(Name { bytes: kept }),
+            Ok(()) => Some(Name {
+                bytes: kept,
+                code: code_of(bytes),
+            }),
             Err(_) => None,
         }
     }
@@ -49,23 +55,21 @@ impl Name {
     pub fn is_same(&self, other: &Name) -> bool
         ensures { IsTrue result ↔ (self.now ≡ other.now) }
     {
-        match (self.as_bytes(), other.as_bytes()) {
-            ([first, second], [other_first, other_second]) => {
-                first == other_first && second == other_second
-            }
-            ([first], [other_first]) => first == other_first,
-            (bytes, others) => are_same(bytes, others),
+        if self.code != other.code {
+            return false;
         }
+        self.code != 0 || self.as_bytes() == other.as_bytes()
     }
 }
 
-/// Whether these bytes are the same.
-#[inline(never)]
-fn are_same(bytes: &[u8], others: &[u8]) -> bool
-    ensures { IsTrue result ↔ (bytes.now ≡ others.now) }
+/// A number of its own for one or two bytes, and 0 for others.
+#[inline(always)]
+fn code_of(bytes: &[u8]) -> u32
+    ensures { IsCode result bytes.now }
 {
-    match (bytes, others) {
-        ([first], [other_first]) => first == other_first,
-        _ => bytes == others,
+    match bytes {
+        [first] => u32::from(*first) + 0x10000,
+        [first, second] => u32::from(*first) + 256 * u32::from(*second) + 0x20000,
+        _ => 0,
     }
 }

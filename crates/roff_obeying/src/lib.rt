@@ -9,5 +9,3 @@ mod registers;
 mod telling;
 
 pub use acting::act;
-pub use registers::facts;
-pub use telling::{report, say};

@@ -16,10 +16,10 @@ ghost use Rattle.roff_run.specs.Requests.Numbering.{number_of_page};
 ghost use Rattle.roff_run.specs.Run.{known_at};
 ghost use Rattle.roff_run.specs.declared.request.Request.TheVariants.{NumberRegister};
 
-use crate::registers::facts;
 use crate::telling::report;
 use roff_composer::Composer;
 use roff_meaning::Meaning;
+use roff_names::facts;
 use roff_num::{Limit, Name, Num};
 use roff_requests::{Numbers, RunRegisters, is_page, numbers_given, register_named};
 use roff_run::{LineEvents, Message, PageEvent, Step};

@@ -5,16 +5,16 @@ ghost use Rattle.std.specs.Option.{option_copied};
 ghost use Rattle.roff_arguments.specs.ArgumentList.{listed};
 ghost use Rattle.roff_composer.specs.Composer.Standing.{StandFor};
 ghost use Rattle.roff_num.specs.declared.limits.Limits.{Limits};
-ghost use Rattle.roff_requests.specs.Registers.Coded.{AreOf};
 ghost use Rattle.roff_requests.specs.Request.Coded.{register_named};
 ghost use Rattle.roff_run.specs.Environments.{PageHistory};
-ghost use Rattle.roff_run.specs.Registers.{AllRegisters, Remove, changed_by, value_in_force};
+ghost use Rattle.roff_run.specs.Registers.{Remove, changed_by, value_in_force};
 ghost use Rattle.roff_run.specs.Requests.Numbering.{names_given};
 ghost use Rattle.roff_run.specs.Run.{known_at};
 
 use roff_composer::Composer;
+use roff_names::facts;
 use roff_num::Num;
-use roff_requests::{Facts, RunRegisters, register_named};
+use roff_requests::{RunRegisters, register_named};
 use roff_run::{PageEvent, name_given};
 use roff_scan::{ArgumentList, Unread};
 
@@ -51,17 +51,5 @@ pub(crate) fn remove_given(registers: &mut RunRegisters, arguments: ArgumentList
                 registers.remove(&name);
             }
         }
-    }
-}
-
-/// What is known of the run beside its registers.
-pub fn facts<'a>(composer: &'a Composer, unread: &Unread<PageEvent>) -> Facts<'a>
-    ensures { (l : Limits) (h : PageHistory) (all : AllRegisters) → StandFor l h composer.now
-        → AreOf (known_at h all unread.now.input) result }
-{
-    Facts {
-        composer,
-        newlines: unread.newlines(),
-        arguments: unread.argument_count(),
     }
 }

@@ -17,7 +17,7 @@ use roff_run::{LineEvents, Message, PageEvent, Step};
 use roff_scan::ArgumentList;
 
 /// A message is reported.
-pub fn report(meaning: &mut Meaning, message: Message) -> Step
+pub(crate) fn report(meaning: &mut Meaning, message: Message) -> Step
     ensures says { messages_of meaning.new.message result ≡ message ∷ [] }
     ensures none { events_of meaning.new.events result ≡ [] }
 {
@@ -27,7 +27,7 @@ pub fn report(meaning: &mut Meaning, message: Message) -> Step
 
 /// A message is reported, if there is one.
 #[inline(always)]
-pub fn say(meaning: &mut Meaning, message: Option<Message>) -> Step
+pub(crate) fn say(meaning: &mut Meaning, message: Option<Message>) -> Step
     ensures says { messages_of meaning.new.message result ≡ option_to_list message }
     ensures none { events_of meaning.new.events result ≡ [] }
 {

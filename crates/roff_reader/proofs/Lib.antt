@@ -1,16 +1,10 @@
 pub mod StringRefusals
 pub mod Strings
-pub mod DefinitionEnds
-pub mod EndedDefinitions
 pub mod TakesAs
 pub mod LinesTaken
-pub mod Placed
-pub mod Obeying
 pub mod Deciding
-pub mod FewerNames
 pub mod TextTaken
 pub mod CalledBodies
 pub mod CalledArguments
 pub mod BegunDefinitions
 pub mod WaitingAlone
-pub mod Titles

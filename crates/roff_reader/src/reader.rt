@@ -1,17 +1,16 @@
 //! Reading: what each item of the input means, before it is done.
 
-ghost use Rattle.std.specs.Prelude.{◌≡◌, ◌==◌, ◌≤◌, ◌∷◌, [], IfOk, IfSome, None, false, slice_get};
+ghost use Rattle.std.specs.Prelude.{◌≡◌, ◌≤◌, ◌∷◌, [], IfOk, IfSome, None, false, slice_get};
 ghost use Rattle.std.specs.Prelude.{drop, true};
 ghost use Rattle.roff_layout.specs.declared.event.Event.TheVariants.{Break, Set, WordEnd};
 ghost use Rattle.roff_run.specs.declared.event.PageEvent.TheVariants.{Text};
 ghost use Rattle.std.specs.Option.{option_to_list};
-ghost use Rattle.roff_source.specs.Bytes.{backslash, is_dropped};
 ghost use Rattle.roff_meaning.specs.Meaning.{IsWithoutBreak};
 ghost use Rattle.roff_run.specs.Events.Lines.{closing_events};
 ghost use Rattle.roff_run.specs.Events.Steps.{events_of, messages_of};
 ghost use Rattle.roff_run.specs.declared.step.Step.TheVariants.{Nothing};
-ghost use Rattle.roff_reader.specs.Clauses.{LineStart, TakesAs, fresh_reader};
-ghost use Rattle.roff_reader.specs.Clauses.{Known, interrupted, is_left, is_unfinished, taking};
+ghost use Rattle.roff_reader.specs.Clauses.{LineStart, fresh_reader};
+ghost use Rattle.roff_reader.specs.Clauses.{Known, interrupted, is_left, is_unfinished};
 ghost use Rattle.roff_reader.specs.Clauses.{due};
 ghost use Rattle.roff_run.specs.Registers.Capped.{admitted, after};
 ghost use Rattle.roff_run.specs.Starts.{given_change};
@@ -20,18 +19,11 @@ ghost use Rattle.roff_reader.specs.Clauses.{behind_return};
 ghost use Rattle.roff_run.specs.Requests.Effects.{behind_break};
 
 mod arguments;
-mod bytes;
 mod calls;
 mod conditions;
-mod control_lines;
 mod definitions;
-mod ends;
 mod escapes;
-mod found;
-mod half_read;
-mod line_ends;
 mod messages;
-mod obeying;
 mod registers;
 mod string_names;
 mod strings;
@@ -40,14 +32,12 @@ mod titles;
 mod waiting;
 
 pub use calls::CALL_ARGUMENTS;
-use roff_composer::Composer;
 use roff_layout::Param;
 use roff_meaning::{Meaning, RequestEvents};
 use roff_num::{Limit, Num};
-use roff_obeying::report;
 use roff_requests::RunRegisters;
 use roff_run::{Due, LineEvents, LineState, Message, PageEvent, Step};
-use roff_scan::{Unread, is_dropped};
+use roff_scan::Unread;
 use std::alloc::{AllocError, Global};
 use std::marker::Model;
 
@@ -57,9 +47,12 @@ use std::marker::Model;
 /// All its memory is reserved as it is made.
 #[derive(Drop)]
 pub struct Reader {
-    reading: LineState,
-    registers: RunRegisters,
-    meaning: Meaning,
+    /// What is being read.
+    pub reading: LineState,
+    /// The number registers, and the title that is read.
+    pub registers: RunRegisters,
+    /// What the last step means that has no name of its own.
+    pub meaning: Meaning,
 }
 
 impl Model for Reader {
@@ -85,63 +78,6 @@ impl Reader {
             registers: RunRegisters::new(alloc, names_cap, line)?,
             meaning: Meaning::new(),
         })
-    }
-
-    /// What a byte does that was taken: the input behind it, what is read, and what it means.
-    ///
-    /// # Errors
-    ///
-    /// A limit that it would pass; what was changed then is of no more use.
-    #[inline(always)]
-    pub fn read(
-        &mut self,
-        byte: u8,
-        composer: &Composer,
-        unread: &mut Unread<PageEvent>,
-    ) -> Result<Step, Limit>
-        ensures { TakesAs (λ k. taking k self.old.reading unread.old.input byte)
-            composer.now self.old self.new unread.old unread.new result }
-    {
-        if is_read_alone(byte, unread) {
-            return self.read_alone(byte, composer, unread);
-        }
-        self.read_any(byte, composer, unread)
-    }
-
-    /// The same of any byte.
-    #[inline(never)]
-    fn read_any(
-        &mut self,
-        byte: u8,
-        composer: &Composer,
-        unread: &mut Unread<PageEvent>,
-    ) -> Result<Step, Limit>
-        ensures { TakesAs (λ k. taking k self.old.reading unread.old.input byte)
-            composer.now self.old self.new unread.old unread.new result }
-    {
-        self.read_half(byte, composer, unread)
-    }
-
-    /// The same where something is half read, and most bytes are none of a text line.
-    ///
-    /// # Errors
-    ///
-    /// A limit that it would pass; what was changed then is of no more use.
-    #[inline(always)]
-    pub fn read_half(
-        &mut self,
-        byte: u8,
-        composer: &Composer,
-        unread: &mut Unread<PageEvent>,
-    ) -> Result<Step, Limit>
-        ensures { TakesAs (λ k. taking k self.old.reading unread.old.input byte)
-            composer.now self.old self.new unread.old unread.new result }
-    {
-        if is_dropped(byte) {
-            self.interrupt(unread);
-            return Ok(Step::Nothing);
-        }
-        self.read_undropped(byte, composer, unread)
     }
 
     /// What is due before anything more is taken.
@@ -272,12 +208,14 @@ impl Reader {
     }
 
     /// A message is reported.
-    fn report(&mut self, message: Message) -> Step
+    pub fn report(&mut self, message: Message) -> Step
         ensures says { messages_of self.new.meaning.message result ≡ message ∷ [] }
         ensures none { events_of self.new.meaning.events result ≡ [] }
         ensures others { self.new ≡ record self.old { meaning = self.new.meaning } }
     {
-        report(&mut self.meaning, message)
+        self.meaning
+            .keep_line(Some(message), false, LineEvents::Nothing);
+        Step::Meaning
     }
 
     /// A message is reported, if there is one.
@@ -295,7 +233,7 @@ impl Reader {
 
     /// This is read on, and nothing is meant.
     #[inline(always)]
-    fn read_on(&mut self, reading: LineState) -> Step
+    pub fn read_on(&mut self, reading: LineState) -> Step
         ensures reading { self.new ≡ record self.old { reading = reading } }
         ensures step { result ≡ Nothing }
     {
@@ -318,22 +256,4 @@ impl Reader {
     {
         self.reading = reading;
     }
-}
-
-/// Whether a byte is read by itself: it is neither dropped nor a backslash, and nothing is half
-/// read.
-#[inline(always)]
-#[tactic(auto, using(crate::proofs::TextTaken::none_half))]
-fn is_read_alone(byte: u8, unread: &Unread<PageEvent>) -> bool
-    ensures kept { result ≡ true → is_dropped byte ≡ false }
-    ensures no_escape { result ≡ true → (byte == backslash) ≡ false }
-    ensures none_half { result ≡ true → unread.now.input.escapes ≡ [] }
-{
-    if byte != b'\n' && is_dropped(byte) {
-        return false;
-    }
-    if byte == b'\\' {
-        return false;
-    }
-    !unread.has_open_escape()
 }

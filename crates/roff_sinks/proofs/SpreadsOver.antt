@@ -1,11 +1,11 @@
 -- A text that is written with its blanks spread, step by step.
-use Rattle.std.proofs.Common.{◌≡◌, ℕ, zero, suc, ◌+◌, ◌-◌, ◌*◌, ◌<◌, ◌≤◌, List, [], ◌∷◌, ◌++◌, length, take, drop, slice_index_or, replicate, refl, sym, ap, ◌∙◌, arith, append_assoc, append-nil}
+use Rattle.std.proofs.Common.{◌≡◌, ℕ, zero, suc, ◌+◌, ◌-◌, ◌*◌, ◌<◌, ◌≤◌, List, [], ◌∷◌, ◌++◌, length, take, drop, slice_index_or, refl, sym, ap, ◌∙◌, arith, append_assoc, append-nil}
 use Rattle.std.specs.Prelude.{◌%◌}
-use Rattle.std.proofs.Math.Seq.{drop-cons, take-append-add}
-use Rattle.std.proofs.lemmas.List.{drop-drop, length-append, length-drop, length-replicate, length-take, take_all}
+use Rattle.std.proofs.Math.Seq.{drop-cons}
+use Rattle.std.proofs.lemmas.List.{drop-drop, length-append, length-drop, length-replicate, length-take}
 use Rattle.roff_layout.specs.Columns.{spaces, spread}
 use Rattle.roff_lines.specs.GlyphsInFront.{glyphs_in_front}
-use Rattle.roff_sinks.specs.LineBytes.Fronts.{Moves, SpreadsOver, WritesOver}
+use Rattle.roff_sinks.specs.LineBytes.Fronts.{SpreadsOver, WritesOver}
 use Rattle.roff_sinks.proofs.GlyphsSpread.{take-append-spread}
 use Rattle.roff_sinks.proofs.SharedColumns.{added-behind}
 
@@ -89,23 +89,3 @@ pub take-spaces : (n all : ℕ) → n ≤ all → take n (spaces all) ≡ spaces
 take-spaces zero all few = refl
 take-spaces (suc n) zero few = absurd (omega arith)
 take-spaces (suc n) (suc all) few = ap (λ (xs : List ℕ). 32 ∷ xs) (take-spaces n all (omega arith))
-
--- blanks behind what is held
-pub resized : (held : List ℕ) (blanks end long : ℕ) → end ≡ length held + blanks → long ≡ length held
-    → take end held ++ replicate (end - long) 32 ≡ held ++ spaces blanks
-resized held blanks end long ends whole =
-    let more : end - long ≡ blanks = omega arith in
-    rw (take_all end held (omega arith), more) refl
-
--- blanks, and what was written behind them, are added to what is held
-pub Moves-text : (held block items out_then old mid new : List ℕ) (start owed n end : ℕ) → block ≡ held ++ spaces n → start ≡ length held → owed ≤ n
-    → spaces owed ++ mid ≡ old → WritesOver (start + owed) end block out_then mid new → items ≡ take end out_then → Moves held items old new
-Moves-text held block items out_then old mid new start owed n end filled begins few first w ends =
-    let front : take (start + owed) block ≡ held ++ spaces owed =
-    ap (take (start + owed)) filled ∙ ap (λ m. take (m + owed) (held ++ spaces n)) begins
-    ∙ take-append-add held (spaces n) owed ∙ ap (λ (xs : List ℕ). held ++ xs) (take-spaces owed n few) in
-    record {
-      moved = spaces owed ++ w.moved;
-      added = ends ∙ w.written ∙ ap (λ (xs : List ℕ). xs ++ w.moved) front ∙ append_assoc held (spaces owed) w.moved;
-      taken = append_assoc (spaces owed) w.moved new ∙ ap (λ (xs : List ℕ). spaces owed ++ xs) w.taken ∙ first;
-    }

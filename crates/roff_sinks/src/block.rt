@@ -16,7 +16,7 @@ ghost use Rattle.roff_layout.specs.Titles.{part_text, title_text};
 mod added_title;
 mod within;
 
-use self::within::add_line;
+use self::within::write_line;
 use crate::line_bytes::LineBytes;
 use crate::sink::{ByteSink, SinkFault};
 use crate::title::{TitleLine, TitlePieces};
@@ -32,15 +32,22 @@ pub const BLOCK: usize = 8_192;
 #[derive(Drop)]
 pub struct Block {
     bytes: Vec<u8>,
+    /// The line that was put last, and behind it what stood there before.
+    line: Vec<u8>,
+    /// How many bytes that line has; 0 where none was put.
+    held: usize,
     ghost reserved: { 8192 ≤ vec_capacity bytes },
+    ghost line_reserved: { 8192 ≤ vec_capacity line },
+    ghost line_few: { length line.items ≤ 8192 },
+    ghost line_held: { held ≤ length line.items },
 }
 
 impl Model for Block {
-    ghost use Rattle.std.specs.Prelude.{ℕ, List};
+    ghost use Rattle.std.specs.Prelude.{ℕ, List, take};
 
     ghost Value = { List ℕ };
 
-    ghost view = { λ b. b.bytes.items };
+    ghost view = { λ b. take b.held b.line.items };
 }
 
 impl Block {
@@ -54,6 +61,8 @@ impl Block {
     {
         Ok(Block {
             bytes: Vec::with_capacity(alloc, BLOCK)?,
+            line: Vec::with_capacity(alloc, BLOCK)?,
+            held: 0,
         })
     }
 
@@ -110,13 +119,14 @@ impl Block {
             (device_line columns (printed (finished_of line.entry)) ++ replicate after 10)
             result self.new }
     {
-        let bytes = &mut self.bytes;
-        bytes.clear();
-        let count = add_line(bytes, line, columns, after);
+        let count = write_line(&mut self.line, line, columns, after);
+        self.held = count;
         if count > 0 {
-            return if out.put(bytes).is_ok() { count } else { 0 };
+            let whole = &self.line[..count];
+            if out.put(whole).is_ok() {
+                return count as u64;
+            }
         }
-        bytes.clear();
         0
     }
 
@@ -146,7 +156,7 @@ impl Block {
         ensures some { result ≡ false → 0 < length self.now }
         ensures none { result ≡ true → self.now ≡ [] }
     {
-        self.bytes.is_empty()
+        self.held == 0
     }
 
     /// Writes a title behind so many columns, such as the page offset.

@@ -61,3 +61,11 @@ put_into name entry t = with_entries_if_room name (with_entry name entry t.entri
 -- the table once a name's entry is taken away
 abbrev pub removed_from : {E : Type 0} → List ℕ → Table E → Table E
 removed_from name t = record t { entries = without_entry name t.entries }
+
+-- a change of a name's entry, which it has, answered this, and made the table from another one
+pub record Changed {E R : Type 0} (change : E → E × R → Type 0) (name : List ℕ) (old new : Table E) (answer : R) : Type 0 where
+  pub was : E
+  pub had : entry_of name old.entries ≡ Some was
+  pub becomes : E
+  pub made : change was (becomes, answer)
+  pub put : new ≡ put_into name becomes old

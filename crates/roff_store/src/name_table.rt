@@ -58,6 +58,7 @@ impl<E> Model for NameTable<E> {
 
 impl<E: Copy> NameTable<E> {
     ghost use Rattle.roff_store.specs.Named.{Table, admitted, has_room, put_into, removed_from};
+    ghost use Rattle.roff_store.specs.Named.{Changed};
 
     /// An empty table for so many names.
     pub(crate) fn new(alloc: Global, cap: u32) -> Result<Self, AllocError>
@@ -125,6 +126,25 @@ impl<E: Copy> NameTable<E> {
         add(&mut self.slots, self.heads.as_mut_slice(), name, entry);
         self.count += 1;
         Ok(())
+    }
+
+    /// Changes the entry of a name, if it has one, by one look-up. Returns what the change answers.
+    #[inline(always)]
+    pub(crate) fn change<R, F: FnOnce(E) -> (E, R)>(&mut self, name: &Name, change: F) -> Option<R>
+        requires { F.IsAlwaysCallable change }
+        ensures changed { IfSome result (Changed (F.post change) name.now self.old self.new) }
+        ensures absent { IfNone result (entry_of name.now self.old.entries ≡ None) }
+        ensures unchanged { IfNone result (self.new ≡ self.old) }
+    {
+        match find(self.slots.as_slice(), self.heads.as_slice(), name) {
+            Some(place) => {
+                let slot = &mut self.slots[place];
+                let (entry, answer) = change(slot.entry);
+                slot.entry = entry;
+                Some(answer)
+            }
+            None => None,
+        }
     }
 
     /// Takes a name's entry away.

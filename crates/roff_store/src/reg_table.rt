@@ -70,15 +70,18 @@ impl RegTable {
         ensures answer { result ≡ admitted name.now self.old }
         ensures table { self.new ≡ after (Set name.now value increment) self.old }
     {
-        let register = self.get(name).unwrap_or_default();
-        self.registers.put(
-            name,
-            Register {
+        let set = |register: Register| {
+            let register = Register {
                 value,
                 increment,
                 ..register
-            },
-        )
+            };
+            (register, ())
+        };
+        match self.registers.change(name, set) {
+            Some(_) => Ok(()),
+            None => self.registers.put(name, set(Register::default()).0),
+        }
     }
 
     /// Sets how a register is written (`.af`). A new register has the value 0 and the increment 0.

@@ -11,6 +11,7 @@ use roff_fronts::{
     RunKind, TextAhead, hold_text, pass_text, put_string, run_half_read, run_kind, take_arguments,
     take_branch_blanks, take_run, take_string_front, take_string_name, text_ahead,
 };
+use roff_reading::take_title_front;
 use roff_scan::ByteSource;
 
 /// What lies behind bytes that were told.
@@ -54,9 +55,7 @@ impl Running {
     pub(super) fn take_title_front<S: ByteSource>(&mut self, source: &mut S)
         ensures { GoesPastOver S.ByteSource source.old source.new self.old self.new }
     {
-        self.interpreter
-            .reader
-            .take_title_front(&mut self.unread, source);
+        take_title_front(&mut self.interpreter.reader, &mut self.unread, source);
     }
 
     /// Takes bytes of a string's name together that stand in front, where one is read.

@@ -1,6 +1,6 @@
 //! Text lines: their bytes one at a time, and their beginnings.
 
-ghost use Rattle.std.specs.Prelude.{◌≡◌, ℕ, [], None, true};
+ghost use Rattle.std.specs.Prelude.{◌≡◌, ℕ, [], None, false, true};
 ghost use Rattle.roff_engine.specs.Clauses.{LineStart, StandFor, due, going_on, seen};
 ghost use Rattle.roff_engine.specs.Running.Beginning.{BeginWithText, begins_text};
 ghost use Rattle.roff_num.specs.declared.limits.Limits.{Limits as LimitsOf};
@@ -18,7 +18,7 @@ use roff_scan::ByteSource;
 use roff_sinks::ByteSink;
 
 impl Running {
-    ghost use Rattle.roff_engine.specs.Running.Turning.{DoesItem, GoesPastOver, TellsOver};
+    ghost use Rattle.roff_engine.specs.Running.Turning.{ComesFurtherOver, DoesItem, TellsOver};
     ghost use Rattle.roff_engine.specs.Running.Turning.{TurnsOver};
 
     /// Takes the item in front on this text line, where nothing is half read: most often a byte
@@ -40,7 +40,7 @@ impl Running {
         let line_before = self.unread.line();
         match self.unread.take_ready(source) {
             Some(byte) => match self.take_text(line, byte, line_before, out, err) {
-                Ok(()) => Ok(self.tell_behind(byte, source)),
+                Ok(()) => self.tell_behind(byte, source, out, err),
                 Err(status) => Err(status),
             },
             None => untold(self.turn_line(source, out, err)),
@@ -63,7 +63,7 @@ impl Running {
         let line_before = self.unread.line();
         match self.unread.take_ready(source) {
             Some(byte) => match self.take_first(byte, line_before, out, err) {
-                Ok(()) => Ok(self.tell_behind(byte, source)),
+                Ok(()) => self.tell_behind(byte, source, out, err),
                 Err(status) => Err(status),
             },
             None => untold(self.turn_line(source, out, err)),
@@ -92,17 +92,28 @@ impl Running {
         }
     }
 
-    /// Tells bytes of plain text that stand in front behind this byte of a text line. Returns
-    /// whether they are told as far as they can be; behind a newline they are told at the next
-    /// turn.
+    /// Tells bytes of plain text that stand in front behind this byte of a text line, or tells and
+    /// ends the line. Returns whether they are told as far as they can be; behind a newline they
+    /// are told at the next turn.
     #[inline(always)]
-    fn tell_behind<S: ByteSource>(&mut self, byte: u8, source: &mut S) -> bool
-        ensures { GoesPastOver S.ByteSource source.old source.new self.old self.new }
+    fn tell_behind<S: ByteSource, O: ByteSink, E: ByteSink>(
+        &mut self,
+        byte: u8,
+        source: &mut S,
+        out: &mut O,
+        err: &mut E,
+    ) -> Result<bool, Status>
+        ensures { ComesFurtherOver S.ByteSource O.ByteSink E.ByteSink false
+            source.old source.new out.old out.new err.old err.new
+            self.old self.new (going_on result) }
     {
         if byte == b'\n' {
-            true
-        } else {
-            self.tell_on(source)
+            return Ok(true);
+        }
+        match self.end_line_at_once(source, out, err) {
+            None => Ok(self.tell_on(source)),
+            Some(Ok(())) => Ok(true),
+            Some(Err(status)) => Err(status),
         }
     }
 
@@ -266,7 +277,7 @@ fn instead_of_text(bytes: &[u8]) -> Behind
 
 /// Whether a text line begins with the first of these bytes, and it is printed.
 #[inline(always)]
-fn begin_with_text(bytes: &[u8]) -> bool
+pub(super) fn begin_with_text(bytes: &[u8]) -> bool
     ensures { result ≡ true → BeginWithText bytes.now }
 {
     match bytes {

@@ -32,7 +32,7 @@ impl Formatter {
 
 /// The first of these bytes, as many as are told at once at the most.
 #[inline(always)]
-fn told_at_once(bytes: &[u8]) -> &[u8]
+pub(super) fn told_at_once(bytes: &[u8]) -> &[u8]
     ensures { result.now ≡ take 128 bytes.now }
 {
     bytes.split_at(MOST_AT_ONCE.min(bytes.len())).0

@@ -306,7 +306,7 @@ fn put_finished<O: ByteSink>(
 
 /// Places a line, with which the last page may end.
 #[inline(always)]
-fn place_line<O: ByteSink>(
+pub(super) fn place_line<O: ByteSink>(
     pages: &mut Pages,
     line: Line<'_>,
     out: &mut O,

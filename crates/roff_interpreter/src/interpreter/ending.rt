@@ -13,6 +13,7 @@ ghost use Rattle.roff_run.specs.Run.{known_at};
 
 use super::Interpreter;
 use roff_formatter::{Halt, Sprung};
+use roff_reading::{end_escape, end_line_of_input};
 use roff_run::{PageEvent, Phase};
 use roff_scan::Unread;
 use roff_sinks::ByteSink;
@@ -35,7 +36,7 @@ impl Interpreter {
             (sinks (O.sunk out.old) (E.sunk err.old))
             (sinks (O.sunk out.new) (E.sunk err.new)) result }
     {
-        match self.reader.end_escape(&self.formatter.composer, unread) {
+        match end_escape(&mut self.reader, &self.formatter.composer, unread) {
             Ok(step) => self.perform_seldom(step, unread.line(), out, err),
             Err(limit) => Err(Halt::Refused(limit)),
         }
@@ -58,10 +59,7 @@ impl Interpreter {
             (sinks (O.sunk out.old) (E.sunk err.old))
             (sinks (O.sunk out.new) (E.sunk err.new)) result }
     {
-        match self
-            .reader
-            .end_line_of_input(&self.formatter.composer, unread)
-        {
+        match end_line_of_input(&mut self.reader, &self.formatter.composer, unread) {
             Ok(step) => self.perform(step, unread.line(), out, err),
             Err(limit) => Err(Halt::Refused(limit)),
         }

@@ -9,6 +9,7 @@ ghost use Rattle.roff_source.specs.Bytes.{newline};
 use super::Interpreter;
 use roff_formatter::{Halt, Sprung};
 use roff_num::ShortName;
+use roff_reading::{end_break, end_call_line, end_request};
 use roff_run::{PageEvent, Request};
 use roff_scan::Unread;
 use roff_sinks::ByteSink;
@@ -36,10 +37,13 @@ impl Interpreter {
             (sinks (O.sunk out.old) (E.sunk err.old))
             (sinks (O.sunk out.new) (E.sunk err.new)) result }
     {
-        match self
-            .reader
-            .end_request(breaks, request, &self.formatter.composer, unread)
-        {
+        match end_request(
+            &mut self.reader,
+            breaks,
+            request,
+            &self.formatter.composer,
+            unread,
+        ) {
             Ok(step) => self.perform(step, unread.line(), out, err),
             Err(limit) => Err(Halt::Refused(limit)),
         }
@@ -65,7 +69,7 @@ impl Interpreter {
             (sinks (O.sunk out.old) (E.sunk err.old))
             (sinks (O.sunk out.new) (E.sunk err.new)) result }
     {
-        let step = self.reader.end_break(breaks, unread);
+        let step = end_break(&mut self.reader, breaks, unread);
         self.perform(step, unread.line(), out, err)
     }
 
@@ -89,7 +93,7 @@ impl Interpreter {
             (sinks (O.sunk out.old) (E.sunk err.old))
             (sinks (O.sunk out.new) (E.sunk err.new)) result }
     {
-        match self.reader.end_call_line(name, unread) {
+        match end_call_line(&mut self.reader, name, unread) {
             Ok(step) => self.perform(step, unread.line(), out, err),
             Err(limit) => Err(Halt::Refused(limit)),
         }

@@ -7,6 +7,7 @@ ghost use Rattle.roff_run.specs.declared.line_state.LineState.TheVariants.{Text 
 
 use super::Interpreter;
 use roff_formatter::{Halt, Sprung};
+use roff_reading::{read, read_half, read_on_line};
 use roff_run::{PageEvent, Step, TextLine};
 use roff_scan::Unread;
 use roff_sinks::ByteSink;
@@ -32,7 +33,7 @@ impl Interpreter {
             (sinks (O.sunk out.old) (E.sunk err.old))
             (sinks (O.sunk out.new) (E.sunk err.new)) result }
     {
-        match self.reader.read(byte, &self.formatter.composer, unread) {
+        match read(&mut self.reader, byte, &self.formatter.composer, unread) {
             Ok(step) => self.perform(step, unread.line(), out, err),
             Err(limit) => Err(Halt::Refused(limit)),
         }
@@ -59,10 +60,13 @@ impl Interpreter {
             (sinks (O.sunk out.old) (E.sunk err.old))
             (sinks (O.sunk out.new) (E.sunk err.new)) result }
     {
-        match self
-            .reader
-            .read_on_line(line, byte, &self.formatter.composer, unread)
-        {
+        match read_on_line(
+            &mut self.reader,
+            line,
+            byte,
+            &self.formatter.composer,
+            unread,
+        ) {
             Ok(step) => self.perform(step, unread.line(), out, err),
             Err(limit) => Err(Halt::Refused(limit)),
         }
@@ -86,10 +90,7 @@ impl Interpreter {
             (sinks (O.sunk out.old) (E.sunk err.old))
             (sinks (O.sunk out.new) (E.sunk err.new)) result }
     {
-        match self
-            .reader
-            .read_half(byte, &self.formatter.composer, unread)
-        {
+        match read_half(&mut self.reader, byte, &self.formatter.composer, unread) {
             Ok(step) => self.perform_seldom(step, unread.line(), out, err),
             Err(limit) => Err(Halt::Refused(limit)),
         }

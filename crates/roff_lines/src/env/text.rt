@@ -9,7 +9,7 @@ ghost use Rattle.roff_lines.specs.Clauses.{may_be_wide};
 ghost use Rattle.roff_lines.specs.Env.Tells.{EndsGlyphs};
 
 use super::Env;
-use super::words::{moved, push_gap};
+use super::words::moved;
 use crate::glyph::{ends_sentence_behind, ends_sentence_behind_words};
 use crate::stretch::Stretch;
 use crate::words::{measured_glyphs, whole_words};
@@ -24,25 +24,11 @@ impl Env {
     ghost use Rattle.roff_lines.specs.Env.Tells.{Tells, TellsOf, HasRoom};
     ghost use Rattle.roff_lines.specs.Env.Tells.{EndsBlanks};
 
-    /// Adds bytes of a text line, which are blanks and bytes above the blank: as many of those in
-    /// front as finish no line and keep the pending line within its limit. Says how many that are.
-    /// A blank ends the open word, and a gap of one blank follows; each other byte is a glyph.
-    pub fn text(&mut self, bytes: &[u8]) -> usize
-        requires { AllByRecursion (λ b. 31 < b) bytes.now }
-        ensures within { result ≤ length bytes.now }
-        ensures quiet { (line_cap : ℕ) (h : History) → Stands line_cap h self.old
-            → QuietlyTold line_cap (take result bytes.now) h }
-        ensures stands { (line_cap : ℕ) (h : History) → Stands line_cap h self.old
-            → Stands line_cap (bytes_told (take result bytes.now) h) self.new }
-        ensures most { (line_cap : ℕ) (h : History) → Stands line_cap h self.old
-            → result < length bytes.now
-            → QuietlyTold line_cap (take (result + 1) bytes.now) h → ⊥ }
-    {
-        self.text_front(bytes, bytes.len())
-    }
-
-    /// The same of so many bytes in front. Those behind them are none of the text line; that they
-    /// lie there lets steps of sixteen be looked at.
+    /// Adds bytes of a text line, which are blanks and bytes above the blank: of so many in front
+    /// as many as finish no line and keep the pending line within its limit. Says how many that
+    /// are. A blank ends the open word, and a gap of one blank follows; each other byte is a glyph.
+    /// What stands behind those in front is none of the text line; that it lies there lets steps of
+    /// sixteen be looked at.
     pub fn text_front(&mut self, bytes: &[u8], count: usize) -> usize
         requires text { count ≤ length bytes.now }
         requires above { AllByRecursion (λ b. 31 < b) (take count bytes.now) }
@@ -86,9 +72,54 @@ impl Env {
         ensures told { TellsOf count bytes.now result self.old self.new }
         ensures ends { EndsGlyphs (drop result (take count bytes.now)) self.new }
     {
-        let words = self.words_in_front(bytes, count);
+        let words = self.sentences_in_front(bytes, count);
         let (_, rest) = bytes.split_at(words);
         words + self.glyphs_in_front(rest, count - words)
+    }
+
+    /// Adds whole words in front that fit into the pending line, and blanks behind them with which
+    /// more of them stand. Tells how many bytes these are.
+    #[inline(always)]
+    fn sentences_in_front(&mut self, bytes: &[u8], count: usize) -> usize
+        requires { count ≤ length bytes.now }
+        ensures few { result ≤ count }
+        ensures told { TellsOf count bytes.now result self.old self.new }
+    {
+        let mut told = 0;
+        loop {
+            let (_, rest) = bytes.split_at(told);
+            told += self.words_in_front(rest, count - told);
+            if !self.blank_behind_words(bytes, told, count) {
+                return told;
+            }
+            told += 1;
+        }
+    }
+
+    /// Adds the blank at a place of so many bytes, where another word stands behind it and it
+    /// finishes no line. Says whether it did; else the environment is as it was.
+    #[inline(always)]
+    fn blank_behind_words(&mut self, bytes: &[u8], place: usize, count: usize) -> bool
+        requires within { place ≤ count }
+        requires text { count ≤ length bytes.now }
+        ensures { MatchBool result
+            ((place < count) × ((32 ∷ drop (place + 1) (take count bytes.now)
+            ≡ drop place (take count bytes.now)) × Tells (32 ∷ []) self.old self.new))
+            (self.new ≡ self.old) }
+    {
+        if count - place < 2 || bytes[place] != b' ' || bytes[place + 1] == b' ' {
+            return false;
+        }
+        self.blank_apart()
+    }
+
+    /// What [`blank`](Env::blank) does, as a function of its own.
+    #[inline(never)]
+    fn blank_apart(&mut self) -> bool
+        ensures { MatchBool result (Tells (32 ∷ []) self.old self.new)
+            ((self.new ≡ self.old) × (word_finishes self.old ≡ true)) }
+    {
+        self.blank()
     }
 
     /// Adds whole words in front that fit into the pending line, behind its gap. Tells how many
@@ -137,8 +168,8 @@ impl Env {
         requires width { text_width (take count bytes.now) ≡ count }
         ensures { self.new ≡ with_words (take count bytes.now) self.old }
     {
-        push_gap(&mut self.line, self.blanks as usize);
-        self.line.push_words(bytes, count, gaps);
+        self.line
+            .push_words(self.blanks as usize, bytes, count, gaps);
         self.blanks = 1;
         self.has_glyph = true;
         let (text, _) = bytes.split_at(count);
@@ -197,6 +228,7 @@ impl Env {
 
     /// Adds the blank at a place of so many bytes, where it finishes no line. Says whether it did;
     /// else the environment is as it was.
+    #[inline(always)]
     fn blank_in_front(&mut self, bytes: &[u8], place: usize, count: usize) -> bool
         requires within { place ≤ count }
         requires text { count ≤ length bytes.now }
@@ -213,6 +245,7 @@ impl Env {
 
     /// Ends the open word, with a gap of one blank behind it, where that finishes no line. Says
     /// whether it does; else the environment is as it was.
+    #[inline(always)]
     fn blank(&mut self) -> bool
         ensures { MatchBool result (Tells (32 ∷ []) self.old self.new)
             ((self.new ≡ self.old) × (word_finishes self.old ≡ true)) }

@@ -147,9 +147,8 @@ impl Env {
         }
         let full = Shape::of(self.settings, true, self.indent, &self.line);
         self.last_width = full.width();
-        self.finished.clear();
-        mem::swap(&mut self.finished, &mut self.line);
-        mem::swap(&mut self.line, &mut self.word);
+        self.finished.take_over(&mut self.line);
+        self.line.take_over(&mut self.word);
         self.indent = indent_of_line(self.temporary_indent, self.settings);
         self.temporary_indent = None;
         self.is_open = false;

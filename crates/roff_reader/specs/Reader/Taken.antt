@@ -10,7 +10,6 @@ use Rattle.roff_run.specs.Registers.{Known, changed_by_all}
 use Rattle.roff_run.specs.Registers.Capped.{Capped}
 use Rattle.roff_run.specs.Run.{known_at}
 use Rattle.roff_run.specs.Run.Counts.{counts_in, first_passed}
-use Rattle.roff_obeying.specs.Acting.{behind_changes}
 use Rattle.roff_reader.specs.Reader.State.{ReaderState}
 use Rattle.roff_run.specs.declared.step.Step.{Step}
 use Rattle.roff_run.specs.Reading.Items.{Taking, PageUnread}
@@ -20,7 +19,7 @@ use Rattle.roff_run.specs.Reading.Items.{Taking, PageUnread}
 pub record CameTo (t : Taking) (old : Capped) (new : ReaderState) (before behind : PageUnread) : Type 0 where
   pub input : behind ≡ record before { input = t.input }
   pub reading : new.reading ≡ t.reading
-  pub registers : new.registers ≡ behind_changes t.effect.changes old
+  pub registers : new.registers ≡ record old { all = changed_by_all t.effect.changes old.all }
   pub within : first_passed before.limits (counts_in (changed_by_all t.effect.changes old.all) t.input) ≡ None
 
 -- and its step means what the taking means, with the meaning that is kept

@@ -2,55 +2,21 @@
 
 ghost use Rattle.roff_reader.specs.Clauses.{ComposerOf, TakesAs, going_on};
 ghost use Rattle.roff_reader.specs.Clauses.{holding};
-ghost use Rattle.roff_reader.specs.Clauses.{row_of, no_unit_found, unit_found, arguments_ended};
+ghost use Rattle.roff_reader.specs.Clauses.{no_unit_found};
 
 use super::Reader;
 use roff_composer::Composer;
 use roff_num::Limit;
-use roff_run::{LineReading, LineState, PageEvent, Request, Step};
+use roff_run::{LineState, PageEvent, Step};
 use roff_scan::{CopyUnit, Found, Unread};
 
 impl Reader {
-    /// A unit behind a request's name: a newline ends the line, and all else is held.
-    #[inline(always)]
-    pub(super) fn read_unit(
-        &mut self,
-        breaks: bool,
-        request: Request,
-        unit: CopyUnit,
-        composer: &Composer,
-        unread: &mut Unread<PageEvent>,
-    ) -> Result<Step, Limit>
-        ensures { TakesAs (λ k. unit_found k unread.old.input breaks request unit)
-            composer.now self.old self.new unread.old unread.new result }
-    {
-        match unit {
-            CopyUnit::Byte(b'\n') => self.end_arguments(breaks, request, composer, unread),
-            _ => self.hold(unit, LineState::Arguments { breaks, request }, unread),
-        }
-    }
-
-    /// The end of a line that was read as arguments.
-    #[inline(always)]
-    pub(super) fn end_arguments(
-        &mut self,
-        breaks: bool,
-        request: Request,
-        composer: &Composer,
-        unread: &mut Unread<PageEvent>,
-    ) -> Result<Step, Limit>
-        ensures { TakesAs (λ k. arguments_ended k unread.old.input breaks request
-            (row_of request).line)
-            composer.now self.old self.new unread.old unread.new result }
-    {
-        match request.row().line {
-            LineReading::ByLines(lines) => self.begin_lines(lines, unread),
-            _ => self.obey(breaks, request, composer, unread),
-        }
-    }
-
     /// A unit of an argument is held, and this is read on.
-    fn hold(
+    ///
+    /// # Errors
+    ///
+    /// A limit that it would pass; what was changed then is of no more use.
+    pub fn hold(
         &mut self,
         unit: CopyUnit,
         reading: LineState,
@@ -65,8 +31,12 @@ impl Reader {
     }
 
     /// Something behind the name of a request that is no unit of an argument, and decides nothing.
+    ///
+    /// # Errors
+    ///
+    /// A limit that it would pass; what was changed then is of no more use.
     #[inline(always)]
-    pub(super) fn read_in_arguments(
+    pub fn read_in_arguments(
         &mut self,
         reading: LineState,
         found: Found,

@@ -19,7 +19,11 @@ pub const CALL_ARGUMENTS: usize = 9;
 impl Reader {
     /// A unit behind the name of a body that a line calls: a newline ends the line, and the body is
     /// read.
-    pub(super) fn read_unit_of_call(
+    ///
+    /// # Errors
+    ///
+    /// A limit that it would pass; what was changed then is of no more use.
+    pub fn read_unit_of_call(
         &mut self,
         name: ShortName,
         unit: CopyUnit,
@@ -41,8 +45,12 @@ impl Reader {
     }
 
     /// The end of the line: the body is read.
+    ///
+    /// # Errors
+    ///
+    /// A limit that it would pass; what was changed then is of no more use.
     #[inline(always)]
-    pub(super) fn call_body(
+    pub fn call_body(
         &mut self,
         name: ShortName,
         unread: &mut Unread<PageEvent>,

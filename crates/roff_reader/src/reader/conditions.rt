@@ -14,7 +14,11 @@ use roff_scan::{Decision, Found, Surroundings, Unread};
 
 impl Reader {
     /// The first byte of a condition behind a name of one byte; one that isn't there is false.
-    pub(super) fn begin_condition(
+    ///
+    /// # Errors
+    ///
+    /// A limit that it would pass; what was changed then is of no more use.
+    pub fn begin_condition(
         &mut self,
         keeps: bool,
         byte: u8,
@@ -34,8 +38,12 @@ impl Reader {
     }
 
     /// Something of a condition.
+    ///
+    /// # Errors
+    ///
+    /// A limit that it would pass; what was changed then is of no more use.
     #[inline(never)]
-    pub(super) fn read_condition(
+    pub fn read_condition(
         &mut self,
         keeps: bool,
         found: Found,
@@ -62,7 +70,7 @@ impl Reader {
     /// Ends the expression of a condition, if it is read and is a number, or decides a condition
     /// that asks nothing more. Whether there was one; else nothing happens.
     #[inline(always)]
-    pub(super) fn ends_quietly(&mut self, unread: &mut Unread<PageEvent>) -> bool
+    pub fn ends_quietly(&mut self, unread: &mut Unread<PageEvent>) -> bool
         ensures ends { result ≡ true → (es : ComposerOf)
             → TakesAs (λ k. escape_ended k self.old.reading unread.old.input)
             es self.old self.new unread.old unread.new (Ok Nothing) }
@@ -102,7 +110,11 @@ impl Reader {
     }
 
     /// A condition decided: its branch is read or skipped, and its first byte may be there.
-    pub(super) fn begin_branch(
+    ///
+    /// # Errors
+    ///
+    /// A limit that it would pass; what was changed then is of no more use.
+    pub fn begin_branch(
         &mut self,
         so: bool,
         freed: Option<u8>,

@@ -15,8 +15,12 @@ use roff_scan::{CopyUnit, NameUse, Remark, Unread};
 
 impl Reader {
     /// What the name behind an escape asks for is read in the escape's place.
+    ///
+    /// # Errors
+    ///
+    /// A limit that it would pass; what was changed then is of no more use.
     #[inline(always)]
-    pub(super) fn ask(
+    pub fn ask(
         &mut self,
         purpose: NameUse,
         name: Option<Name>,
@@ -76,8 +80,12 @@ impl Reader {
     }
 
     /// A unit of a text is held, and this is read on.
+    ///
+    /// # Errors
+    ///
+    /// A limit that it would pass; what was changed then is of no more use.
     #[inline(always)]
-    pub(super) fn hold_text(
+    pub fn hold_text(
         &mut self,
         unit: CopyUnit,
         reading: LineState,
@@ -92,7 +100,11 @@ impl Reader {
     }
 
     /// The width of a text is read in its place, and behind it this.
-    pub(super) fn measure(
+    ///
+    /// # Errors
+    ///
+    /// A limit that it would pass; what was changed then is of no more use.
+    pub fn measure(
         &mut self,
         width: u32,
         reading: LineState,
@@ -108,7 +120,7 @@ impl Reader {
 
     /// This is said of something within a text that is measured or a condition, and this is read
     /// on.
-    pub(super) fn tell(&mut self, remark: Remark, reading: LineState) -> Step
+    pub fn tell(&mut self, remark: Remark, reading: LineState) -> Step
         ensures { (es : ComposerOf) (u : PageUnread)
             → TakesAs (λ k. telling u.input reading remark) es self.old self.new u u (Ok result) }
     {

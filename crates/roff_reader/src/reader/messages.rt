@@ -11,7 +11,11 @@ use roff_scan::{CopyUnit, Unread};
 
 impl Reader {
     /// A unit of a message's text: in front of it blanks are dropped; a newline ends it.
-    pub(super) fn read_unit_of_message(
+    ///
+    /// # Errors
+    ///
+    /// A limit that it would pass; what was changed then is of no more use.
+    pub fn read_unit_of_message(
         &mut self,
         aborts: bool,
         is_front: bool,

@@ -15,8 +15,8 @@ ghost use Rattle.roff_run.specs.Run.{known_at};
 
 use super::Reader;
 use roff_composer::Composer;
+use roff_names::facts;
 use roff_num::{Direction, Limit, Name, Num, NumText, ShortName};
-use roff_obeying::facts;
 use roff_run::{LineEvents, Message, PageEvent, Step};
 use roff_scan::Unread;
 

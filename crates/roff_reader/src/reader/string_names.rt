@@ -17,7 +17,11 @@ use roff_scan::{CopyUnit, Unread};
 
 impl Reader {
     /// A unit of a string's name; one in quotes ends before all but a quote.
-    pub(super) fn read_unit_of_string_name(
+    ///
+    /// # Errors
+    ///
+    /// A limit that it would pass; what was changed then is of no more use.
+    pub fn read_unit_of_string_name(
         &mut self,
         appends: bool,
         unit: CopyUnit,
@@ -92,7 +96,11 @@ impl Reader {
     }
 
     /// The line of a string ends where its name is read.
-    pub(super) fn end_string_line(
+    ///
+    /// # Errors
+    ///
+    /// A limit that it would pass; what was changed then is of no more use.
+    pub fn end_string_line(
         &mut self,
         appends: bool,
         unread: &mut Unread<PageEvent>,

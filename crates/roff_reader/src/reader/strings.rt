@@ -12,7 +12,11 @@ use roff_scan::{CopyUnit, Unread};
 impl Reader {
     /// A unit of a string's text: in front of it blanks are dropped, and then one quote; a newline
     /// ends it.
-    pub(super) fn read_unit_of_string(
+    ///
+    /// # Errors
+    ///
+    /// A limit that it would pass; what was changed then is of no more use.
+    pub fn read_unit_of_string(
         &mut self,
         name: Option<ShortName>,
         appends: bool,

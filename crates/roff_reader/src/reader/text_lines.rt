@@ -17,12 +17,16 @@ ghost use Rattle.roff_reader.specs.Clauses.{name_taking, text_found};
 use super::Reader;
 use roff_composer::Composer;
 use roff_num::{Limit, Name};
-use roff_run::{LineEvents, LineState, PageEvent, Step, TextLine, TextStep};
+use roff_run::{LineState, PageEvent, Step, TextLine, TextStep};
 use roff_scan::{CopyUnit, Found, NameUse, Unread};
 
 impl Reader {
     /// Something where a line begins, or a branch, or its rest behind its brace.
-    pub(super) fn begin_line(
+    ///
+    /// # Errors
+    ///
+    /// A limit that it would pass; what was changed then is of no more use.
+    pub fn begin_line(
         &mut self,
         at: LineState,
         found: Found,
@@ -55,7 +59,7 @@ impl Reader {
 
     /// A byte where a line begins, or a branch, or its rest behind its brace.
     #[inline(always)]
-    pub(super) fn begin_with(&mut self, at: LineState, byte: u8, composer: &Composer) -> Step
+    pub fn begin_with(&mut self, at: LineState, byte: u8, composer: &Composer) -> Step
         ensures { (u : PageUnread) → TakesAs (λ k. first_taking k u.input at byte)
             composer.now self.old self.new u u (Ok result) }
     {
@@ -104,8 +108,12 @@ impl Reader {
     }
 
     /// Something of a text line.
+    ///
+    /// # Errors
+    ///
+    /// A limit that it would pass; what was changed then is of no more use.
     #[inline(always)]
-    pub(super) fn read_text(
+    pub fn read_text(
         &mut self,
         line: TextLine,
         found: Found,
@@ -182,7 +190,7 @@ impl Reader {
 
     /// What a byte of a text line does: this is read behind it.
     #[inline(always)]
-    pub(super) fn step_on(&mut self, taken: (LineState, Step)) -> Step
+    pub fn step_on(&mut self, taken: (LineState, Step)) -> Step
         ensures reading { self.new ≡ record self.old { reading = taken.0 } }
         ensures step { result ≡ taken.1 }
     {

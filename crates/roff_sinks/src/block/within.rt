@@ -1,6 +1,6 @@
 //! What is put within so many bytes: all of a text, or nothing.
 
-ghost use Rattle.std.specs.Prelude.{◌≡◌, ◌+◌, ◌<◌, ◌≤◌, ◌^◌, ◌++◌, [], length, replicate};
+ghost use Rattle.std.specs.Prelude.{◌≡◌, ◌+◌, ◌<◌, ◌≤◌, ◌^◌, ◌++◌, [], length, replicate, take};
 ghost use Rattle.std.specs.Prelude.{IfSome, IfNone, true, vec_capacity};
 ghost use Rattle.roff_layout.specs.Columns.{device_line, finished_of, printed};
 ghost use Rattle.roff_layout.specs.Glyphs.{text_width};
@@ -121,27 +121,29 @@ impl Block {
     }
 }
 
-/// Adds to an empty block the bytes of a line behind so many columns, and so many blank lines.
-/// Tells how many there are; 0 if it had no room for all.
+/// Writes to the front of a block the bytes of a line behind so many columns, and so many blank
+/// lines. Tells how many there are; 0 if it had no room for all. What stands behind them may be
+/// anything.
 #[inline(never)]
-pub(super) fn add_line(bytes: &mut Vec<u8>, line: Line<'_>, columns: u64, after: u64) -> u64
+pub(super) fn write_line(bytes: &mut Vec<u8>, line: Line<'_>, columns: u64, after: u64) -> usize
     requires capacity { 8192 ≤ vec_capacity bytes.old }
-    requires empty { bytes.old.items ≡ [] }
+    requires few { length bytes.old.items ≤ 8192 }
     ensures capacity { vec_capacity bytes.old ≤ vec_capacity bytes.new }
     ensures few { length bytes.new.items ≤ 8192 }
-    ensures count { 0 < result → result ≡ length bytes.new.items }
-    ensures whole { 0 < result → bytes.new.items
+    ensures within { result ≤ length bytes.new.items }
+    ensures whole { 0 < result → take result bytes.new.items
         ≡ device_line columns (printed (finished_of line.entry)) ++ replicate after 10 }
     ensures long { result ≡ 0 → 8192 < length
         (device_line columns (printed (finished_of line.entry)) ++ replicate after 10) }
 {
     let mut to_come = LineBytes::behind_columns(line, columns, after);
-    to_come.add_text(bytes, BLOCK);
-    if bytes.len() < BLOCK && to_come.take_last_newline() {
-        bytes.push(b'\n').unwrap();
-        return bytes.len() as u64;
+    let end = to_come.write_front(bytes);
+    if end < bytes.len() && to_come.take_last_newline() {
+        bytes[end] = b'\n';
+        return end + 1;
     }
-    add_rest(bytes, to_come)
+    bytes.truncate(end);
+    add_rest(bytes, to_come) as usize
 }
 
 /// Adds to those of a block the bytes that are to come. Tells how many there are then; 0 if it had

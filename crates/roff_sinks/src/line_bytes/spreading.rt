@@ -1,45 +1,54 @@
 //! A text that is written at once, with its blanks spread.
 
 ghost use Rattle.std.specs.Prelude.{◌≡◌, ◌+◌, ◌*◌, ◌<◌, ◌≤◌, ◌^◌, ◌++◌, length, take, ◌-◌, ◌%◌};
-ghost use Rattle.std.specs.Prelude.{drop, map, slice_index_or, vec_capacity, true};
+ghost use Rattle.std.specs.Prelude.{drop, map, slice_index_or, vec_capacity, true, ℕ};
 ghost use Rattle.roff_layout.specs.Columns.{spaces};
 ghost use Rattle.roff_lines.specs.GlyphsInFront.{glyphs_in_front};
-ghost use Rattle.roff_sinks.specs.LineBytes.Fronts.{written_mark, Moves, SpreadsOver};
+ghost use Rattle.roff_sinks.specs.LineBytes.Fronts.{written_mark, SpreadsOver};
 ghost use Rattle.roff_sinks.specs.LineBytes.Fronts.{WritesOver};
 
 use super::steps::{blank_step, copy_half_step, copy_step};
 use super::{LineBytes, Sharing, Written};
+use crate::block::BLOCK;
 use roff_layout::{FURTHER_BLANK, GAP};
 use roff_lines::{HALF_STEP, STEP, glyphs_of_half_step, glyphs_of_step};
 
 impl<'a> LineBytes<'a> {
-    /// Adds the bytes in front, as far as the text goes, to a block of at most so many bytes. Adds
-    /// nothing where it hasn't room for all of them and sixteen more.
+    /// Writes the bytes in front, as far as the text goes, to the front of a block, and tells how
+    /// many these are. Writes none where the block hasn't room for all of them and sixteen more.
+    /// What stands behind them may be anything.
     #[inline(always)]
-    pub fn add_text(&mut self, block: &mut Vec<u8>, most: usize)
-        requires capacity { most ≤ vec_capacity block.old }
-        requires few { length block.old.items ≤ most }
+    pub fn write_front(&mut self, block: &mut Vec<u8>) -> usize
+        requires capacity { 8192 ≤ vec_capacity block.old }
+        requires few { length block.old.items ≤ 8192 }
         ensures capacity { vec_capacity block.old ≤ vec_capacity block.new }
-        ensures few { length block.new.items ≤ most }
-        ensures moves { Moves block.old.items block.new.items self.old self.new }
+        ensures few { length block.new.items ≤ 8192 }
+        ensures written { WritesOver 0 result block.old.items block.new.items self.old self.new }
     {
-        let start = block.len();
-        let spare = self
-            .each
-            .saturating_mul(self.gaps)
-            .saturating_add(self.rest);
-        let needed = (self.text.len() as u128)
-            .saturating_add(self.blanks)
-            .saturating_add(u128::from(spare))
-            .saturating_add(STEP as u128);
-        if needed > (most - start) as u128 {
-            return;
+        let spare = self.each * self.gaps + self.rest;
+        let longest = BLOCK - STEP;
+        if self.text.len() > longest || self.blanks > longest as u128 || spare > longest as u64 {
+            return 0;
         }
-        let needed = needed as usize;
-        block.resize(start + needed, b' ').unwrap();
-        let owed = self.take_owed(needed);
-        let end = self.write_text(block.as_mut_slice(), start + owed);
-        block.truncate(end);
+        let needed = self.text.len() + self.blanks as usize + spare as usize + STEP;
+        if needed > BLOCK {
+            return 0;
+        }
+        fill(block, needed);
+        let lead = self.blanks as usize;
+        self.blanks = 0;
+        self.write_behind(lead, block.as_mut_slice())
+    }
+
+    /// Writes so many blanks and the text behind them to the front of a buffer, as far as it goes.
+    /// Tells where it ends.
+    #[inline(always)]
+    fn write_behind(&mut self, lead: usize, out: &mut [u8]) -> usize
+        requires { lead + 16 ≤ length out.old }
+        ensures { WritesOver 0 result out.old out.new (spaces lead ++ self.old) self.new }
+    {
+        write_blanks(out, 0, lead);
+        self.write_text(out, lead)
     }
 
     /// Writes the text from a place on, as far as it goes. Tells where it ends.
@@ -71,6 +80,19 @@ impl<'a> LineBytes<'a> {
         self.passed = written.passed;
         self.over = written.over;
         written.end
+    }
+}
+
+/// Lets a block have so many bytes.
+#[inline(always)]
+fn fill(block: &mut Vec<u8>, needed: usize)
+    requires { needed ≤ vec_capacity block.old }
+    ensures capacity { vec_capacity block.old ≤ vec_capacity block.new }
+    ensures filled { needed ≤ length block.new.items }
+    ensures few { (most : ℕ) → needed ≤ most → length block.old.items ≤ most → length block.new.items ≤ most }
+{
+    if block.len() < needed {
+        block.resize(needed, b' ').unwrap();
     }
 }
 
@@ -106,7 +128,7 @@ fn written_byte(byte: u8) -> u8
 
 /// Writes a text with its blanks spread, from a place on, as far as there is room for it and a step
 /// more. What is behind it may change too.
-#[inline(always)]
+#[inline(never)]
 fn spread_over(text: &[u8], shares: Sharing, out: &mut [u8], start: usize) -> Written
     requires start { start ≤ length out.old }
     requires passed { shares.passed + length text.now < 2 ^ 64 }

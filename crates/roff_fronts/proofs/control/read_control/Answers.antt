@@ -21,3 +21,16 @@ read_behind_name-requires g c = record {
   leads = λ i. sym (ap (behind_called i c.args.front.breaks) c.called_by.ensures) ∙ c.in-Some.ensures.leads i;
   ends = c.requires.ends;
 }
+
+pub take_other-requires : goal.take_other-requires
+take_other-requires g c = record {
+  stands = c.requires.ready;
+  named = record {
+    begins = c.requires.begins;
+    none_due = c.requires.none_due;
+    none_half = c.requires.none_half;
+    named_first = c.if-not-belongs_to_name.ensures.belongs refl;
+    named_second = c.if-not-belongs_to_name-2.ensures.belongs refl;
+    leads = λ i. sym (ap (behind_called i c.args.front.breaks) c.called_by.ensures) ∙ c.behind_called.ensures.other c.in-None.is i;
+  };
+}

@@ -10,14 +10,12 @@ read_control-requires-clause-ends g c =
 
 pub returns-in-Some-clause-whole : goal.returns-in-Some-clause-whole
 returns-in-Some-clause-whole g c = λ asks reads.
-    let names = c.args.unread.now.input.names in
     c.read_control.ensures.whole
-    (two-read names c.front-bytes.result.now c.in-Some.front c.in-Some.ensures.fronts
-    (subst (λ (bytes : List ℕ). reads_front names bytes ≡ true) (sym (c.front-bytes.ensures.whole asks)) reads))
+    (two-read c.front-bytes.result.now c.in-Some.front c.in-Some.ensures.fronts
+    (subst (λ (bytes : List ℕ). reads_front bytes ≡ true) (sym (c.front-bytes.ensures.whole asks)) reads))
 
 pub returns-in-None-clause-whole : goal.returns-in-None-clause-whole
 returns-in-None-clause-whole g c = λ asks reads.
-    let names = c.args.unread.now.input.names in
-    let none : reads_front names c.front-bytes.result.now ≡ false = c.in-None.ensures.none refl names in
-    let some : reads_front names c.front-bytes.result.now ≡ true = subst (λ (bytes : List ℕ). reads_front names bytes ≡ true) (sym (c.front-bytes.ensures.whole asks)) reads in
+    let none : reads_front c.front-bytes.result.now ≡ false = c.in-None.ensures.none refl in
+    let some : reads_front c.front-bytes.result.now ≡ true = subst (λ (bytes : List ℕ). reads_front bytes ≡ true) (sym (c.front-bytes.ensures.whole asks)) reads in
     absurd (cc (none, some))

@@ -1,3 +1,5 @@
+use Rattle.std.proofs.lemmas.Int.{ints}
+use Rattle.std.proofs.lemmas.Grind.{common_steps}
 use Rattle.std.proofs.Common.{◌<◌, get_or, length, refl, ap, ◌∙◌, arith}
 use Rattle.tbl_layout.specs.Picture.{shift}
 use Rattle.tbl_layout.specs.declared.data.Field.{Field}
@@ -23,3 +25,18 @@ loop-column-preserved c =
       capacity = c.push_some-in-loop-column.ensures.capacity ∙ c.push_some.ensures.capacity ∙ before.capacity;
       narrow = narrow-more c.loop-column.place c.loop-column.start c.args.widths.now c.args.asked.now c.args.keys.now row column in_row in_widths field refl (get_or c.args.widths.now column 0) refl c.separation.result c.separation.ensures.value before.narrow;
     }
+
+pub overflow_add-at : goal.overflow_add-at
+overflow_add-at c = grind (ints, arith, common_steps)
+
+pub overflow_add-place : goal.overflow_add-place
+overflow_add-place c = grind (ints, arith, common_steps)
+
+pub overflow_add-start : goal.overflow_add-start
+overflow_add-start c = grind (ints, arith, common_steps)
+
+pub overflow_add-start-in-loop-column : goal.overflow_add-start-in-loop-column
+overflow_add-start-in-loop-column c = grind (ints, arith, common_steps)
+
+pub returns-clause-items : goal.returns-clause-items
+returns-clause-items c = grind (ints, arith, common_steps)

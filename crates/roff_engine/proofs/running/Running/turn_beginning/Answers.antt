@@ -1,18 +1,21 @@
-use Rattle.std.proofs.Common.{◌≡◌, true}
-use Rattle.roff_engine.proofs.Beginning.{turns_behind}
-use Rattle.roff_engine.proofs.ComingFurther.{both_left, comes_any, comes_told, comes_turned}
-use Rattle.roff_engine.proofs.WholeRuns.{read_turn}
+use Rattle.std.proofs.Common.{◌≡◌, Err, Ok, rules}
+use Rattle.roff_engine.proofs.ComingFurther.{comes_any_as}
+use Rattle.roff_engine.proofs.Unfilled.{comes_kept}
 use Rattle.roff_engine.proofs.running.Running.turn_beginning.Goals as goal
 
-pub returns : goal.returns
-returns g c =
-    comes_any _ _ _ _ _ _ _ _ _ _
-    (comes_turned _ _ _ _ _ _ _ _ _
-    (turns_behind _ _ _ _ _ _ _ _ _ _ _ _ _ (c.tell_beginning-may_be_control.ensures.past (g.O.ByteSink.sunk c.args.out.now) (g.E.ByteSink.sunk c.args.err.now))
-    (read_turn _ _ _ _ c.tell_beginning-may_be_control.new.self c.turn_alone.new.self _ _ _ c.tell_beginning-may_be_control.ensures.none_due c.turn_alone.ensures)))
+pub returns-in-None : goal.returns-in-None
+returns-in-None g c =
+    let kept = c.begin_and_end_line.ensures.unchanged c.in-None.is in
+    let said = c.begin_and_end_line.ensures.sinks c.in-None.is in
+    let comes = rw (kept.1, said.0, said.1) at c.turn_told.ensures in
+    comes_kept _ _ _ _ _ _ _ _ _ _ _ kept.0 comes
 
-pub returns-then-is_told-may_be_control : goal.returns-then-is_told-may_be_control
-returns-then-is_told-may_be_control g c =
-    let past = c.tell_beginning-may_be_control.ensures.past (g.O.ByteSink.sunk c.args.out.now) (g.E.ByteSink.sunk c.args.err.now) in
-    let was_told : c.args.is_told ≡ true = both_left c.args.is_told c.tell_beginning-may_be_control.result c.if-is_told-may_be_control.true in
-    rw was_told (comes_told _ _ _ _ _ _ _ _ past)
+pub returns-in-Some-Ok : goal.returns-in-Some-Ok
+returns-in-Some-Ok g c =
+    let is : c.in-Some-Ok.field-0 ≡ Ok (record {}) = search rules in
+    comes_any_as _ _ _ _ _ _ _ _ _ _ _ is c.in-Some-Ok.ensures.ends
+
+pub returns-in-Some-Err : goal.returns-in-Some-Err
+returns-in-Some-Err g c =
+    let is : c.in-Some-Err.field-0 ≡ Err c.in-Some-Err.status = search rules in
+    comes_any_as _ _ _ _ _ _ _ _ _ _ _ is c.in-Some-Err.ensures.ends

@@ -1,16 +1,16 @@
 use Rattle.std.proofs.Common.{◌∙◌}
-use Rattle.roff_engine.proofs.PassingOn.{goes_past_known, turned_past}
 use Rattle.roff_interpreter.proofs.TakenBytes.{escapes-taken}
 use Rattle.roff_engine.proofs.Turns.{TurnsBy-same}
+use Rattle.roff_engine.proofs.Unfilled.{turned_further}
 use Rattle.roff_engine.proofs.WaitedBytes.{byte_alone}
 use Rattle.roff_engine.proofs.running.Running.turn_text.Goals as goal
 
 pub returns-in-Ok : goal.returns-in-Ok
 returns-in-Ok g c =
     let shown = c.in-Some.ensures in
-    turned_past _ _ _ _ _ _ _ _ _ _ _ _ _
+    turned_further _ _ _ _ _ _ _ _ _ _ _ _ _ _ _
     (byte_alone c.args.self.now _ _ _ _ _ _ shown.failures shown.notes c.in-Some.byte c.line-line_before.result c.take_text.new.self _ _ shown.takes c.requires.none_half c.line-line_before.ensures (c.in-Ok.ensures _))
-    (goes_past_known _ _ _ _ _ _ _ _ _ (c.tell_behind.ensures _ _))
+    c.tell_behind.ensures
 
 pub returns-in-Err : goal.returns-in-Err
 returns-in-Err g c =

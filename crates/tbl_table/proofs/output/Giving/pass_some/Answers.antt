@@ -1,3 +1,6 @@
+use Rattle.std.proofs.Common.{arith}
+use Rattle.std.proofs.lemmas.Int.{ints}
+use Rattle.std.proofs.lemmas.Grind.{common_steps}
 use Rattle.std.proofs.Common.{ℕ, subst, sym}
 use Rattle.tbl_table.specs.Output.{CanFollow}
 use Rattle.tbl_table.specs.TableText.{block_of}
@@ -14,3 +17,15 @@ returns-else-not-has_piece-clause-can c =
       rest = subst (λ (room : ℕ). CanFollow c.args.text.now c.args.rows.now c.args.format.now room a.rest) (sym out.room) can.rest;
       last = IsLast-some c.pass-count.new.self.pieces a.rest (sym c.if-not-has_piece.ensures);
     }
+
+pub returns-then-not-has_piece-clause-within : goal.returns-then-not-has_piece-clause-within
+returns-then-not-has_piece-clause-within c = grind (ints, arith, common_steps)
+
+pub returns-then-not-has_piece-clause-coming : goal.returns-then-not-has_piece-clause-coming
+returns-then-not-has_piece-clause-coming c = grind (ints, arith, common_steps)
+
+pub returns-else-not-has_piece-clause-within : goal.returns-else-not-has_piece-clause-within
+returns-else-not-has_piece-clause-within c = grind (ints, arith, common_steps)
+
+pub returns-else-not-has_piece-clause-coming : goal.returns-else-not-has_piece-clause-coming
+returns-else-not-has_piece-clause-coming c = grind (ints, arith, common_steps)

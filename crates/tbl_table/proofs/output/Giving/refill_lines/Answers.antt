@@ -1,3 +1,6 @@
+use Rattle.std.proofs.Common.{arith}
+use Rattle.std.proofs.lemmas.Int.{ints}
+use Rattle.std.proofs.lemmas.Grind.{common_steps}
 use Rattle.std.proofs.Common.{◌≡◌, ℕ, ◌+◌, length, drop, ap, sym, subst, ◌∙◌}
 use Rattle.tbl_table.specs.Output.{CanLine}
 use Rattle.tbl_layout.specs.Picture.{first_format, line_of, next_of}
@@ -54,3 +57,12 @@ returns-clause-can c =
           (subst (λ (keys : ℕ). CanLine block r f c.self.inside.pieces.room (c.args.row + 1) keys) (sym next) behind);
       last = IsLast-some c.set_line.new.self.pieces _ c.set_line.ensures.some;
     }
+
+pub returns-then-row-count-clause-coming : goal.returns-then-row-count-clause-coming
+returns-then-row-count-clause-coming c = grind (ints, arith, common_steps)
+
+pub set_line-requires-clause-columns : goal.set_line-requires-clause-columns
+set_line-requires-clause-columns c = grind (ints, arith, common_steps)
+
+pub set_line-requires-clause-room : goal.set_line-requires-clause-room
+set_line-requires-clause-room c = grind (ints, arith, common_steps)

@@ -1,3 +1,5 @@
+use Rattle.std.proofs.lemmas.Int.{ints}
+use Rattle.std.proofs.lemmas.Grind.{common_steps}
 use Rattle.std.proofs.Common.{◌≡◌, ◌+◌, ◌≤◌, ℕ, List, [], ◌++◌, true, length, length-append, ap, ◌∙◌, arith}
 use Rattle.std.specs.List.{slice_range}
 use Rattle.std.specs.Prelude.{is_some}
@@ -69,3 +71,12 @@ returns c =
     (columns-same a.limits a.phase a.begun a.text a.format a.rows a.notes fits is) to_is j)
     ∙ ap (λ (k : Judged). made_of (with_table (with_judged k (ends_joined a.text.pending) 0 whole before.table)) (told_of_all a.text.settled a.notes.to_tell) []) j_is
     ∙ ap (λ (t : TableRead). made_of (with_table t) (told_of_all a.text.settled a.notes.to_tell) []) (closed-as a.text.pending before.table some))
+
+pub keep_judged-requires-clause-order : goal.keep_judged-requires-clause-order
+keep_judged-requires-clause-order c = grind (ints, arith, common_steps)
+
+pub keep_judged-requires-clause-block : goal.keep_judged-requires-clause-block
+keep_judged-requires-clause-block c = grind (ints, arith, common_steps)
+
+pub keep_judged-requires-clause-fields : goal.keep_judged-requires-clause-fields
+keep_judged-requires-clause-fields c = grind (ints, arith, common_steps)

@@ -1,3 +1,5 @@
+use Rattle.std.proofs.lemmas.Int.{ints}
+use Rattle.std.proofs.lemmas.Grind.{common_steps}
 use Rattle.std.proofs.Common.{◌≡◌, ◌-◌, ◌≤◌, ℕ, List, [], ◌∷◌, ◌++◌, take, drop, length, length-append, refl, ap, ◌∙◌, arith}
 use Rattle.std.specs.List.{slice_range}
 use Rattle.roff_source.specs.Bytes.{newline}
@@ -95,3 +97,12 @@ returns c =
     ∙ ap (λ (reading : Reading). made_of reading (told_of_all a.text.settled a.notes.to_tell) [])
     (table-keys-read a.limits a.phase a.begun a.options a.text a.format a.rows a.notes fits a.options g a.notes c.args.number none empty (told_of_all a.text.settled a.notes.notes)
     (told-stay a.limits a.phase a.begun a.options a.text a.format a.rows a.notes fits more) g.place))
+
+pub slice_bounds-take_keys-count : goal.slice_bounds-take_keys-count
+slice_bounds-take_keys-count c = grind (ints, arith, common_steps)
+
+pub slice_bounds-take_keys-start : goal.slice_bounds-take_keys-start
+slice_bounds-take_keys-start c = grind (ints, arith, common_steps)
+
+pub take_keys-self-inside-requires-clause-keys : goal.take_keys-self-inside-requires-clause-keys
+take_keys-self-inside-requires-clause-keys c = grind (ints, arith, common_steps)

@@ -1,3 +1,5 @@
+use Rattle.std.proofs.lemmas.Int.{ints}
+use Rattle.std.proofs.lemmas.Grind.{common_steps}
 use Rattle.std.proofs.Common.{◌≡◌, suc, ◌+◌, ◌-◌, ◌≤◌, ℕ, Bool, List, [], ◌∷◌, ◌++◌, map, take, drop, length, length-append, length-drop, refl, sym, ap, subst, ◌∙◌, arith, if◌then◌else◌}
 use Rattle.roff_source.specs.Bytes.{newline}
 use Rattle.tbl_table.specs.Begun.{begun_in}
@@ -139,3 +141,15 @@ returns c =
     ∙ ap (λ (reading : Reading). made_of reading (told_of_all a.text.settled a.notes.to_tell) [])
     (options-read a.limits a.phase a.begun c.read_options-settings.result.options a.text a.format a.rows a.notes fits ks kept_notes c.args.number nothing.alone nothing.no_rows said says a.options built (drop (suc end) line) refl
     ∙ ap with_settings settings_is))
+
+pub push_ignored-requires-clause-block : goal.push_ignored-requires-clause-block
+push_ignored-requires-clause-block c = grind (ints, arith, common_steps)
+
+pub push_ignored-requires-clause-room : goal.push_ignored-requires-clause-room
+push_ignored-requires-clause-room c = grind (ints, arith, common_steps)
+
+pub slice_bounds-take_built_keys-count : goal.slice_bounds-take_built_keys-count
+slice_bounds-take_built_keys-count c = grind (ints, arith, common_steps)
+
+pub slice_bounds-take_built_keys-start : goal.slice_bounds-take_built_keys-start
+slice_bounds-take_built_keys-start c = grind (ints, arith, common_steps)

@@ -1,3 +1,5 @@
+use Rattle.std.proofs.lemmas.Int.{ints}
+use Rattle.std.proofs.lemmas.Grind.{common_steps}
 use Rattle.std.proofs.Common.{◌≡◌, ◌+◌, ◌-◌, ℕ, List, [], ◌∷◌, ◌++◌, append-nil, length, length-append, ap, ◌∙◌, arith}
 use Rattle.roff_source.specs.Bytes.{newline}
 use Rattle.tbl_layout.specs.Data.{judged, kept_fields}
@@ -67,3 +69,15 @@ returns c =
     (end_row-read a.limits a.phase a.begun a.options a.text a.format a.rows a.notes fits is c.open_start-from.result (c.line_start-to.result - 1) c.args.number c.open_start-from.ensures
     (columns-same a.limits a.phase a.begun a.text a.format a.rows a.notes fits is) to_is j)
     ∙ ap (λ (k : Judged). made_of (ended_with (with_judged k (ends_joined a.text.pending) c.args.number whole before.table) before) (told_of_all a.text.settled a.notes.to_tell) []) j_is)
+
+pub overflow_sub-to : goal.overflow_sub-to
+overflow_sub-to c = grind (ints, arith, common_steps)
+
+pub keep_judged-requires-clause-order : goal.keep_judged-requires-clause-order
+keep_judged-requires-clause-order c = grind (ints, arith, common_steps)
+
+pub keep_judged-requires-clause-fields : goal.keep_judged-requires-clause-fields
+keep_judged-requires-clause-fields c = grind (ints, arith, common_steps)
+
+pub keep_judged-requires-clause-rows : goal.keep_judged-requires-clause-rows
+keep_judged-requires-clause-rows c = grind (ints, arith, common_steps)

@@ -1,0 +1,82 @@
+-- Text lines that stand in front up to their newlines, and are told and ended at once.
+use Rattle.std.proofs.Common.{◌≡◌, ℕ, ◌<◌, true, List, [], ◌∷◌, length, take, Option, Some, None, Result, Ok, refl, sym, ap, subst, arith}
+use Rattle.std.specs.Prelude.{take_while}
+use Rattle.roff_layout.specs.Happenings.{Places}
+use Rattle.roff_layout.specs.Layout.{Layout}
+use Rattle.roff_layout.specs.Lines.{Finished}
+use Rattle.roff_layout.specs.declared.event.Event.TheVariants.{LineEnd, WordEnd}
+use Rattle.roff_lines.specs.Env.Kept.{Kept}
+use Rattle.roff_lines.specs.Env.Unfilled.{EndsAtOnce, line_of, with_line_put}
+use Rattle.roff_lines.proofs.Unfilled.{ends_at_once}
+use Rattle.roff_lines.specs.declared.env.Env.{Env}
+use Rattle.roff_pages.specs.Pages.Stands.{StandsAs}
+use Rattle.roff_pages.specs.declared.pages.Pages.{Pages}
+use Rattle.roff_source.specs.Bytes.{is_text_byte}
+use Rattle.roff_composer.specs.declared.composer.Composer.{Composer as ComposerOf}
+use Rattle.roff_composer.specs.Environments.Standing.{StandBy}
+use Rattle.roff_composer.specs.declared.environments.Environments.{Environments as EnvironmentsOf}
+use Rattle.roff_run.specs.Environments.{environments, text_of}
+use Rattle.roff_run.specs.Output.{layout_of}
+use Rattle.roff_run.specs.PageEvents.{PageEvent}
+use Rattle.roff_run.specs.declared.event.PageEvent.TheVariants.{Text}
+use Rattle.roff_sinks.specs.Sinks.{Sunk}
+use Rattle.roff_formatter.specs.declared.formatter.Formatter.{Formatter}
+use Rattle.roff_formatter.specs.declared.halt.Halt.{Halt}
+use Rattle.roff_formatter.specs.declared.sprung.Sprung.{Sprung}
+use Rattle.roff_formatter.specs.Formatter.Paging.{PutsOnPage}
+use Rattle.roff_formatter.specs.Formatter.Performing.{PerformsEvents}
+use Rattle.roff_formatter.specs.Formatter.Telling.{TellsFront}
+use Rattle.roff_formatter.specs.Formatter.Unfilled.{PutsBehind, StandsNear}
+use Rattle.roff_formatter.proofs.DoneEvents.{lines_behind, text_put_here, with_lines}
+use Rattle.roff_formatter.proofs.DoneFirst.{only_first, ready_then}
+use Rattle.roff_formatter.proofs.FirstPages.{ready_taking}
+use Rattle.roff_formatter.proofs.Telling.{tells_counted}
+
+module _ (near : List ℕ) (count gaps : ℕ) (old : Formatter) (stands : StandsNear near count gaps old) where
+  abbrev text : List ℕ
+  text = take count near
+
+  abbrev kept : Env
+  kept = old.composer.environments.in_force.lines
+
+  abbrev at_once : EndsAtOnce text (line_of text kept) kept (with_line_put text kept)
+  at_once = ends_at_once near count gaps kept stands.ends
+
+  -- the formatter with these lines
+  abbrev with : Env → Formatter
+  with lines = record old { composer = with_lines old.composer lines }
+
+  told : TellsFront near count old (with at_once.told)
+  told =
+      tells_counted near count count old at_once.told stands.counted (omega arith) stands.takes at_once.tells.quiet at_once.tells.stands
+      (λ cap h stood more. absurd (omega (arith, more)))
+
+  ended : (out : Sunk) → PerformsEvents (Text WordEnd ∷ []) (with at_once.told) (with at_once.ended) out out (Ok None)
+  ended out =
+      only_first (Text WordEnd) (Text WordEnd) (with at_once.told) (with at_once.ended) out out (Ok None) (λ rs. refl) (λ g. refl) (λ sprung is. refl)
+      (ready_then (Text WordEnd) (Text WordEnd) (with at_once.told) (with at_once.told) (with at_once.ended) out out (Ok None)
+      (ready_taking (Text WordEnd) (with at_once.told) (λ l h stood. stands.takes (layout_of h) stood.pages))
+      (text_put_here WordEnd None (with at_once.told) (with at_once.ended) out out (Ok None) (λ h. refl)
+      (λ l h stood. at_once.quiet l.line (text_of h) stood.environments.in_force.lines)
+      (lines_behind WordEnd (with at_once.told).composer at_once.ended (λ trap. refl) at_once.word_end) (refl, refl, refl)))
+
+  -- the bytes were told, and the line that ended was placed
+  pub puts_near : (new : Formatter) (out out_new : Sunk) (r : Result (Option Sprung) Halt) (line : Finished) → line ≡ line_of text kept
+      → new.composer.environments ≡ (with (with_line_put text kept)).composer.environments
+      → PutsOnPage (Places line) old.composer.pages new.composer.pages out out_new r
+      → PutsBehind (Text LineEnd ∷ []) near count old new out out_new r
+  puts_near new out out_new r line is stay put = record {
+    told = with at_once.told;
+    tells = told;
+    ended = with at_once.ended;
+    word = ended;
+    performs =
+        only_first (Text LineEnd) (Text LineEnd) (with at_once.ended) new out out_new r (λ rs. refl) (λ g. refl) (λ sprung is. refl)
+        (ready_then (Text LineEnd) (Text LineEnd) (with at_once.ended) (with at_once.ended) new out out_new r
+        (ready_taking (Text LineEnd) (with at_once.ended) (λ l h stood. stands.takes (layout_of h) stood.pages))
+        (text_put_here LineEnd (Some (line_of text kept)) (with at_once.ended) new out out_new r (λ h. refl)
+        (λ l h stood. at_once.finishes l.line (text_of h) stood.environments.in_force.lines)
+        (λ l h stood. subst (λ (es : EnvironmentsOf). StandBy l (environments (Text LineEnd ∷ h)) es) (sym stay)
+        (lines_behind LineEnd (with at_once.ended).composer (with_line_put text kept) (λ trap. refl) at_once.line_end l h stood))
+        (subst (λ (line : Finished). PutsOnPage (Places line) old.composer.pages new.composer.pages out out_new r) is put)));
+  }

@@ -1,0 +1,6 @@
+pub mod RequestsObeyed
+pub mod FewerNames
+pub mod Placed
+pub mod TitleTakings
+pub mod DefinitionEnds
+pub mod EndedDefinitions

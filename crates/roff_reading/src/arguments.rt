@@ -1,0 +1,49 @@
+//! The arguments of requests, and the names that they give.
+
+ghost use Rattle.roff_reading.specs.Clauses.{TakesAs};
+ghost use Rattle.roff_reading.specs.Clauses.{row_of, unit_found, arguments_ended};
+
+use crate::obeying::obey;
+use roff_composer::Composer;
+use roff_num::Limit;
+use roff_reader::Reader;
+use roff_run::{LineReading, LineState, PageEvent, Request, Step};
+use roff_scan::{CopyUnit, Unread};
+
+/// A unit behind a request's name: a newline ends the line, and all else is held.
+#[inline(always)]
+pub(crate) fn read_unit(
+    reader: &mut Reader,
+    breaks: bool,
+    request: Request,
+    unit: CopyUnit,
+    composer: &Composer,
+    unread: &mut Unread<PageEvent>,
+) -> Result<Step, Limit>
+    ensures { TakesAs (λ k. unit_found k unread.old.input breaks request unit)
+        composer.now reader.old reader.new unread.old unread.new result }
+{
+    match unit {
+        CopyUnit::Byte(b'\n') => end_arguments(reader, breaks, request, composer, unread),
+        _ => reader.hold(unit, LineState::Arguments { breaks, request }, unread),
+    }
+}
+
+/// The end of a line that was read as arguments.
+#[inline(always)]
+pub(crate) fn end_arguments(
+    reader: &mut Reader,
+    breaks: bool,
+    request: Request,
+    composer: &Composer,
+    unread: &mut Unread<PageEvent>,
+) -> Result<Step, Limit>
+    ensures { TakesAs (λ k. arguments_ended k unread.old.input breaks request
+        (row_of request).line)
+        composer.now reader.old reader.new unread.old unread.new result }
+{
+    match request.row().line {
+        LineReading::ByLines(lines) => reader.begin_lines(lines, unread),
+        _ => obey(reader, breaks, request, composer, unread),
+    }
+}

@@ -1,0 +1,79 @@
+//! Newlines that end control lines, where nothing is half read.
+
+ghost use Rattle.std.specs.Prelude.{◌≡◌, [], Ok};
+ghost use Rattle.roff_source.specs.Bytes.{newline};
+ghost use Rattle.roff_run.specs.declared.line_state.LineState.TheVariants.{Arguments, Calling};
+ghost use Rattle.roff_run.specs.declared.request.Request.TheVariants.{Break};
+ghost use Rattle.roff_reading.specs.Clauses.{ComposerOf, TakesAs, line_ended, taking};
+
+use crate::arguments::end_arguments;
+use roff_composer::Composer;
+use roff_num::{Limit, ShortName};
+use roff_reader::Reader;
+use roff_run::{LineState, PageEvent, Request, Step, broken};
+use roff_scan::Unread;
+
+/// A newline behind the arguments of this request: it is obeyed.
+///
+/// # Errors
+///
+/// A limit that it would pass; what was changed then is of no more use.
+#[inline(always)]
+pub fn end_request(
+    reader: &mut Reader,
+    breaks: bool,
+    request: Request,
+    composer: &Composer,
+    unread: &mut Unread<PageEvent>,
+) -> Result<Step, Limit>
+    requires line { reader.old.reading ≡ Arguments breaks request }
+    requires none_half { unread.old.input.escapes ≡ [] }
+    ensures { TakesAs (λ k. taking k reader.old.reading unread.old.input newline)
+        composer.now reader.old reader.new unread.old unread.new result }
+{
+    end_arguments(reader, breaks, request, composer, unread)
+}
+
+/// A newline that ends the line of a break.
+#[inline(always)]
+pub fn end_break(reader: &mut Reader, breaks: bool, unread: &mut Unread<PageEvent>) -> Step
+    requires line { reader.old.reading ≡ Arguments breaks Break }
+    requires none_half { unread.old.input.escapes ≡ [] }
+    ensures { (es : ComposerOf)
+        → TakesAs (λ k. taking k reader.old.reading unread.old.input newline)
+        es reader.old reader.new unread.old unread.new (Ok result) }
+{
+    obey_break(reader, breaks, unread)
+}
+
+/// The end of the line of a break, whose arguments mean nothing.
+#[inline(always)]
+fn obey_break(reader: &mut Reader, breaks: bool, unread: &mut Unread<PageEvent>) -> Step
+    ensures { (es : ComposerOf)
+        → TakesAs (λ k. line_ended k unread.old.input breaks Break)
+        es reader.old reader.new unread.old unread.new (Ok result) }
+{
+    unread.begin_arguments();
+    reader.go_on(LineState::LineStart);
+    broken(breaks)
+}
+
+/// A newline behind the arguments of a line that calls this body, which is read.
+///
+/// # Errors
+///
+/// A limit that it would pass; what was changed then is of no more use.
+#[inline(always)]
+pub fn end_call_line(
+    reader: &mut Reader,
+    name: ShortName,
+    unread: &mut Unread<PageEvent>,
+) -> Result<Step, Limit>
+    requires line { reader.old.reading ≡ Calling name }
+    requires none_half { unread.old.input.escapes ≡ [] }
+    ensures { (es : ComposerOf)
+        → TakesAs (λ k. taking k reader.old.reading unread.old.input newline)
+        es reader.old reader.new unread.old unread.new result }
+{
+    reader.call_body(name, unread)
+}
