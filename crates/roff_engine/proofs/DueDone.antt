@@ -19,7 +19,7 @@ use Rattle.roff_run.specs.Run.Counts.{counts_in, first_passed}
 use Rattle.roff_run.specs.declared.line_state.Due.{Due}
 use Rattle.roff_run.specs.declared.line_state.Due.TheVariants.{Leaves as LeavesInput, Tells}
 use Rattle.roff_run.specs.declared.line_state.LineState.{LineState}
-use Rattle.roff_run.specs.declared.line_state.LineState.TheVariants.{LineStart, Branch, Braced, Text as InText, Control, Name, Arguments as InArguments, Deciding, StringName, StringText, Skipping, Dropped, Telling, Told, Exiting, Calling, Defining, TitleFront, Title as InTitle}
+use Rattle.roff_run.specs.declared.line_state.LineState.TheVariants.{LineStart, Branch, Braced, Text as InText, Control, Name, Deciding, Skipping, Dropped, Told, Exiting, TitleFront, Title as InTitle, Collecting}
 use Rattle.roff_run.specs.declared.status.Status.TheVariants.{Aborted, Device}
 use Rattle.roff_run.proofs.InputCounts.{NoMore-leaving, NoMore-released, first_passed-no_more}
 use Rattle.roff_engine.specs.declared.running.Running.{Running as Coded}
@@ -55,15 +55,10 @@ due-line Braced what left is = cc
 due-line (InText line) what left is = omega arith
 due-line (Control breaks) what left is = omega arith
 due-line (Name breaks first) what left is = omega arith
-due-line (InArguments breaks request) what left is = omega arith
+due-line (Collecting purpose) what left is = omega arith
 due-line (Deciding keeping) what left is = omega arith
-due-line (StringName appends) what left is = omega arith
-due-line (StringText name appends is_front) what left is = omega arith
-due-line (Calling name) what left is = omega arith
-due-line (Defining name appends end matched) what left is = omega arith
 due-line (Skipping opened closed behind) what left is = omega arith
 due-line Dropped what left is = omega arith
-due-line (Telling aborts is_front) what left is = omega arith
 due-line (Told aborts) what left is = omega arith
 due-line Exiting what left is = omega arith
 due-line TitleFront what left is = omega arith

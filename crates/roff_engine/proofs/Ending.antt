@@ -25,7 +25,8 @@ use Rattle.roff_run.specs.Registers.{Known}
 use Rattle.roff_run.specs.Run.{State, initial, ending_as, escape_ends, input_ended, known, phase_ended, step, unless_refused, grown}
 use Rattle.roff_run.specs.Run.Counts.{counts_in, first_passed}
 use Rattle.roff_run.specs.declared.line_state.LineState.{LineState}
-use Rattle.roff_run.specs.declared.line_state.LineState.TheVariants.{LineStart, Branch, Braced, Text as InText, Control, Name, Arguments as InArguments, Deciding, StringName, StringText, Skipping, Dropped, Telling, Told, Exiting, Calling, Defining, TitleFront, Title as InTitle}
+use Rattle.roff_run.specs.declared.line_state.LineState.TheVariants.{LineStart, Branch, Braced, Text as InText, Control, Name, Deciding, Skipping, Dropped, Told, Exiting, TitleFront, Title as InTitle, Collecting}
+use Rattle.roff_run.specs.declared.purpose.Purpose.TheVariants.{Arguments as InArguments, StringName, StringText, Telling, Calling, Defining}
 use Rattle.roff_run.specs.declared.phase.Phase.TheVariants.{Closing}
 use Rattle.roff_run.specs.declared.status.Status.TheVariants.{Done}
 use Rattle.roff_input.specs.Input.{Ahead}
@@ -49,20 +50,20 @@ nothing_ended k Braced i none = subst (λ (half : List OpenEscape). Unmoved i (r
 nothing_ended k (InText line) i none = subst (λ (half : List OpenEscape). Unmoved i (read_in k (InText line) i (reading_ended (on_line k line) half)).input) (sym none) (refl, refl)
 nothing_ended k (Control breaks) i none = (refl, refl)
 nothing_ended k (Name breaks byte) i none = (refl, refl)
-nothing_ended k (InArguments breaks request) i none =
-    subst (λ (half : List OpenEscape). Unmoved i (read_in k (InArguments breaks request) i (reading_ended AboveArguments half)).input) (sym none) (refl, refl)
+nothing_ended k (Collecting (InArguments breaks request)) i none =
+    subst (λ (half : List OpenEscape). Unmoved i (read_in k (Collecting (InArguments breaks request)) i (reading_ended AboveArguments half)).input) (sym none) (refl, refl)
 nothing_ended k (Deciding keeping) i none =
     subst (λ (half : List OpenEscape). Unmoved i (read_in k (Deciding keeping) i (reading_ended AboveArguments half)).input) (sym none) (refl, refl)
-nothing_ended k (StringName appends) i none =
-    subst (λ (half : List OpenEscape). Unmoved i (read_in k (StringName appends) i (reading_ended AboveArguments half)).input) (sym none) (refl, refl)
-nothing_ended k (Calling name) i none =
-    subst (λ (half : List OpenEscape). Unmoved i (read_in k (Calling name) i (reading_ended AboveArguments half)).input) (sym none) (refl, refl)
-nothing_ended k (StringText name appends is_front) i none =
-    subst (λ (half : List OpenEscape). Unmoved i (read_in k (StringText name appends is_front) i (reading_ended AboveCopy half)).input) (sym none) (refl, refl)
-nothing_ended k (Defining name appends end matched) i none =
-    subst (λ (half : List OpenEscape). Unmoved i (read_in k (Defining name appends end matched) i (reading_ended AboveCopy half)).input) (sym none) (refl, refl)
-nothing_ended k (Telling aborts is_front) i none =
-    subst (λ (half : List OpenEscape). Unmoved i (read_in k (Telling aborts is_front) i (reading_ended AboveCopy half)).input) (sym none) (refl, refl)
+nothing_ended k (Collecting (StringName appends)) i none =
+    subst (λ (half : List OpenEscape). Unmoved i (read_in k (Collecting (StringName appends)) i (reading_ended AboveArguments half)).input) (sym none) (refl, refl)
+nothing_ended k (Collecting (Calling name)) i none =
+    subst (λ (half : List OpenEscape). Unmoved i (read_in k (Collecting (Calling name)) i (reading_ended AboveArguments half)).input) (sym none) (refl, refl)
+nothing_ended k (Collecting (StringText name appends is_front)) i none =
+    subst (λ (half : List OpenEscape). Unmoved i (read_in k (Collecting (StringText name appends is_front)) i (reading_ended AboveCopy half)).input) (sym none) (refl, refl)
+nothing_ended k (Collecting (Defining name appends end matched)) i none =
+    subst (λ (half : List OpenEscape). Unmoved i (read_in k (Collecting (Defining name appends end matched)) i (reading_ended AboveCopy half)).input) (sym none) (refl, refl)
+nothing_ended k (Collecting (Telling aborts is_front)) i none =
+    subst (λ (half : List OpenEscape). Unmoved i (read_in k (Collecting (Telling aborts is_front)) i (reading_ended AboveCopy half)).input) (sym none) (refl, refl)
 nothing_ended k (Told aborts) i none = (refl, refl)
 nothing_ended k Exiting i none = (refl, refl)
 nothing_ended k (Skipping opened closed behind) i none = (refl, refl)

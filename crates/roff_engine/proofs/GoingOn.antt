@@ -36,7 +36,7 @@ use Rattle.roff_run.specs.Run.{State, initial, made, sprung_at, sprung_read, ste
 use Rattle.roff_run.specs.Run.Counts.{counts_in, first_passed}
 use Rattle.roff_run.specs.PageEvents.{PageEvent}
 use Rattle.roff_run.specs.declared.line_state.LineState.{LineState}
-use Rattle.roff_run.specs.declared.line_state.LineState.TheVariants.{LineStart, Branch, Braced, Text as InText, Control, Name, Arguments as InArguments, Deciding, StringName, StringText, Skipping, Dropped, Telling, Told, Exiting, Calling, Defining, TitleFront, Title as InTitle}
+use Rattle.roff_run.specs.declared.line_state.LineState.TheVariants.{LineStart, Branch, Braced, Text as InText, Control, Name, Deciding, Skipping, Dropped, Told, Exiting, TitleFront, Title as InTitle, Collecting}
 use Rattle.roff_run.specs.declared.request.Called.{Called}
 use Rattle.roff_run.specs.declared.request.Called.TheVariants.{Request as ARequest, Body as ABody, Nothing as Unknown}
 use Rattle.roff_run.specs.declared.status.Status.{Status}
@@ -101,15 +101,10 @@ line_turns-sprung Braced left few = omega arith
 line_turns-sprung (InText line) left few = omega (arith, few)
 line_turns-sprung (Control breaks) left few = omega arith
 line_turns-sprung (Name breaks first) left few = omega arith
-line_turns-sprung (InArguments breaks request) left few = omega arith
+line_turns-sprung (Collecting purpose) left few = omega arith
 line_turns-sprung (Deciding keeping) left few = omega arith
-line_turns-sprung (StringName appends) left few = omega arith
-line_turns-sprung (StringText name appends is_front) left few = omega arith
-line_turns-sprung (Calling name) left few = omega arith
-line_turns-sprung (Defining name appends end matched) left few = omega arith
 line_turns-sprung (Skipping opened closed behind) left few = omega arith
 line_turns-sprung Dropped left few = omega arith
-line_turns-sprung (Telling aborts is_front) left few = omega arith
 line_turns-sprung (Told aborts) left few = omega arith
 line_turns-sprung Exiting left few = omega arith
 line_turns-sprung TitleFront left few = omega arith

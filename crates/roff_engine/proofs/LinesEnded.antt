@@ -13,7 +13,7 @@ use Rattle.roff_reader.specs.Reader.State.{ReaderState}
 use Rattle.roff_fronts.specs.Stages.{ReadsLine, ReadsPast}
 use Rattle.roff_engine.specs.declared.running.Running.{Running as Coded}
 use Rattle.roff_interpreter.specs.Outcome.{Seen, seen}
-use Rattle.roff_engine.specs.Running.Turning.{ComesFurther, DoesItem, GoesPast, GoesPastIf, StandsForSome, TurnsBy}
+use Rattle.roff_engine.specs.Running.Turning.{ComesFurther, DoesItem, GoesPast, StandsForSome, TurnsBy}
 use Rattle.roff_sinks.specs.Sinks.{Sunk}
 use Rattle.roff_engine.proofs.Beginning.{turns_behind}
 use Rattle.roff_engine.proofs.ComingFurther.{comes_some, comes_turned}

@@ -1,5 +1,5 @@
 -- A run that goes past bytes, and then past more, goes past all of them; and one past a newline.
-use Rattle.std.proofs.Common.{◌≡◌, ◌≤◌, ℕ, ◌<◌, Bool, true, false, [], ◌∷◌, ◌++◌, None, Ok, refl, sym, ap, subst, ◌∙◌, arith}
+use Rattle.std.proofs.Common.{◌≡◌, ◌≤◌, ℕ, ◌<◌, Bool, true, false, [], ◌∷◌, ◌++◌, None, refl, sym, ap, subst, ◌∙◌, arith}
 use Rattle.roff_source.specs.Bytes.{newline}
 use Rattle.roff_source.specs.Tape.{Tape, items_then}
 use Rattle.roff_input.specs.Unread.{IsWithin}
@@ -7,8 +7,7 @@ use Rattle.roff_scan.specs.Unread.Calls.{OfSource, OfTexts, PassesFront}
 use Rattle.roff_reader.specs.Reader.State.{ReaderState}
 use Rattle.roff_run.specs.Reading.Items.{PageUnread}
 use Rattle.roff_run.specs.Reading.Ends.{due}
-use Rattle.roff_run.specs.Run.{State}
-use Rattle.roff_run.specs.Stages.{EndsLine}
+use Rattle.roff_run.specs.Stages.{EndsByNewline}
 use Rattle.roff_fronts.specs.DroppedLines.{LineBegun}
 use Rattle.roff_fronts.specs.Stages.{ReadsPast}
 use Rattle.roff_run.specs.TurnsToCome.{begun, free_ahead, turns_to_come}
@@ -16,7 +15,7 @@ use Rattle.roff_run.specs.declared.line_state.LineState.TheVariants.{LineStart}
 use Rattle.roff_fronts.proofs.LineEnds.{reads-ended}
 use Rattle.roff_engine.specs.declared.running.Running.{Running as Coded}
 use Rattle.roff_interpreter.specs.Outcome.{Seen, seen}
-use Rattle.roff_engine.specs.Running.Turning.{GoesFurther, GoesPast, GoesPastIf, IsAt, StandsForSome, StepDoes, TurnsBy, turns_with}
+use Rattle.roff_engine.specs.Running.Turning.{GoesFurther, GoesPast, GoesPastIf, IsAt}
 use Rattle.roff_sinks.specs.Sinks.{Sunk}
 use Rattle.roff_engine.proofs.Turned.{goes_past_turned}
 use Rattle.roff_engine.proofs.TurnsLeft.{turns_of_run-fewer}
@@ -118,7 +117,7 @@ goes_further_begun gave gives noted notes failed failures out err old after r pa
 -- past a newline behind which one does
 pub goes_further_ended : (gave gives : Tape → Type 0) (noted notes failed failures : ℕ) (out err : Sunk) (old : Coded) (after : PageUnread) (r : ReaderState)
     → r ≡ record old.interpreter.reader { reading = LineStart } → due old.interpreter.reader.reading ≡ None
-    → EndsLine old.interpreter.reader.reading → old.unread.input.escapes ≡ [] → PassesFront gave gives (newline ∷ []) old.unread after → IsWithin after
+    → EndsByNewline old.interpreter.reader.reading → old.unread.input.escapes ≡ [] → PassesFront gave gives (newline ∷ []) old.unread after → IsWithin after
     → notes ≤ noted → failures ≡ failed
     → GoesFurther true gave gives noted notes old (record old { unread = after; interpreter = record old.interpreter { reader = r } }) (seen failed out err) (seen failures out err)
 goes_further_ended gave gives noted notes failed failures out err old after r is none_due ends none_half passes within fewer same_failures =

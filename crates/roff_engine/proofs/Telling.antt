@@ -49,7 +49,7 @@ use Rattle.roff_run.specs.Reading.Items.{Taking}
 use Rattle.roff_run.specs.Registers.{no_registers}
 use Rattle.roff_run.specs.Run.{first_input, known_at}
 use Rattle.roff_run.specs.TurnsToCome.{unended}
-use Rattle.roff_run.specs.declared.line_state.LineState.TheVariants.{LineStart, Branch, Braced, Text as InText, Control, Name, Arguments as InArguments, Deciding, StringName, StringText, Skipping, Dropped, Telling, Told, Exiting, Calling, Defining, TitleFront, Title as InTitle}
+use Rattle.roff_run.specs.declared.line_state.LineState.TheVariants.{LineStart, Branch, Braced, Text as InText, Control, Name, Deciding, Skipping, Dropped, Told, Exiting, TitleFront, Title as InTitle, Collecting}
 
 -- where a line begins a byte doesn't leave it so
 unended-printed : (reading : LineState) → ((b : ℕ) → is_text_byte b ≡ true → Prints reading b)
@@ -64,15 +64,10 @@ lines-told Branch prints one other = refl
 lines-told (InText line) prints one other = refl
 lines-told (Control breaks) prints one other = refl
 lines-told (Name breaks first) prints one other = refl
-lines-told (InArguments breaks request) prints one other = refl
+lines-told (Collecting purpose) prints one other = refl
 lines-told (Deciding keeping) prints one other = refl
-lines-told (StringName appends) prints one other = refl
-lines-told (StringText name appends is_front) prints one other = refl
-lines-told (Calling name) prints one other = refl
-lines-told (Defining name appends end matched) prints one other = refl
 lines-told (Skipping opened closed behind) prints one other = refl
 lines-told Dropped prints one other = refl
-lines-told (Telling aborts is_front) prints one other = refl
 lines-told (Told aborts) prints one other = refl
 lines-told Exiting prints one other = refl
 lines-told TitleFront prints one other = refl

@@ -18,7 +18,7 @@ use Rattle.roff_run.specs.Reading.Ends.{is_unfinished}
 use Rattle.roff_run.specs.Run.{State, escape_ends, input_ended, known, phase_ended}
 use Rattle.roff_run.specs.TurnsToCome.{begun, lines_left, phases_left, turns_within, unended}
 use Rattle.roff_run.specs.declared.line_state.LineState.{LineState}
-use Rattle.roff_run.specs.declared.line_state.LineState.TheVariants.{LineStart, Branch, Braced, Text as InText, Control, Name, Arguments as InArguments, Deciding, StringName, StringText, Skipping, Dropped, Telling, Told, Exiting, Calling, Defining, TitleFront, Title as InTitle}
+use Rattle.roff_run.specs.declared.line_state.LineState.TheVariants.{LineStart, Branch, Braced, Text as InText, Control, Name, Deciding, Skipping, Dropped, Told, Exiting, TitleFront, Title as InTitle, Collecting}
 use Rattle.roff_run.specs.declared.line_state.TextLine.{TextLine}
 use Rattle.roff_run.specs.declared.phase.Phase.{Phase}
 use Rattle.roff_run.specs.declared.phase.Phase.TheVariants.{Reading, LastMacro, Closing}
@@ -46,15 +46,10 @@ line_turns-few Braced left few = omega (arith, few)
 line_turns-few (InText line) left few = omega arith
 line_turns-few (Control breaks) left few = omega arith
 line_turns-few (Name breaks first) left few = omega arith
-line_turns-few (InArguments breaks request) left few = omega arith
+line_turns-few (Collecting purpose) left few = omega arith
 line_turns-few (Deciding keeping) left few = omega arith
-line_turns-few (StringName appends) left few = omega arith
-line_turns-few (StringText name appends is_front) left few = omega arith
-line_turns-few (Calling name) left few = omega arith
-line_turns-few (Defining name appends end matched) left few = omega arith
 line_turns-few (Skipping opened closed behind) left few = omega arith
 line_turns-few Dropped left few = omega arith
-line_turns-few (Telling aborts is_front) left few = omega arith
 line_turns-few (Told aborts) left few = omega arith
 line_turns-few Exiting left few = omega arith
 line_turns-few TitleFront left few = omega arith
@@ -68,15 +63,10 @@ line_turns-least Braced left = omega arith
 line_turns-least (InText line) left = omega arith
 line_turns-least (Control breaks) left = omega arith
 line_turns-least (Name breaks first) left = omega arith
-line_turns-least (InArguments breaks request) left = omega arith
+line_turns-least (Collecting purpose) left = omega arith
 line_turns-least (Deciding keeping) left = omega arith
-line_turns-least (StringName appends) left = omega arith
-line_turns-least (StringText name appends is_front) left = omega arith
-line_turns-least (Calling name) left = omega arith
-line_turns-least (Defining name appends end matched) left = omega arith
 line_turns-least (Skipping opened closed behind) left = omega arith
 line_turns-least Dropped left = omega arith
-line_turns-least (Telling aborts is_front) left = omega arith
 line_turns-least (Told aborts) left = omega arith
 line_turns-least Exiting left = omega arith
 line_turns-least TitleFront left = omega arith
@@ -90,15 +80,10 @@ line_turns-more Braced left more few = few
 line_turns-more (InText line) left more few = omega arith
 line_turns-more (Control breaks) left more few = omega arith
 line_turns-more (Name breaks first) left more few = omega arith
-line_turns-more (InArguments breaks request) left more few = omega arith
+line_turns-more (Collecting purpose) left more few = omega arith
 line_turns-more (Deciding keeping) left more few = omega arith
-line_turns-more (StringName appends) left more few = omega arith
-line_turns-more (StringText name appends is_front) left more few = omega arith
-line_turns-more (Calling name) left more few = omega arith
-line_turns-more (Defining name appends end matched) left more few = omega arith
 line_turns-more (Skipping opened closed behind) left more few = omega arith
 line_turns-more Dropped left more few = omega arith
-line_turns-more (Telling aborts is_front) left more few = omega arith
 line_turns-more (Told aborts) left more few = omega arith
 line_turns-more Exiting left more few = omega arith
 line_turns-more TitleFront left more few = omega arith

@@ -4,24 +4,20 @@ use Rattle.std.specs.Prelude.{IfSome}
 use Rattle.std.proofs.lemmas.List.{get_or-take, length-take, take_more}
 use Rattle.roff_source.specs.Bytes.{is_text_byte, newline}
 use Rattle.roff_source.specs.Tape.{Tape, items_then}
-use Rattle.roff_num.specs.declared.limits.Limits.{Limits}
 use Rattle.roff_scan.specs.Unread.Calls.{IsFront, NoNewline, PassesFront, front_bytes, next_bytes}
 use Rattle.roff_scan.specs.Unread.Lines.{StandsNewline}
 use Rattle.roff_scan.proofs.RunKinds.{no_newline_of}
 use Rattle.roff_fronts.proofs.RunsRead.{first_of_front}
 use Rattle.roff_run.proofs.TextBytes.{prints_text}
-use Rattle.roff_run.specs.Environments.{PageHistory, interrupted_line}
 use Rattle.roff_run.specs.Reading.{taking}
 use Rattle.roff_run.specs.Reading.Ends.{due}
 use Rattle.roff_run.specs.Reading.Items.{PageUnread}
 use Rattle.roff_run.specs.Run.{State, byte_taken, step}
 use Rattle.roff_run.specs.Telling.{Prints}
 use Rattle.roff_run.specs.declared.line_state.LineState.{LineState}
-use Rattle.roff_run.specs.declared.line_state.LineState.TheVariants.{LineStart, Text as InText}
+use Rattle.roff_run.specs.declared.line_state.LineState.TheVariants.{Text as InText}
 use Rattle.roff_run.specs.declared.line_state.TextLine.{TextLine}
 use Rattle.roff_run.specs.declared.status.Status.{Status}
-use Rattle.roff_reader.specs.Reader.State.{ReaderState}
-use Rattle.roff_composer.specs.Composer.Standing.{StandFor}
 use Rattle.roff_formatter.specs.declared.formatter.Formatter.{Formatter}
 use Rattle.roff_formatter.specs.declared.halt.Halt.{Halt}
 use Rattle.roff_formatter.specs.declared.sprung.Sprung.{Sprung}
@@ -34,10 +30,9 @@ use Rattle.roff_interpreter.specs.Unfilled.{EndsFront, told_as}
 use Rattle.roff_interpreter.proofs.LinesSplit.{between, line-between, mid, passes-bytes, takes-newline}
 use Rattle.roff_sinks.specs.Sinks.{Sunk}
 use Rattle.roff_engine.specs.declared.running.Running.{Running as Coded}
-use Rattle.roff_engine.specs.Running.Beginning.{BeginWithText}
 use Rattle.roff_engine.specs.Running.Turning.{AreLeft, ComesFurther, Continues, DoesItem, GoesPast, GoesPastIf, IsAt, StandsForSome, StepDoes, TurnsBy, turns_with}
 use Rattle.roff_engine.specs.Running.Unfilled.{BehindGlyph, FromFirst, LineInFront, ReadsText}
-use Rattle.roff_engine.proofs.Beginning.{begun-some, begun_by, escapes-passed, goes_past_begun, turns_behind}
+use Rattle.roff_engine.proofs.Beginning.{begun-some, escapes-passed, goes_past_begun, turns_behind}
 use Rattle.roff_engine.proofs.ComingFurther.{comes_turned}
 use Rattle.roff_engine.proofs.PassingOn.{goes_past_known}
 use Rattle.roff_engine.proofs.Telling.{goes_past_told}

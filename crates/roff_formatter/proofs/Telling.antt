@@ -22,7 +22,6 @@ use Rattle.roff_composer.specs.declared.environments.Environments.{Environments 
 use Rattle.roff_run.specs.Output.{PageHistory, layout_of}
 use Rattle.roff_run.specs.Telling.{page_told}
 use Rattle.roff_composer.specs.declared.composer.Composer.{Composer as ComposerOf}
-use Rattle.roff_run.proofs.PlainRuns.{counted}
 use Rattle.roff_formatter.specs.declared.formatter.Formatter.{Formatter}
 use Rattle.roff_formatter.specs.Formatter.Telling.{TellsFront, most_at_once}
 use Rattle.roff_composer.proofs.ToldBytes.{environments-told, layout-told, with_text, written-told}

@@ -1,23 +1,15 @@
 -- Text lines that stand in front up to their newlines, and are told and ended at once.
-use Rattle.std.proofs.Common.{◌≡◌, ℕ, ◌<◌, true, List, [], ◌∷◌, length, take, Option, Some, None, Result, Ok, refl, sym, ap, subst, arith}
-use Rattle.std.specs.Prelude.{take_while}
+use Rattle.std.proofs.Common.{◌≡◌, ℕ, List, [], ◌∷◌, take, Option, Some, None, Result, Ok, refl, sym, subst, arith}
 use Rattle.roff_layout.specs.Happenings.{Places}
-use Rattle.roff_layout.specs.Layout.{Layout}
 use Rattle.roff_layout.specs.Lines.{Finished}
 use Rattle.roff_layout.specs.declared.event.Event.TheVariants.{LineEnd, WordEnd}
-use Rattle.roff_lines.specs.Env.Kept.{Kept}
 use Rattle.roff_lines.specs.Env.Unfilled.{EndsAtOnce, line_of, with_line_put}
 use Rattle.roff_lines.proofs.Unfilled.{ends_at_once}
 use Rattle.roff_lines.specs.declared.env.Env.{Env}
-use Rattle.roff_pages.specs.Pages.Stands.{StandsAs}
-use Rattle.roff_pages.specs.declared.pages.Pages.{Pages}
-use Rattle.roff_source.specs.Bytes.{is_text_byte}
-use Rattle.roff_composer.specs.declared.composer.Composer.{Composer as ComposerOf}
 use Rattle.roff_composer.specs.Environments.Standing.{StandBy}
 use Rattle.roff_composer.specs.declared.environments.Environments.{Environments as EnvironmentsOf}
 use Rattle.roff_run.specs.Environments.{environments, text_of}
 use Rattle.roff_run.specs.Output.{layout_of}
-use Rattle.roff_run.specs.PageEvents.{PageEvent}
 use Rattle.roff_run.specs.declared.event.PageEvent.TheVariants.{Text}
 use Rattle.roff_sinks.specs.Sinks.{Sunk}
 use Rattle.roff_formatter.specs.declared.formatter.Formatter.{Formatter}

@@ -18,7 +18,8 @@ use Rattle.roff_run.specs.Reading.Items.{going_on}
 use Rattle.roff_run.specs.Reading.Units.{settling}
 use Rattle.roff_run.specs.Stages.{Here, HoldsIfFewer, Onward, Stage, Turned, input_at}
 use Rattle.roff_run.specs.declared.line_state.LineState.{LineState}
-use Rattle.roff_run.specs.declared.line_state.LineState.TheVariants.{Arguments as InArguments, Calling}
+use Rattle.roff_run.specs.declared.line_state.LineState.TheVariants.{Collecting}
+use Rattle.roff_run.specs.declared.purpose.Purpose.TheVariants.{Arguments as InArguments, Calling}
 use Rattle.roff_run.specs.declared.request.Request.{Request}
 use Rattle.roff_num.specs.declared.short_name.ShortName.{ShortName}
 
@@ -34,17 +35,17 @@ pub held-byte_least : (a : Arguments) (b : ℕ) → held a ≤ held (only_kept (
 held-byte_least a b = omega (arith, held-only_kept (with_argument_byte a b), held-with_argument_byte a b)
 
 -- a byte that is held as it is read, behind the name of a body, where fewer than eight arguments are whole
-holds_call : (name : ShortName) (b : ℕ) → is_argument_byte b ≡ true → HoldsIfFewer (Some 8) (Calling name) b
+holds_call : (name : ShortName) (b : ℕ) → is_argument_byte b ≡ true → HoldsIfFewer (Some 8) (Collecting (Calling name)) b
 holds_call name b plain = λ k i none_half few.
-    let reading : LineState = Calling name in
+    let reading : LineState = Collecting (Calling name) in
     let none = none_of_three (b == backslash) (is_dropped b) (b == newline) plain in
     ap (λ (c : Bool). if c then going_on (settling i) reading else undropped_taking k reading i b) none.1.0 ∙ sym (call-byte k name i b none_half few none.0 none.1.1)
 
-pub holds_call_where : (reading : LineState) (name : ShortName) → reading ≡ Calling name → (b : ℕ) → is_argument_byte b ≡ true → HoldsIfFewer (Some 8) reading b
+pub holds_call_where : (reading : LineState) (name : ShortName) → reading ≡ Collecting (Calling name) → (b : ℕ) → is_argument_byte b ≡ true → HoldsIfFewer (Some 8) reading b
 holds_call_where reading name is b plain = subst (λ (r : LineState). HoldsIfFewer (Some 8) r b) (sym is) (holds_call name b plain)
 
 -- and behind that of a request, however many are
-pub holds_request : (breaks : Bool) (request : Request) (b : ℕ) → is_argument_byte b ≡ true → HoldsIfFewer None (InArguments breaks request) b
+pub holds_request : (breaks : Bool) (request : Request) (b : ℕ) → is_argument_byte b ≡ true → HoldsIfFewer None (Collecting (InArguments breaks request)) b
 holds_request breaks request b plain = λ k i none_half few. search rules
 
 -- where this is read

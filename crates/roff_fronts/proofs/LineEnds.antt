@@ -11,13 +11,13 @@ use Rattle.roff_fronts.proofs.ControlFronts.{reads-front, stage_with}
 use Rattle.roff_reader.specs.Reader.State.{ReaderState}
 use Rattle.roff_run.specs.Reading.Items.{PageUnread}
 use Rattle.roff_run.specs.Reading.Ends.{due}
-use Rattle.roff_run.specs.Stages.{EndsLine, Here, Onward, Stage, Turned, input_at}
+use Rattle.roff_run.specs.Stages.{EndsByNewline, Here, Onward, Stage, Turned, input_at}
 use Rattle.roff_fronts.specs.Stages.{ReadsPast}
 use Rattle.roff_run.specs.declared.line_state.LineState.{LineState}
 use Rattle.roff_run.specs.declared.line_state.LineState.TheVariants.{LineStart}
 
 -- a line begins behind it
-pub turned-ended : (names : Named Entry) (reading : LineState) (a : Arguments) (texts : List (List ℕ)) → due reading ≡ None → EndsLine reading
+pub turned-ended : (names : Named Entry) (reading : LineState) (a : Arguments) (texts : List (List ℕ)) → due reading ≡ None → EndsByNewline reading
     → Turned names (stage_with reading [] a texts) (newline ∷ []) (stage_with LineStart [] a texts)
 turned-ended names reading a texts none_due ends =
     let p : Stage = stage_with reading [] a texts in
@@ -25,7 +25,7 @@ turned-ended names reading a texts none_due ends =
     Onward p q q newline [] none_due refl (λ k i. ends k (input_at names p i)) refl (omega arith) (omega arith) (Here q)
 
 -- and it was read past
-pub reads-ended : (gave gives : Tape → Type 0) (r new : ReaderState) (before after : PageUnread) → due r.reading ≡ None → EndsLine r.reading
+pub reads-ended : (gave gives : Tape → Type 0) (r new : ReaderState) (before after : PageUnread) → due r.reading ≡ None → EndsByNewline r.reading
     → before.input.escapes ≡ [] → PassesFront gave gives (newline ∷ []) before after → IsWithin after → new ≡ record r { reading = LineStart }
     → ReadsPast gave gives r new before after
 reads-ended gave gives r new before after none_due ends none_half passes within same =

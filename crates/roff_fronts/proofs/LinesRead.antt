@@ -34,7 +34,8 @@ use Rattle.roff_fronts.proofs.ControlFronts.{control_plain, stage_with, turned-n
 use Rattle.roff_fronts.proofs.HeldRuns.{holds_call_where, holds_request, turned-held}
 use Rattle.roff_fronts.specs.Runs.{IsRun}
 use Rattle.roff_scan.specs.declared.run_kind.RunKind.TheVariants.{Arguments as ArgumentsRun, CallArguments}
-use Rattle.roff_run.specs.declared.line_state.LineState.TheVariants.{Arguments as InArguments, Calling}
+use Rattle.roff_run.specs.declared.line_state.LineState.TheVariants.{Collecting}
+use Rattle.roff_run.specs.declared.purpose.Purpose.TheVariants.{Arguments as InArguments, Calling}
 use Rattle.roff_run.specs.declared.request.Request.{Request}
 use Rattle.roff_fronts.proofs.RunsRead.{turned-behind}
 
@@ -214,14 +215,14 @@ ended-front front bytes ready u fronts are stands ends = there fronts.rest front
         }
 
 -- behind a request's name they are held
-pub request-holds : (breaks : Bool) (request : Request) (there : LineState) → there ≡ InArguments breaks request → HoldsArguments there
+pub request-holds : (breaks : Bool) (request : Request) (there : LineState) → there ≡ Collecting (InArguments breaks request) → HoldsArguments there
 request-holds breaks request there is = subst HoldsArguments (sym is) (refl, refl)
 
-pub request-each : (breaks : Bool) (request : Request) (there : LineState) → there ≡ InArguments breaks request → (b : ℕ) → is_argument_byte b ≡ true → HoldsIfFewer None there b
+pub request-each : (breaks : Bool) (request : Request) (there : LineState) → there ≡ Collecting (InArguments breaks request) → (b : ℕ) → is_argument_byte b ≡ true → HoldsIfFewer None there b
 request-each breaks request there is b plain = subst (λ (r : LineState). HoldsIfFewer None r b) (sym is) (holds_request breaks request b plain)
 
 -- and behind that of a body
-pub call-holds : (name : ShortName) (there : LineState) → there ≡ Calling name → HoldsArguments there
+pub call-holds : (name : ShortName) (there : LineState) → there ≡ Collecting (Calling name) → HoldsArguments there
 call-holds name there is = subst HoldsArguments (sym is) (refl, refl)
 
 -- what was read, by what stands behind them
@@ -246,7 +247,7 @@ call-ended AtName read is ends = let wrong : HeldForCall ≡ HeldToEnd = sym is 
 call-ended Other read is ends = let wrong : Held ≡ HeldToEnd = sym is ∙ ends in absurd (cc)
 
 -- behind a request's name arguments are held
-pub runs-arguments : (breaks : Bool) (request : Request) (reading : LineState) (half : List OpenEscape) → reading ≡ InArguments breaks request → half ≡ [] → IsRun ArgumentsRun reading half
+pub runs-arguments : (breaks : Bool) (request : Request) (reading : LineState) (half : List OpenEscape) → reading ≡ Collecting (InArguments breaks request) → half ≡ [] → IsRun ArgumentsRun reading half
 runs-arguments breaks request reading half is none =
     subst (λ (r : LineState). IsRun ArgumentsRun r half) (sym is) (record {
       does = λ b plain k i bare. holds_request breaks request b plain k i bare tt;
@@ -255,10 +256,10 @@ runs-arguments breaks request reading half is none =
     })
 
 -- and behind that of a body, as long as fewer than eight are whole
-pub runs-call : (name : ShortName) (reading : LineState) (half : List OpenEscape) → reading ≡ Calling name → half ≡ [] → IsRun (CallArguments 8) reading half
+pub runs-call : (name : ShortName) (reading : LineState) (half : List OpenEscape) → reading ≡ Collecting (Calling name) → half ≡ [] → IsRun (CallArguments 8) reading half
 runs-call name reading half is none =
     subst (λ (r : LineState). IsRun (CallArguments 8) r half) (sym is) (record {
-      does = λ b plain. holds_call_where (Calling name) name refl b plain;
+      does = λ b plain. holds_call_where (Collecting (Calling name)) name refl b plain;
       half_read = none;
       none_due = refl;
     })

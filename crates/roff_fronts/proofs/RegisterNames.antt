@@ -26,7 +26,8 @@ use Rattle.roff_run.specs.Reading.Units.{interrupted, settled_for}
 use Rattle.roff_run.specs.Registers.{Known, text_of_register}
 use Rattle.roff_run.specs.Stages.{Here, Onward, Stage, Turned, Turns, input_at}
 use Rattle.roff_run.specs.declared.line_state.LineState.{LineState}
-use Rattle.roff_run.specs.declared.line_state.LineState.TheVariants.{Arguments as InArguments, Calling, Deciding, LineStart, Text as InText}
+use Rattle.roff_run.specs.declared.line_state.LineState.TheVariants.{Deciding, LineStart, Text as InText, Collecting}
+use Rattle.roff_run.specs.declared.purpose.Purpose.TheVariants.{Arguments as InArguments, Calling}
 use Rattle.roff_run.specs.declared.line_state.TextLine.{TextLine}
 use Rattle.roff_run.specs.declared.request.Request.{Request}
 use Rattle.roff_source.specs.Bytes.{backslash, is_argument_byte, is_dropped, newline}
@@ -84,9 +85,9 @@ reads_names-start = record {
 }
 
 -- and so do arguments
-pub reads_names-arguments : (breaks : Bool) (request : Request) → ReadsNames (InArguments breaks request)
+pub reads_names-arguments : (breaks : Bool) (request : Request) → ReadsNames (Collecting (InArguments breaks request))
 reads_names-arguments breaks request =
-    let reading : LineState = InArguments breaks request in
+    let reading : LineState = Collecting (InArguments breaks request) in
     record {
       none_due = refl;
       goes_on = λ k i b next stands goes. undropped k reading i b stands ∙ ap (λ (r : Reads). read_in k reading i r) (goes (place_in k reading));
@@ -97,9 +98,9 @@ reads_names-arguments breaks request =
     }
 
 -- and so do those of a line that calls a body
-pub reads_names-calling : (called : ShortName) → ReadsNames (Calling called)
+pub reads_names-calling : (called : ShortName) → ReadsNames (Collecting (Calling called))
 reads_names-calling called =
-    let reading : LineState = Calling called in
+    let reading : LineState = Collecting (Calling called) in
     record {
       none_due = refl;
       goes_on = λ k i b next stands goes. undropped k reading i b stands ∙ ap (λ (r : Reads). read_in k reading i r) (goes (place_in k reading));

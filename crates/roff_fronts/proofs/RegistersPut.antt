@@ -23,7 +23,8 @@ use Rattle.roff_run.specs.Run.{known_at}
 use Rattle.roff_run.specs.TurnsToCome.{free_ahead, turns_to_come}
 use Rattle.roff_run.specs.PageEvents.{PageEvent}
 use Rattle.roff_run.specs.declared.line_state.LineState.{LineState}
-use Rattle.roff_run.specs.declared.line_state.LineState.TheVariants.{Arguments as InArguments, Calling, StringName}
+use Rattle.roff_run.specs.declared.line_state.LineState.TheVariants.{Collecting}
+use Rattle.roff_run.specs.declared.purpose.Purpose.TheVariants.{Arguments as InArguments, Calling, StringName}
 use Rattle.roff_scan.proofs.Changing.{IsWithin-pushing}
 use Rattle.roff_scan.proofs.PassingAhead.{bytes_taken-is}
 use Rattle.roff_scan.specs.Unread.Calls.{IsFront, NoNewline, OfSource, OfTexts, PassesFront, front_bytes}
@@ -117,9 +118,9 @@ same_bodies gave gives bytes name reading before passed passes =
     names-interrupted name reading passed.input ∙ there before passed passes
   where
     names-interrupted : (name : List ℕ) (reading : LineState) (i : PageInput) → body_named name (interrupted reading i) ≡ body_named name i
-    names-interrupted name (InArguments breaks request) i = refl
-    names-interrupted name (StringName appends) i = refl
-    names-interrupted name (Calling called) i = refl
+    names-interrupted name (Collecting (InArguments breaks request)) i = refl
+    names-interrupted name (Collecting (StringName appends)) i = refl
+    names-interrupted name (Collecting (Calling called)) i = refl
     names-interrupted name (_) i = refl
 
     there : (before passed : PageUnread) → PassesFront gave gives bytes before passed → body_named name passed.input ≡ body_named name before.input

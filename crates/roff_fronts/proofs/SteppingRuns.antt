@@ -1,14 +1,13 @@
 -- Runs over an escape that steps a register: its bytes lead from stage to stage, and behind the last one the register is stepped, and its
 -- text is in front.
-use Rattle.std.proofs.Common.{◌≡◌, ℕ, ◌+◌, ◌≤◌, Bool, false, List, [], ◌∷◌, ◌++◌, length, Option, Some, None, refl, ap, sym, subst, append-nil, ◌∙◌, arith}
+use Rattle.std.proofs.Common.{◌≡◌, ℕ, ◌+◌, ◌≤◌, Bool, false, List, [], ◌∷◌, length, Option, Some, None, refl, ap, sym, subst, append-nil, ◌∙◌, arith}
 use Rattle.std.specs.Prelude.{if◌then◌else◌}
 use Rattle.roff_num.specs.declared.direction.Direction.{Direction}
 use Rattle.roff_num.specs.declared.limit.Limit.{Limit}
 use Rattle.roff_num.specs.declared.limits.Limits.{Limits}
 use Rattle.roff_num.specs.declared.num.Num.{Num}
 use Rattle.roff_escape.specs.Waiting.{is_ended_by}
-use Rattle.roff_input.specs.Input.{Ahead, ByteAhead, pushing}
-use Rattle.roff_source.specs.Tape.{Tape}
+use Rattle.roff_input.specs.Input.{Ahead, pushing}
 use Rattle.roff_store.specs.Named.{Named}
 use Rattle.roff_store.specs.Registers.{next_value}
 use Rattle.roff_store.specs.Texts.{Entry}

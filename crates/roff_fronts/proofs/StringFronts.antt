@@ -32,7 +32,8 @@ use Rattle.roff_run.specs.Reading.Strings.{string_entered, string_grown}
 use Rattle.roff_run.specs.Registers.{Known}
 use Rattle.roff_run.specs.Stages.{Growing, Here, Onward, Stage, Turned, input_at, stage_of}
 use Rattle.roff_run.specs.declared.line_state.LineState.{LineState}
-use Rattle.roff_run.specs.declared.line_state.LineState.TheVariants.{LineStart, StringText}
+use Rattle.roff_run.specs.declared.line_state.LineState.TheVariants.{LineStart, Collecting}
+use Rattle.roff_run.specs.declared.purpose.Purpose.TheVariants.{StringText}
 use Rattle.roff_reader.proofs.TextTaken.{plain-found}
 use Rattle.roff_reader.specs.Reader.State.{ReaderState}
 use Rattle.roff_fronts.proofs.AddedRuns.{grows-added, stage_with, turned-added}
@@ -45,7 +46,7 @@ use Rattle.roff_fronts.specs.declared.strings.TextFront.TheVariants.{Quote, Kept
 
 -- where the text is read, in front of it or behind its beginning
 abbrev at_text : ShortName → Bool → Bool → LineState
-at_text name appends is_front = StringText (Some name) appends is_front
+at_text name appends is_front = Collecting (StringText (Some name) appends is_front)
 
 -- a byte of plain text is none of three
 record IsPlain (b : ℕ) : Type 0 where

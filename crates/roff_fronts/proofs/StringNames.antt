@@ -26,7 +26,8 @@ use Rattle.roff_run.specs.Reading.Units.{holding, settling}
 use Rattle.roff_run.specs.Registers.{Known}
 use Rattle.roff_run.specs.Stages.{Here, Onward, Stage, Turned, input_at, stage_of}
 use Rattle.roff_run.specs.declared.line_state.LineState.{LineState}
-use Rattle.roff_run.specs.declared.line_state.LineState.TheVariants.{StringName}
+use Rattle.roff_run.specs.declared.line_state.LineState.TheVariants.{Collecting}
+use Rattle.roff_run.specs.declared.purpose.Purpose.TheVariants.{StringName}
 use Rattle.roff_fronts.specs.Stages.{ReadsPast}
 use Rattle.roff_fronts.proofs.HeldRuns.{held-byte_least, none_of_three, stage_with}
 use Rattle.roff_fronts.proofs.RunsRead.{reads-taken, turned-behind}
@@ -49,7 +50,7 @@ arguments_at i whole begun place = record i { arguments = record { whole = whole
 -- a byte of the name is held there
 abbrev HoldsName : PageInput → Bool → ℕ → List (List ℕ) → List ℕ → Place → Type 0
 HoldsName i appends b whole begun place =
-    string_name_unit (arguments_at i whole begun place) appends (Byte b) ≡ going_on (holding (Byte b) (arguments_at i whole begun place)) (StringName appends)
+    string_name_unit (arguments_at i whole begun place) appends (Byte b) ≡ going_on (holding (Byte b) (arguments_at i whole begun place)) (Collecting (StringName appends))
 
 -- a blank between arguments
 holds-blank : (i : PageInput) (appends : Bool) (begun : List ℕ) → HoldsName i appends 32 [] begun Between
@@ -85,17 +86,17 @@ between false place begun is = absurd (cc)
 
 -- a byte of the name where nothing is half read
 takes-name : (k : Known) (appends : Bool) (i : PageInput) (b : ℕ) → i.escapes ≡ [] → (b == backslash) ≡ false → is_dropped b ≡ false
-    → string_name_unit i appends (Byte b) ≡ going_on (holding (Byte b) i) (StringName appends)
-    → taking k (StringName appends) i b ≡ going_on (holding (Byte b) i) (StringName appends)
+    → string_name_unit i appends (Byte b) ≡ going_on (holding (Byte b) i) (Collecting (StringName appends))
+    → taking k (Collecting (StringName appends)) i b ≡ going_on (holding (Byte b) i) (Collecting (StringName appends))
 takes-name k appends i b none_half no_escape stays holds =
-    let reading : LineState = StringName appends in
+    let reading : LineState = Collecting (StringName appends) in
     ap (λ (c : Bool). if c then going_on (settling i) reading else undropped_taking k reading i b) stays
     ∙ sym (plain-found k reading i b none_half no_escape) ∙ holds
 
 module _ (names : Named Entry) (appends : Bool) (half : List OpenEscape) (texts : List (List ℕ)) (none_half : half ≡ []) where
   -- where the name is read
   abbrev at_name : Arguments → Stage
-  at_name a = stage_with (StringName appends) half texts a
+  at_name a = stage_with (Collecting (StringName appends)) half texts a
 
   -- a byte that is held, and others
   step-name : (a : Arguments) (b : ℕ) (bytes : List ℕ) (last : Stage) → is_argument_byte b ≡ true
@@ -135,13 +136,13 @@ module _ (names : Named Entry) (appends : Bool) (half : List OpenEscape) (texts 
       (turned-name there false bytes (stands-inside a.whole a.begun a.place b apart other.0 other.1) is.1 plain.1 fewer.1)
 
 -- bytes of the name were read past
-pub reads-name : (gave gives : Tape → Type 0) (ready : List ℕ) (count : ℕ) (r : ReaderState) (appends : Bool) (before after : PageUnread) → r.reading ≡ StringName appends
+pub reads-name : (gave gives : Tape → Type 0) (ready : List ℕ) (count : ℕ) (r : ReaderState) (appends : Bool) (before after : PageUnread) → r.reading ≡ Collecting (StringName appends)
     → before.input.escapes ≡ [] → TakesFirst gave gives ready count before after → IsWithin after → ReadsPast gave gives r r before after
 reads-name gave gives ready count r appends before after is none_half took within =
     let i : PageInput = before.input in
     let bytes : List ℕ = took.took.bytes in
-    let turned : Turned i.names (stage_of (StringName appends) i) bytes (stage_of (StringName appends) after.input) =
-    turned-behind i.names (stage_of (StringName appends) i) bytes (StringName appends) after.input i.escapes (bytes_held bytes i.arguments) i.open_texts
+    let turned : Turned i.names (stage_of (Collecting (StringName appends)) i) bytes (stage_of (Collecting (StringName appends)) after.input) =
+    turned-behind i.names (stage_of (Collecting (StringName appends)) i) bytes (Collecting (StringName appends)) after.input i.escapes (bytes_held bytes i.arguments) i.open_texts
     took.took.half_read took.took.arguments took.took.texts
     (turned-name i.names appends i.escapes i.open_texts none_half i.arguments took.none_begun bytes took.stands took.unended took.took.are_of took.took.fewer) in
     reads-taken (CallArguments 1) gave gives ready count r r before after took.took

@@ -6,10 +6,11 @@ use Rattle.roff_source.specs.Bytes.{blank, is_argument_byte, is_passed, is_text_
 use Rattle.roff_escape.specs.OpenEscape.{OpenEscape}
 use Rattle.roff_run.specs.Reading.{Passes}
 use Rattle.roff_run.specs.Reading.Ends.{due}
-use Rattle.roff_run.specs.Stages.{Adds, EndsLine, Holds, HoldsIfFewer, Ignores, ReadsHalves, TakesHalf, counts_blanks}
+use Rattle.roff_run.specs.Stages.{Adds, EndsByNewline, Holds, HoldsIfFewer, Ignores, ReadsHalves, TakesHalf, counts_blanks}
 use Rattle.roff_run.specs.Telling.{Prints}
 use Rattle.roff_run.specs.declared.line_state.LineState.{LineState}
-use Rattle.roff_run.specs.declared.line_state.LineState.TheVariants.{Branch, StringName, StringText, Title}
+use Rattle.roff_run.specs.declared.line_state.LineState.TheVariants.{Branch, Title, Collecting}
+use Rattle.roff_run.specs.declared.purpose.Purpose.TheVariants.{StringName, StringText}
 use Rattle.roff_reader.specs.Reader.State.{ReaderState}
 use Rattle.roff_scan.specs.declared.run_kind.RunKind.{RunKind}
 use Rattle.roff_scan.specs.declared.run_kind.RunKind.TheVariants.{Text, Blanks, Arguments, CallArguments, Name, Condition, Definition, Ignored, Dropped}
@@ -25,7 +26,7 @@ Does Condition reading = TakesHalf reading
 Does Definition reading = (b : ℕ) → is_text_byte b ≡ true → Adds reading b
 Does Ignored reading = (b : ℕ) → is_text_byte b ≡ true → Ignores reading b
 Does (Dropped within_block) reading =
-    ((b : ℕ) → is_passed within_block b ≡ true → Passes reading b) × (within_block ≡ false → EndsLine reading)
+    ((b : ℕ) → is_passed within_block b ≡ true → Passes reading b) × (within_block ≡ false → EndsByNewline reading)
 
 -- what may be half read where it is taken: names and conditions are, and nothing else
 abbrev pub MayBeHalfRead : RunKind → List OpenEscape → Type 0
@@ -52,8 +53,8 @@ KeepsReader (_) old new = new ≡ old
 -- where this is read, bytes in front may be taken together that are no run: those of a string's name, of the beginning of its text, or
 -- of a title
 abbrev pub reads_apart : LineState → Bool
-reads_apart (StringName appends) = true
-reads_apart (StringText name appends is_front) = true
+reads_apart (Collecting (StringName appends)) = true
+reads_apart (Collecting (StringText name appends is_front)) = true
 reads_apart (Title delimiter) = true
 reads_apart (_) = false
 

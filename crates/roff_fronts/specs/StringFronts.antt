@@ -6,7 +6,8 @@ use Rattle.roff_scan.specs.Unread.Runs.{room_for}
 use Rattle.roff_scan.specs.declared.run_kind.RunKind.TheVariants.{Definition}
 use Rattle.roff_run.specs.Reading.Items.{PageUnread}
 use Rattle.roff_run.specs.declared.line_state.LineState.{LineState}
-use Rattle.roff_run.specs.declared.line_state.LineState.TheVariants.{StringText}
+use Rattle.roff_run.specs.declared.line_state.LineState.TheVariants.{Collecting}
+use Rattle.roff_run.specs.declared.purpose.Purpose.TheVariants.{StringText}
 use Rattle.roff_fronts.specs.Runs.{ready_allowed}
 use Rattle.roff_fronts.specs.declared.strings.TextFront.{TextFront}
 use Rattle.roff_fronts.specs.declared.strings.TextFront.TheVariants.{Quote, Kept, Other}
@@ -42,5 +43,5 @@ bytes_of_front Other u ready = []
 
 -- those that are taken where this is read
 abbrev pub string_front : LineState → PageUnread → List ℕ → List ℕ
-string_front (StringText (Some name) appends true) u ready = bytes_of_front (text_front (ready_allowed u ready)) u ready
+string_front (Collecting (StringText (Some name) appends true)) u ready = bytes_of_front (text_front (ready_allowed u ready)) u ready
 string_front (_) u ready = []

@@ -30,7 +30,7 @@ use roff_composer::Composer;
 use roff_names::{begin_deciding, behind_called, called_by};
 use roff_num::ShortName;
 use roff_reader::{CALL_ARGUMENTS, Reader};
-use roff_run::{LineState, PageEvent};
+use roff_run::{LineState, PageEvent, Purpose};
 use roff_scan::{BehindHeld, ByteSource, Unread};
 
 /// The first three bytes of a control line: the dot or apostrophe, by whether requests break behind
@@ -239,7 +239,7 @@ fn read_behind_name<S: ByteSource>(
     ensures failures { S.failures source.new ≡ S.failures source.old }
 {
     match reading {
-        LineState::Arguments { .. } => {
+        LineState::Collecting(Purpose::Arguments { .. }) => {
             if front.ends {
                 return read_ended(reader, front, reading, unread, source);
             }
@@ -248,7 +248,7 @@ fn read_behind_name<S: ByteSource>(
             reader.go_on(reading);
             held_to(behind)
         }
-        LineState::Calling { .. } => {
+        LineState::Collecting(Purpose::Calling { .. }) => {
             if front.ends {
                 return read_ended(reader, front, reading, unread, source);
             }

@@ -15,7 +15,7 @@ ghost use Rattle.roff_input.specs.Input.Calls.{argument_live};
 use roff_composer::Composer;
 use roff_num::{NumText, ShortName};
 use roff_reader::Reader;
-use roff_run::{LineState, PageEvent};
+use roff_run::{LineState, PageEvent, Purpose};
 use roff_scan::{ByteSource, Unread};
 use roff_source::is_argument_byte;
 
@@ -237,8 +237,8 @@ pub(super) fn reads_names(reader: &Reader) -> bool
     match reader.reading() {
         LineState::LineStart => true,
         LineState::Text(_) => true,
-        LineState::Arguments { .. } => true,
-        LineState::Calling { .. } => true,
+        LineState::Collecting(Purpose::Arguments { .. }) => true,
+        LineState::Collecting(Purpose::Calling { .. }) => true,
         _ => false,
     }
 }

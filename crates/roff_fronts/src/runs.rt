@@ -2,6 +2,7 @@
 
 ghost use Rattle.std.specs.Prelude.{◌≡◌, ◌≤◌, IfSome, List, []};
 ghost use Rattle.roff_escape.specs.OpenEscape.{OpenEscape};
+ghost use Rattle.roff_run.specs.declared.line_state.LineState.TheVariants.{Collecting};
 ghost use Rattle.roff_run.specs.declared.line_state.LineState.TheVariants.{Text as InText};
 ghost use Rattle.roff_fronts.specs.Runs.{IsRun, KeepsReader, TakesReady};
 ghost use Rattle.roff_fronts.specs.Runs.{branch_blanks, ready_allowed, run_holding};
@@ -10,7 +11,7 @@ ghost use Rattle.roff_scan.specs.declared.run_kind.RunKind.TheVariants.{Blanks};
 ghost use Rattle.roff_scan.specs.declared.run_kind.RunKind.TheVariants.{Condition};
 
 use roff_reader::{CALL_ARGUMENTS, Reader};
-use roff_run::{LineState, PageEvent, TextLine};
+use roff_run::{LineState, PageEvent, Purpose, TextLine};
 use roff_scan::{ByteSource, RunKind, Unread};
 
 /// What the bytes in front do, as far as some can be taken together: by what is being read, and
@@ -48,28 +49,7 @@ fn run_alone(reader: &Reader, unread: &Unread<PageEvent>) -> Option<RunKind>
 {
     match reader.reading() {
         LineState::Text(line) => run_of_text(line),
-        LineState::Arguments { .. } => Some(RunKind::Arguments),
-        LineState::Calling { .. } => Some(RunKind::CallArguments(CALL_ARGUMENTS - 1)),
-        LineState::Defining {
-            name: Some(_),
-            matched: None,
-            ..
-        } => Some(RunKind::Definition),
-        LineState::Defining {
-            name: None,
-            matched: None,
-            ..
-        } => Some(RunKind::Ignored),
-        LineState::StringText {
-            name: Some(_),
-            is_front: false,
-            ..
-        } => Some(RunKind::Definition),
-        LineState::StringText {
-            name: None,
-            is_front: false,
-            ..
-        } => Some(RunKind::Ignored),
+        LineState::Collecting(purpose) => run_collected(purpose),
         LineState::Dropped => Some(RunKind::Dropped {
             within_block: false,
         }),
@@ -80,6 +60,38 @@ fn run_alone(reader: &Reader, unread: &Unread<PageEvent>) -> Option<RunKind>
         } => Some(RunKind::Dropped {
             within_block: opened > closed,
         }),
+        _ => None,
+    }
+}
+
+/// The same where bytes are collected.
+#[inline(always)]
+fn run_collected(purpose: Purpose) -> Option<RunKind>
+    ensures { IfSome result (λ kind. IsRun kind (Collecting purpose) []) }
+{
+    match purpose {
+        Purpose::Arguments { .. } => Some(RunKind::Arguments),
+        Purpose::Calling { .. } => Some(RunKind::CallArguments(CALL_ARGUMENTS - 1)),
+        Purpose::Defining {
+            name: Some(_),
+            matched: None,
+            ..
+        } => Some(RunKind::Definition),
+        Purpose::Defining {
+            name: None,
+            matched: None,
+            ..
+        } => Some(RunKind::Ignored),
+        Purpose::StringText {
+            name: Some(_),
+            is_front: false,
+            ..
+        } => Some(RunKind::Definition),
+        Purpose::StringText {
+            name: None,
+            is_front: false,
+            ..
+        } => Some(RunKind::Ignored),
         _ => None,
     }
 }

@@ -1,8 +1,9 @@
 //! The name of a string, and the beginning of its text, read at once where they stand ready.
 
 ghost use Rattle.std.specs.Prelude.{◌≡◌, ◌≤◌, [], Some, false, true};
-ghost use Rattle.roff_run.specs.declared.line_state.LineState.TheVariants.{StringName as InName};
-ghost use Rattle.roff_run.specs.declared.line_state.LineState.TheVariants.{StringText as InText};
+ghost use Rattle.roff_run.specs.declared.line_state.LineState.TheVariants.{Collecting};
+ghost use Rattle.roff_run.specs.declared.purpose.Purpose.TheVariants.{StringName as InName};
+ghost use Rattle.roff_run.specs.declared.purpose.Purpose.TheVariants.{StringText as InText};
 ghost use Rattle.roff_fronts.specs.Runs.{TakesReady, ready_allowed, reads_apart};
 ghost use Rattle.roff_fronts.specs.Stages.{ReadsPast};
 ghost use Rattle.roff_fronts.specs.StringFronts.{BeginsKept, bytes_of_front};
@@ -12,7 +13,7 @@ ghost use Rattle.roff_fronts.specs.declared.strings.TextFront.TheVariants.{Kept 
 use super::control::take_front;
 use roff_num::ShortName;
 use roff_reader::Reader;
-use roff_run::{LineState, PageEvent};
+use roff_run::{LineState, PageEvent, Purpose};
 use roff_scan::{ByteSource, RunKind, Unread};
 
 /// Whether bytes in front may be taken together that are no run: of a string's name, of the
@@ -22,8 +23,8 @@ pub fn begins_apart(reader: &Reader) -> bool
     ensures { result ≡ reads_apart reader.now.reading }
 {
     match reader.reading() {
-        LineState::StringName { .. } => true,
-        LineState::StringText { .. } => true,
+        LineState::Collecting(Purpose::StringName { .. }) => true,
+        LineState::Collecting(Purpose::StringText { .. }) => true,
         LineState::Title { .. } => true,
         _ => false,
     }
@@ -42,7 +43,9 @@ pub fn take_string_name<S: ByteSource>(
     ensures failures { S.failures source.new ≡ S.failures source.old }
 {
     match reader.reading() {
-        LineState::StringName { appends } => take_name(reader, appends, unread, source),
+        LineState::Collecting(Purpose::StringName { appends }) => {
+            take_name(reader, appends, unread, source)
+        }
         _ => unread.stays_within(),
     }
 }
@@ -55,7 +58,7 @@ fn take_name<S: ByteSource>(
     unread: &mut Unread<PageEvent>,
     source: &mut S,
 )
-    requires { reader.now.reading ≡ InName appends }
+    requires { reader.now.reading ≡ Collecting (InName appends) }
     ensures past { ReadsPast (S.gives source.old) (S.gives source.new)
         reader.now reader.now unread.old unread.new }
     ensures notes { S.notes source.new ≤ S.notes source.old }
@@ -87,11 +90,13 @@ pub fn take_string_front<S: ByteSource>(
     ensures failures { S.failures source.new ≡ S.failures source.old }
 {
     match reader.reading() {
-        LineState::StringText {
-            name: Some(name),
-            appends,
-            is_front: true,
-        } => take_text_front(reader, name, appends, unread, source),
+        LineState::Collecting(
+            Purpose::StringText {
+                name: Some(name),
+                appends,
+                is_front: true,
+            },
+        ) => take_text_front(reader, name, appends, unread, source),
         _ => unread.stays_within(),
     }
 }
@@ -105,7 +110,7 @@ fn take_text_front<S: ByteSource>(
     unread: &mut Unread<PageEvent>,
     source: &mut S,
 )
-    requires { reader.old.reading ≡ InText (Some name) appends true }
+    requires { reader.old.reading ≡ Collecting (InText (Some name) appends true) }
     ensures past { ReadsPast (S.gives source.old) (S.gives source.new)
         reader.old reader.new unread.old unread.new }
     ensures whole { unread.old.input.escapes ≡ [] → TakesReady (bytes_of_front (text_front
@@ -137,7 +142,7 @@ fn take_kept<S: ByteSource>(
     unread: &mut Unread<PageEvent>,
     source: &mut S,
 )
-    requires reading { reader.old.reading ≡ InText (Some name) appends true }
+    requires reading { reader.old.reading ≡ Collecting (InText (Some name) appends true) }
     requires none_half { unread.old.input.escapes ≡ [] }
     requires kept { BeginsKept (S.ready source.old) unread.old }
     ensures past { ReadsPast (S.gives source.old) (S.gives source.new)
@@ -157,13 +162,13 @@ fn take_kept<S: ByteSource>(
 /// A string's text is read, behind its beginning.
 #[inline(always)]
 fn behind_front(name: ShortName, appends: bool) -> LineState
-    ensures { result ≡ InText (Some name) appends false }
+    ensures { result ≡ Collecting (InText (Some name) appends false) }
 {
-    LineState::StringText {
+    LineState::Collecting(Purpose::StringText {
         name: Some(name),
         appends,
         is_front: false,
-    }
+    })
 }
 
 /// What a string's text begins with.

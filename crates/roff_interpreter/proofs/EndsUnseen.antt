@@ -32,7 +32,8 @@ use Rattle.roff_run.specs.Registers.{Known}
 use Rattle.roff_run.specs.declared.definition.DefinitionLine.{DefinitionLine}
 use Rattle.roff_run.specs.declared.definition.DefinitionLine.TheVariants.{MayBeLast, IsLast, IsText}
 use Rattle.roff_run.specs.declared.line_state.LineState.{LineState}
-use Rattle.roff_run.specs.declared.line_state.LineState.TheVariants.{LineStart, Branch, Braced, Text as InText, Control, Name, Arguments as InArguments, Deciding, StringName, StringText, Skipping, Dropped, Telling, Told, Exiting, Calling, Defining, TitleFront, Title as InTitle}
+use Rattle.roff_run.specs.declared.line_state.LineState.TheVariants.{LineStart, Branch, Braced, Text as InText, Control, Name, Deciding, Skipping, Dropped, Told, Exiting, TitleFront, Title as InTitle, Collecting}
+use Rattle.roff_run.specs.declared.purpose.Purpose.TheVariants.{Arguments as InArguments, StringName, StringText, Telling, Calling, Defining}
 use Rattle.roff_run.proofs.NoConditions.{NoCondition, Over, Over-beginning_found, Over-if, Over-text_found}
 use Rattle.roff_run.proofs.TitlesOver.{Over-title_found}
 use Rattle.roff_run.proofs.UnseenEnds.{NoneSprings, quiet-unseen}
@@ -48,17 +49,12 @@ is_condition Braced = inl tt
 is_condition (InText line) = inl tt
 is_condition (Control breaks) = inl tt
 is_condition (Name breaks first) = inl tt
-is_condition (InArguments breaks request) = inl tt
+is_condition (Collecting purpose) = inl tt
 is_condition (Deciding keeps) = inr (keeps, refl)
-is_condition (StringName appends) = inl tt
-is_condition (StringText name appends is_front) = inl tt
 is_condition (Skipping opened closed behind) = inl tt
 is_condition Dropped = inl tt
-is_condition (Telling aborts is_front) = inl tt
 is_condition (Told aborts) = inl tt
 is_condition Exiting = inl tt
-is_condition (Calling name) = inl tt
-is_condition (Defining name appends end matched) = inl tt
 is_condition TitleFront = inl tt
 is_condition (InTitle delimiter) = inl tt
 
@@ -106,17 +102,17 @@ over-escape k i Braced over = Over-beginning_found k i Braced (Escape 115) tt
 over-escape k i (InText line) over = Over-text_found k i line (Escape 115)
 over-escape k i (Control breaks) over = tt
 over-escape k i (Name breaks first) over = tt
-over-escape k i (InArguments breaks request) over = tt
+over-escape k i (Collecting (InArguments breaks request)) over = tt
 over-escape k i (Deciding keeps) over = absurd over
-over-escape k i (StringName appends) over = over-string_name i appends (name_read (settling i))
-over-escape k i (StringText name appends is_front) over = tt
+over-escape k i (Collecting (StringName appends)) over = over-string_name i appends (name_read (settling i))
+over-escape k i (Collecting (StringText name appends is_front)) over = tt
 over-escape k i (Skipping opened closed behind) over = tt
 over-escape k i Dropped over = tt
-over-escape k i (Telling aborts is_front) over = tt
+over-escape k i (Collecting (Telling aborts is_front)) over = tt
 over-escape k i (Told aborts) over = tt
 over-escape k i Exiting over = tt
-over-escape k i (Calling name) over = tt
-over-escape k i (Defining name appends end matched) over =
+over-escape k i (Collecting (Calling name)) over = tt
+over-escape k i (Collecting (Defining name appends end matched)) over =
     over-definition k i name appends end (front_of (end_mark end) matched) (line_from (end_mark end) matched (Kept 115)) (not_last-from (end_mark end) matched)
 over-escape k i TitleFront over = tt
 over-escape k i (InTitle delimiter) over = Over-title_found k i delimiter (Escape 115)
@@ -128,17 +124,17 @@ over-nothing k i Braced over = tt
 over-nothing k i (InText line) over = tt
 over-nothing k i (Control breaks) over = tt
 over-nothing k i (Name breaks first) over = tt
-over-nothing k i (InArguments breaks request) over = tt
+over-nothing k i (Collecting (InArguments breaks request)) over = tt
 over-nothing k i (Deciding keeps) over = absurd over
-over-nothing k i (StringName appends) over = tt
-over-nothing k i (StringText name appends is_front) over = tt
+over-nothing k i (Collecting (StringName appends)) over = tt
+over-nothing k i (Collecting (StringText name appends is_front)) over = tt
 over-nothing k i (Skipping opened closed behind) over = tt
 over-nothing k i Dropped over = tt
-over-nothing k i (Telling aborts is_front) over = tt
+over-nothing k i (Collecting (Telling aborts is_front)) over = tt
 over-nothing k i (Told aborts) over = tt
 over-nothing k i Exiting over = tt
-over-nothing k i (Calling name) over = tt
-over-nothing k i (Defining name appends end matched) over = tt
+over-nothing k i (Collecting (Calling name)) over = tt
+over-nothing k i (Collecting (Defining name appends end matched)) over = tt
 over-nothing k i TitleFront over = tt
 over-nothing k i (InTitle delimiter) over = Over-title_found k i delimiter GoesOn
 
@@ -207,17 +203,17 @@ nothing-decides k i Braced decision freed over = (tt, tt)
 nothing-decides k i (InText line) decision freed over = (tt, tt)
 nothing-decides k i (Control breaks) decision freed over = (tt, tt)
 nothing-decides k i (Name breaks first) decision freed over = (tt, tt)
-nothing-decides k i (InArguments breaks request) decision freed over = (tt, tt)
+nothing-decides k i (Collecting (InArguments breaks request)) decision freed over = (tt, tt)
 nothing-decides k i (Deciding keeps) decision freed over = absurd over
-nothing-decides k i (StringName appends) decision freed over = (tt, tt)
-nothing-decides k i (StringText name appends is_front) decision freed over = (tt, tt)
+nothing-decides k i (Collecting (StringName appends)) decision freed over = (tt, tt)
+nothing-decides k i (Collecting (StringText name appends is_front)) decision freed over = (tt, tt)
 nothing-decides k i (Skipping opened closed behind) decision freed over = (tt, tt)
 nothing-decides k i Dropped decision freed over = (tt, tt)
-nothing-decides k i (Telling aborts is_front) decision freed over = (tt, tt)
+nothing-decides k i (Collecting (Telling aborts is_front)) decision freed over = (tt, tt)
 nothing-decides k i (Told aborts) decision freed over = (tt, tt)
 nothing-decides k i Exiting decision freed over = (tt, tt)
-nothing-decides k i (Calling name) decision freed over = (tt, tt)
-nothing-decides k i (Defining name appends end matched) decision freed over = (tt, tt)
+nothing-decides k i (Collecting (Calling name)) decision freed over = (tt, tt)
+nothing-decides k i (Collecting (Defining name appends end matched)) decision freed over = (tt, tt)
 nothing-decides k i TitleFront decision freed over = (tt, tt)
 nothing-decides k i (InTitle delimiter) decision freed over = (tt, tt)
 

@@ -22,7 +22,8 @@ use Rattle.roff_run.specs.Run.{State, initial, known_at, step, taken_as, unless_
 use Rattle.roff_run.specs.Run.Counts.{counts_in, first_passed}
 use Rattle.roff_run.specs.PageEvents.{PageEvent}
 use Rattle.roff_run.specs.declared.line_state.LineState.{LineState}
-use Rattle.roff_run.specs.declared.line_state.LineState.TheVariants.{Arguments as InArguments, StringName, Calling}
+use Rattle.roff_run.specs.declared.line_state.LineState.TheVariants.{Collecting}
+use Rattle.roff_run.specs.declared.purpose.Purpose.TheVariants.{Arguments as InArguments, StringName, Calling}
 use Rattle.roff_run.proofs.InputCounts.{pushed-settling}
 use Rattle.roff_run.proofs.Keeping.{Keeps-interrupted}
 use Rattle.roff_run.proofs.Leads.{Leads-to}
@@ -37,9 +38,9 @@ counts_in-settling rs i =
 
 -- nor where something that isn't a byte of the line has come
 counts_in-interrupted : (rs : AllRegisters) (reading : LineState) (i : PageInput) → counts_in rs (interrupted reading i) ≡ counts_in rs i
-counts_in-interrupted rs (InArguments breaks request) i = counts_in-settling rs i
-counts_in-interrupted rs (StringName appends) i = counts_in-settling rs i
-counts_in-interrupted rs (Calling name) i = counts_in-settling rs i
+counts_in-interrupted rs (Collecting (InArguments breaks request)) i = counts_in-settling rs i
+counts_in-interrupted rs (Collecting (StringName appends)) i = counts_in-settling rs i
+counts_in-interrupted rs (Collecting (Calling name)) i = counts_in-settling rs i
 counts_in-interrupted rs (_) i = refl
 
 -- so no limit refuses what it didn't refuse before

@@ -1,5 +1,5 @@
 -- Text lines that stand in front up to their newlines, and are told and ended at once.
-use Rattle.std.proofs.Common.{◌≡◌, ℕ, true, List, [], ◌∷◌, Option, None, Result, Ok, refl, sym, ap, ◌∙◌}
+use Rattle.std.proofs.Common.{◌≡◌, ℕ, true, List, [], ◌∷◌, Option, Result, Ok, refl, sym, ap, ◌∙◌}
 use Rattle.std.specs.Prelude.{◌||◌, if◌then◌else◌}
 use Rattle.roff_source.specs.Bytes.{newline}
 use Rattle.roff_composer.specs.declared.composer.Composer.{Composer as ComposerOf}
@@ -23,7 +23,6 @@ use Rattle.roff_sinks.proofs.Appending.{Writes-nothing}
 use Rattle.roff_formatter.specs.declared.formatter.Formatter.{Formatter}
 use Rattle.roff_formatter.specs.declared.halt.Halt.{Halt}
 use Rattle.roff_formatter.specs.declared.sprung.Sprung.{Sprung}
-use Rattle.roff_formatter.specs.Formatter.Telling.{TellsFront}
 use Rattle.roff_formatter.specs.Formatter.Unfilled.{PutsLine}
 use Rattle.roff_interpreter.specs.declared.interpreter.Interpreter.{Interpreter}
 use Rattle.roff_interpreter.specs.Performing.{PerformsAll, sinks}

@@ -10,7 +10,6 @@ use Rattle.roff_layout.specs.declared.layout_event.LayoutEvent.{LayoutEvent}
 use Rattle.roff_layout.specs.declared.layout_event.LayoutEvent.TheVariants.{ListPages, Begin, Close, Space, Need, Eject, EjectTo, EjectOn, EjectLast, Length, Offset, Next, Number, NoSpace, Plant, Uproot, MoveTrap, RemoveTrap, DiversionTrap, NoDiversionTrap, Divert, EndDivert}
 use Rattle.roff_run.specs.Environments.{PageHistory, text_of}
 use Rattle.roff_run.specs.Layouts.{laid_out, layout_of, placed}
-use Rattle.roff_run.specs.Springs.{next}
 use Rattle.roff_run.specs.PageEvents.{PageEvent}
 use Rattle.roff_run.specs.Registers.{AllRegisters}
 use Rattle.roff_run.specs.Titles.{title_told, told}

@@ -32,7 +32,7 @@ use Rattle.roff_num.specs.declared.short_name.ShortName.{ShortName}
 use Rattle.roff_run.specs.Run.Counts.{first_passed, names_counted}
 use Rattle.roff_run.specs.Starts.{history_given, pages_given, with_given}
 use Rattle.roff_run.specs.declared.line_state.LineState.{LineState}
-use Rattle.roff_run.specs.declared.line_state.LineState.TheVariants.{LineStart, Branch, Braced, Text as InText, Control, Name, Arguments as InArguments, Deciding, StringName, StringText, Skipping, Dropped, Telling, Told, Exiting, Calling, Defining, TitleFront, Title as InTitle}
+use Rattle.roff_run.specs.declared.line_state.LineState.TheVariants.{LineStart, Branch, Braced, Text as InText, Control, Name, Deciding, Skipping, Dropped, Told, Exiting, TitleFront, Title as InTitle, Collecting}
 use Rattle.roff_run.specs.declared.phase.Phase.{Phase}
 use Rattle.roff_run.specs.declared.phase.Phase.TheVariants.{Reading, LastMacro, Closing}
 use Rattle.roff_run.specs.declared.start.Start.{Start}
@@ -196,15 +196,10 @@ unended-in_sprung Braced = omega arith
 unended-in_sprung (InText line) = omega arith
 unended-in_sprung (Control breaks) = omega arith
 unended-in_sprung (Name breaks first) = omega arith
-unended-in_sprung (InArguments breaks request) = omega arith
+unended-in_sprung (Collecting purpose) = omega arith
 unended-in_sprung (Deciding keeping) = omega arith
-unended-in_sprung (StringName appends) = omega arith
-unended-in_sprung (StringText name appends is_front) = omega arith
-unended-in_sprung (Calling name) = omega arith
-unended-in_sprung (Defining name appends end matched) = omega arith
 unended-in_sprung (Skipping opened closed behind) = omega arith
 unended-in_sprung Dropped = omega arith
-unended-in_sprung (Telling aborts is_front) = omega arith
 unended-in_sprung (Told aborts) = omega arith
 unended-in_sprung Exiting = omega arith
 unended-in_sprung TitleFront = omega arith

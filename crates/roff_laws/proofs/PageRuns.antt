@@ -3,7 +3,7 @@
 -- Each function f of the run has its lemma Writes-f here, with a line for each of its cases.
 use Rattle.std.proofs.Common.{◌≡◌, ◌⊎◌, inl, inr, ℕ, zero, suc, Bool, true, false, not, ◌&&◌, ◌||◌, List, [], ◌∷◌, ◌++◌, map, Option, Some, None, refl, sym, ◌∙◌, ap, subst, arith}
 use Rattle.roff_run.specs.Results.{last_state}
-use Rattle.std.specs.Prelude.{is_some, if◌then◌else◌, ◌==◌}
+use Rattle.std.specs.Prelude.{is_some, ◌==◌}
 use Rattle.std.proofs.lemmas.Bool.{eqb-true}
 use Rattle.roff_layout.specs.declared.event.Event.TheVariants.{WordEnd, Break}
 use Rattle.roff_num.specs.declared.limit.Limit.{Limit}

@@ -12,7 +12,6 @@ use Rattle.roff_run.specs.Environments.{text_of}
 use Rattle.roff_run.specs.Layouts.{laid_out, layout_of, placed}
 use Rattle.roff_run.specs.PageEvents.{PageEvent, PageHistory}
 use Rattle.roff_run.specs.Registers.{AllRegisters}
-use Rattle.roff_run.specs.Springs.{next}
 use Rattle.roff_run.specs.Titles.{title_told, told}
 use Rattle.roff_run.specs.declared.event.PageEvent.TheVariants.{Text, Page, Interrupt, Environment, Back, InputTrap as SetsTrap, Title}
 

@@ -40,7 +40,8 @@ use Rattle.roff_run.specs.Requests.Effects.{Effect}
 use Rattle.roff_run.specs.declared.definition.DefinitionLine.{DefinitionLine}
 use Rattle.roff_run.specs.declared.definition.DefinitionLine.TheVariants.{MayBeLast, IsLast, IsText}
 use Rattle.roff_run.specs.declared.line_state.LineState.{LineState}
-use Rattle.roff_run.specs.declared.line_state.LineState.TheVariants.{LineStart, Branch, Braced, Text as InText, Control, Name, Arguments as InArguments, Deciding, StringName, StringText, Skipping, Dropped, Telling, Told, Exiting, Calling, Defining, TitleFront, Title as InTitle}
+use Rattle.roff_run.specs.declared.line_state.LineState.TheVariants.{LineStart, Branch, Braced, Text as InText, Control, Name, Deciding, Skipping, Dropped, Told, Exiting, TitleFront, Title as InTitle, Collecting}
+use Rattle.roff_run.specs.declared.purpose.Purpose.TheVariants.{Arguments as InArguments, StringName, StringText, Telling, Calling, Defining}
 use Rattle.roff_run.specs.declared.line_state.TextLine.{TextLine}
 use Rattle.roff_run.specs.declared.request.Called.{Called}
 use Rattle.roff_run.specs.declared.request.Called.TheVariants.{Request as ARequest, Body as ABody, Nothing as Unknown}
@@ -168,20 +169,20 @@ Means-call_unit i name (Kept b) = (tt, ahead-same (ahead-holding_call (Kept b) (
 Means-line_taking : (k : Known) (i : PageInput) (breaks : Bool) (request : Request) (line : LineReading) (b : ℕ) → Means i.ahead (line_taking k i breaks request line b)
 Means-line_taking k i breaks request ByArguments b =
     let read = byte_read AboveArguments i.escapes b in let j : PageInput = record i { escapes = read.1 } in
-    Means-collected k j (InArguments breaks request) read.0 (Means-unit_found k j breaks request)
+    Means-collected k j (Collecting (InArguments breaks request)) read.0 (Means-unit_found k j breaks request)
 Means-line_taking k i breaks request (ByCondition keeps) b = Means-condition_begun k i keeps b
 Means-line_taking k i breaks request (ByString appends) b =
     let read = byte_read AboveArguments i.escapes b in let j : PageInput = record i { escapes = read.1 } in
-    Means-collected k j (StringName appends) read.0 (Means-string_name_unit j appends)
+    Means-collected k j (Collecting (StringName appends)) read.0 (Means-string_name_unit j appends)
 Means-line_taking k i breaks request ByLastLine b =
     let read = byte_read AboveArguments i.escapes b in let j : PageInput = record i { escapes = read.1 } in
-    Means-collected k j (InArguments breaks request) read.0 (Means-unit_found k j breaks request)
+    Means-collected k j (Collecting (InArguments breaks request)) read.0 (Means-unit_found k j breaks request)
 Means-line_taking k i breaks request (ByMessage aborts) b =
     let read = byte_read AboveCopy i.escapes b in let j : PageInput = record i { escapes = read.1 } in
-    Means-collected k j (Telling aborts true) read.0 (Means-message_unit j aborts true)
+    Means-collected k j (Collecting (Telling aborts true)) read.0 (Means-message_unit j aborts true)
 Means-line_taking k i breaks request (ByLines lines) b =
     let read = byte_read AboveArguments i.escapes b in let j : PageInput = record i { escapes = read.1 } in
-    Means-collected k j (InArguments breaks request) read.0 (Means-unit_found k j breaks request)
+    Means-collected k j (Collecting (InArguments breaks request)) read.0 (Means-unit_found k j breaks request)
 Means-line_taking k i breaks request ByTitle b =
     let read = byte_read AboveArguments i.escapes b in let j : PageInput = record i { escapes = read.1 } in
     Means-collected k j TitleFront read.0 (Means-title_front_unit k j)
@@ -191,7 +192,7 @@ Means-called_taking : (k : Known) (i : PageInput) (breaks : Bool) (called : Call
 Means-called_taking k i breaks (ARequest request) b = Means-line_taking k i breaks request (row_of request).line b
 Means-called_taking k i breaks (ABody name) b =
     let read = byte_read AboveArguments i.escapes b in let j : PageInput = record i { escapes = read.1 } in
-    Means-collected k j (Calling name) read.0 (Means-call_unit j name)
+    Means-collected k j (Collecting (Calling name)) read.0 (Means-call_unit j name)
 Means-called_taking k i breaks Unknown b = (tt, Stays)
 
 Means-name_ended_taking : (k : Known) (i : PageInput) (breaks : Bool) (name : ShortName) (b : ℕ) → Means i.ahead (name_ended_taking k i breaks name b)
@@ -229,9 +230,9 @@ Means-definition_unit k i name appends end front unit IsText = (tt, ahead-same (
 Means-definition_found : (k : Known) (i : PageInput) (name : Option ShortName) (appends : Bool) (end : Option ShortName) (matched : Option ℕ) (found : Found)
     → Means i.ahead (definition_found k i name appends end matched found)
 Means-definition_found k i name appends end matched found =
-    of-unit_or (Means i.ahead) (definition_line k i name appends end matched) (no_unit_found k i (Defining name appends end matched) found) (unit_in found)
+    of-unit_or (Means i.ahead) (definition_line k i name appends end matched) (no_unit_found k i (Collecting (Defining name appends end matched)) found) (unit_in found)
     (λ unit. Means-definition_unit k i name appends end (front_of (end_mark end) matched) unit (line_from (end_mark end) matched unit))
-    (Means-no_unit_found k i (Defining name appends end matched) found)
+    (Means-no_unit_found k i (Collecting (Defining name appends end matched)) found)
 
 -- what was found where this is read
 Means-found_in : (k : Known) (i : PageInput) (reading : LineState) (found : Found) → Means i.ahead (found_in k i reading found)
@@ -239,13 +240,13 @@ Means-found_in k i LineStart found = Means-beginning_found k i LineStart found
 Means-found_in k i Branch found = Means-beginning_found k i Branch found
 Means-found_in k i Braced found = Means-beginning_found k i Braced found
 Means-found_in k i (InText line) found = Means-text_found k i line found
-Means-found_in k i (InArguments breaks request) found = Means-collected k i (InArguments breaks request) found (Means-unit_found k i breaks request)
+Means-found_in k i (Collecting (InArguments breaks request)) found = Means-collected k i (Collecting (InArguments breaks request)) found (Means-unit_found k i breaks request)
 Means-found_in k i (Deciding keeps) found = Means-condition_found k i keeps found
-Means-found_in k i (StringName appends) found = Means-collected k i (StringName appends) found (Means-string_name_unit i appends)
-Means-found_in k i (StringText name appends is_front) found = Means-collected k i (StringText name appends is_front) found (Means-string_unit i name appends is_front)
-Means-found_in k i (Telling aborts is_front) found = Means-collected k i (Telling aborts is_front) found (Means-message_unit i aborts is_front)
-Means-found_in k i (Calling name) found = Means-collected k i (Calling name) found (Means-call_unit i name)
-Means-found_in k i (Defining name appends end matched) found = Means-definition_found k i name appends end matched found
+Means-found_in k i (Collecting (StringName appends)) found = Means-collected k i (Collecting (StringName appends)) found (Means-string_name_unit i appends)
+Means-found_in k i (Collecting (StringText name appends is_front)) found = Means-collected k i (Collecting (StringText name appends is_front)) found (Means-string_unit i name appends is_front)
+Means-found_in k i (Collecting (Telling aborts is_front)) found = Means-collected k i (Collecting (Telling aborts is_front)) found (Means-message_unit i aborts is_front)
+Means-found_in k i (Collecting (Calling name)) found = Means-collected k i (Collecting (Calling name)) found (Means-call_unit i name)
+Means-found_in k i (Collecting (Defining name appends end matched)) found = Means-definition_found k i name appends end matched found
 Means-found_in k i (Control breaks) found = (tt, Stays)
 Means-found_in k i (Name breaks first) found = (tt, Stays)
 Means-found_in k i (Skipping opened closed behind) found = (tt, Stays)
@@ -281,13 +282,8 @@ Means-undropped_taking k LineStart i b = Means-read k LineStart i b
 Means-undropped_taking k Branch i b = Means-read k Branch i b
 Means-undropped_taking k Braced i b = Means-read k Braced i b
 Means-undropped_taking k (InText line) i b = Means-read k (InText line) i b
-Means-undropped_taking k (InArguments breaks request) i b = Means-read k (InArguments breaks request) i b
+Means-undropped_taking k (Collecting purpose) i b = Means-read k (Collecting purpose) i b
 Means-undropped_taking k (Deciding keeps) i b = Means-read k (Deciding keeps) i b
-Means-undropped_taking k (StringName appends) i b = Means-read k (StringName appends) i b
-Means-undropped_taking k (StringText name appends is_front) i b = Means-read k (StringText name appends is_front) i b
-Means-undropped_taking k (Telling aborts is_front) i b = Means-read k (Telling aborts is_front) i b
-Means-undropped_taking k (Calling name) i b = Means-read k (Calling name) i b
-Means-undropped_taking k (Defining name appends end matched) i b = Means-read k (Defining name appends end matched) i b
 
 -- a byte
 pub Means-taking : (k : Known) (reading : LineState) (i : PageInput) (b : ℕ) → Means i.ahead (taking k reading i b)
@@ -309,22 +305,22 @@ Means-end_taking k LineStart i = (meant-interrupted_end k.interrupted, Stays)
 Means-end_taking k Braced i = (meant-interrupted_end k.interrupted, Stays)
 Means-end_taking k (Control breaks) i = (meant-interrupted_end k.interrupted, Stays)
 Means-end_taking k (Deciding keeps) i = (meant-interrupted_end k.interrupted, Stays)
-Means-end_taking k (StringName appends) i =
+Means-end_taking k (Collecting (StringName appends)) i =
     (meant-interrupted_end k.interrupted, (Means-string_line_ended i appends (name_at 0 (arguments_given i))).1)
-Means-end_taking k (StringText name appends is_front) i = (meant-interrupted_end k.interrupted, ahead-same (ahead-string_entered name appends i))
+Means-end_taking k (Collecting (StringText name appends is_front)) i = (meant-interrupted_end k.interrupted, ahead-same (ahead-string_entered name appends i))
 Means-end_taking k (Skipping opened closed behind) i = (meant-interrupted_end k.interrupted, Stays)
 Means-end_taking k Dropped i = (meant-interrupted_end k.interrupted, Stays)
 Means-end_taking k (Told aborts) i = (meant-interrupted_end k.interrupted, Stays)
 Means-end_taking k TitleFront i = Means-undropped_taking k TitleFront i newline
 Means-end_taking k (InTitle delimiter) i = Means-title_ended k i
 Means-end_taking k Exiting i = (meant-interrupted_end k.interrupted, Stays)
-Means-end_taking k (Defining name appends end matched) i = (tt, ahead-same (ahead-definition_dropped name i))
+Means-end_taking k (Collecting (Defining name appends end matched)) i = (tt, ahead-same (ahead-definition_dropped name i))
 Means-end_taking k Branch i = Means-undropped_taking k Branch i newline
 Means-end_taking k (InText line) i = Means-undropped_taking k (InText line) i newline
 Means-end_taking k (Name breaks first) i = Means-undropped_taking k (Name breaks first) i newline
-Means-end_taking k (InArguments breaks request) i = Means-undropped_taking k (InArguments breaks request) i newline
-Means-end_taking k (Calling name) i = Means-undropped_taking k (Calling name) i newline
-Means-end_taking k (Telling aborts is_front) i = Means-undropped_taking k (Telling aborts is_front) i newline
+Means-end_taking k (Collecting (InArguments breaks request)) i = Means-undropped_taking k (Collecting (InArguments breaks request)) i newline
+Means-end_taking k (Collecting (Calling name)) i = Means-undropped_taking k (Collecting (Calling name)) i newline
+Means-end_taking k (Collecting (Telling aborts is_front)) i = Means-undropped_taking k (Collecting (Telling aborts is_front)) i newline
 
 -- the body of the last macro
 ahead-called_last : (called : Called) (i : PageInput) → Grows i.ahead (called_last called i).ahead

@@ -23,7 +23,7 @@ use Rattle.roff_run.specs.declared.environment_number.EnvironmentNumber.{Environ
 use Rattle.roff_run.specs.declared.environment_number.EnvironmentNumber.TheVariants.{Zero, One, Two}
 use Rattle.roff_run.specs.PageEvents.{PageEvent, PastEvent}
 use Rattle.roff_run.specs.declared.line_state.LineState.{LineState}
-use Rattle.roff_run.specs.declared.line_state.LineState.TheVariants.{LineStart, Branch, Braced, Text as InText, Control, Name, Arguments as InArguments, Deciding, StringName, StringText, Skipping, Dropped, Telling, Told, Exiting, Calling, Defining, TitleFront, Title as InTitle}
+use Rattle.roff_run.specs.declared.line_state.LineState.TheVariants.{LineStart, Branch, Braced, Text as InText, Control, Name, Deciding, Skipping, Dropped, Told, Exiting, TitleFront, Title as InTitle, Collecting}
 use Rattle.roff_run.specs.declared.line_state.TextLine.{TextLine}
 use Rattle.roff_run.specs.declared.request.Called.{Called}
 use Rattle.roff_run.specs.declared.request.Called.TheVariants.{Body as ABody, Nothing as Unknown}
@@ -100,19 +100,14 @@ gone_back Braced may = refl
 gone_back (InText line) may = gone_back-text line.has_glyph line.has_other line.has_brace line.leading may.0 may.1
 gone_back (Control breaks) may = absurd may
 gone_back (Name breaks first) may = absurd may
-gone_back (InArguments breaks request) may = absurd may
+gone_back (Collecting purpose) may = absurd may
 gone_back (Deciding keeps) may = absurd may
 gone_back (Skipping opened closed behind) may = absurd may
-gone_back (StringName appends) may = absurd may
-gone_back (StringText name appends is_front) may = absurd may
 gone_back Dropped may = absurd may
-gone_back (Telling aborts is_front) may = absurd may
 gone_back (Told aborts) may = absurd may
 gone_back Exiting may = absurd may
 gone_back TitleFront may = absurd may
 gone_back (InTitle delimiter) may = absurd may
-gone_back (Calling name) may = absurd may
-gone_back (Defining name appends end matched) may = absurd may
 
 pub lines_go_on_as_they_were : LinesGoOnAsTheyWere
 lines_go_on_as_they_were l s reading behind on may starts none_half ahead within =

@@ -31,7 +31,7 @@ use Rattle.roff_laws.proofs.RequestEvents.{meant-numbered}
 use Rattle.roff_run.specs.PageEvents.{PageEvent}
 use Rattle.roff_run.specs.declared.event.PageEvent.TheVariants.{Text}
 use Rattle.roff_run.specs.declared.line_state.LineState.{LineState}
-use Rattle.roff_run.specs.declared.line_state.LineState.TheVariants.{LineStart, Branch, Braced, Text as InText, Control, Name, Arguments as InArguments, Deciding, StringName, StringText, Skipping, Dropped, Telling, Told, Exiting, Calling, Defining, TitleFront, Title as InTitle}
+use Rattle.roff_run.specs.declared.line_state.LineState.TheVariants.{LineStart, Branch, Braced, Text as InText, Control, Name, Deciding, Skipping, Dropped, Told, Exiting, TitleFront, Title as InTitle, Collecting}
 use Rattle.roff_run.specs.declared.line_state.TextLine.{TextLine}
 
 -- glyphs, and leading blanks
@@ -130,19 +130,14 @@ Means-first_taking k i LineStart b = Means-line_begun k i b
 Means-first_taking k i (InText line) b = Means-line_begun k i b
 Means-first_taking k i (Control breaks) b = Means-line_begun k i b
 Means-first_taking k i (Name breaks first) b = Means-line_begun k i b
-Means-first_taking k i (InArguments breaks request) b = Means-line_begun k i b
+Means-first_taking k i (Collecting purpose) b = Means-line_begun k i b
 Means-first_taking k i (Deciding keeps) b = Means-line_begun k i b
 Means-first_taking k i (Skipping opened closed behind) b = Means-line_begun k i b
-Means-first_taking k i (StringName appends) b = Means-line_begun k i b
-Means-first_taking k i (StringText name appends is_front) b = Means-line_begun k i b
 Means-first_taking k i Dropped b = Means-line_begun k i b
-Means-first_taking k i (Telling aborts is_front) b = Means-line_begun k i b
 Means-first_taking k i (Told aborts) b = Means-line_begun k i b
 Means-first_taking k i Exiting b = Means-line_begun k i b
 Means-first_taking k i TitleFront b = Means-line_begun k i b
 Means-first_taking k i (InTitle delimiter) b = Means-line_begun k i b
-Means-first_taking k i (Calling name) b = Means-line_begun k i b
-Means-first_taking k i (Defining name appends end matched) b = Means-line_begun k i b
 
 -- an escape there
 Means-escape_begun : (k : Known) (i : PageInput) (b : ℕ) → Means i.ahead (escape_begun k i b)
@@ -155,19 +150,14 @@ Means-first_escape k i Braced b = Means-if i.ahead (b == newline) _ _ (tt, Stays
 Means-first_escape k i (InText line) b = Means-if i.ahead (b == newline) _ _ (tt, Stays) (Means-escape_begun k i b)
 Means-first_escape k i (Control breaks) b = Means-if i.ahead (b == newline) _ _ (tt, Stays) (Means-escape_begun k i b)
 Means-first_escape k i (Name breaks first) b = Means-if i.ahead (b == newline) _ _ (tt, Stays) (Means-escape_begun k i b)
-Means-first_escape k i (InArguments breaks request) b = Means-if i.ahead (b == newline) _ _ (tt, Stays) (Means-escape_begun k i b)
+Means-first_escape k i (Collecting purpose) b = Means-if i.ahead (b == newline) _ _ (tt, Stays) (Means-escape_begun k i b)
 Means-first_escape k i (Deciding keeps) b = Means-if i.ahead (b == newline) _ _ (tt, Stays) (Means-escape_begun k i b)
 Means-first_escape k i (Skipping opened closed behind) b = Means-if i.ahead (b == newline) _ _ (tt, Stays) (Means-escape_begun k i b)
-Means-first_escape k i (StringName appends) b = Means-if i.ahead (b == newline) _ _ (tt, Stays) (Means-escape_begun k i b)
-Means-first_escape k i (StringText name appends is_front) b = Means-if i.ahead (b == newline) _ _ (tt, Stays) (Means-escape_begun k i b)
 Means-first_escape k i Dropped b = Means-if i.ahead (b == newline) _ _ (tt, Stays) (Means-escape_begun k i b)
-Means-first_escape k i (Telling aborts is_front) b = Means-if i.ahead (b == newline) _ _ (tt, Stays) (Means-escape_begun k i b)
 Means-first_escape k i (Told aborts) b = Means-if i.ahead (b == newline) _ _ (tt, Stays) (Means-escape_begun k i b)
 Means-first_escape k i Exiting b = Means-if i.ahead (b == newline) _ _ (tt, Stays) (Means-escape_begun k i b)
 Means-first_escape k i TitleFront b = Means-if i.ahead (b == newline) _ _ (tt, Stays) (Means-escape_begun k i b)
 Means-first_escape k i (InTitle delimiter) b = Means-if i.ahead (b == newline) _ _ (tt, Stays) (Means-escape_begun k i b)
-Means-first_escape k i (Calling name) b = Means-if i.ahead (b == newline) _ _ (tt, Stays) (Means-escape_begun k i b)
-Means-first_escape k i (Defining name appends end matched) b = Means-if i.ahead (b == newline) _ _ (tt, Stays) (Means-escape_begun k i b)
 
 -- what a name asks for
 pub Means-asking : (k : Known) (i : PageInput) (reading : LineState) (purpose : NameUse) (name : Option (List ℕ)) → Means i.ahead (asking k i reading purpose name)

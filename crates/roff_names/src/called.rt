@@ -8,7 +8,7 @@ ghost use Rattle.roff_run.specs.Reading.ControlLines.{behind_called, behind_name
 ghost use Rattle.roff_run.specs.Requests.{called_by, row_of};
 
 use roff_num::{Name, ShortName};
-use roff_run::{Called, LineReading, LineState, PageEvent, Request};
+use roff_run::{Called, LineReading, LineState, PageEvent, Purpose, Request};
 use roff_scan::Unread;
 use roff_store::Kind;
 
@@ -23,7 +23,7 @@ pub fn behind_called(breaks: bool, called: Called) -> Option<LineState>
 {
     match called {
         Called::Request(request) => behind_request(breaks, request),
-        Called::Body(name) => Some(LineState::Calling { name }),
+        Called::Body(name) => Some(LineState::Collecting(Purpose::Calling { name })),
         Called::Nothing => Some(LineState::Dropped),
     }
 }
@@ -37,16 +37,19 @@ fn behind_request(breaks: bool, request: Request) -> Option<LineState>
         → LeadsToElse (λ i. behind_name i breaks request (row_of request).line) }
     ensures alone { result ≡ None → is_by_else (row_of request).line ≡ true }
 {
+    let arguments = LineState::Collecting(Purpose::Arguments { breaks, request });
     match request.row().line {
-        LineReading::ByArguments => Some(LineState::Arguments { breaks, request }),
-        LineReading::ByLines(_) => Some(LineState::Arguments { breaks, request }),
-        LineReading::ByLastLine => Some(LineState::Arguments { breaks, request }),
+        LineReading::ByArguments => Some(arguments),
+        LineReading::ByLines(_) => Some(arguments),
+        LineReading::ByLastLine => Some(arguments),
         LineReading::ByCondition { keeps } => Some(LineState::Deciding { keeps }),
-        LineReading::ByString { appends } => Some(LineState::StringName { appends }),
-        LineReading::ByMessage { aborts } => Some(LineState::Telling {
+        LineReading::ByString { appends } => {
+            Some(LineState::Collecting(Purpose::StringName { appends }))
+        }
+        LineReading::ByMessage { aborts } => Some(LineState::Collecting(Purpose::Telling {
             aborts,
             is_front: true,
-        }),
+        })),
         LineReading::ByTitle => Some(LineState::TitleFront),
         LineReading::ByElse => None,
     }

@@ -20,7 +20,8 @@ use Rattle.roff_run.specs.Reading.Found.{read_in}
 use Rattle.roff_run.specs.Reading.Items.{PageInput, going_on}
 use Rattle.roff_run.specs.Reading.Units.{holding, settling}
 use Rattle.roff_run.specs.Registers.{Known}
-use Rattle.roff_run.specs.declared.line_state.LineState.TheVariants.{Calling}
+use Rattle.roff_run.specs.declared.line_state.LineState.TheVariants.{Collecting}
+use Rattle.roff_run.specs.declared.purpose.Purpose.TheVariants.{Calling}
 use Rattle.roff_num.specs.declared.short_name.ShortName.{ShortName}
 
 -- no more arguments are kept than there are
@@ -81,22 +82,22 @@ module _ (i : PageInput) (b : ℕ) (few : length i.arguments.whole < 8) where
       ap (λ (full : Bool). if full then i else holding (Byte b) i) (lt-leb 9 (length i.arguments.whole) fewer)
 
   -- so each unit of one byte is, but for a newline
-  held-unit : (name : ShortName) → (b == newline) ≡ false → call_unit i name (Byte b) ≡ going_on (holding (Byte b) i) (Calling name)
+  held-unit : (name : ShortName) → (b == newline) ≡ false → call_unit i name (Byte b) ≡ going_on (holding (Byte b) i) (Collecting (Calling name))
   held-unit name no_newline =
       elim (cases_Bool (b == quote)) [
-        | inl e ↦ rw (no_newline, e) (ap (λ (j : PageInput). going_on j (Calling name)) held-quote)
-        | inr e ↦ rw (no_newline, e) (ap (λ (j : PageInput). going_on j (Calling name)) (held-settled e))
+        | inl e ↦ rw (no_newline, e) (ap (λ (j : PageInput). going_on j (Collecting (Calling name))) held-quote)
+        | inr e ↦ rw (no_newline, e) (ap (λ (j : PageInput). going_on j (Collecting (Calling name))) (held-settled e))
       ]
 
 -- a byte there that is neither a newline nor a backslash is held
 pub call-byte : (k : Known) (name : ShortName) (i : PageInput) (b : ℕ) → i.escapes ≡ [] → length i.arguments.whole < 8
-    → (b == backslash) ≡ false → (b == newline) ≡ false → going_on (holding (Byte b) i) (Calling name) ≡ undropped_taking k (Calling name) i b
+    → (b == backslash) ≡ false → (b == newline) ≡ false → going_on (holding (Byte b) i) (Collecting (Calling name)) ≡ undropped_taking k (Collecting (Calling name)) i b
 call-byte k name i b none few no_escape no_newline =
     let bare : PageInput = record i { escapes = [] } in
     let unit : byte_read AboveArguments [] b ≡ (GivesUnit (Byte b), []) =
     ap (λ (c : Bool). if c then (GoesOn, Backslash ∷ []) else (GivesUnit (Byte b), [])) no_escape in
     sym
-    (ap (λ (half : List OpenEscape). read_in k (Calling name) i (byte_read AboveArguments half b)) none
-    ∙ ap (read_in k (Calling name) i) unit
+    (ap (λ (half : List OpenEscape). read_in k (Collecting (Calling name)) i (byte_read AboveArguments half b)) none
+    ∙ ap (read_in k (Collecting (Calling name)) i) unit
     ∙ held-unit bare b few name no_newline
-    ∙ ap (λ (half : List OpenEscape). going_on (holding (Byte b) (record i { escapes = half })) (Calling name)) (sym none))
+    ∙ ap (λ (half : List OpenEscape). going_on (holding (Byte b) (record i { escapes = half })) (Collecting (Calling name))) (sym none))

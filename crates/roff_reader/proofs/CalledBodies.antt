@@ -16,7 +16,8 @@ use Rattle.roff_run.specs.Reading.Items.{PageInput, going_on}
 use Rattle.roff_run.specs.Reading.Units.{holding, settling}
 use Rattle.roff_run.specs.declared.step.Step.{Step}
 use Rattle.roff_run.specs.declared.step.Step.TheVariants.{Nothing}
-use Rattle.roff_run.specs.declared.line_state.LineState.TheVariants.{Calling}
+use Rattle.roff_run.specs.declared.line_state.LineState.TheVariants.{Collecting}
+use Rattle.roff_run.specs.declared.purpose.Purpose.TheVariants.{Calling}
 use Rattle.roff_num.specs.declared.short_name.ShortName.{ShortName}
 use Rattle.roff_reader.proofs.Strings.{other}
 use Rattle.roff_reader.proofs.TakesAs.{TakesAs-as, TakesAs-settled}
@@ -24,7 +25,7 @@ use Rattle.roff_reader.proofs.LinesTaken.{TakesAs-changed, TakesAs-meant, TakesA
 
 -- another unit than a newline or a quote is held where no quote follows the quote before
 pub call_unit-other : (i : PageInput) (name : ShortName) (unit : CopyUnit) → (unit ≡ Byte 10 → ⊥) → (unit ≡ Byte 34 → ⊥)
-    → going_on (holding_call unit (settling i)) (Calling name) ≡ call_unit i name unit
+    → going_on (holding_call unit (settling i)) (Collecting (Calling name)) ≡ call_unit i name unit
 call_unit-other i name (Kept b) no_newline no_quote = refl
 call_unit-other i name (Byte b) no_newline no_quote =
     let newline : (b == 10) ≡ false = other b 10 (λ is. no_newline (ap (λ (c : ℕ). Byte c) is)) in
@@ -33,37 +34,37 @@ call_unit-other i name (Byte b) no_newline no_quote =
 
 -- a quote may follow the quote before
 pub call_unit-quote : (i : PageInput) (name : ShortName) (unit : CopyUnit) → unit ≡ Byte 34
-    → going_on (holding_call unit i) (Calling name) ≡ call_unit i name unit
+    → going_on (holding_call unit i) (Collecting (Calling name)) ≡ call_unit i name unit
 call_unit-quote i name unit is =
-    subst (λ (u : CopyUnit). going_on (holding_call u i) (Calling name) ≡ call_unit i name u) (sym is) refl
+    subst (λ (u : CopyUnit). going_on (holding_call u i) (Collecting (Calling name)) ≡ call_unit i name u) (sym is) refl
 
 module _ (unit : CopyUnit) (name : ShortName) (es : ComposerOf) (old new : ReaderState) (u behind : PageUnread) where
   -- a unit is held while fewer than nine arguments are whole
-  holding_few : length u.input.arguments.whole < 9 → going_on (holding unit u.input) (Calling name) ≡ going_on (holding_call unit u.input) (Calling name)
+  holding_few : length u.input.arguments.whole < 9 → going_on (holding unit u.input) (Collecting (Calling name)) ≡ going_on (holding_call unit u.input) (Collecting (Calling name))
   holding_few few =
-      ap (λ (full : Bool). going_on (if full then u.input else holding unit u.input) (Calling name)) (sym (lt-leb 9 (length u.input.arguments.whole) few))
+      ap (λ (full : Bool). going_on (if full then u.input else holding unit u.input) (Collecting (Calling name))) (sym (lt-leb 9 (length u.input.arguments.whole) few))
 
   pub TakesAs-call_held : (m : Step) (done : Unit {0}) → length u.input.arguments.whole < 9 → (Ok done, behind) ≡ changing (holding unit u.input) u
-      → new ≡ record old { reading = Calling name } → m ≡ Nothing
-      → TakesAs (λ k. going_on (holding_call unit u.input) (Calling name)) es old new u behind (Ok m)
+      → new ≡ record old { reading = Collecting (Calling name) } → m ≡ Nothing
+      → TakesAs (λ k. going_on (holding_call unit u.input) (Collecting (Calling name))) es old new u behind (Ok m)
   TakesAs-call_held m done few changes came none =
       subst (λ (t : _). TakesAs (λ k. t) es old new u behind (Ok m)) (holding_few few)
-      (TakesAs-changed (holding unit u.input) (Calling name) es old new u behind m done changes came none)
+      (TakesAs-changed (holding unit u.input) (Collecting (Calling name)) es old new u behind m done changes came none)
 
   -- or a limit refuses it
   pub TakesAs-call_not_held : (limit : Limit) → length u.input.arguments.whole < 9 → (Err limit, behind) ≡ changing (holding unit u.input) u
-      → TakesAs (λ k. going_on (holding_call unit u.input) (Calling name)) es old new u behind (Err limit)
+      → TakesAs (λ k. going_on (holding_call unit u.input) (Collecting (Calling name))) es old new u behind (Err limit)
   TakesAs-call_not_held limit few changes =
       subst (λ (t : _). TakesAs (λ k. t) es old new u behind (Err limit)) (holding_few few)
-      (TakesAs-not_changed (holding unit u.input) (Calling name) es old new u behind limit changes)
+      (TakesAs-not_changed (holding unit u.input) (Collecting (Calling name)) es old new u behind limit changes)
 
 -- behind nine arguments nothing is held
 pub TakesAs-call_full : (unit : CopyUnit) (name : ShortName) (es : ComposerOf) (old new : ReaderState) (u : PageUnread) (m : Step) → 9 ≤ length u.input.arguments.whole
-    → new ≡ record old { reading = Calling name } → m ≡ Nothing
-    → TakesAs (λ k. going_on (holding_call unit u.input) (Calling name)) es old new u u (Ok m)
+    → new ≡ record old { reading = Collecting (Calling name) } → m ≡ Nothing
+    → TakesAs (λ k. going_on (holding_call unit u.input) (Collecting (Calling name))) es old new u u (Ok m)
 TakesAs-call_full unit name es old new u m full came none =
-    TakesAs-meant (λ k. going_on (holding_call unit u.input) (Calling name)) (Calling name) es old new u m
-    (λ k. ap (λ (full : Bool). going_on (if full then u.input else holding unit u.input) (Calling name)) (le-leb 9 (length u.input.arguments.whole) full))
+    TakesAs-meant (λ k. going_on (holding_call unit u.input) (Collecting (Calling name))) (Collecting (Calling name)) es old new u m
+    (λ k. ap (λ (full : Bool). going_on (if full then u.input else holding unit u.input) (Collecting (Calling name))) (le-leb 9 (length u.input.arguments.whole) full))
     came none
 
 -- a digit names an argument
@@ -89,18 +90,18 @@ argument_named-other (first ∷ second ∷ others) arguments not = refl
 
 module _ (unit : CopyUnit) (name : ShortName) (es : ComposerOf) (old new : ReaderState) (u mid behind : PageUnread) (result : Result Step Limit) where
   -- a quote behind a call's name, as it is read where the line is
-  pub TakesAs-call_quote : mid ≡ u → unit ≡ Byte 34 → TakesAs (λ k. going_on (holding_call unit mid.input) (Calling name)) es old new mid behind result
+  pub TakesAs-call_quote : mid ≡ u → unit ≡ Byte 34 → TakesAs (λ k. going_on (holding_call unit mid.input) (Collecting (Calling name))) es old new mid behind result
       → TakesAs (λ k. call_unit u.input name unit) es old new u behind result
   TakesAs-call_quote same is takes =
-      TakesAs-as (λ k. going_on (holding_call unit u.input) (Calling name)) (λ k. call_unit u.input name unit) es old new u behind result
+      TakesAs-as (λ k. going_on (holding_call unit u.input) (Collecting (Calling name))) (λ k. call_unit u.input name unit) es old new u behind result
       (λ k. call_unit-quote u.input name unit is)
-      (subst (λ (v : PageUnread). TakesAs (λ k. going_on (holding_call unit v.input) (Calling name)) es old new v behind result) same takes)
+      (subst (λ (v : PageUnread). TakesAs (λ k. going_on (holding_call unit v.input) (Collecting (Calling name))) es old new v behind result) same takes)
 
   -- and any other unit but a newline
   pub TakesAs-call_other : mid ≡ record u { input = settling u.input } → (unit ≡ Byte 10 → ⊥) → (unit ≡ Byte 34 → ⊥)
-      → TakesAs (λ k. going_on (holding_call unit mid.input) (Calling name)) es old new mid behind result
+      → TakesAs (λ k. going_on (holding_call unit mid.input) (Collecting (Calling name))) es old new mid behind result
       → TakesAs (λ k. call_unit u.input name unit) es old new u behind result
   TakesAs-call_other settles no_newline no_quote takes =
-      TakesAs-as (λ k. going_on (holding_call unit (settling u.input)) (Calling name)) (λ k. call_unit u.input name unit) es old new u behind result
+      TakesAs-as (λ k. going_on (holding_call unit (settling u.input)) (Collecting (Calling name))) (λ k. call_unit u.input name unit) es old new u behind result
       (λ k. call_unit-other u.input name unit no_newline no_quote)
-      (TakesAs-settled (Calling name) (λ k i. going_on (holding_call unit i) (Calling name)) es old new u mid behind result settles takes)
+      (TakesAs-settled (Collecting (Calling name)) (λ k i. going_on (holding_call unit i) (Collecting (Calling name))) es old new u mid behind result settles takes)

@@ -38,7 +38,9 @@ use Rattle.roff_run.specs.declared.message.Message.{Message}
 use Rattle.roff_run.specs.declared.step.Step.{Step}
 use Rattle.roff_run.specs.declared.step.Step.TheVariants.{Nothing}
 use Rattle.roff_run.specs.declared.line_state.LineState.{LineState}
-use Rattle.roff_run.specs.declared.line_state.LineState.TheVariants.{StringName, StringText, LineStart, Branch, Braced, Text as InText, Control, Name, Arguments as InArguments, Deciding, Skipping, Dropped, Telling, Told, Exiting, Calling, Defining, TitleFront, Title as InTitle}
+use Rattle.roff_run.specs.declared.line_state.LineState.TheVariants.{LineStart, Branch, Braced, Text as InText, Control, Name, Deciding, Skipping, Dropped, Told, Exiting, TitleFront, Title as InTitle, Collecting}
+use Rattle.roff_run.specs.declared.purpose.Purpose.{Purpose}
+use Rattle.roff_run.specs.declared.purpose.Purpose.TheVariants.{StringName, StringText, Arguments as InArguments, Telling, Calling, Defining}
 use Rattle.roff_num.specs.declared.short_name.ShortName.{ShortName}
 use Rattle.roff_run.specs.declared.line_state.TextLine.{TextLine}
 use Rattle.roff_run.specs.declared.line_state.TextStep.{TextStep}
@@ -166,14 +168,9 @@ first_taking-any k i Braced b in_branch in_brace =
 first_taking-any k i (InText line) b in_branch in_brace = refl
 first_taking-any k i (Control breaks) b in_branch in_brace = refl
 first_taking-any k i (Name breaks first) b in_branch in_brace = refl
-first_taking-any k i (InArguments breaks request) b in_branch in_brace = refl
+first_taking-any k i (Collecting purpose) b in_branch in_brace = refl
 first_taking-any k i (Deciding keeps) b in_branch in_brace = refl
 first_taking-any k i (Skipping opened closed behind) b in_branch in_brace = refl
-first_taking-any k i (StringName appends) b in_branch in_brace = refl
-first_taking-any k i (StringText name appends is_front) b in_branch in_brace = refl
-first_taking-any k i (Calling name) b in_branch in_brace = refl
-first_taking-any k i (Defining name appends end matched) b in_branch in_brace = refl
-first_taking-any k i (Telling aborts is_front) b in_branch in_brace = refl
 first_taking-any k i (Told aborts) b in_branch in_brace = refl
 first_taking-any k i Exiting b in_branch in_brace = refl
 first_taking-any k i Dropped b in_branch in_brace = refl
@@ -188,14 +185,9 @@ first_escape-newline k i Braced none = refl
 first_escape-newline k i (InText line) none = refl
 first_escape-newline k i (Control breaks) none = refl
 first_escape-newline k i (Name breaks first) none = refl
-first_escape-newline k i (InArguments breaks request) none = refl
+first_escape-newline k i (Collecting purpose) none = refl
 first_escape-newline k i (Deciding keeps) none = refl
 first_escape-newline k i (Skipping opened closed behind) none = refl
-first_escape-newline k i (StringName appends) none = refl
-first_escape-newline k i (StringText name appends is_front) none = refl
-first_escape-newline k i (Calling name) none = refl
-first_escape-newline k i (Defining name appends end matched) none = refl
-first_escape-newline k i (Telling aborts is_front) none = refl
 first_escape-newline k i (Told aborts) none = refl
 first_escape-newline k i Exiting none = refl
 first_escape-newline k i Dropped none = refl
@@ -213,14 +205,9 @@ first_escape-any k i Braced b in_branch no_newline = ap (λ (c : Bool). if c the
 first_escape-any k i (InText line) b in_branch no_newline = ap (λ (c : Bool). if c then going_on i LineStart else escape_begun k i b) (sym no_newline)
 first_escape-any k i (Control breaks) b in_branch no_newline = ap (λ (c : Bool). if c then going_on i LineStart else escape_begun k i b) (sym no_newline)
 first_escape-any k i (Name breaks first) b in_branch no_newline = ap (λ (c : Bool). if c then going_on i LineStart else escape_begun k i b) (sym no_newline)
-first_escape-any k i (InArguments breaks request) b in_branch no_newline = ap (λ (c : Bool). if c then going_on i LineStart else escape_begun k i b) (sym no_newline)
+first_escape-any k i (Collecting purpose) b in_branch no_newline = ap (λ (c : Bool). if c then going_on i LineStart else escape_begun k i b) (sym no_newline)
 first_escape-any k i (Deciding keeps) b in_branch no_newline = ap (λ (c : Bool). if c then going_on i LineStart else escape_begun k i b) (sym no_newline)
 first_escape-any k i (Skipping opened closed behind) b in_branch no_newline = ap (λ (c : Bool). if c then going_on i LineStart else escape_begun k i b) (sym no_newline)
-first_escape-any k i (StringName appends) b in_branch no_newline = ap (λ (c : Bool). if c then going_on i LineStart else escape_begun k i b) (sym no_newline)
-first_escape-any k i (StringText name appends is_front) b in_branch no_newline = ap (λ (c : Bool). if c then going_on i LineStart else escape_begun k i b) (sym no_newline)
-first_escape-any k i (Calling name) b in_branch no_newline = ap (λ (c : Bool). if c then going_on i LineStart else escape_begun k i b) (sym no_newline)
-first_escape-any k i (Defining name appends end matched) b in_branch no_newline = ap (λ (c : Bool). if c then going_on i LineStart else escape_begun k i b) (sym no_newline)
-first_escape-any k i (Telling aborts is_front) b in_branch no_newline = ap (λ (c : Bool). if c then going_on i LineStart else escape_begun k i b) (sym no_newline)
 first_escape-any k i (Told aborts) b in_branch no_newline = ap (λ (c : Bool). if c then going_on i LineStart else escape_begun k i b) (sym no_newline)
 first_escape-any k i Exiting b in_branch no_newline = ap (λ (c : Bool). if c then going_on i LineStart else escape_begun k i b) (sym no_newline)
 first_escape-any k i Dropped b in_branch no_newline = ap (λ (c : Bool). if c then going_on i LineStart else escape_begun k i b) (sym no_newline)
@@ -240,39 +227,39 @@ TakesAs-undropped b es old new before behind result is takes =
     TakesAs-as (λ k. undropped_taking k old.reading before.input b) (λ k. taking k old.reading before.input b) es old new before behind result
     (λ k. taking-of k old.reading before.input b false is) takes
 
--- within a line the end of the input is a newline, where no interrupted line ends with it, but of a definition or a title
+-- within a line whose bytes are collected the end of the input is a newline, but of a string and of a definition
+pub end_taking-collected : (k : Known) (purpose : Purpose) (i : PageInput) → ((appends : Bool) → purpose ≡ StringName appends → ⊥)
+    → ((name : Option ShortName) (appends is_front : Bool) → purpose ≡ StringText name appends is_front → ⊥)
+    → ((name : Option ShortName) (appends : Bool) (end : Option ShortName) (matched : Option ℕ) → purpose ≡ Defining name appends end matched → ⊥)
+    → undropped_taking k (Collecting purpose) i newline ≡ end_taking k (Collecting purpose) i
+end_taking-collected k (InArguments breaks request) i named strings defines = refl
+end_taking-collected k (Calling name) i named strings defines = refl
+end_taking-collected k (Telling aborts is_front) i named strings defines = refl
+end_taking-collected k (StringName appends) i named strings defines = absurd (named appends refl)
+end_taking-collected k (StringText name appends is_front) i named strings defines = absurd (strings name appends is_front refl)
+end_taking-collected k (Defining name appends end matched) i named strings defines = absurd (defines name appends end matched refl)
+
+-- and within others, where no interrupted line ends with it, but of a title
 pub end_taking-newline : (k : Known) (r : LineState) (i : PageInput) → (r ≡ LineStart → ⊥) → (r ≡ Dropped → ⊥) → (r ≡ Exiting → ⊥)
-    → (r ≡ Braced → ⊥) → ((breaks : Bool) → r ≡ Control breaks → ⊥) → ((appends : Bool) → r ≡ StringName appends → ⊥)
-    → ((name : Option ShortName) (appends is_front : Bool) → r ≡ StringText name appends is_front → ⊥)
+    → (r ≡ Braced → ⊥) → ((breaks : Bool) → r ≡ Control breaks → ⊥) → ((purpose : Purpose) → r ≡ Collecting purpose → ⊥)
     → ((opened closed : ℕ) (behind : Bool) → r ≡ Skipping opened closed behind → ⊥)
-    → ((name : Option ShortName) (appends : Bool) (end : Option ShortName) (matched : Option ℕ) → r ≡ Defining name appends end matched → ⊥)
     → ((keeps : Bool) → r ≡ Deciding keeps → ⊥) → ((aborts : Bool) → r ≡ Told aborts → ⊥) → ((delimiter : ℕ) → r ≡ InTitle delimiter → ⊥)
     → undropped_taking k r i newline ≡ end_taking k r i
-end_taking-newline k LineStart i begun dropped left braced control named strings skips defines decides told titled = absurd (begun refl)
-end_taking-newline k Branch i begun dropped left braced control named strings skips defines decides told titled = refl
-end_taking-newline k Braced i begun dropped left braced control named strings skips defines decides told titled = absurd (braced refl)
-end_taking-newline k (InText line) i begun dropped left braced control named strings skips defines decides told titled = refl
-end_taking-newline k (Control breaks) i begun dropped left braced control named strings skips defines decides told titled =
-    absurd (control breaks refl)
-end_taking-newline k (Name breaks first) i begun dropped left braced control named strings skips defines decides told titled = refl
-end_taking-newline k (InArguments breaks request) i begun dropped left braced control named strings skips defines decides told titled = refl
-end_taking-newline k (Deciding keeps) i begun dropped left braced control named strings skips defines decides told titled = absurd (decides keeps refl)
-end_taking-newline k (Skipping opened closed behind) i begun dropped left braced control named strings skips defines decides told titled =
+end_taking-newline k LineStart i begun dropped left braced control collects skips decides told titled = absurd (begun refl)
+end_taking-newline k Branch i begun dropped left braced control collects skips decides told titled = refl
+end_taking-newline k Braced i begun dropped left braced control collects skips decides told titled = absurd (braced refl)
+end_taking-newline k (InText line) i begun dropped left braced control collects skips decides told titled = refl
+end_taking-newline k (Control breaks) i begun dropped left braced control collects skips decides told titled = absurd (control breaks refl)
+end_taking-newline k (Name breaks first) i begun dropped left braced control collects skips decides told titled = refl
+end_taking-newline k (Collecting purpose) i begun dropped left braced control collects skips decides told titled = absurd (collects purpose refl)
+end_taking-newline k (Deciding keeps) i begun dropped left braced control collects skips decides told titled = absurd (decides keeps refl)
+end_taking-newline k (Skipping opened closed behind) i begun dropped left braced control collects skips decides told titled =
     absurd (skips opened closed behind refl)
-end_taking-newline k (StringName appends) i begun dropped left braced control named strings skips defines decides told titled =
-    absurd (named appends refl)
-end_taking-newline k (StringText name appends is_front) i begun dropped left braced control named strings skips defines decides told titled =
-    absurd (strings name appends is_front refl)
-end_taking-newline k (Calling name) i begun dropped left braced control named strings skips defines decides told titled = refl
-end_taking-newline k (Defining name appends end matched) i begun dropped left braced control named strings skips defines decides told titled =
-    absurd (defines name appends end matched refl)
-end_taking-newline k (Telling aborts is_front) i begun dropped left braced control named strings skips defines decides told titled = refl
-end_taking-newline k (Told aborts) i begun dropped left braced control named strings skips defines decides told titled = absurd (told aborts refl)
-end_taking-newline k Exiting i begun dropped left braced control named strings skips defines decides told titled = absurd (left refl)
-end_taking-newline k Dropped i begun dropped left braced control named strings skips defines decides told titled = absurd (dropped refl)
-end_taking-newline k TitleFront i begun dropped left braced control named strings skips defines decides told titled = refl
-end_taking-newline k (InTitle delimiter) i begun dropped left braced control named strings skips defines decides told titled =
-    absurd (titled delimiter refl)
+end_taking-newline k (Told aborts) i begun dropped left braced control collects skips decides told titled = absurd (told aborts refl)
+end_taking-newline k Exiting i begun dropped left braced control collects skips decides told titled = absurd (left refl)
+end_taking-newline k Dropped i begun dropped left braced control collects skips decides told titled = absurd (dropped refl)
+end_taking-newline k TitleFront i begun dropped left braced control collects skips decides told titled = refl
+end_taking-newline k (InTitle delimiter) i begun dropped left braced control collects skips decides told titled = absurd (titled delimiter refl)
 
 -- a string's line leaves the line's beginning
 pub string_line_ended-going : (i : PageInput) (appends : Bool) (name : Option (Option ShortName))

@@ -30,7 +30,8 @@ use Rattle.roff_num.specs.ShortNames.{name_at}
 use Rattle.roff_run.specs.Reading.Items.{PageInput, going_on}
 use Rattle.roff_run.specs.Reading.Strings.{name_read, string_begun, string_grown, string_name_behind, string_unit}
 use Rattle.roff_run.specs.Reading.Units.{holding}
-use Rattle.roff_run.specs.declared.line_state.LineState.TheVariants.{StringName, StringText}
+use Rattle.roff_run.specs.declared.line_state.LineState.TheVariants.{Collecting}
+use Rattle.roff_run.specs.declared.purpose.Purpose.TheVariants.{StringName, StringText}
 use Rattle.roff_num.specs.declared.short_name.ShortName.{ShortName}
 use Rattle.roff_run.proofs.InputCounts.{NoMore, NoMore-released, input_refusal-no_more, not_above, one_of}
 use Rattle.roff_reader.proofs.Strings.{TakesAs-not_became, other, refused_none}
@@ -173,16 +174,16 @@ byte-not_begun : (is_blank is_quote : Bool) (name : Option ShortName) (appends :
     → InputCameTo (string_begun name before.input) before behind (Err limit)
     → let i : PageInput = string_begun name before.input in
     TakesAs
-    (λ k. if is_blank then going_on i (StringText name appends true) else if is_quote then going_on i (StringText name appends false) else going_on (string_grown name (Byte b) i) (StringText name appends false))
+    (λ k. if is_blank then going_on i (Collecting (StringText name appends true)) else if is_quote then going_on i (Collecting (StringText name appends false)) else going_on (string_grown name (Byte b) i) (Collecting (StringText name appends false)))
     es old new before behind (Err limit)
 byte-not_begun true is_quote name appends b es old new before behind limit room refused =
-    TakesAs-not_became _ (StringText name appends true) es old new before behind limit refused
+    TakesAs-not_became _ (Collecting (StringText name appends true)) es old new before behind limit refused
 byte-not_begun false true name appends b es old new before behind limit room refused =
-    TakesAs-not_became _ (StringText name appends false) es old new before behind limit refused
+    TakesAs-not_became _ (Collecting (StringText name appends false)) es old new before behind limit refused
 byte-not_begun false false None appends b es old new before behind limit room refused =
-    TakesAs-not_became _ (StringText None appends false) es old new before behind limit refused
+    TakesAs-not_became _ (Collecting (StringText None appends false)) es old new before behind limit refused
 byte-not_begun false false (Some name) appends b es old new before behind limit room refused =
-    TakesAs-not_became _ (StringText (Some name) appends false) es old new before behind limit
+    TakesAs-not_became _ (Collecting (StringText (Some name) appends false)) es old new before behind limit
     (InputCameTo-refused_grown name (Byte b) before behind limit room refused)
 
 -- where a text can't be begun, its first unit isn't read
@@ -191,9 +192,9 @@ pub TakesAs-not_begun : (name : Option ShortName) (appends : Bool) (unit : CopyU
     → InputCameTo (string_begun name before.input) before behind (Err limit)
     → TakesAs (λ k. string_unit (string_begun name before.input) name appends true unit) es old new before behind (Err limit)
 TakesAs-not_begun None appends (Kept b) es old new before behind limit no_newline room refused =
-    TakesAs-not_became _ (StringText None appends false) es old new before behind limit refused
+    TakesAs-not_became _ (Collecting (StringText None appends false)) es old new before behind limit refused
 TakesAs-not_begun (Some name) appends (Kept b) es old new before behind limit no_newline room refused =
-    TakesAs-not_became _ (StringText (Some name) appends false) es old new before behind limit
+    TakesAs-not_became _ (Collecting (StringText (Some name) appends false)) es old new before behind limit
     (InputCameTo-refused_grown name (Kept b) before behind limit room refused)
 TakesAs-not_begun name appends (Byte b) es old new before behind limit no_newline room refused =
     let newline : (b == 10) ≡ false = other b 10 (λ is. no_newline (ap (λ (c : ℕ). Byte c) is)) in
@@ -216,7 +217,7 @@ byte-full : (is_blank is_quote : Bool) (name : Option ShortName) (appends : Bool
     → stored before.input ≤ before.limits.store → before.limits.store < stored before.input + length (first_by name is_blank is_quote b)
     → let i : PageInput = string_begun name before.input in
     TakesAs
-    (λ k. if is_blank then going_on i (StringText name appends true) else if is_quote then going_on i (StringText name appends false) else going_on (string_grown name (Byte b) i) (StringText name appends false))
+    (λ k. if is_blank then going_on i (Collecting (StringText name appends true)) else if is_quote then going_on i (Collecting (StringText name appends false)) else going_on (string_grown name (Byte b) i) (Collecting (StringText name appends false)))
     es old new before behind (Err Store)
 byte-full true is_quote None appends b es old new before behind within full = absurd (omega (arith, within, full))
 byte-full true is_quote (Some name) appends b es old new before behind within full = absurd (omega (arith, within, full))
@@ -224,7 +225,7 @@ byte-full false true None appends b es old new before behind within full = absur
 byte-full false true (Some name) appends b es old new before behind within full = absurd (omega (arith, within, full))
 byte-full false false None appends b es old new before behind within full = absurd (omega (arith, within, full))
 byte-full false false (Some name) appends b es old new before behind within full =
-    TakesAs-full _ (StringText (Some name) appends false) es old new before behind (omega (arith, full, stored-grown (b ∷ []) before.input))
+    TakesAs-full _ (Collecting (StringText (Some name) appends false)) es old new before behind (omega (arith, full, stored-grown (b ∷ []) before.input))
 
 -- so the first unit isn't read
 pub TakesAs-no_room : (name : Option ShortName) (appends : Bool) (unit : CopyUnit) (es : ComposerOf) (old new : ReaderState) (before behind : PageUnread)
@@ -232,7 +233,7 @@ pub TakesAs-no_room : (name : Option ShortName) (appends : Bool) (unit : CopyUni
     → TakesAs (λ k. string_unit (string_begun name before.input) name appends true unit) es old new before behind (Err Store)
 TakesAs-no_room None appends (Kept b) es old new before behind no_newline within full = absurd (omega (arith, within, full))
 TakesAs-no_room (Some name) appends (Kept b) es old new before behind no_newline within full =
-    TakesAs-full _ (StringText (Some name) appends false) es old new before behind (omega (arith, full, stored-grown (unit_bytes (Kept b)) before.input))
+    TakesAs-full _ (Collecting (StringText (Some name) appends false)) es old new before behind (omega (arith, full, stored-grown (unit_bytes (Kept b)) before.input))
 TakesAs-no_room name appends (Byte b) es old new before behind no_newline within full =
     let newline : (b == 10) ≡ false = other b 10 (λ is. no_newline (ap (λ (c : ℕ). Byte c) is)) in
     let above : before.limits.store < stored before.input + length (first_by name (b == 32) (b == 34) b) = subst (λ (n : ℕ). before.limits.store < stored before.input + n) (first_by-text name b) full in
@@ -302,9 +303,9 @@ TakesAs-not_held appends unit es old new before behind limit apart none refused 
       let within = refused_none old.registers before ready in
       let held = NoneOrAsMany-unit before.input.arguments unit (none_whole before.input none) apart in
       let still = no_name before.input unit before.limits limit within (refused.becomes within) held in
-      let here = TakesAs-as (λ k. going_on (holding unit before.input) (StringName appends))
+      let here = TakesAs-as (λ k. going_on (holding unit before.input) (Collecting (StringName appends)))
       (λ k. string_name_behind (holding unit before.input) appends (name_read (holding unit before.input))) es old new before behind (Err limit)
       (λ k. ap (string_name_behind (holding unit before.input) appends) (sym still))
-      (TakesAs-not_became (holding unit before.input) (StringName appends) es old new before behind limit refused) in
+      (TakesAs-not_became (holding unit before.input) (Collecting (StringName appends)) es old new before behind limit refused) in
       here.takes l h stands ready;
 }

@@ -20,7 +20,8 @@ use Rattle.roff_run.specs.Registers.Capped.{Capped}
 use Rattle.roff_run.specs.declared.step.Step.{Step}
 use Rattle.roff_run.specs.declared.step.Step.TheVariants.{Nothing}
 use Rattle.roff_run.specs.declared.line_state.LineState.{LineState}
-use Rattle.roff_run.specs.declared.line_state.LineState.TheVariants.{StringText, Telling}
+use Rattle.roff_run.specs.declared.line_state.LineState.TheVariants.{Collecting}
+use Rattle.roff_run.specs.declared.purpose.Purpose.TheVariants.{StringText, Telling}
 use Rattle.roff_num.specs.declared.short_name.ShortName.{ShortName}
 use Rattle.roff_run.proofs.InputCounts.{first_passed-few_names}
 use Rattle.roff_reader.proofs.TakesAs.{Takes-elsewhere, few_names, short_title}
@@ -64,7 +65,7 @@ other b n differs = elim (cases_Bool (b == n)) [ inl is ↦ absurd (differs (eqb
 -- a unit of a string's text that isn't dropped in front, and doesn't end it
 pub string_unit-grown : (i : PageInput) (name : Option ShortName) (appends is_front : Bool) (unit : CopyUnit) → (unit ≡ Byte 10 → ⊥)
     → (unit ≡ Byte 32 → is_front ≡ true → ⊥) → (unit ≡ Byte 34 → is_front ≡ true → ⊥)
-    → going_on (string_grown name unit i) (StringText name appends false) ≡ string_unit i name appends is_front unit
+    → going_on (string_grown name unit i) (Collecting (StringText name appends false)) ≡ string_unit i name appends is_front unit
 string_unit-grown i name appends is_front (Kept b) no_newline no_blank no_quote = refl
 string_unit-grown i name appends false (Byte b) no_newline no_blank no_quote =
     let newline : (b == 10) ≡ false = other b 10 (λ is. no_newline (ap (λ (c : ℕ). Byte c) is)) in rw newline refl
@@ -76,7 +77,7 @@ string_unit-grown i name appends true (Byte b) no_newline no_blank no_quote =
 
 -- a unit of a message's text that isn't dropped in front, and doesn't end it
 pub message_unit-held : (i : PageInput) (aborts is_front : Bool) (unit : CopyUnit) → (unit ≡ Byte 10 → ⊥) → (unit ≡ Byte 32 → is_front ≡ true → ⊥)
-    → going_on (holding_plain unit i) (Telling aborts false) ≡ message_unit i aborts is_front unit
+    → going_on (holding_plain unit i) (Collecting (Telling aborts false)) ≡ message_unit i aborts is_front unit
 message_unit-held i aborts is_front (Kept b) no_newline no_blank = refl
 message_unit-held i aborts false (Byte b) no_newline no_blank =
     let newline : (b == 10) ≡ false = other b 10 (λ is. no_newline (ap (λ (c : ℕ). Byte c) is)) in rw newline refl

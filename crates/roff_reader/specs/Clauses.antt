@@ -23,4 +23,5 @@ pub use Rattle.roff_input.specs.Input.{holding_plain, holding_text}
 pub use Rattle.roff_input.specs.Input.Calls.{arguments_given}
 pub use Rattle.roff_run.specs.Registers.{Known}
 pub use Rattle.roff_run.specs.Requests.{called_by}
-pub use Rattle.roff_run.specs.declared.line_state.LineState.TheVariants.{LineStart, Telling}
+pub use Rattle.roff_run.specs.declared.line_state.LineState.TheVariants.{LineStart, Collecting}
+pub use Rattle.roff_run.specs.declared.purpose.Purpose.TheVariants.{Telling}

@@ -134,9 +134,11 @@ impl Reader {
             ≡ record unread.old { input = interrupted self.now.reading unread.old.input } }
     {
         match self.reading {
-            LineState::Arguments { .. } => unread.settle(),
-            LineState::StringName { .. } => unread.settle(),
-            LineState::Calling { .. } => unread.settle(),
+            LineState::Collecting(purpose) => {
+                if purpose.collects_arguments() {
+                    unread.settle();
+                }
+            }
             _ => {}
         }
     }

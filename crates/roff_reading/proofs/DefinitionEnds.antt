@@ -25,7 +25,8 @@ use Rattle.roff_run.specs.Requests.Paging.{page_ejected}
 use Rattle.roff_layout.specs.Queries.{is_diverting}
 use Rattle.roff_layout.specs.declared.layout_event.LayoutEvent.TheVariants.{Eject}
 use Rattle.roff_run.specs.TitleTexts.{TitleText, title_length}
-use Rattle.roff_run.specs.declared.line_state.LineState.TheVariants.{Arguments as InArguments, TitleFront}
+use Rattle.roff_run.specs.declared.line_state.LineState.TheVariants.{TitleFront, Collecting}
+use Rattle.roff_run.specs.declared.purpose.Purpose.TheVariants.{Arguments as InArguments}
 use Rattle.roff_num.specs.declared.short_name.ShortName.{ShortName}
 use Rattle.roff_run.specs.declared.request.Called.{Called}
 use Rattle.roff_run.specs.declared.request.Called.TheVariants.{Request as ARequest, Body as ABody, Nothing as Unknown}
@@ -179,7 +180,7 @@ LeavesTexts-branch k i false = record { at_blank = still i _ refl refl; at_tab =
 
 -- the byte behind the name of a request that reads arguments
 LeavesTexts-arguments : (k : Known) (i : PageInput) (breaks : Bool) (request : Request)
-    → BehindMark (λ b. LeavesTexts i (read_in k (InArguments breaks request) (beginning_line i) (byte_read AboveArguments [] b)))
+    → BehindMark (λ b. LeavesTexts i (read_in k (Collecting (InArguments breaks request)) (beginning_line i) (byte_read AboveArguments [] b)))
 LeavesTexts-arguments k i breaks request = record {
   at_blank = still i _ refl refl;
   at_tab = still i _ refl refl;

@@ -30,7 +30,8 @@ use Rattle.roff_run.specs.TitleTexts.{title_length}
 use Rattle.roff_run.specs.declared.definition.DefinitionLine.{DefinitionLine}
 use Rattle.roff_run.specs.declared.definition.DefinitionLine.TheVariants.{IsText}
 use Rattle.roff_run.specs.declared.step.Step.{Step}
-use Rattle.roff_run.specs.declared.line_state.LineState.TheVariants.{Defining, LineStart}
+use Rattle.roff_run.specs.declared.line_state.LineState.TheVariants.{LineStart, Collecting}
+use Rattle.roff_run.specs.declared.purpose.Purpose.TheVariants.{Defining}
 use Rattle.roff_run.specs.declared.message.Message.TheVariants.{DefinitionNotEnded}
 use Rattle.roff_num.specs.declared.short_name.ShortName.{ShortName}
 use Rattle.roff_reading.proofs.DefinitionEnds.{LeavesTexts, LeavesTexts-behind_definition, NamesAndTexts, names_and_texts}
@@ -158,10 +159,10 @@ TakesAs-line_begun t es old new before mid behind result begins takes =
 -- a unit of a line that isn't the last one is text, behind what stood in front of it
 pub definition_line-text : (k : Known) (i : PageInput) (name : Option ShortName) (appends : Bool) (end : Option ShortName) (matched behind : Option ℕ) (unit : CopyUnit)
     (front : List ℕ) → front ≡ front_of (end_mark end) matched → behind ≡ matched_behind unit → line_from (end_mark end) matched unit ≡ IsText
-    → going_on (definition_grown name (front ++ unit_bytes unit) i) (Defining name appends end behind) ≡ definition_line k i name appends end matched unit
+    → going_on (definition_grown name (front ++ unit_bytes unit) i) (Collecting (Defining name appends end behind)) ≡ definition_line k i name appends end matched unit
 definition_line-text k i name appends end matched behind unit front stands goes_on is =
-    ap (λ (bytes : List ℕ). going_on (definition_grown name (bytes ++ unit_bytes unit) i) (Defining name appends end behind)) stands
-    ∙ ap (λ (m : Option ℕ). going_on (definition_grown name (front_of (end_mark end) matched ++ unit_bytes unit) i) (Defining name appends end m)) goes_on
+    ap (λ (bytes : List ℕ). going_on (definition_grown name (bytes ++ unit_bytes unit) i) (Collecting (Defining name appends end behind))) stands
+    ∙ ap (λ (m : Option ℕ). going_on (definition_grown name (front_of (end_mark end) matched ++ unit_bytes unit) i) (Collecting (Defining name appends end m))) goes_on
     ∙ ap (λ (line : DefinitionLine). definition_unit k i name appends end (front_of (end_mark end) matched) unit line) (sym is)
 
 -- the text of a definition that ends with the input is dropped, if a name would have got it

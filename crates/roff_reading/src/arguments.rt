@@ -7,7 +7,7 @@ use crate::obeying::obey;
 use roff_composer::Composer;
 use roff_num::Limit;
 use roff_reader::Reader;
-use roff_run::{LineReading, LineState, PageEvent, Request, Step};
+use roff_run::{LineReading, LineState, PageEvent, Purpose, Request, Step};
 use roff_scan::{CopyUnit, Unread};
 
 /// A unit behind a request's name: a newline ends the line, and all else is held.
@@ -25,7 +25,10 @@ pub(crate) fn read_unit(
 {
     match unit {
         CopyUnit::Byte(b'\n') => end_arguments(reader, breaks, request, composer, unread),
-        _ => reader.hold(unit, LineState::Arguments { breaks, request }, unread),
+        _ => {
+            let reading = LineState::Collecting(Purpose::Arguments { breaks, request });
+            reader.hold(unit, reading, unread)
+        }
     }
 }
 

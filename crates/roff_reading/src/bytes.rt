@@ -3,6 +3,7 @@
 ghost use Rattle.std.specs.Prelude.{◌≡◌, ◌==◌, [], Ok, false};
 ghost use Rattle.roff_source.specs.Bytes.{backslash};
 ghost use Rattle.roff_run.specs.declared.event.PageEvent.TheVariants.{Text};
+ghost use Rattle.roff_run.specs.declared.line_state.LineState.TheVariants.{Collecting};
 ghost use Rattle.roff_run.specs.declared.line_state.LineState.TheVariants.{Text as InText};
 ghost use Rattle.roff_run.specs.declared.line_state.LineState.TheVariants.{Title as InTitle};
 ghost use Rattle.roff_reading.specs.Clauses.{ComposerOf, PageUnread, TakesAs};
@@ -11,16 +12,15 @@ ghost use Rattle.roff_reading.specs.Clauses.{undropped_taking};
 ghost use Rattle.roff_escape.specs.OpenEscapes.{byte_read};
 ghost use Rattle.roff_run.specs.Reading.Found.{place_in, read_in};
 
-use crate::arguments::read_unit;
 use crate::control_lines::end_name;
-use crate::found::{place, read_found};
+use crate::found::{place, read_found, read_unit_for};
 use crate::half_read::{read_byte_of_arguments, read_byte_of_condition, read_byte_of_text};
 use crate::reading::read_any;
 use crate::titles::{end_title_part, read_byte_of_title};
 use roff_composer::Composer;
 use roff_num::Limit;
 use roff_reader::Reader;
-use roff_run::{LineState, PageEvent, Step, TextLine};
+use roff_run::{LineState, PageEvent, Purpose, Step, TextLine};
 use roff_scan::{CopyUnit, Unread, is_dropped};
 
 /// What a byte does on this text line, where nothing is half read.
@@ -75,22 +75,10 @@ pub(crate) fn read_alone(
     ensures { TakesAs (λ k. undropped_taking k reader.old.reading unread.old.input byte)
         composer.now reader.old reader.new unread.old unread.new result }
 {
-    let unit = CopyUnit::Byte(byte);
     match reader.reading {
         LineState::LineStart => { Ok(reader.begin_with(LineState::LineStart, byte, composer)) }
         LineState::Text(line) => Ok(reader.step_on(line.taking(byte))),
-        LineState::Arguments { breaks, request } => {
-            read_unit(reader, breaks, request, unit, composer, unread)
-        }
-        LineState::Calling { name } => reader.read_unit_of_call(name, unit, unread),
-        LineState::StringName { appends } => {
-            reader.read_unit_of_string_name(appends, unit, unread)
-        }
-        LineState::StringText {
-            name,
-            appends,
-            is_front,
-        } => reader.read_unit_of_string(name, appends, is_front, unit, unread),
+        LineState::Collecting(purpose) => read_byte_for(reader, purpose, byte, composer, unread),
         LineState::Title { delimiter } => {
             if byte == delimiter {
                 return Ok(end_title_part(reader, delimiter));
@@ -98,6 +86,27 @@ pub(crate) fn read_alone(
             read_byte_of_title(reader, delimiter, byte, composer, unread)
         }
         _ => read_undropped(reader, byte, composer, unread),
+    }
+}
+
+/// The same in a line whose bytes are collected for this.
+#[inline(always)]
+fn read_byte_for(
+    reader: &mut Reader,
+    purpose: Purpose,
+    byte: u8,
+    composer: &Composer,
+    unread: &mut Unread<PageEvent>,
+) -> Result<Step, Limit>
+    requires collects { reader.old.reading ≡ Collecting purpose }
+    requires no_escape { (byte == backslash) ≡ false }
+    requires none_half { unread.old.input.escapes ≡ [] }
+    ensures { TakesAs (λ k. undropped_taking k (Collecting purpose) unread.old.input byte)
+        composer.now reader.old reader.new unread.old unread.new result }
+{
+    match purpose {
+        Purpose::Defining { .. } => read_placed(reader, byte, composer, unread),
+        _ => read_unit_for(reader, purpose, CopyUnit::Byte(byte), composer, unread),
     }
 }
 
@@ -133,9 +142,10 @@ pub(crate) fn read_undropped(
         LineState::Deciding { keeps } => {
             read_byte_of_condition(reader, keeps, byte, composer, unread)
         }
-        LineState::Arguments { breaks, request } => {
+        LineState::Collecting(Purpose::Arguments { breaks, request }) => {
             read_byte_of_arguments(reader, breaks, request, byte, composer, unread)
         }
+        LineState::Collecting(_) => read_placed(reader, byte, composer, unread),
         LineState::Text(line) => read_byte_of_text(reader, line, byte, composer, unread),
         _ => read_placed(reader, byte, composer, unread),
     }

@@ -12,7 +12,7 @@ use roff_composer::Composer;
 use roff_names::{begin_deciding, behind_called, called_by};
 use roff_num::{Limit, ShortName};
 use roff_reader::Reader;
-use roff_run::{Called, LineReading, LineState, PageEvent, Request, Step, ends_name};
+use roff_run::{Called, LineReading, LineState, PageEvent, Purpose, Request, Step, ends_name};
 use roff_scan::Unread;
 
 /// The byte behind the first one of a name.
@@ -57,7 +57,8 @@ pub(crate) fn read_behind_name(
     match called_by(name, unread) {
         Called::Request(request) => read_first(reader, breaks, request, byte, composer, unread),
         Called::Body(name) => {
-            read_from(reader, LineState::Calling { name }, byte, composer, unread)
+            let calling = LineState::Collecting(Purpose::Calling { name });
+            read_from(reader, calling, byte, composer, unread)
         }
         Called::Nothing => Ok(reader.read_on(LineState::behind_dropped(byte))),
     }
@@ -76,25 +77,20 @@ fn read_first(
         (row_of request).line byte)
         composer.now reader.old reader.new unread.old unread.new result }
 {
-    let arguments = LineState::Arguments { breaks, request };
+    let arguments = LineState::Collecting(Purpose::Arguments { breaks, request });
     match request.row().line {
         LineReading::ByArguments => read_from(reader, arguments, byte, composer, unread),
         LineReading::ByLastLine => read_from(reader, arguments, byte, composer, unread),
         LineReading::ByLines(_) => read_from(reader, arguments, byte, composer, unread),
         LineReading::ByString { appends } => {
-            read_from(
-                reader,
-                LineState::StringName { appends },
-                byte,
-                composer,
-                unread,
-            )
+            let reading = LineState::Collecting(Purpose::StringName { appends });
+            read_from(reader, reading, byte, composer, unread)
         }
         LineReading::ByMessage { aborts } => {
-            let reading = LineState::Telling {
+            let reading = LineState::Collecting(Purpose::Telling {
                 aborts,
                 is_front: true,
-            };
+            });
             read_from(reader, reading, byte, composer, unread)
         }
         LineReading::ByTitle => { read_from(reader, LineState::TitleFront, byte, composer, unread) }

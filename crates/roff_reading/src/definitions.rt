@@ -12,7 +12,7 @@ use roff_composer::Composer;
 use roff_names::{enter_string, grow_definition};
 use roff_num::{Limit, ShortName};
 use roff_reader::Reader;
-use roff_run::{DefinitionLine, EndMark, LineState, PageEvent, Step, matched_behind};
+use roff_run::{DefinitionLine, EndMark, LineState, PageEvent, Purpose, Step, matched_behind};
 use roff_scan::{CopyUnit, Found, Unread};
 
 /// Something of a definition's text.
@@ -34,12 +34,12 @@ pub(crate) fn read_definition(
             read_unit_of_definition(reader, name, appends, end, matched, unit, composer, unread)
         }
         None => {
-            let reading = LineState::Defining {
+            let reading = LineState::Collecting(Purpose::Defining {
                 name,
                 appends,
                 end,
                 matched,
-            };
+            });
             reader.read_in_arguments(reading, found, composer, unread)
         }
     }
@@ -60,11 +60,13 @@ fn read_unit_of_definition(
     ensures { TakesAs (λ k. definition_line k unread.old.input name appends end matched unit)
         composer.now reader.old reader.new unread.old unread.new result }
 {
-    let defining = |matched| LineState::Defining {
-        name,
-        appends,
-        end,
-        matched,
+    let defining = |matched| {
+        LineState::Collecting(Purpose::Defining {
+            name,
+            appends,
+            end,
+            matched,
+        })
     };
     let mark = EndMark::of(end);
     match mark.line_with(matched, unit) {

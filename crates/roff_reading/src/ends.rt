@@ -1,6 +1,7 @@
 //! The end of what is half read, and of the input.
 
-ghost use Rattle.std.specs.Prelude.{Ok};
+ghost use Rattle.std.specs.Prelude.{◌≡◌, Ok};
+ghost use Rattle.roff_run.specs.declared.line_state.LineState.TheVariants.{Collecting};
 ghost use Rattle.roff_reading.specs.Clauses.{ComposerOf, PageUnread, TakesAs, definition_cut};
 ghost use Rattle.roff_reading.specs.Clauses.{end_taking, escape_ended, interrupted_end};
 ghost use Rattle.roff_reading.specs.Clauses.{LineStart, meaning_events};
@@ -12,7 +13,7 @@ use crate::obeying::obey;
 use roff_composer::Composer;
 use roff_num::{Limit, ShortName};
 use roff_reader::Reader;
-use roff_run::{LineState, Message, PageEvent, Request, Step};
+use roff_run::{LineState, Message, PageEvent, Purpose, Request, Step};
 use roff_scan::{CopyUnit, Unread};
 
 /// What is half read ends, before what stays or at the end of the input.
@@ -70,11 +71,34 @@ pub fn end_line_of_input(
         LineState::LineStart => Ok(end_interrupted(reader, composer)),
         LineState::Braced => Ok(end_interrupted(reader, composer)),
         LineState::Control { .. } => Ok(end_interrupted(reader, composer)),
-        LineState::StringName { appends } => {
+        LineState::Collecting(purpose) => end_collected(reader, purpose, composer, unread),
+        LineState::Deciding { .. } => Ok(end_interrupted(reader, composer)),
+        LineState::Skipping { .. } => Ok(end_interrupted(reader, composer)),
+        LineState::Dropped => Ok(end_interrupted(reader, composer)),
+        LineState::Told { .. } => Ok(end_interrupted(reader, composer)),
+        LineState::Exiting => Ok(end_interrupted(reader, composer)),
+        LineState::Title { .. } => obey(reader, false, Request::Title, composer, unread),
+        _ => read_undropped(reader, b'\n', composer, unread),
+    }
+}
+
+/// The same of a line whose bytes are collected for this.
+fn end_collected(
+    reader: &mut Reader,
+    purpose: Purpose,
+    composer: &Composer,
+    unread: &mut Unread<PageEvent>,
+) -> Result<Step, Limit>
+    requires { reader.old.reading ≡ Collecting purpose }
+    ensures { TakesAs (λ k. end_taking k (Collecting purpose) unread.old.input)
+        composer.now reader.old reader.new unread.old unread.new result }
+{
+    match purpose {
+        Purpose::StringName { appends } => {
             reader.end_string_line(appends, unread)?;
             Ok(end_interrupted(reader, composer))
         }
-        LineState::StringText {
+        Purpose::StringText {
             name,
             appends,
             is_front,
@@ -83,13 +107,7 @@ pub fn end_line_of_input(
             reader.read_unit_of_string(name, appends, is_front, end, unread)?;
             Ok(end_interrupted(reader, composer))
         }
-        LineState::Deciding { .. } => Ok(end_interrupted(reader, composer)),
-        LineState::Skipping { .. } => Ok(end_interrupted(reader, composer)),
-        LineState::Dropped => Ok(end_interrupted(reader, composer)),
-        LineState::Told { .. } => Ok(end_interrupted(reader, composer)),
-        LineState::Exiting => Ok(end_interrupted(reader, composer)),
-        LineState::Defining { name, .. } => Ok(drop_definition(reader, name, unread)),
-        LineState::Title { .. } => obey(reader, false, Request::Title, composer, unread),
+        Purpose::Defining { name, .. } => Ok(drop_definition(reader, name, unread)),
         _ => read_undropped(reader, b'\n', composer, unread),
     }
 }

@@ -7,6 +7,7 @@ ghost use Rattle.roff_run.specs.Reading.Collecting.{collected, unit_taking};
 ghost use Rattle.roff_run.specs.Reading.Found.{found_in, place_in};
 ghost use Rattle.roff_run.specs.Reading.Items.{read_by};
 ghost use Rattle.roff_run.specs.Reading.Units.{unit_in};
+ghost use Rattle.roff_run.specs.declared.line_state.LineState.TheVariants.{Collecting};
 ghost use Rattle.roff_reading.specs.Clauses.{AllRegisters, PageHistory, PageInput, StandFor};
 ghost use Rattle.roff_reading.specs.Clauses.{TakesAs};
 ghost use Rattle.roff_reading.specs.Clauses.{known_at};
@@ -17,7 +18,7 @@ use crate::titles::{read_title, read_unit_in_front};
 use roff_composer::{Composer, at_start, on_line};
 use roff_num::Limit;
 use roff_reader::Reader;
-use roff_run::{LineState, PageEvent, Step};
+use roff_run::{LineState, PageEvent, Purpose, Step};
 use roff_scan::{CopyUnit, Found, Surroundings, Unread};
 
 /// How a byte is read above what is read of the line.
@@ -31,14 +32,15 @@ pub(crate) fn place(reader: &Reader, composer: &Composer) -> Surroundings
         LineState::Branch => at_start(composer),
         LineState::Braced => at_start(composer),
         LineState::Text(line) => on_line(composer, line),
-        LineState::Arguments { .. } => Surroundings::Arguments,
+        LineState::Collecting(purpose) => {
+            if purpose.collects_arguments() {
+                Surroundings::Arguments
+            } else {
+                Surroundings::Copy
+            }
+        }
         LineState::Deciding { .. } => Surroundings::Arguments,
-        LineState::StringName { .. } => Surroundings::Arguments,
-        LineState::Calling { .. } => Surroundings::Arguments,
         LineState::TitleFront => Surroundings::Arguments,
-        LineState::StringText { .. } => Surroundings::Copy,
-        LineState::Telling { .. } => Surroundings::Copy,
-        LineState::Defining { .. } => Surroundings::Copy,
         LineState::Control { .. } => Surroundings::Text(0),
         LineState::Name { .. } => Surroundings::Text(0),
         LineState::Skipping { .. } => Surroundings::Text(0),
@@ -69,20 +71,34 @@ pub(crate) fn read_found(
         LineState::Braced => reader.begin_line(LineState::Braced, found, composer, unread),
         LineState::Text(line) => reader.read_text(line, found, composer, unread),
         LineState::Deciding { keeps } => reader.read_condition(keeps, found, composer, unread),
-        LineState::Arguments { .. } => read_collected(reader, found, composer, unread),
-        LineState::StringName { .. } => read_collected(reader, found, composer, unread),
-        LineState::StringText { .. } => read_collected(reader, found, composer, unread),
-        LineState::Telling { .. } => read_collected(reader, found, composer, unread),
-        LineState::Calling { .. } => read_collected(reader, found, composer, unread),
+        LineState::Collecting(purpose) => read_for(reader, purpose, found, composer, unread),
         LineState::TitleFront => read_collected(reader, found, composer, unread),
-        LineState::Defining {
+        LineState::Title { delimiter } => { read_title(reader, delimiter, found, composer, unread) }
+        _ => Ok(Step::Nothing),
+    }
+}
+
+/// The same of a line whose bytes are collected for this.
+#[inline(always)]
+fn read_for(
+    reader: &mut Reader,
+    purpose: Purpose,
+    found: Found,
+    composer: &Composer,
+    unread: &mut Unread<PageEvent>,
+) -> Result<Step, Limit>
+    requires { reader.old.reading ≡ Collecting purpose }
+    ensures { TakesAs (λ k. found_in k unread.old.input (Collecting purpose) found)
+        composer.now reader.old reader.new unread.old unread.new result }
+{
+    match purpose {
+        Purpose::Defining {
             name,
             appends,
             end,
             matched,
         } => read_definition(reader, name, appends, end, matched, found, composer, unread),
-        LineState::Title { delimiter } => { read_title(reader, delimiter, found, composer, unread) }
-        _ => Ok(Step::Nothing),
+        _ => read_collected(reader, found, composer, unread),
     }
 }
 
@@ -137,23 +153,40 @@ fn read_unit_here(
         composer.now reader.old reader.new unread.old unread.new result }
 {
     match reader.reading {
-        LineState::Arguments { breaks, request } => {
+        LineState::Collecting(purpose) => read_unit_for(reader, purpose, unit, composer, unread),
+        LineState::TitleFront => read_unit_in_front(reader, unit, composer, unread),
+        _ => Ok(Step::Nothing),
+    }
+}
+
+/// The same where bytes are collected for this; those of a definition are read otherwise.
+#[inline(always)]
+pub(crate) fn read_unit_for(
+    reader: &mut Reader,
+    purpose: Purpose,
+    unit: CopyUnit,
+    composer: &Composer,
+    unread: &mut Unread<PageEvent>,
+) -> Result<Step, Limit>
+    requires { reader.old.reading ≡ Collecting purpose }
+    ensures { TakesAs (λ k. unit_taking k unread.old.input (Collecting purpose) unit)
+        composer.now reader.old reader.new unread.old unread.new result }
+{
+    match purpose {
+        Purpose::Arguments { breaks, request } => {
             read_unit(reader, breaks, request, unit, composer, unread)
         }
-        LineState::StringName { appends } => {
-            reader.read_unit_of_string_name(appends, unit, unread)
-        }
-        LineState::StringText {
+        Purpose::StringName { appends } => reader.read_unit_of_string_name(appends, unit, unread),
+        Purpose::StringText {
             name,
             appends,
             is_front,
         } => reader.read_unit_of_string(name, appends, is_front, unit, unread),
-        LineState::Telling { aborts, is_front } => {
+        Purpose::Telling { aborts, is_front } => {
             reader.read_unit_of_message(aborts, is_front, unit, unread)
         }
-        LineState::Calling { name } => reader.read_unit_of_call(name, unit, unread),
-        LineState::TitleFront => read_unit_in_front(reader, unit, composer, unread),
-        _ => Ok(Step::Nothing),
+        Purpose::Calling { name } => reader.read_unit_of_call(name, unit, unread),
+        Purpose::Defining { .. } => Ok(Step::Nothing),
     }
 }
 

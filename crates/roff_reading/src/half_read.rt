@@ -4,17 +4,15 @@
 ghost use Rattle.roff_escape.specs.OpenEscapes.{byte_read};
 ghost use Rattle.roff_reading.specs.Clauses.{TakesAs, condition_found};
 ghost use Rattle.roff_run.specs.Reading.Found.{found_in, place_in, read_in};
-ghost use Rattle.roff_run.specs.declared.line_state.LineState.TheVariants.{
-  Arguments as InArguments,
-};
-ghost use Rattle.roff_run.specs.declared.line_state.LineState.TheVariants.{Deciding};
+ghost use Rattle.roff_run.specs.declared.line_state.LineState.TheVariants.{Collecting, Deciding};
 ghost use Rattle.roff_run.specs.declared.line_state.LineState.TheVariants.{Text as InText};
+ghost use Rattle.roff_run.specs.declared.purpose.Purpose.TheVariants.{Arguments as InArguments};
 
 use crate::found::read_collected;
 use roff_composer::{Composer, on_line};
 use roff_num::Limit;
 use roff_reader::Reader;
-use roff_run::{LineState, PageEvent, Request, Step, TextLine};
+use roff_run::{LineState, PageEvent, Purpose, Request, Step, TextLine};
 use roff_scan::{Found, Surroundings, Unread};
 
 /// A byte of a condition that isn't dropped.
@@ -66,8 +64,9 @@ pub(crate) fn read_byte_of_arguments(
     composer: &Composer,
     unread: &mut Unread<PageEvent>,
 ) -> Result<Step, Limit>
-    ensures { TakesAs (λ k. read_in k (InArguments breaks request) unread.old.input
-        (byte_read (place_in k (InArguments breaks request)) unread.old.input.escapes byte))
+    ensures { TakesAs (λ k. read_in k (Collecting (InArguments breaks request)) unread.old.input
+        (byte_read (place_in k (Collecting (InArguments breaks request))) unread.old.input.escapes
+        byte))
         composer.now reader.old reader.new unread.old unread.new result }
 {
     let found = unread.read_byte(Surroundings::Arguments, byte);
@@ -84,13 +83,14 @@ fn read_among_arguments(
     composer: &Composer,
     unread: &mut Unread<PageEvent>,
 ) -> Result<Step, Limit>
-    ensures { TakesAs (λ k. found_in k unread.old.input (InArguments breaks request) found)
+    ensures { TakesAs (λ k. found_in k unread.old.input
+        (Collecting (InArguments breaks request)) found)
         composer.now reader.old reader.new unread.old unread.new result }
 {
     match found {
         Found::GoesOn => {
             unread.settle();
-            let reading = LineState::Arguments { breaks, request };
+            let reading = LineState::Collecting(Purpose::Arguments { breaks, request });
             reader.read_in_arguments(reading, Found::GoesOn, composer, unread)
         }
         _ => read_arguments(reader, breaks, request, found, composer, unread),
@@ -107,10 +107,11 @@ fn read_arguments(
     composer: &Composer,
     unread: &mut Unread<PageEvent>,
 ) -> Result<Step, Limit>
-    ensures { TakesAs (λ k. found_in k unread.old.input (InArguments breaks request) found)
+    ensures { TakesAs (λ k. found_in k unread.old.input
+        (Collecting (InArguments breaks request)) found)
         composer.now reader.old reader.new unread.old unread.new result }
 {
-    reader.reading = LineState::Arguments { breaks, request };
+    reader.reading = LineState::Collecting(Purpose::Arguments { breaks, request });
     read_collected(reader, found, composer, unread)
 }
 

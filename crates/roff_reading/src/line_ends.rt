@@ -2,7 +2,8 @@
 
 ghost use Rattle.std.specs.Prelude.{◌≡◌, [], Ok};
 ghost use Rattle.roff_source.specs.Bytes.{newline};
-ghost use Rattle.roff_run.specs.declared.line_state.LineState.TheVariants.{Arguments, Calling};
+ghost use Rattle.roff_run.specs.declared.line_state.LineState.TheVariants.{Collecting};
+ghost use Rattle.roff_run.specs.declared.purpose.Purpose.TheVariants.{Arguments, Calling};
 ghost use Rattle.roff_run.specs.declared.request.Request.TheVariants.{Break};
 ghost use Rattle.roff_reading.specs.Clauses.{ComposerOf, TakesAs, line_ended, taking};
 
@@ -26,7 +27,7 @@ pub fn end_request(
     composer: &Composer,
     unread: &mut Unread<PageEvent>,
 ) -> Result<Step, Limit>
-    requires line { reader.old.reading ≡ Arguments breaks request }
+    requires line { reader.old.reading ≡ Collecting (Arguments breaks request) }
     requires none_half { unread.old.input.escapes ≡ [] }
     ensures { TakesAs (λ k. taking k reader.old.reading unread.old.input newline)
         composer.now reader.old reader.new unread.old unread.new result }
@@ -37,7 +38,7 @@ pub fn end_request(
 /// A newline that ends the line of a break.
 #[inline(always)]
 pub fn end_break(reader: &mut Reader, breaks: bool, unread: &mut Unread<PageEvent>) -> Step
-    requires line { reader.old.reading ≡ Arguments breaks Break }
+    requires line { reader.old.reading ≡ Collecting (Arguments breaks Break) }
     requires none_half { unread.old.input.escapes ≡ [] }
     ensures { (es : ComposerOf)
         → TakesAs (λ k. taking k reader.old.reading unread.old.input newline)
@@ -69,7 +70,7 @@ pub fn end_call_line(
     name: ShortName,
     unread: &mut Unread<PageEvent>,
 ) -> Result<Step, Limit>
-    requires line { reader.old.reading ≡ Calling name }
+    requires line { reader.old.reading ≡ Collecting (Calling name) }
     requires none_half { unread.old.input.escapes ≡ [] }
     ensures { (es : ComposerOf)
         → TakesAs (λ k. taking k reader.old.reading unread.old.input newline)

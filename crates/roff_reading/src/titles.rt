@@ -20,7 +20,7 @@ use roff_composer::Composer;
 use roff_layout::UNPADDABLE;
 use roff_num::{Limit, Name};
 use roff_reader::Reader;
-use roff_run::{CharacterName, LineState, Message, PageEvent, Request, Step, TitlePart};
+use roff_run::{CharacterName, LineState, Message, PageEvent, Purpose, Request, Step, TitlePart};
 use roff_scan::{
     ByteSource, CopyUnit, Escape, Found, NameUse, Remark, TextUse, Unread, character, escape_of,
     is_silent,
@@ -105,10 +105,10 @@ pub(crate) fn end_title_part(reader: &mut Reader, delimiter: u8) -> Step
         es reader.old reader.new u u (Ok result) }
 {
     match reader.registers.title_part() {
-        TitlePart::Right => reader.read_on(LineState::Arguments {
+        TitlePart::Right => reader.read_on(LineState::Collecting(Purpose::Arguments {
             breaks: false,
             request: Request::Title,
-        }),
+        })),
         _ => {
             reader.registers.end_title_part();
             reader.read_on(LineState::Title { delimiter })

@@ -41,7 +41,8 @@ use Rattle.roff_run.specs.Reading.Found.{read_in}
 use Rattle.roff_run.specs.Reading.Items.{PageInput, Taking, going_on}
 use Rattle.roff_run.specs.Stages.{Stage, Turns, input_at}
 use Rattle.roff_run.specs.declared.line_state.LineState.{LineState}
-use Rattle.roff_run.specs.declared.line_state.LineState.TheVariants.{Calling, LineStart}
+use Rattle.roff_run.specs.declared.line_state.LineState.TheVariants.{LineStart, Collecting}
+use Rattle.roff_run.specs.declared.purpose.Purpose.TheVariants.{Calling}
 
 -- a unit that a backslash gives with the byte behind it: it neither ends the line nor quotes
 pub data IsBehind : CopyUnit → Type 0 where
@@ -119,7 +120,7 @@ call_unit_held a (Kept b) = hold_unit (only_kept (settled a)) (Kept b)
 
 -- where a backslash was read of it
 abbrev escaping : ShortName → List (List ℕ) → Arguments → Stage
-escaping name texts a = record (stage (Calling name) (only_kept (settled a)) texts) { escapes = Backslash ∷ [] }
+escaping name texts a = record (stage (Collecting (Calling name)) (only_kept (settled a)) texts) { escapes = Backslash ∷ [] }
 
 -- the byte behind it gives a unit
 holding-if : (c : Bool) (i : PageInput) (a there : Arguments) → (if c then record i { arguments = a } else record i { arguments = there }) ≡ record i { arguments = if c then a else there }
@@ -128,30 +129,30 @@ holding-if false i a there = refl
 
 holds-unit : (names : Named Entry) (name : ShortName) (a : Arguments) (texts : List (List ℕ)) (unit : CopyUnit) (i : PageInput) → IsBehind unit
     → let here : Arguments → PageInput = λ h. record i { escapes = []; arguments = h; names = names; open_texts = texts } in
-    call_unit (here (only_kept (settled a))) name unit ≡ going_on (here (call_unit_held a unit)) (Calling name)
+    call_unit (here (only_kept (settled a))) name unit ≡ going_on (here (call_unit_held a unit)) (Collecting (Calling name))
 holds-unit names name a texts _ i (AByte b ends quotes) =
     let here : Arguments → PageInput = λ h. record i { escapes = []; arguments = h; names = names; open_texts = texts } in
     let z : Arguments = only_kept (settled a) in
-    let others : Taking = going_on (holding_call (Byte b) (settling (here z))) (Calling name) in
-    let quoted : Taking = going_on (holding_call (Byte b) (here z)) (Calling name) in
+    let others : Taking = going_on (holding_call (Byte b) (settling (here z))) (Collecting (Calling name)) in
+    let quoted : Taking = going_on (holding_call (Byte b) (here z)) (Collecting (Calling name)) in
     ap (λ (c : Bool). if c then going_on (calling_body (body_named (name_bytes name) (here z)) (here z)) LineStart else if b == quote then quoted else others) ends
     ∙ ap (λ (c : Bool). if c then quoted else others) quotes
-    ∙ ap (λ (h : Arguments). going_on (holding_call (Byte b) (here h)) (Calling name)) (settled_for-settled_for (Calling name) a (OnCall name))
-    ∙ ap (λ (j : PageInput). going_on j (Calling name)) (holding-if (nat_le 9 (length z.whole)) (here z) z (only_kept (with_argument_byte z b)))
-    ∙ ap (λ (c : Bool). going_on (here (if c then hold a b else hold z b)) (Calling name)) (sym quotes)
+    ∙ ap (λ (h : Arguments). going_on (holding_call (Byte b) (here h)) (Collecting (Calling name))) (settled_for-settled_for (Collecting (Calling name)) a (OnCall name))
+    ∙ ap (λ (j : PageInput). going_on j (Collecting (Calling name))) (holding-if (nat_le 9 (length z.whole)) (here z) z (only_kept (with_argument_byte z b)))
+    ∙ ap (λ (c : Bool). going_on (here (if c then hold a b else hold z b)) (Collecting (Calling name))) (sym quotes)
 holds-unit names name a texts _ i (Stays b) =
     let here : Arguments → PageInput = λ h. record i { escapes = []; arguments = h; names = names; open_texts = texts } in
     let z : Arguments = only_kept (settled a) in
-    ap (λ (h : Arguments). going_on (holding_call (Kept b) (here h)) (Calling name)) (settled_for-settled_for (Calling name) a (OnCall name))
-    ∙ ap (λ (j : PageInput). going_on j (Calling name)) (holding-if (nat_le 9 (length z.whole)) (here z) z (only_kept (with_kept z b)))
+    ap (λ (h : Arguments). going_on (holding_call (Kept b) (here h)) (Collecting (Calling name))) (settled_for-settled_for (Collecting (Calling name)) a (OnCall name))
+    ∙ ap (λ (j : PageInput). going_on j (Collecting (Calling name))) (holding-if (nat_le 9 (length z.whole)) (here z) z (only_kept (with_kept z b)))
 
 turns-unit : (names : Named Entry) (name : ShortName) (a : Arguments) (texts : List (List ℕ)) (unit : CopyUnit) (b : ℕ) → is_dropped b ≡ false
-    → byte_read AboveArguments (Backslash ∷ []) b ≡ (GivesUnit unit, []) → IsBehind unit → Turns names (escaping name texts a) b (stage (Calling name) (call_unit_held a unit) texts)
+    → byte_read AboveArguments (Backslash ∷ []) b ≡ (GivesUnit unit, []) → IsBehind unit → Turns names (escaping name texts a) b (stage (Collecting (Calling name)) (call_unit_held a unit) texts)
 turns-unit names name a texts unit b is_kept reads behind k i =
-    let reading : LineState = Calling name in
+    let reading : LineState = Collecting (Calling name) in
     let here : PageInput = input_at names (escaping name texts a) i in
     ap (λ (c : Bool). if c then going_on (settling here) reading else undropped_taking k reading here b) is_kept
-    ∙ ap (read_in k (Calling name) here) reads
+    ∙ ap (read_in k (Collecting (Calling name)) here) reads
     ∙ holds-unit names name a texts unit i behind
 
 -- how much is held
@@ -175,19 +176,19 @@ held-units a _ _ (Escaped unit b line units is_kept reads behind others) = omega
 
 -- the units of a line go to the arguments
 pub way-call : (names : Named Entry) (name : ShortName) (texts : List (List ℕ)) (most : ℕ) (a : Arguments) (line : List ℕ) (units : List CopyUnit) → AreUnits line units
-    → held a + length line ≤ most → Way (most_of most texts) names (stage (Calling name) a texts) line (stage (Calling name) (fold call_unit_held a units) texts)
-way-call names name texts most a _ _ NoUnit few = Done (stage (Calling name) a texts)
+    → held a + length line ≤ most → Way (most_of most texts) names (stage (Collecting (Calling name)) a texts) line (stage (Collecting (Calling name)) (fold call_unit_held a units) texts)
+way-call names name texts most a _ _ NoUnit few = Done (stage (Collecting (Calling name)) a texts)
 way-call names name texts most a _ _ (Itself b line units itself others) few =
     let next : Arguments = call_byte a b in
     let grows : held next ≤ held a + 1 = held-unit a (Byte b) in
-    One (stage (Calling name) a texts) (stage (Calling name) next texts) (stage (Calling name) (fold call_unit_held next units) texts) b line refl refl (turns-call names name a texts b itself)
+    One (stage (Collecting (Calling name)) a texts) (stage (Collecting (Calling name)) next texts) (stage (Collecting (Calling name)) (fold call_unit_held next units) texts) b line refl refl (turns-call names name a texts b itself)
     (record { none_half = refl; held_few = omega (arith, grows, few); stored_few = omega arith; texts_few = omega arith }) grows
     (way-call names name texts most next line units others (omega (arith, grows, few)))
 way-call names name texts most a _ _ (Escaped unit b line units is_kept reads behind others) few =
     let next : Arguments = call_unit_held a unit in
     let grows : held next ≤ held a + 2 = omega (arith, held-unit a unit, unit-length unit) in
     let same : held (only_kept (settled a)) ≡ held a = held-only_kept (settled a) ∙ held-settled a in
-    Two (stage (Calling name) a texts) (escaping name texts a) (stage (Calling name) next texts) (stage (Calling name) (fold call_unit_held next units) texts) backslash b line refl refl (λ k i. refl)
+    Two (stage (Collecting (Calling name)) a texts) (escaping name texts a) (stage (Collecting (Calling name)) next texts) (stage (Collecting (Calling name)) (fold call_unit_held next units) texts) backslash b line refl refl (λ k i. refl)
     (record { none_half = refl; held_few = omega (arith, same, few); stored_few = omega arith; texts_few = omega arith }) (omega (arith, same)) refl refl
     (turns-unit names name a texts unit b is_kept reads behind) (record { none_half = refl; held_few = omega (arith, grows, few); stored_few = omega arith; texts_few = omega arith }) grows
     (way-call names name texts most next line units others (omega (arith, grows, few)))

@@ -32,7 +32,8 @@ use Rattle.roff_run.specs.Registers.{AllRegisters, Known}
 use Rattle.roff_run.specs.Run.{State, byte_taken, known, known_at, taken_as}
 use Rattle.roff_run.specs.Stages.{Stage, input_at}
 use Rattle.roff_run.specs.declared.definition.DefinitionLine.TheVariants.{IsLast, IsText}
-use Rattle.roff_run.specs.declared.line_state.LineState.TheVariants.{Defining}
+use Rattle.roff_run.specs.declared.line_state.LineState.TheVariants.{Collecting}
+use Rattle.roff_run.specs.declared.purpose.Purpose.TheVariants.{Defining}
 use Rattle.roff_num.specs.declared.short_name.ShortName.{ShortName}
 
 same_byte : (c : ℕ) (is : Bool) → (c == c) ≡ is → is ≡ true
@@ -90,7 +91,7 @@ path-part_of_mark k j most names d a bound text done _ parts allows small (MayRe
     let texts : List (List ℕ) = making d.name d.before d.others text in
     let one =
     path-copied_mark most names d a bound text done rest own (copied own) allows small (copied-part own may) (subst (All StandsForItself) same mark) all in
-    OnText k (Defining d.name d.appends d.end (Some (length done))) (Defining d.name d.appends d.end (Some (length next))) a a texts texts
+    OnText k (Collecting (Defining d.name d.appends d.end (Some (length done)))) (Collecting (Defining d.name d.appends d.end (Some (length next)))) a a texts texts
     (defining d a text (Some (length (end_mark d.end)))) part parts refl (ByName purpose name bytes refl is_escape quiet)
     (way most names (defining d a text (Some (length done))) (defining d a text (Some (length next))) own one.0)
     (others next one.1 (all ∙ sym (append_assoc done (copied own) rest)))
@@ -123,7 +124,7 @@ line_from-end mark b ends =
 
 ends-line : (names : Named Entry) (d : Definition) (a : Arguments) (text : List ℕ) (b : ℕ) (k : Known) (i : PageInput) → MayFollow b
     → let n : ℕ = length (end_mark d.end) in
-    taking k (Defining d.name d.appends d.end (Some n)) (input_at names (defining d a text (Some n)) i) b
+    taking k (Collecting (Defining d.name d.appends d.end (Some n))) (input_at names (defining d a text (Some n)) i) b
     ≡ behind_definition k (entered_by d.name d.appends text d.before (record i { escapes = []; arguments = a; names = names; open_texts = d.others })) d.end b
 ends-line names d a text b k i follows =
     let n : ℕ = length (end_mark d.end) in

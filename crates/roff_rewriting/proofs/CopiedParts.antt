@@ -27,7 +27,8 @@ use Rattle.roff_run.specs.Definitions.{end_mark, line_with, matched_behind}
 use Rattle.roff_run.specs.Reading.Items.{PageInput}
 use Rattle.roff_run.specs.Registers.{Known}
 use Rattle.roff_run.specs.declared.definition.DefinitionLine.TheVariants.{IsText, MayBeLast}
-use Rattle.roff_run.specs.declared.line_state.LineState.TheVariants.{Defining}
+use Rattle.roff_run.specs.declared.line_state.LineState.TheVariants.{Collecting}
+use Rattle.roff_run.specs.declared.purpose.Purpose.TheVariants.{Defining}
 
 -- what was copied: all of it is text, or its end is a part of the mark, and what is still to be copied of the line doesn't make it
 -- the line that ends the definition
@@ -228,7 +229,7 @@ reads-copy k j most names d a bound text matched all _ parts allows (MayRead pur
       there = rest.there;
       m = rest.m;
       path =
-          OnText k (Defining d.name d.appends d.end matched) (Defining d.name d.appends d.end one.m) a a (making d.name d.before d.others text) (making d.name d.before d.others one.there)
+          OnText k (Collecting (Defining d.name d.appends d.end matched)) (Collecting (Defining d.name d.appends d.end one.m)) a a (making d.name d.before d.others text) (making d.name d.before d.others one.there)
           (defining d a rest.there rest.m) part parts refl (ByName purpose name bytes refl is_escape quiet)
           (way most names (defining d a text matched) (defining d a one.there one.m) own one.path) rest.path;
       so_far = subst (SoFar (end_mark d.end) [] rest.there rest.m) (append_assoc all (copied own) others ∙ ap (λ (copy : List ℕ). all ++ copy) (sym same)) rest.so_far;

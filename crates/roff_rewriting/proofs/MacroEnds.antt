@@ -12,7 +12,7 @@ use Rattle.roff_run.specs.Reading.Returns.{back_of, behind_return, gone_back_to,
 use Rattle.roff_run.specs.Run.{Leads, State, after, made, step, step_with, grown, sprung_read, unless_refused}
 use Rattle.roff_run.specs.Springs.{next}
 use Rattle.roff_run.specs.declared.line_state.LineState.{LineState}
-use Rattle.roff_run.specs.declared.line_state.LineState.TheVariants.{LineStart, Branch, Braced, Text as InText, Control, Name, Arguments as InArguments, Deciding, StringName, StringText, Skipping, Dropped, Telling, Told, Exiting, Calling, Defining, TitleFront, Title as InTitle}
+use Rattle.roff_run.specs.declared.line_state.LineState.TheVariants.{LineStart, Branch, Braced, Text as InText, Control, Name, Deciding, Skipping, Dropped, Told, Exiting, TitleFront, Title as InTitle, Collecting}
 use Rattle.roff_run.specs.declared.request.Called.TheVariants.{Body as ABody}
 use Rattle.roff_run.specs.Run.Counts.{first_passed}
 use Rattle.roff_run.proofs.Leads.{Leads-refl, Leads-step, Leads-to}
@@ -32,19 +32,14 @@ back_there code Braced none = refl
 back_there code (InText line) none = refl
 back_there code (Control breaks) none = absurd none
 back_there code (Name breaks first) none = absurd none
-back_there code (InArguments breaks request) none = absurd none
+back_there code (Collecting purpose) none = absurd none
 back_there code (Deciding keeps) none = absurd none
 back_there code (Skipping opened closed behind) none = absurd none
-back_there code (StringName appends) none = absurd none
-back_there code (StringText name appends is_front) none = absurd none
 back_there code Dropped none = absurd none
-back_there code (Telling aborts is_front) none = absurd none
 back_there code (Told aborts) none = absurd none
 back_there code Exiting none = absurd none
 back_there code TitleFront none = absurd none
 back_there code (InTitle delimiter) none = absurd none
-back_there code (Calling name) none = absurd none
-back_there code (Defining name appends end matched) none = absurd none
 
 -- something is read while the end stands ahead
 read-on : (l : Limits) (from : State) (reading : LineState) (behind : List (Ahead PageEvent)) (s t : State) → Leads l from s → step l s ≡ t

@@ -33,13 +33,14 @@ use Rattle.roff_run.specs.declared.line_state.LineState.{LineState}
 use Rattle.roff_run.specs.Reading.ControlLines.{behind_name, line_taking}
 use Rattle.roff_run.specs.Reading.Items.{PageInput, Taking, going_on}
 use Rattle.roff_run.specs.Stages.{Stage, Turns, input_at}
-use Rattle.roff_run.specs.declared.line_state.LineState.TheVariants.{LineStart, Telling, Told}
+use Rattle.roff_run.specs.declared.line_state.LineState.TheVariants.{LineStart, Told, Collecting}
+use Rattle.roff_run.specs.declared.purpose.Purpose.TheVariants.{Telling}
 use Rattle.roff_run.specs.declared.request.Called.TheVariants.{Request as ARequest}
 use Rattle.roff_run.specs.declared.request.LineReading.{LineReading}
 
 -- what is held of a message, and whether nothing but blanks was read of it
 abbrev pub telling : Bool → List (List ℕ) → Bool × Arguments → Stage
-telling aborts texts t = stage (Telling aborts t.0) t.1 texts
+telling aborts texts t = stage (Collecting (Telling aborts t.0)) t.1 texts
 
 no_newline-behind : (c : Bool) (n : ℕ) → (if c then Some n else None) ≡ None → c ≡ false
 no_newline-behind true n behind = absurd (cc)
@@ -48,7 +49,7 @@ no_newline-behind false n behind = refl
 turns-if : (aborts : Bool) (names : Named Entry) (texts : List (List ℕ)) (i : PageInput) (a : Arguments) (b : ℕ) (c : Bool)
     → let here : Arguments → PageInput = λ h. record i { escapes = []; arguments = h; names = names; open_texts = texts } in
     let u : Bool × Arguments = if c then (true, a) else (false, with_byte a InPlain b) in
-    (if c then going_on (here a) (Telling aborts true) else going_on (here (with_byte a InPlain b)) (Telling aborts false)) ≡ going_on (here u.1) (Telling aborts u.0)
+    (if c then going_on (here a) (Collecting (Telling aborts true)) else going_on (here (with_byte a InPlain b)) (Collecting (Telling aborts false))) ≡ going_on (here u.1) (Collecting (Telling aborts u.0))
 turns-if aborts names texts i a b true = refl
 turns-if aborts names texts i a b false = refl
 
@@ -70,21 +71,21 @@ tell-kept false a b = refl
 tells-unit : (aborts is_front : Bool) (names : Named Entry) (texts : List (List ℕ)) (a : Arguments) (unit : CopyUnit) (i : PageInput) → matched_behind unit ≡ None
     → let here : Arguments → PageInput = λ h. record i { escapes = []; arguments = h; names = names; open_texts = texts } in
     let u : Bool × Arguments = fold tell (is_front, a) (unit_bytes unit) in
-    message_unit (here a) aborts is_front unit ≡ going_on (here u.1) (Telling aborts u.0)
+    message_unit (here a) aborts is_front unit ≡ going_on (here u.1) (Collecting (Telling aborts u.0))
 tells-unit aborts is_front names texts a (Byte b) i behind =
     let here : Arguments → PageInput = λ h. record i { escapes = []; arguments = h; names = names; open_texts = texts } in
-    let others : Taking = if is_front && b == blank then going_on (here a) (Telling aborts true) else going_on (here (with_byte a InPlain b)) (Telling aborts false) in
+    let others : Taking = if is_front && b == blank then going_on (here a) (Collecting (Telling aborts true)) else going_on (here (with_byte a InPlain b)) (Collecting (Telling aborts false)) in
     ap (λ (c : Bool). if c then going_on (here a) (Told aborts) else others) (no_newline-behind (b == newline) 0 behind)
     ∙ turns-if aborts names texts i a b (is_front && b == blank)
 tells-unit aborts is_front names texts a (Kept b) i behind =
     let here : Arguments → PageInput = λ h. record i { escapes = []; arguments = h; names = names; open_texts = texts } in
-    ap (λ (u : Bool × Arguments). going_on (here u.1) (Telling aborts u.0)) (sym (tell-kept is_front a b))
+    ap (λ (u : Bool × Arguments). going_on (here u.1) (Collecting (Telling aborts u.0))) (sym (tell-kept is_front a b))
 
 turns-unit : (aborts : Bool) (names : Named Entry) (texts : List (List ℕ)) (t : Bool × Arguments) (unit : CopyUnit) (b : ℕ) → is_dropped b ≡ false
     → byte_read AboveCopy (Backslash ∷ []) b ≡ (GivesUnit unit, []) → matched_behind unit ≡ None
     → Turns names (escaping aborts texts t) b (telling aborts texts (fold tell t (unit_bytes unit)))
 turns-unit aborts names texts t unit b is_kept reads behind k i =
-    let reading : LineState = Telling aborts t.0 in
+    let reading : LineState = Collecting (Telling aborts t.0) in
     let here : PageInput = input_at names (escaping aborts texts t) i in
     ap (λ (c : Bool). if c then going_on here reading else undropped_taking k reading here b) is_kept
     ∙ ap (read_in k reading here) reads
@@ -124,7 +125,7 @@ way-tell aborts names texts most t _ _ (OneUnit unit _ line copy (Escaped _ b is
     (way-tell aborts names texts most u line copy others (omega (arith, grows, few, sizes))))
 
 -- the name, the blank behind it, and the front of the message
-reads-message : (aborts : Bool) (names : Named Entry) (control : ℕ) (name : ShortName) → ReadsMessage aborts names control name → ReadsAs names name (Telling aborts true)
+reads-message : (aborts : Bool) (names : Named Entry) (control : ℕ) (name : ShortName) → ReadsMessage aborts names control name → ReadsAs names name (Collecting (Telling aborts true))
 reads-message aborts names control name has = record {
   called = ARequest has.of_request;
   is = has.stands_for;
@@ -137,10 +138,10 @@ pub path-front : (aborts : Bool) (names : Named Entry) (texts : List (List ℕ))
     → Path (most_of most texts) names (stage LineStart no_arguments texts) ((control ∷ name_bytes name) ++ blank ∷ []) (telling aborts texts (true, no_arguments))
 path-front aborts names texts most control name has =
     let allows : Allows (most_of most texts) no_arguments texts = record { held_few = omega arith; stored_few = omega arith; texts_few = omega arith } in
-    let begins : ReadsName (most_of most texts) names no_arguments texts (control ∷ name_bytes name) (Telling aborts true) =
-    reads-name (most_of most texts) names no_arguments texts control name (Telling aborts true) has.begins has.is_name allows (reads-message aborts names control name has) in
+    let begins : ReadsName (most_of most texts) names no_arguments texts (control ∷ name_bytes name) (Collecting (Telling aborts true)) =
+    reads-name (most_of most texts) names no_arguments texts control name (Collecting (Telling aborts true)) has.begins has.is_name allows (reads-message aborts names control name has) in
     let mid : Stage = stage begins.reading no_arguments texts in
     let end : Stage = telling aborts texts (true, no_arguments) in
     Path-append (most_of most texts) names (stage LineStart no_arguments texts) mid end (control ∷ name_bytes name) (blank ∷ []) begins.path
-    (onward (most_of most texts) names no_arguments texts begins.reading (Telling aborts true) blank [] end begins.does.none_due
+    (onward (most_of most texts) names no_arguments texts begins.reading (Collecting (Telling aborts true)) blank [] end begins.does.none_due
     (λ k i. begins.does.at_blank k mid i ∙ turns-tell aborts names texts (true, no_arguments) blank refl k i) allows (Here end))

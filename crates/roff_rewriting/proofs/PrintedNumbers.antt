@@ -1,6 +1,6 @@
 -- The bytes of a register's text are printable.
-use Rattle.std.proofs.Common.{◌≡◌, ℕ, zero, suc, ◌+◌, ◌<◌, ◌≤◌, ◌^◌, Bool, true, false, List, [], ◌∷◌, ◌++◌, w32, FitsSigned, arith}
-use Rattle.std.specs.Prelude.{ℤ, pos, negsuc, codes, min, nat_le, ◌&&◌, ◌/◌, ◌%◌, ◌-◌, ◌==◌, if◌then◌else◌}
+use Rattle.std.proofs.Common.{◌≡◌, ℕ, zero, suc, ◌<◌, ◌≤◌, ◌^◌, Bool, true, false, List, [], ◌∷◌, ◌++◌, w32, FitsSigned, arith}
+use Rattle.std.specs.Prelude.{ℤ, pos, negsuc, codes, min, nat_le, ◌&&◌, ◌/◌, ◌%◌, ◌==◌, if◌then◌else◌}
 use Rattle.std.specs.List.{AllByRecursion}
 use Rattle.std.specs.Fmt.{decimal}
 use Rattle.std.specs.Str.{str_to_ascii_uppercase}

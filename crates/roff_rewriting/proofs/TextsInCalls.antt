@@ -49,7 +49,8 @@ use Rattle.roff_run.specs.Reading.ControlLines.{BelongsToName, ends_name}
 use Rattle.roff_run.specs.Run.{State, after, byte_taken, known}
 use Rattle.roff_run.specs.Stages.{Stage}
 use Rattle.roff_run.specs.Within.{IsWithin}
-use Rattle.roff_run.specs.declared.line_state.LineState.TheVariants.{Calling, LineStart}
+use Rattle.roff_run.specs.declared.line_state.LineState.TheVariants.{LineStart, Collecting}
+use Rattle.roff_run.specs.declared.purpose.Purpose.TheVariants.{Calling}
 
 -- what is held in front of an escape is what the line was read as there
 same-settled : (whole : List (List ℕ)) (begun : List ℕ) (place : Place) → length whole ≤ 8 → IsClean place begun
@@ -122,12 +123,12 @@ text-copied k j _ (MayMeasure d text measures may plain) = copied-width text
 -- parts are read behind arguments that are held
 record ReadsParts (j : PageInput) (names : Named Entry) (name : ShortName) (texts : List (List ℕ)) (most : ℕ) (k : Known) (a u : Arguments) (parts : List Part) : Type 0 where
   there : Arguments
-  path : PartsPath j (most_of most texts) names k (stage (Calling name) a texts) parts (stage (Calling name) there texts)
+  path : PartsPath j (most_of most texts) names k (stage (Collecting (Calling name)) a texts) parts (stage (Collecting (Calling name)) there texts)
   agrees : Agrees there (behind_parts k j u parts)
 
 -- by the text of the first of them
 reads-text : (k : Known) (j : PageInput) (names : Named Entry) (name : ShortName) (texts : List (List ℕ)) (most : ℕ) (a u : Arguments) (part : Part) (parts : List Part)
-    → IsRead k (Calling name) part → IsOnlyCopied (rewritten_part k j part) → behind_part k j u part ≡ fold with_unit (settled u) (units_of (rewritten_part k j part))
+    → IsRead k (Collecting (Calling name)) part → IsOnlyCopied (rewritten_part k j part) → behind_part k j u part ≡ fold with_unit (settled u) (units_of (rewritten_part k j part))
     → held a + length (rewritten k j (part ∷ parts)) ≤ most → Agrees a u
     → (let k1 : Known = known_behind_part k part in
     (b v : Arguments) → held b + length (rewritten k1 j parts) ≤ most → Agrees b v → ReadsParts j names name texts most k1 b v parts)
@@ -146,7 +147,7 @@ reads-text k j names name texts most a u part parts is may behind few agrees rea
     record {
       there = others.there;
       path =
-          OnText k (Calling name) (Calling name) a next texts texts (stage (Calling name) others.there texts) part parts refl is
+          OnText k (Collecting (Calling name)) (Collecting (Calling name)) a next texts texts (stage (Collecting (Calling name)) others.there texts) part parts refl is
           (way-call names name texts most begun text (units_of text) units (omega (arith, few, all, same)))
           others.path;
       agrees = subst (λ (v : Arguments). Agrees others.there (behind_parts k1 j v parts)) (sym behind) others.agrees;
@@ -166,7 +167,7 @@ reads-part k j names name texts most a u _ parts (MayWrite bytes may) few agrees
     record {
       there = others.there;
       path =
-          OnBytes k (stage (Calling name) a texts) (stage (Calling name) next texts) (stage (Calling name) others.there texts) bytes parts (copied-of_line bytes may)
+          OnBytes k (stage (Collecting (Calling name)) a texts) (stage (Collecting (Calling name)) next texts) (stage (Collecting (Calling name)) others.there texts) bytes parts (copied-of_line bytes may)
           (way-call names name texts most a bytes (units_of bytes) units (omega (arith, few, all)))
           others.path;
       agrees = others.agrees;
@@ -178,7 +179,7 @@ reads-part k j names name texts most a u _ parts (MayMeasure d text measures may
 
 reads-parts : (j : PageInput) (names : Named Entry) (name : ShortName) (texts : List (List ℕ)) (most : ℕ) (k : Known) (a u : Arguments) (parts : List Part)
     → AreParts true IsOnlyCopied k j parts → held a + length (rewritten k j parts) ≤ most → Agrees a u → ReadsParts j names name texts most k a u parts
-reads-parts j names name texts most k a u [] may few agrees = record { there = a; path = NoPart k (stage (Calling name) a texts); agrees = agrees }
+reads-parts j names name texts most k a u [] may few agrees = record { there = a; path = NoPart k (stage (Collecting (Calling name)) a texts); agrees = agrees }
 reads-parts j names name texts most k a u (part ∷ parts) may few agrees =
     reads-part k j names name texts most a u part parts may.0 few agrees (λ b v. reads-parts j names name texts most (known_behind_part k part) b v parts may.1)
 
@@ -209,15 +210,15 @@ name-of_line control name begins is_name =
     (All-cons NoNewline blank [] refl (All-nil NoNewline))
 
 reads-front : (names : Named Entry) (name : ShortName) (texts : List (List ℕ)) (most control : ℕ) (body : List ℕ) → NamesBody names control name body
-    → Path (most_of most texts) names (stage LineStart no_arguments texts) (line_front control name) (stage (Calling name) no_arguments texts)
+    → Path (most_of most texts) names (stage LineStart no_arguments texts) (line_front control name) (stage (Collecting (Calling name)) no_arguments texts)
 reads-front names name texts most control body call =
     let allows : Allows (most_of most texts) no_arguments texts = record { held_few = omega arith; stored_few = omega arith; texts_few = omega arith } in
-    let begins : ReadsName (most_of most texts) names no_arguments texts (control ∷ name_bytes name) (Calling name) =
-    reads-name (most_of most texts) names no_arguments texts control name (Calling name) call.begins call.is_name allows (reads-body names name body call.stands_for) in
+    let begins : ReadsName (most_of most texts) names no_arguments texts (control ∷ name_bytes name) (Collecting (Calling name)) =
+    reads-name (most_of most texts) names no_arguments texts control name (Collecting (Calling name)) call.begins call.is_name allows (reads-body names name body call.stands_for) in
     let mid : Stage = stage begins.reading no_arguments texts in
-    let end : Stage = stage (Calling name) no_arguments texts in
+    let end : Stage = stage (Collecting (Calling name)) no_arguments texts in
     Path-append (most_of most texts) names (stage LineStart no_arguments texts) mid end (control ∷ name_bytes name) (blank ∷ []) begins.path
-    (onward (most_of most texts) names no_arguments texts begins.reading (Calling name) blank [] end begins.does.none_due
+    (onward (most_of most texts) names no_arguments texts begins.reading (Collecting (Calling name)) blank [] end begins.does.none_due
     (λ k i. begins.does.at_blank k mid i ∙ turns-call names name no_arguments texts blank refl k i) allows (Here end))
 
 -- a run that has stepped the registers of a line, and paid for its texts, before it reads the line
@@ -247,7 +248,7 @@ called-with-texts l s from control name body parts begins call may ahead tape ha
     let called : State = called_from v from line body arguments in
     let most : Most = most_of (length (rewritten k j parts)) texts in
     let start : Stage = stage LineStart no_arguments texts in
-    let mid : Stage = stage (Calling name) no_arguments texts in
+    let mid : Stage = stage (Collecting (Calling name)) no_arguments texts in
     let in_line : List ℕ = control ∷ name_bytes name in
     let same : line ≡ front ++ last = append_assoc in_line (blank ∷ bytes) (newline ∷ []) ∙ sym (append_assoc in_line (blank ∷ []) last) in
     let is : run_at s names start from (front ++ last) s.input ≡ s =
@@ -261,7 +262,7 @@ called-with-texts l s from control name body parts begins call may ahead tape ha
     let i1 : PageInput = behind_bytes from front s.input in
     let one = after-Path l s names from most start mid front last s.input begins.takes (reads-front names name texts (length (rewritten k j parts)) control body call) begun in
     let reads = reads-parts j names name texts (length (rewritten k j parts)) k no_arguments no_arguments parts may (omega arith) (Same [] [] Between (omega arith) refl) in
-    let end : Stage = stage (Calling name) reads.there texts in
+    let end : Stage = stage (Collecting (Calling name)) reads.there texts in
     let room : RoomFor l s names from most mid (length (rewritten k j parts) + 0) (cost + 0) last i1 = record {
       room = one.1;
       charged_all = omega (arith, charge, sizes, behind_bytes-charge from front s.input);
@@ -279,7 +280,7 @@ called-with-texts l s from control name body parts begins call may ahead tape ha
     let takes : TakesItems v = record { going = begins.takes.going; is_open = begins.takes.is_open; idle = begins.takes.idle; unsprung = begins.takes.unsprung; none_due = begins.takes.none_due } in
     let taken : byte_taken newline (run_at v names end from [] (behind_byte from newline i2)) ≡ called =
     ap (λ (m : PageInput). byte_taken newline (run_at v names end from [] (behind_byte from newline m))) counts
-    ∙ newline-calls v from name body (front ++ bytes) arguments (Calling name) reads.there
+    ∙ newline-calls v from name body (front ++ bytes) arguments (Collecting (Calling name)) reads.there
     (record {
       takes = takes;
       reading = begins.reading;

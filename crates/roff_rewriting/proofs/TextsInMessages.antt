@@ -40,7 +40,8 @@ use Rattle.roff_run.specs.Run.{State, aborted, after, known, made, message_told,
 use Rattle.roff_run.specs.Stages.{Stage}
 use Rattle.roff_run.specs.Within.{IsWithin}
 use Rattle.roff_run.specs.declared.line_state.LineState.{LineState}
-use Rattle.roff_run.specs.declared.line_state.LineState.TheVariants.{LineStart, Telling, Told}
+use Rattle.roff_run.specs.declared.line_state.LineState.TheVariants.{LineStart, Told, Collecting}
+use Rattle.roff_run.specs.declared.purpose.Purpose.TheVariants.{Telling}
 
 -- parts are told behind what is held, by the first of them
 tells-part : (aborts : Bool) (k : Known) (j : PageInput) (names : Named Entry) (texts : List (List ℕ)) (most : ℕ) (t : Bool × Arguments) (part : Part) (parts : List Part)
@@ -69,7 +70,7 @@ tells-part aborts k j names texts most t _ parts (MayRead purpose name bytes is 
     let all : length (copied (text ++ behind)) ≡ length (copied text) + length others = ap length same ∙ length-append (copied text) others in
     subst (λ (v : Bool × Arguments). PartsPath j (most_of most texts) names k (telling aborts texts t) (part ∷ parts) (telling aborts texts v))
     (sym (ap (fold tell t) same ∙ fold-append tell t (copied text) others))
-    (OnText k (Telling aborts t.0) (Telling aborts u.0) t.1 u.1 texts texts (telling aborts texts (fold tell u others)) part parts refl (ByName purpose name bytes refl is quiet)
+    (OnText k (Collecting (Telling aborts t.0)) (Collecting (Telling aborts u.0)) t.1 u.1 texts texts (telling aborts texts (fold tell u others)) part parts refl (ByName purpose name bytes refl is quiet)
     (way-tell aborts names texts most t text (copied text) (copied-part text may) (omega (arith, few, all)))
     (tells u (omega (arith, few, all, held-fold t (copied text)))))
 tells-part aborts k j names texts most t _ parts (MayMeasure d text measures may plain) few tells = absurd (cc)

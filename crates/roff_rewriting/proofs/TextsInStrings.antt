@@ -40,7 +40,8 @@ use Rattle.roff_run.specs.Registers.{AllRegisters, Known}
 use Rattle.roff_run.specs.Run.{State, after, byte_taken, known}
 use Rattle.roff_run.specs.Stages.{Stage}
 use Rattle.roff_run.specs.Within.{IsWithin}
-use Rattle.roff_run.specs.declared.line_state.LineState.TheVariants.{LineStart, StringName, StringText}
+use Rattle.roff_run.specs.declared.line_state.LineState.TheVariants.{LineStart, Collecting}
+use Rattle.roff_run.specs.declared.purpose.Purpose.TheVariants.{StringName, StringText}
 
 -- bytes of the text are copied; behind the first of them nothing is in front any more
 record ReadsBytes (names : Named Entry) (name : ShortName) (appends : Bool) (before : List (List ℕ)) (bound : ℕ) (quoted : Bool) (text line copy rest : List ℕ) : Type 0 where
@@ -118,7 +119,7 @@ reads-part k j names name appends before bound quoted text _ parts (MayRead purp
       path =
           subst (λ (all : List ℕ). PartsPath j (most_for name before bound) names k (setting name appends before (not quoted) text) (part ∷ parts) (setting name appends before (not more.ends) all))
           (append_assoc text copy others ∙ ap (λ (rest : List ℕ). text ++ rest) (sym same))
-          (OnText k (StringText (Some name) appends (not quoted)) (StringText (Some name) appends (not one.ends)) no_arguments no_arguments (before ++ text ∷ []) (before ++ (text ++ copy) ∷ [])
+          (OnText k (Collecting (StringText (Some name) appends (not quoted))) (Collecting (StringText (Some name) appends (not one.ends))) no_arguments no_arguments (before ++ text ∷ []) (before ++ (text ++ copy) ∷ [])
           (setting name appends before (not more.ends) ((text ++ copy) ++ others)) part parts refl (ByName purpose escape bytes refl is_escape quiet)
           (way (most_for name before bound) names (setting name appends before (not quoted) text) (setting name appends before (not one.ends) (text ++ copy)) own one.path) more.path);
     }
@@ -182,12 +183,12 @@ path-front names control request appends name blanks quoted k i parts before bou
     let start : Stage = stage LineStart no_arguments before in
     let mid : Stage = setting name appends before true [] in
     let allows : Allows most no_arguments before = record { held_few = omega arith; stored_few = omega arith; texts_few = omega arith } in
-    let reads : ReadsName most names no_arguments before (control ∷ name_bytes request) (StringName appends) =
-    reads-name most names no_arguments before control request (StringName appends) sets.begins sets.is_name_of_request allows
+    let reads : ReadsName most names no_arguments before (control ∷ name_bytes request) (Collecting (StringName appends)) =
+    reads-name most names no_arguments before control request (Collecting (StringName appends)) sets.begins sets.is_name_of_request allows
     (reads-request names request appends sets.of_request sets.stands_for sets.reads_string) in
     let named : Stage = stage reads.reading no_arguments before in
     let path_named : Path most names named behind_name mid =
-    onward most names no_arguments before reads.reading (StringName appends) blank (name_bytes name ++ blank ∷ replicate blanks blank) mid reads.does.none_due
+    onward most names no_arguments before reads.reading (Collecting (StringName appends)) blank (name_bytes name ++ blank ∷ replicate blanks blank) mid reads.does.none_due
     (λ k i. reads.does.at_blank k named i) allows
     (path-name names appends before bound name.first name.second (replicate blanks blank) mid sets.is_name (path-blanks names name appends before bound blanks)) in
     Path-append most names start mid (setting name appends before (not quoted) []) (up_to_blanks control request name blanks) (quote_if quoted)

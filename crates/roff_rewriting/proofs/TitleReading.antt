@@ -21,7 +21,8 @@ use Rattle.roff_run.specs.Reading.Titles.{behind_part, bytes_for, empty_title_en
 use Rattle.roff_run.specs.Registers.{AllRegisters, Change, Known, PartEnds, TitleBegins, TitleGets, changed_by_all}
 use Rattle.roff_run.specs.TitleTexts.{TitleText, title_begun, title_length, with_bytes}
 use Rattle.roff_run.specs.declared.line_state.LineState.{LineState}
-use Rattle.roff_run.specs.declared.line_state.LineState.TheVariants.{Arguments as InArguments, Title as InTitle, TitleFront}
+use Rattle.roff_run.specs.declared.line_state.LineState.TheVariants.{Title as InTitle, TitleFront, Collecting}
+use Rattle.roff_run.specs.declared.purpose.Purpose.TheVariants.{Arguments as InArguments}
 use Rattle.roff_run.specs.declared.request.Request.TheVariants.{Title as PlaceTitle}
 use Rattle.roff_run.specs.declared.title.TitlePart.{TitlePart}
 use Rattle.roff_run.specs.declared.title.TitlePart.TheVariants.{Centre, Left, Right}
@@ -165,7 +166,7 @@ turns-centre page left centre right d is = record {
 
 turns-right : (page : Option ℕ) (left centre right : List ℕ) (d : ℕ) → IsDelimiter d
     → let t : TitleText = record { part = Right; left = left; centre = centre; right = right } in
-    TitleTurns page (at (InTitle d) t) (at (InArguments false PlaceTitle) t) d
+    TitleTurns page (at (InTitle d) t) (at (Collecting (InArguments false PlaceTitle)) t) d
 turns-right page left centre right d is = record {
   changes = [];
   changed = λ rs. refl;
@@ -214,7 +215,7 @@ title_kept page t = record { part = Right; left = map (byte_kept page) t.left; c
 
 -- what is read behind the parts: where the last delimiter is left out, more of the right one
 abbrev pub last_reading : ℕ → Bool → LineState
-last_reading d true = InArguments false PlaceTitle
+last_reading d true = Collecting (InArguments false PlaceTitle)
 last_reading d false = InTitle d
 
 path-closing : (page : Option ℕ) (most : ℕ) (d : ℕ) (left centre right : List ℕ) (is_closed : Bool) → IsDelimiter d
@@ -222,7 +223,7 @@ path-closing : (page : Option ℕ) (most : ℕ) (d : ℕ) (left centre right : L
     title_length t ≤ most → TitlePath page most (at (InTitle d) t) (closing d is_closed) (at (last_reading d is_closed) t)
 path-closing page most d left centre right true is few =
     let t : TitleText = record { part = Right; left = left; centre = centre; right = right } in
-    let last : TitleStage = at (InArguments false PlaceTitle) t in
+    let last : TitleStage = at (Collecting (InArguments false PlaceTitle)) t in
     Onward (at (InTitle d) t) last last d [] refl (turns-right page left centre right d is) few (Here last)
 path-closing page most d left centre right false is few = Here (at (InTitle d) (record { part = Right; left = left; centre = centre; right = right }))
 

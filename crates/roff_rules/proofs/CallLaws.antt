@@ -23,7 +23,8 @@ use Rattle.roff_run.specs.Run.{State, after, byte_taken, known, taken_as}
 use Rattle.roff_num.specs.ShortNames.{name_bytes}
 use Rattle.roff_run.specs.Stages.{Stage}
 use Rattle.roff_run.specs.declared.line_state.LineState.{LineState}
-use Rattle.roff_run.specs.declared.line_state.LineState.TheVariants.{Calling, LineStart}
+use Rattle.roff_run.specs.declared.line_state.LineState.TheVariants.{LineStart, Collecting}
+use Rattle.roff_run.specs.declared.purpose.Purpose.TheVariants.{Calling}
 use Rattle.roff_num.specs.declared.short_name.ShortName.{ShortName}
 use Rattle.roff_run.specs.declared.request.Called.TheVariants.{Body as ABody}
 use Rattle.roff_run.proofs.NameBytes.{stage}
@@ -31,7 +32,7 @@ use Rattle.roff_rules.proofs.LineNames.{DoesAs, ReadsAs, ReadsName, onward, read
 use Rattle.roff_rules.proofs.CalledArguments.{most_of, reads-arguments, turns-call}
 
 -- a line whose name stands for a body calls it
-pub reads-body : (names : Named Entry) (name : ShortName) (body : List ℕ) → entry_of (name_bytes name) names ≡ Some (Body body) → ReadsAs names name (Calling name)
+pub reads-body : (names : Named Entry) (name : ShortName) (body : List ℕ) → entry_of (name_bytes name) names ≡ Some (Body body) → ReadsAs names name (Collecting (Calling name))
 reads-body names name body stands_for = record {
   called = ABody name;
   is = ap (called_as name) stands_for;
@@ -46,10 +47,10 @@ pub record ReadsCall (names : Named Entry) (name : ShortName) (texts : List (Lis
   pub there : Arguments
   pub path : Path (most_of most texts) names (stage LineStart no_arguments texts) bytes (stage reading there texts)
   pub given : reverse (only_kept (finished there)).whole ≡ as_given
-  pub does : DoesAs names reading (Calling name)
+  pub does : DoesAs names reading (Collecting (Calling name))
 
 reads-behind : (names : Named Entry) (name : ShortName) (texts : List (List ℕ)) (most : ℕ) (front : List ℕ) (arguments : List (List ℕ))
-    → ReadsName (most_of most texts) names no_arguments texts front (Calling name) → All (All StandsForItself) arguments → total_length (take 9 arguments) ≤ most
+    → ReadsName (most_of most texts) names no_arguments texts front (Collecting (Calling name)) → All (All StandsForItself) arguments → total_length (take 9 arguments) ≤ most
     → ReadsCall names name texts most (front ++ behind_call arguments) (take 9 arguments)
 reads-behind names name texts most front [] begins themselves small = record {
   reading = begins.reading;
@@ -64,13 +65,13 @@ reads-behind names name texts most front (argument ∷ others) begins themselves
     let arguments : List (List ℕ) = argument ∷ others in
     let reads = reads-arguments names name texts most [] 9 arguments themselves (omega arith) (omega (arith, small)) in
     let mid : Stage = stage begins.reading no_arguments texts in
-    let end : Stage = stage (Calling name) reads.there texts in
+    let end : Stage = stage (Collecting (Calling name)) reads.there texts in
     record {
-      reading = Calling name;
+      reading = Collecting (Calling name);
       there = reads.there;
       path =
           Path-append (most_of most texts) names (stage LineStart no_arguments texts) mid end front (blank ∷ quoted_line arguments) begins.path
-          (onward (most_of most texts) names no_arguments texts begins.reading (Calling name) blank (quoted_line arguments) end begins.does.none_due
+          (onward (most_of most texts) names no_arguments texts begins.reading (Collecting (Calling name)) blank (quoted_line arguments) end begins.does.none_due
           (λ k i. begins.does.at_blank k mid i ∙ turns-call names name no_arguments texts blank refl k i)
           (record { held_few = omega arith; stored_few = omega arith; texts_few = omega arith }) reads.path);
       given = reads.given;
@@ -84,7 +85,7 @@ called_from s from line body arguments = record s { tape = tape_at from [] s.tap
 -- the newline of the line calls it
 pub newline-calls : (s : State) (from : Origin) (name : ShortName) (body front : List ℕ) (arguments : List (List ℕ)) (reading : LineState) (there : Arguments)
     → BeginsLine s → entry_of (name_bytes name) s.input.names ≡ Some (Body body) → reverse (only_kept (finished there)).whole ≡ take 9 arguments
-    → DoesAs s.input.names reading (Calling name)
+    → DoesAs s.input.names reading (Collecting (Calling name))
     → byte_taken newline (run_at s s.input.names (stage reading there s.input.open_texts) from [] (behind_byte from newline (behind_bytes from front s.input)))
     ≡ called_from s from (front ++ newline ∷ []) body arguments
 newline-calls s from name body front arguments reading there begins stands_for given does =
@@ -124,7 +125,7 @@ called-from l s from control name body arguments begins call ahead tape within w
     let is : run_at s names start from line s.input ≡ s = is-run_at s from line start begins.reading begins.escapes begins.arguments refl ahead tape in
     let reads : ReadsCall names name texts most front (take 9 arguments) =
     reads-behind names name texts most (control ∷ name_bytes name) arguments
-    (reads-name (most_of most texts) names no_arguments texts control name (Calling name) call.begins call.is_name
+    (reads-name (most_of most texts) names no_arguments texts control name (Collecting (Calling name)) call.begins call.is_name
     (record { held_few = omega arith; stored_few = omega arith; texts_few = omega arith }) (reads-body names name body call.stands_for))
     call.plain (omega arith) in
     let room : HasRoom l s names from (most_of most texts) start line s.input =

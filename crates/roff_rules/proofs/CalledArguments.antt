@@ -35,7 +35,8 @@ use Rattle.roff_run.specs.Reading.Units.{settling}
 use Rattle.roff_num.specs.ShortNames.{name_bytes}
 use Rattle.roff_run.specs.Stages.{Stage, Turns, input_at}
 use Rattle.roff_run.specs.declared.line_state.LineState.{LineState}
-use Rattle.roff_run.specs.declared.line_state.LineState.TheVariants.{Calling, LineStart}
+use Rattle.roff_run.specs.declared.line_state.LineState.TheVariants.{LineStart, Collecting}
+use Rattle.roff_run.specs.declared.purpose.Purpose.TheVariants.{Calling}
 use Rattle.roff_num.specs.declared.short_name.ShortName.{ShortName}
 use Rattle.roff_run.proofs.NameBytes.{stage}
 
@@ -58,16 +59,16 @@ going_on-if false i reading a there = refl
 
 -- a byte of a call goes to its arguments
 pub turns-call : (names : Named Entry) (name : ShortName) (a : Arguments) (texts : List (List ℕ)) (b : ℕ) → StandsForItself b
-    → Turns names (stage (Calling name) a texts) b (stage (Calling name) (call_byte a b) texts)
+    → Turns names (stage (Collecting (Calling name)) a texts) b (stage (Collecting (Calling name)) (call_byte a b) texts)
 turns-call names name a texts b itself k i =
-    let reading : LineState = Calling name in
+    let reading : LineState = Collecting (Calling name) in
     let here : PageInput = input_at names (stage reading a texts) i in
     let read : IsRead b = IsRead-itself b itself in
     let unit : byte_read AboveArguments [] b ≡ (GivesUnit (Byte b), []) =
     ap (λ (c : Bool). if c then (GoesOn, Backslash ∷ []) else (GivesUnit (Byte b), [])) (not-first (b == backslash) (is_dropped b || b == newline) itself) in
     let others : Taking = if b == quote then going_on (holding_call (Byte b) here) reading else going_on (holding_call (Byte b) (settling here)) reading in
     ap (λ (c : Bool). if c then going_on (settling here) reading else undropped_taking k reading here b) (not-first (is_dropped b) (b == newline) read)
-    ∙ ap (read_in k (Calling name) here) unit
+    ∙ ap (read_in k (Collecting (Calling name)) here) unit
     ∙ ap (λ (c : Bool). if c then going_on (calling_body (body_named (name_bytes name) here) here) LineStart else others) (not-second (is_dropped b) (b == newline) read)
     ∙ ap (λ (j : PageInput). if b == quote then going_on j reading else going_on (holding_call (Byte b) (settling here)) reading)
     (holding-if (nat_le 9 (length a.whole)) here a (only_kept (with_argument_byte a b)))
@@ -157,25 +158,25 @@ most_of most texts = record { held = most; stored = sum_by length texts; texts =
 
 -- a byte of a call, and others behind it
 onward-call : (names : Named Entry) (name : ShortName) (texts : List (List ℕ)) (most : ℕ) (a there : Arguments) (b : ℕ) (bytes : List ℕ) (r : Stage) → StandsForItself b
-    → call_byte a b ≡ there → held there ≤ held a + 1 → held there ≤ most → Path (most_of most texts) names (stage (Calling name) there texts) bytes r
-    → Path (most_of most texts) names (stage (Calling name) a texts) (b ∷ bytes) r
+    → call_byte a b ≡ there → held there ≤ held a + 1 → held there ≤ most → Path (most_of most texts) names (stage (Collecting (Calling name)) there texts) bytes r
+    → Path (most_of most texts) names (stage (Collecting (Calling name)) a texts) (b ∷ bytes) r
 onward-call names name texts most a there b bytes r itself is grows few path =
-    Onward (stage (Calling name) a texts) (stage (Calling name) there texts) r b bytes refl refl
-    (subst (λ (all : Arguments). Turns names (stage (Calling name) a texts) b (stage (Calling name) all texts)) is (turns-call names name a texts b itself))
+    Onward (stage (Collecting (Calling name)) a texts) (stage (Collecting (Calling name)) there texts) r b bytes refl refl
+    (subst (λ (all : Arguments). Turns names (stage (Collecting (Calling name)) a texts) b (stage (Collecting (Calling name)) all texts)) is (turns-call names name a texts b itself))
     (record { none_half = refl; held_few = few; stored_few = omega arith; texts_few = omega arith }) grows path
 
 -- a byte within quotes is written so, and others behind it
 path-quoted_byte : (names : Named Entry) (name : ShortName) (texts : List (List ℕ)) (most : ℕ) (whole : List (List ℕ)) (begun : List ℕ) (b : ℕ) (is_quote : Bool) (bytes more : List ℕ) (r : Stage)
     → (b == quote) ≡ is_quote → StandsForItself b → length whole ≤ 8 → total_length whole + length begun + 1 ≤ most
-    → Path (most_of most texts) names (stage (Calling name) (arguments_at whole (b ∷ begun) InQuotes) texts) (bytes ++ more) r
-    → Path (most_of most texts) names (stage (Calling name) (arguments_at whole begun InQuotes) texts) ((if is_quote then quote ∷ quote ∷ [] else b ∷ []) ++ bytes ++ more) r
+    → Path (most_of most texts) names (stage (Collecting (Calling name)) (arguments_at whole (b ∷ begun) InQuotes) texts) (bytes ++ more) r
+    → Path (most_of most texts) names (stage (Collecting (Calling name)) (arguments_at whole begun InQuotes) texts) ((if is_quote then quote ∷ quote ∷ [] else b ∷ []) ++ bytes ++ more) r
 path-quoted_byte names name texts most whole begun b true bytes more r is itself few small path =
     let there : Arguments = arguments_at whole (quote ∷ begun) InQuotes in
     onward-call names name texts most (arguments_at whole begun InQuotes) (arguments_at whole begun BehindQuote) quote (quote ∷ bytes ++ more) r refl
     (call_byte-closing whole begun few) (omega arith) (omega (arith, small))
     (onward-call names name texts most (arguments_at whole begun BehindQuote) there quote (bytes ++ more) r refl
     (call_byte-again whole begun few) (omega arith) (omega (arith, small))
-    (subst (λ c. Path (most_of most texts) names (stage (Calling name) (arguments_at whole (c ∷ begun) InQuotes) texts) (bytes ++ more) r) (eqb-true b quote is) path))
+    (subst (λ c. Path (most_of most texts) names (stage (Collecting (Calling name)) (arguments_at whole (c ∷ begun) InQuotes) texts) (bytes ++ more) r) (eqb-true b quote is) path))
 path-quoted_byte names name texts most whole begun b false bytes more r is itself few small path =
     onward-call names name texts most (arguments_at whole begun InQuotes) (arguments_at whole (b ∷ begun) InQuotes) b (bytes ++ more) r itself
     (call_byte-inside whole begun b few is) (omega arith) (omega (arith, small)) path
@@ -183,8 +184,8 @@ path-quoted_byte names name texts most whole begun b false bytes more r is itsel
 -- the bytes of an argument within quotes, and the quote behind them
 path-in_quotes : (names : Named Entry) (name : ShortName) (texts : List (List ℕ)) (most : ℕ) (whole : List (List ℕ)) (begun argument more : List ℕ) (r : Stage)
     → All StandsForItself argument → length whole ≤ 8 → total_length whole + length begun + length argument ≤ most
-    → Path (most_of most texts) names (stage (Calling name) (arguments_at whole (reverse argument ++ begun) BehindQuote) texts) more r
-    → Path (most_of most texts) names (stage (Calling name) (arguments_at whole begun InQuotes) texts) (flat_map quoted_byte argument ++ quote ∷ more) r
+    → Path (most_of most texts) names (stage (Collecting (Calling name)) (arguments_at whole (reverse argument ++ begun) BehindQuote) texts) more r
+    → Path (most_of most texts) names (stage (Collecting (Calling name)) (arguments_at whole begun InQuotes) texts) (flat_map quoted_byte argument ++ quote ∷ more) r
 path-in_quotes names name texts most whole begun [] more r themselves few small path =
     onward-call names name texts most (arguments_at whole begun InQuotes) (arguments_at whole begun BehindQuote) quote more r refl
     (call_byte-closing whole begun few) (omega arith) (omega (arith, small)) path
@@ -194,23 +195,23 @@ path-in_quotes names name texts most whole begun (b ∷ argument) more r themsel
     path-quoted_byte names name texts most whole begun b (b == quote) (flat_map quoted_byte argument) (quote ∷ more) r refl
     (All-head StandsForItself b argument themselves) few (omega (arith, small))
     (path-in_quotes names name texts most whole (b ∷ begun) argument more r (All-tail StandsForItself b argument themselves) few (omega (arith, small))
-    (subst (λ (all : List ℕ). Path (most_of most texts) names (stage (Calling name) (arguments_at whole all BehindQuote) texts) more r) same path))
+    (subst (λ (all : List ℕ). Path (most_of most texts) names (stage (Collecting (Calling name)) (arguments_at whole all BehindQuote) texts) more r) same path))
 
 -- nothing is held of bytes behind the ninth
 path-full : (names : Named Entry) (name : ShortName) (texts : List (List ℕ)) (most : ℕ) (whole : List (List ℕ)) (bytes : List ℕ) → All StandsForItself bytes
     → length whole ≡ 9 → total_length whole ≤ most
-    → Path (most_of most texts) names (stage (Calling name) (arguments_at whole [] Between) texts) bytes (stage (Calling name) (arguments_at whole [] Between) texts)
-path-full names name texts most whole [] themselves full small = Here (stage (Calling name) (arguments_at whole [] Between) texts)
+    → Path (most_of most texts) names (stage (Collecting (Calling name)) (arguments_at whole [] Between) texts) bytes (stage (Collecting (Calling name)) (arguments_at whole [] Between) texts)
+path-full names name texts most whole [] themselves full small = Here (stage (Collecting (Calling name)) (arguments_at whole [] Between) texts)
 path-full names name texts most whole (b ∷ bytes) themselves full small =
     let a : Arguments = arguments_at whole [] Between in
-    onward-call names name texts most a a b bytes (stage (Calling name) a texts) (All-head StandsForItself b bytes themselves)
+    onward-call names name texts most a a b bytes (stage (Collecting (Calling name)) a texts) (All-head StandsForItself b bytes themselves)
     (call_byte-full whole b full) (omega arith) (omega (arith, small))
     (path-full names name texts most whole bytes (All-tail StandsForItself b bytes themselves) full small)
 
 -- arguments in quotes are read, behind those that are whole, and these are given then
 pub record ReadsArguments (names : Named Entry) (name : ShortName) (texts : List (List ℕ)) (most : ℕ) (from : Arguments) (bytes : List ℕ) (as_given : List (List ℕ)) : Type 0 where
   pub there : Arguments
-  pub path : Path (most_of most texts) names (stage (Calling name) from texts) bytes (stage (Calling name) there texts)
+  pub path : Path (most_of most texts) names (stage (Collecting (Calling name)) from texts) bytes (stage (Collecting (Calling name)) there texts)
   pub given : reverse (only_kept (finished there)).whole ≡ as_given
 
 -- those that are whole are given
@@ -227,7 +228,7 @@ pub reads-arguments : (names : Named Entry) (name : ShortName) (texts : List (Li
     → ReadsArguments names name texts most (arguments_at whole [] Between) (quoted_line arguments) (reverse whole ++ take n arguments)
 reads-arguments names name texts most whole n [] themselves places small = record {
   there = arguments_at whole [] Between;
-  path = Here (stage (Calling name) (arguments_at whole [] Between) texts);
+  path = Here (stage (Collecting (Calling name)) (arguments_at whole [] Between) texts);
   given = given-whole whole (omega (arith, places)) ∙ sym (append-nil (reverse whole)) ∙ ap (λ (others : List (List ℕ)). reverse whole ++ others) (sym (take-nil n));
 }
 reads-arguments names name texts most whole zero (argument ∷ arguments) themselves places small = record {
@@ -243,10 +244,10 @@ reads-arguments names name texts most whole (suc n) (argument ∷ []) themselves
     record {
       there = there;
       path =
-          onward-call names name texts most (arguments_at whole [] Between) (arguments_at whole [] InQuotes) quote (flat_map quoted_byte argument ++ quote ∷ []) (stage (Calling name) there texts) refl
+          onward-call names name texts most (arguments_at whole [] Between) (arguments_at whole [] InQuotes) quote (flat_map quoted_byte argument ++ quote ∷ []) (stage (Collecting (Calling name)) there texts) refl
           (call_byte-opening whole few) (omega arith) (omega (arith, small))
-          (path-in_quotes names name texts most whole [] argument [] (stage (Calling name) there texts) (All-head (All StandsForItself) argument [] themselves) few (omega (arith, small))
-          (Here (stage (Calling name) there texts)));
+          (path-in_quotes names name texts most whole [] argument [] (stage (Collecting (Calling name)) there texts) (All-head (All StandsForItself) argument [] themselves) few (omega (arith, small))
+          (Here (stage (Collecting (Calling name)) there texts)));
       given =
           given-whole (reverse begun ∷ whole) (omega (arith, few))
           ∙ ap (λ (text : List ℕ). reverse (text ∷ whole)) same
@@ -259,8 +260,8 @@ reads-arguments names name texts most whole (suc n) (argument ∷ next ∷ argum
     let begun : List ℕ = reverse argument ++ [] in
     let same : reverse begun ≡ argument = ap reverse (append-nil (reverse argument)) ∙ reverse-reverse argument in
     let reads = reads-arguments names name texts most (argument ∷ whole) n others (All-tail (All StandsForItself) argument others themselves) (omega (arith, places)) (omega (arith, small)) in
-    let end : Stage = stage (Calling name) reads.there texts in
-    let behind : Path (most_of most texts) names (stage (Calling name) (arguments_at whole begun BehindQuote) texts) (blank ∷ quoted_line others) end =
+    let end : Stage = stage (Collecting (Calling name)) reads.there texts in
+    let behind : Path (most_of most texts) names (stage (Collecting (Calling name)) (arguments_at whole begun BehindQuote) texts) (blank ∷ quoted_line others) end =
     onward-call names name texts most (arguments_at whole begun BehindQuote) (arguments_at (argument ∷ whole) [] Between) blank (quoted_line others) end refl
     (call_byte-blank whole begun few ∙ ap (λ (text : List ℕ). arguments_at (text ∷ whole) [] Between) same)
     (omega (arith, ap length (sym same), length-reverse begun)) (omega (arith, small)) reads.path in
@@ -270,7 +271,7 @@ reads-arguments names name texts most whole (suc n) (argument ∷ next ∷ argum
           onward-call names name texts most (arguments_at whole [] Between) (arguments_at whole [] InQuotes) quote
           ((flat_map quoted_byte argument ++ quote ∷ []) ++ blank ∷ quoted_line others) end refl
           (call_byte-opening whole few) (omega arith) (omega (arith, small))
-          (subst (λ (bytes : List ℕ). Path (most_of most texts) names (stage (Calling name) (arguments_at whole [] InQuotes) texts) bytes end)
+          (subst (λ (bytes : List ℕ). Path (most_of most texts) names (stage (Collecting (Calling name)) (arguments_at whole [] InQuotes) texts) bytes end)
           (sym (append_assoc (flat_map quoted_byte argument) (quote ∷ []) (blank ∷ quoted_line others)))
           (path-in_quotes names name texts most whole [] argument (blank ∷ quoted_line others) end (All-head (All StandsForItself) argument others themselves) few (omega (arith, small)) behind));
       given = reads.given ∙ given-more whole (take n others) argument;

@@ -32,7 +32,8 @@ use Rattle.roff_run.specs.Registers.{Known}
 use Rattle.roff_run.specs.Stages.{Stage, input_at}
 use Rattle.roff_run.specs.declared.definition.DefinitionLine.TheVariants.{IsLast, IsText, MayBeLast}
 use Rattle.roff_run.specs.declared.line_state.LineState.{LineState}
-use Rattle.roff_run.specs.declared.line_state.LineState.TheVariants.{Defining}
+use Rattle.roff_run.specs.declared.line_state.LineState.TheVariants.{Collecting}
+use Rattle.roff_run.specs.declared.purpose.Purpose.TheVariants.{Defining}
 use Rattle.roff_num.specs.declared.short_name.ShortName.{ShortName}
 
 -- a definition: what it defines and how, what ends it, and the texts in the making, of which its own is the last
@@ -51,7 +52,7 @@ making (Some name) before others text = before ++ text ∷ []
 -- where so many bytes of its mark stand in front of its line, if that may be the last one
 abbrev pub defining : Definition → Arguments → List ℕ → Option ℕ → Stage
 defining d a text matched =
-    record { reading = Defining d.name d.appends d.end matched; escapes = []; arguments = a; texts = making d.name d.before d.others text }
+    record { reading = Collecting (Defining d.name d.appends d.end matched); escapes = []; arguments = a; texts = making d.name d.before d.others text }
 
 -- the newest of some texts is the last
 pub newest-last : (before : List (List ℕ)) (text : List ℕ) → newest (before ++ text ∷ []) ≡ Some (length before)
@@ -78,7 +79,7 @@ escaping d a text matched = record (defining d a text matched) { escapes = Backs
 abbrev pub Copies : Named Entry → Definition → Arguments → CopyUnit → List ℕ → Option ℕ → List ℕ → Option ℕ → Type 0
 Copies names d a unit text matched there m =
     (k : Known) (i : PageInput) → definition_line k (input_at names (defining d a text matched) i) d.name d.appends d.end matched unit
-    ≡ going_on (input_at names (defining d a there m) i) (Defining d.name d.appends d.end m)
+    ≡ going_on (input_at names (defining d a there m) i) (Collecting (Defining d.name d.appends d.end m))
 
 -- one behind which the line isn't the last one
 pub copies-text : (names : Named Entry) (d : Definition) (a : Arguments) (unit : CopyUnit) (text front : List ℕ) (matched : Option ℕ)
@@ -87,8 +88,8 @@ pub copies-text : (names : Named Entry) (d : Definition) (a : Arguments) (unit :
 copies-text names d a unit text front matched is_front is_text k i =
     let here : PageInput = input_at names (defining d a text matched) i in
     ap (definition_unit k here d.name d.appends d.end (front_of (end_mark d.end) matched) unit) is_text
-    ∙ ap (λ (f : List ℕ). going_on (definition_grown d.name (f ++ unit_bytes unit) here) (Defining d.name d.appends d.end (matched_behind unit))) is_front
-    ∙ ap (λ (j : PageInput). going_on j (Defining d.name d.appends d.end (matched_behind unit)))
+    ∙ ap (λ (f : List ℕ). going_on (definition_grown d.name (f ++ unit_bytes unit) here) (Collecting (Defining d.name d.appends d.end (matched_behind unit)))) is_front
+    ∙ ap (λ (j : PageInput). going_on j (Collecting (Defining d.name d.appends d.end (matched_behind unit))))
     (grown-by d.name d.before d.others text (front ++ unit_bytes unit) here)
 
 -- one behind which it still may be
@@ -100,13 +101,13 @@ copies-mark names d a unit text matched m may k i =
 -- a byte that gives a unit, where this is half read
 pub reads-unit : (names : Named Entry) (d : Definition) (a : Arguments) (text : List ℕ) (matched : Option ℕ) (half : List OpenEscape) (unit : CopyUnit) (b : ℕ) (k : Known) (i : PageInput)
     → is_dropped b ≡ false → byte_read AboveCopy half b ≡ (GivesUnit unit, [])
-    → taking k (Defining d.name d.appends d.end matched) (record (input_at names (defining d a text matched) i) { escapes = half }) b
+    → taking k (Collecting (Defining d.name d.appends d.end matched)) (record (input_at names (defining d a text matched) i) { escapes = half }) b
     ≡ definition_line k (input_at names (defining d a text matched) i) d.name d.appends d.end matched unit
 reads-unit names d a text matched half unit b k i is_kept reads =
-    let reading : LineState = Defining d.name d.appends d.end matched in
+    let reading : LineState = Collecting (Defining d.name d.appends d.end matched) in
     let here : PageInput = record (input_at names (defining d a text matched) i) { escapes = half } in
     ap (λ (c : Bool). if c then going_on here reading else undropped_taking k reading here b) is_kept
-    ∙ ap (read_in k (Defining d.name d.appends d.end matched) here) reads
+    ∙ ap (read_in k (Collecting (Defining d.name d.appends d.end matched)) here) reads
 
 -- a byte that is no backslash gives itself
 pub reads-itself : (b : ℕ) → (b == backslash) ≡ false → byte_read AboveCopy [] b ≡ (GivesUnit (Byte b), [])

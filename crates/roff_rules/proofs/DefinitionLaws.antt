@@ -30,7 +30,8 @@ use Rattle.roff_run.specs.Run.{State, after, byte_taken, known, known_at, taken_
 use Rattle.roff_num.specs.ShortNames.{name_bytes}
 use Rattle.roff_run.specs.Stages.{Stage, input_at}
 use Rattle.roff_run.specs.declared.definition.DefinitionLine.TheVariants.{IsLast}
-use Rattle.roff_run.specs.declared.line_state.LineState.TheVariants.{Defining}
+use Rattle.roff_run.specs.declared.line_state.LineState.TheVariants.{Collecting}
+use Rattle.roff_run.specs.declared.purpose.Purpose.TheVariants.{Defining}
 use Rattle.roff_num.specs.declared.short_name.ShortName.{ShortName}
 use Rattle.roff_rules.proofs.DefinedBytes.{Allows, Definition, defining, making, newest-last, reads-unit, AsItself, Escaped, IsCopied, NoUnit, OneUnit, no_newline, onward-mark, path-line}
 use Rattle.std.proofs.lemmas.Bool.{eqb-false, eqb-true}
@@ -187,7 +188,7 @@ line_from-newline mark = ap (λ (rest : List ℕ). line_with rest (length mark) 
 
 ends-line : (names : Named Entry) (d : Definition) (a : Arguments) (text : List ℕ) (k : Known) (i : PageInput)
     → let n : ℕ = length (end_mark d.end) in
-    taking k (Defining d.name d.appends d.end (Some n)) (input_at names (defining d a text (Some n)) i) newline
+    taking k (Collecting (Defining d.name d.appends d.end (Some n))) (input_at names (defining d a text (Some n)) i) newline
     ≡ behind_definition k (entered_by d.name d.appends text d.before (record i { escapes = []; arguments = a; names = names; open_texts = d.others })) d.end newline
 ends-line names d a text k i =
     let n : ℕ = length (end_mark d.end) in

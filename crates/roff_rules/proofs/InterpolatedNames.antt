@@ -16,7 +16,7 @@ use Rattle.roff_escape.specs.declared.open_escape.Found.TheVariants.{Asks}
 use Rattle.roff_escape.specs.declared.open_escape.Surroundings.{Surroundings}
 use Rattle.roff_num.specs.declared.direction.Direction.{Direction}
 use Rattle.roff_run.specs.declared.line_state.LineState.{LineState}
-use Rattle.roff_run.specs.declared.line_state.LineState.TheVariants.{LineStart, Branch, Braced, Text as InText, Control, Name as NameOf, Arguments as InArguments, Deciding, StringName, StringText, Skipping, Dropped, Telling, Told, Exiting, Calling, Defining, TitleFront, Title as InTitle}
+use Rattle.roff_run.specs.declared.line_state.LineState.TheVariants.{LineStart, Branch, Braced, Text as InText, Control, Name as NameOf, Deciding, Skipping, Dropped, Told, Exiting, TitleFront, Title as InTitle, Collecting}
 use Rattle.roff_run.specs.declared.line_state.TextLine.{TextLine}
 use Rattle.roff_rules.proofs.Interpolation.{AtLast, Behind, IsRead, IsRead-itself, Means, ReadsEscapes, AtBeginning, AtBranch, AtBraced, OnText, OnArguments, OnCondition, OnStringName, OnCall, OnStringText, OnDefinition, OnMessage, ReadsEscapes-reads_escapes, after-escape, is-going, is_no_newline, line_behind, settled_for-settled_for, settled_input, source_behind, taking-reads}
 use Rattle.roff_run.proofs.ItemsTaken.{Fits-IsWithin, FromAhead, FromSource, Origin, ahead_at, going, input_of, not-first, tape_at}
@@ -230,17 +230,12 @@ reads-text LineStart i is = (refl, refl)
 reads-text Branch i is = (refl, refl)
 reads-text Braced i is = (refl, refl)
 reads-text (InText line) i is = (refl, refl)
-reads-text (InArguments breaks request) i is = absurd (cc)
+reads-text (Collecting purpose) i is = absurd (cc)
 reads-text (Control breaks) i is = absurd (cc)
 reads-text (NameOf breaks first) i is = absurd (cc)
 reads-text (Deciding keeps) i is = absurd (cc)
-reads-text (StringName appends) i is = absurd (cc)
-reads-text (Calling name) i is = absurd (cc)
-reads-text (StringText name appends is_front) i is = absurd (cc)
-reads-text (Defining name appends end matched) i is = absurd (cc)
 reads-text (Skipping opened closed behind) i is = absurd (cc)
 reads-text Dropped i is = absurd (cc)
-reads-text (Telling aborts is_front) i is = absurd (cc)
 reads-text (Told aborts) i is = absurd (cc)
 reads-text Exiting i is = absurd (cc)
 reads-text TitleFront i is = absurd (cc)

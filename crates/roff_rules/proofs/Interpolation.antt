@@ -15,7 +15,8 @@ use Rattle.roff_escape.specs.declared.open_escape.Found.{Found}
 use Rattle.roff_escape.specs.declared.open_escape.Found.TheVariants.{GoesOn}
 use Rattle.roff_escape.specs.declared.open_escape.Surroundings.{Surroundings}
 use Rattle.roff_run.specs.declared.line_state.LineState.{LineState}
-use Rattle.roff_run.specs.declared.line_state.LineState.TheVariants.{LineStart, Branch, Braced, Text as InText, Control, Name as NameOf, Arguments as InArguments, Deciding, StringName, StringText, Skipping, Dropped, Telling, Told, Exiting, Calling, Defining, TitleFront, Title as InTitle}
+use Rattle.roff_run.specs.declared.line_state.LineState.TheVariants.{LineStart, Branch, Braced, Text as InText, Control, Name as NameOf, Deciding, Skipping, Dropped, Told, Exiting, TitleFront, Title as InTitle, Collecting}
+use Rattle.roff_run.specs.declared.purpose.Purpose.TheVariants.{Arguments as InArguments, StringName, StringText, Telling, Calling, Defining}
 use Rattle.roff_num.specs.declared.short_name.ShortName.{ShortName}
 use Rattle.roff_run.specs.declared.line_state.TextLine.{TextLine}
 use Rattle.roff_run.specs.declared.request.Request.{Request}
@@ -107,14 +108,14 @@ pub data ReadsEscapes : LineState → Type 0 where
   AtBranch : ReadsEscapes Branch
   AtBraced : ReadsEscapes Braced
   OnText : (line : TextLine) → ReadsEscapes (InText line)
-  OnArguments : (breaks : Bool) (request : Request) → ReadsEscapes (InArguments breaks request)
+  OnArguments : (breaks : Bool) (request : Request) → ReadsEscapes (Collecting (InArguments breaks request))
   OnCondition : (keeps : Bool) → ReadsEscapes (Deciding keeps)
-  OnStringName : (appends : Bool) → ReadsEscapes (StringName appends)
-  OnCall : (name : ShortName) → ReadsEscapes (Calling name)
-  OnStringText : (name : Option ShortName) (appends is_front : Bool) → ReadsEscapes (StringText name appends is_front)
+  OnStringName : (appends : Bool) → ReadsEscapes (Collecting (StringName appends))
+  OnCall : (name : ShortName) → ReadsEscapes (Collecting (Calling name))
+  OnStringText : (name : Option ShortName) (appends is_front : Bool) → ReadsEscapes (Collecting (StringText name appends is_front))
   OnDefinition : (name : Option ShortName) (appends : Bool) (end : Option ShortName) (matched : Option ℕ)
-      → ReadsEscapes (Defining name appends end matched)
-  OnMessage : (aborts is_front : Bool) → ReadsEscapes (Telling aborts is_front)
+      → ReadsEscapes (Collecting (Defining name appends end matched))
+  OnMessage : (aborts is_front : Bool) → ReadsEscapes (Collecting (Telling aborts is_front))
 
 -- there nothing is due
 pub none_due-reads : (reading : LineState) → ReadsEscapes reading → due reading ≡ None
@@ -328,13 +329,13 @@ ReadsEscapes-reads_escapes LineStart is = AtBeginning
 ReadsEscapes-reads_escapes Branch is = AtBranch
 ReadsEscapes-reads_escapes Braced is = AtBraced
 ReadsEscapes-reads_escapes (InText line) is = OnText line
-ReadsEscapes-reads_escapes (InArguments breaks request) is = OnArguments breaks request
+ReadsEscapes-reads_escapes (Collecting (InArguments breaks request)) is = OnArguments breaks request
 ReadsEscapes-reads_escapes (Deciding keeps) is = OnCondition keeps
-ReadsEscapes-reads_escapes (StringName appends) is = OnStringName appends
-ReadsEscapes-reads_escapes (Calling name) is = OnCall name
-ReadsEscapes-reads_escapes (StringText name appends is_front) is = OnStringText name appends is_front
-ReadsEscapes-reads_escapes (Defining name appends end matched) is = OnDefinition name appends end matched
-ReadsEscapes-reads_escapes (Telling aborts is_front) is = OnMessage aborts is_front
+ReadsEscapes-reads_escapes (Collecting (StringName appends)) is = OnStringName appends
+ReadsEscapes-reads_escapes (Collecting (Calling name)) is = OnCall name
+ReadsEscapes-reads_escapes (Collecting (StringText name appends is_front)) is = OnStringText name appends is_front
+ReadsEscapes-reads_escapes (Collecting (Defining name appends end matched)) is = OnDefinition name appends end matched
+ReadsEscapes-reads_escapes (Collecting (Telling aborts is_front)) is = OnMessage aborts is_front
 ReadsEscapes-reads_escapes (Told aborts) is = absurd (cc)
 ReadsEscapes-reads_escapes Exiting is = absurd (cc)
 ReadsEscapes-reads_escapes TitleFront is = absurd (cc)

@@ -18,7 +18,8 @@ use Rattle.roff_run.proofs.PlainRuns.{Here, Onward, Path, Path-append}
 use Rattle.roff_run.specs.Reading.ControlLines.{behind_name, line_taking}
 use Rattle.roff_run.specs.Reading.Items.{PageInput, going_on, Taking}
 use Rattle.roff_run.specs.Stages.{Stage, Turns}
-use Rattle.roff_run.specs.declared.line_state.LineState.TheVariants.{LineStart, Telling, Told}
+use Rattle.roff_run.specs.declared.line_state.LineState.TheVariants.{LineStart, Told, Collecting}
+use Rattle.roff_run.specs.declared.purpose.Purpose.TheVariants.{Telling}
 use Rattle.roff_run.specs.declared.request.Called.TheVariants.{Request as ARequest}
 use Rattle.roff_run.specs.declared.request.LineReading.{LineReading}
 use Rattle.roff_rules.proofs.CalledArguments.{most_of}
@@ -43,58 +44,58 @@ with_text i a = record i { escapes = []; arguments = a }
 
 -- a byte of the text, by whether it is a blank in front
 pub taking-message : (k : Known) (aborts is_front : Bool) (i : PageInput) (a : Arguments) (b : ℕ) → StandsForItself b
-    → taking k (Telling aborts is_front) (with_text i a) b
-    ≡ (if is_front && b == blank then going_on (with_text i a) (Telling aborts true) else going_on (with_text i (with_byte a InPlain b)) (Telling aborts false))
+    → taking k (Collecting (Telling aborts is_front)) (with_text i a) b
+    ≡ (if is_front && b == blank then going_on (with_text i a) (Collecting (Telling aborts true)) else going_on (with_text i (with_byte a InPlain b)) (Collecting (Telling aborts false)))
 taking-message k aborts is_front i a b itself =
-    let reading : LineState = Telling aborts is_front in
+    let reading : LineState = Collecting (Telling aborts is_front) in
     let held : PageInput = with_text i a in
     let read : IsRead b = IsRead-itself b itself in
-    let others : Taking = if is_front && b == blank then going_on held (Telling aborts true) else going_on (holding_plain (Byte b) held) (Telling aborts false) in
+    let others : Taking = if is_front && b == blank then going_on held (Collecting (Telling aborts true)) else going_on (holding_plain (Byte b) held) (Collecting (Telling aborts false)) in
     let unit : byte_read AboveCopy [] b ≡ (GivesUnit (Byte b), []) =
     ap (λ (c : Bool). if c then (GoesOn, Backslash ∷ []) else (GivesUnit (Byte b), [])) (not-first (b == backslash) (is_dropped b || b == newline) itself) in
     ap (λ (c : Bool). if c then going_on held reading else undropped_taking k reading held b) (not-first (is_dropped b) (b == newline) read)
-    ∙ ap (read_in k (Telling aborts is_front) held) unit
+    ∙ ap (read_in k (Collecting (Telling aborts is_front)) held) unit
     ∙ ap (λ (c : Bool). if c then going_on held (Told aborts) else others) (not-second (is_dropped b) (b == newline) read)
 
 -- behind a byte the others tell what is left
-tells-cons : (k : Known) (aborts is_front : Bool) (i : PageInput) (b : ℕ) (bytes text : List ℕ) (t : Taking) → taking k (Telling aborts is_front) i b ≡ t
-    → TellsText aborts text (taking_all k t.reading t.input bytes) → TellsText aborts text (taking_all k (Telling aborts is_front) i (b ∷ bytes))
+tells-cons : (k : Known) (aborts is_front : Bool) (i : PageInput) (b : ℕ) (bytes text : List ℕ) (t : Taking) → taking k (Collecting (Telling aborts is_front)) i b ≡ t
+    → TellsText aborts text (taking_all k t.reading t.input bytes) → TellsText aborts text (taking_all k (Collecting (Telling aborts is_front)) i (b ∷ bytes))
 tells-cons k aborts is_front i b bytes text t is tells =
-    let others : TellsText aborts text (taking_all k (taking k (Telling aborts is_front) i b).reading (taking k (Telling aborts is_front) i b).input bytes) =
+    let others : TellsText aborts text (taking_all k (taking k (Collecting (Telling aborts is_front)) i b).reading (taking k (Collecting (Telling aborts is_front)) i b).input bytes) =
     subst (λ (u : Taking). TellsText aborts text (taking_all k u.reading u.input bytes)) (sym is) tells in
     record { reading = others.reading; told = others.told }
 
 -- the bytes behind the front
 tells-behind : (k : Known) (aborts : Bool) (i : PageInput) (a : Arguments) (text : List ℕ) → All StandsForItself text
-    → TellsText aborts (reverse a.begun ++ text) (taking_all k (Telling aborts false) (with_text i a) (text ++ newline ∷ []))
+    → TellsText aborts (reverse a.begun ++ text) (taking_all k (Collecting (Telling aborts false)) (with_text i a) (text ++ newline ∷ []))
 tells-behind k aborts i a [] themselves = record { reading = refl; told = sym (append-nil (reverse a.begun)) }
 tells-behind k aborts i a (b ∷ text) themselves =
     let more : Arguments = with_byte a InPlain b in
     let same : reverse more.begun ++ text ≡ reverse a.begun ++ b ∷ text =
     ap (λ (front : List ℕ). front ++ text) (reverse-cons b a.begun) ∙ append_assoc (reverse a.begun) (b ∷ []) text in
-    tells-cons k aborts false (with_text i a) b (text ++ newline ∷ []) (reverse a.begun ++ b ∷ text) (going_on (with_text i more) (Telling aborts false))
+    tells-cons k aborts false (with_text i a) b (text ++ newline ∷ []) (reverse a.begun ++ b ∷ text) (going_on (with_text i more) (Collecting (Telling aborts false)))
     (taking-message k aborts false i a b (All-head StandsForItself b text themselves))
-    (subst (λ (all : List ℕ). TellsText aborts all (taking_all k (Telling aborts false) (with_text i more) (text ++ newline ∷ []))) same
+    (subst (λ (all : List ℕ). TellsText aborts all (taking_all k (Collecting (Telling aborts false)) (with_text i more) (text ++ newline ∷ []))) same
     (tells-behind k aborts i more text (All-tail StandsForItself b text themselves)))
 
 -- the first byte, by whether it is a blank
 tells-first : (k : Known) (aborts is_blank : Bool) (i : PageInput) (b : ℕ) (text : List ℕ) → (b == blank) ≡ is_blank → All StandsForItself (b ∷ text)
-    → TellsText aborts (without_front text) (taking_all k (Telling aborts true) (with_text i no_arguments) (text ++ newline ∷ []))
-    → TellsText aborts (if is_blank then without_front text else b ∷ text) (taking_all k (Telling aborts true) (with_text i no_arguments) (b ∷ text ++ newline ∷ []))
+    → TellsText aborts (without_front text) (taking_all k (Collecting (Telling aborts true)) (with_text i no_arguments) (text ++ newline ∷ []))
+    → TellsText aborts (if is_blank then without_front text else b ∷ text) (taking_all k (Collecting (Telling aborts true)) (with_text i no_arguments) (b ∷ text ++ newline ∷ []))
 tells-first k aborts true i b text is themselves others =
-    tells-cons k aborts true (with_text i no_arguments) b (text ++ newline ∷ []) (without_front text) (going_on (with_text i no_arguments) (Telling aborts true))
+    tells-cons k aborts true (with_text i no_arguments) b (text ++ newline ∷ []) (without_front text) (going_on (with_text i no_arguments) (Collecting (Telling aborts true)))
     (taking-message k aborts true i no_arguments b (All-head StandsForItself b text themselves)
-    ∙ ap (λ (c : Bool). if c then going_on (with_text i no_arguments) (Telling aborts true) else going_on (with_text i (with_byte no_arguments InPlain b)) (Telling aborts false)) is)
+    ∙ ap (λ (c : Bool). if c then going_on (with_text i no_arguments) (Collecting (Telling aborts true)) else going_on (with_text i (with_byte no_arguments InPlain b)) (Collecting (Telling aborts false))) is)
     others
 tells-first k aborts false i b text is themselves others =
-    tells-cons k aborts true (with_text i no_arguments) b (text ++ newline ∷ []) (b ∷ text) (going_on (with_text i (with_byte no_arguments InPlain b)) (Telling aborts false))
+    tells-cons k aborts true (with_text i no_arguments) b (text ++ newline ∷ []) (b ∷ text) (going_on (with_text i (with_byte no_arguments InPlain b)) (Collecting (Telling aborts false)))
     (taking-message k aborts true i no_arguments b (All-head StandsForItself b text themselves)
-    ∙ ap (λ (c : Bool). if c then going_on (with_text i no_arguments) (Telling aborts true) else going_on (with_text i (with_byte no_arguments InPlain b)) (Telling aborts false)) is)
+    ∙ ap (λ (c : Bool). if c then going_on (with_text i no_arguments) (Collecting (Telling aborts true)) else going_on (with_text i (with_byte no_arguments InPlain b)) (Collecting (Telling aborts false))) is)
     (tells-behind k aborts i (with_byte no_arguments InPlain b) text (All-tail StandsForItself b text themselves))
 
 -- the whole line
 tells-line : (k : Known) (aborts : Bool) (i : PageInput) (text : List ℕ) → All StandsForItself text
-    → TellsText aborts (without_front text) (taking_all k (Telling aborts true) (with_text i no_arguments) (text ++ newline ∷ []))
+    → TellsText aborts (without_front text) (taking_all k (Collecting (Telling aborts true)) (with_text i no_arguments) (text ++ newline ∷ []))
 tells-line k aborts i [] themselves = record { reading = refl; told = refl }
 tells-line k aborts i (b ∷ text) themselves =
     tells-first k aborts (b == blank) i b text refl themselves (tells-line k aborts i text (All-tail StandsForItself b text themselves))
@@ -103,7 +104,7 @@ pub messages_are_their_texts : MessagesAreTheirTexts
 messages_are_their_texts k aborts i text half none themselves =
     let input : with_text i no_arguments ≡ i =
     ap (λ (h : List OpenEscape). record i { escapes = h; arguments = no_arguments }) (sym half) ∙ ap (λ (a : Arguments). record i { arguments = a }) (sym none) in
-    subst (λ (j : PageInput). TellsText aborts (without_front text) (taking_all k (Telling aborts true) j (text ++ newline ∷ []))) input
+    subst (λ (j : PageInput). TellsText aborts (without_front text) (taking_all k (Collecting (Telling aborts true)) j (text ++ newline ∷ []))) input
     (tells-line k aborts i text themselves)
 
 -- what is held of a message, and whether nothing but blanks was read of it
@@ -111,12 +112,12 @@ abbrev pub tell : Bool × Arguments → ℕ → Bool × Arguments
 tell t b = if t.0 && b == blank then (true, t.1) else (false, with_byte t.1 InPlain b)
 
 abbrev pub telling : List (List ℕ) → Bool × Arguments → Stage
-telling texts t = stage (Telling false t.0) t.1 texts
+telling texts t = stage (Collecting (Telling false t.0)) t.1 texts
 
 turns-if : (names : Named Entry) (texts : List (List ℕ)) (i : PageInput) (a : Arguments) (b : ℕ) (c : Bool)
     → let here : Arguments → PageInput = λ h. record i { escapes = []; arguments = h; names = names; open_texts = texts } in
     let u : Bool × Arguments = if c then (true, a) else (false, with_byte a InPlain b) in
-    (if c then going_on (here a) (Telling false true) else going_on (here (with_byte a InPlain b)) (Telling false false)) ≡ going_on (here u.1) (Telling false u.0)
+    (if c then going_on (here a) (Collecting (Telling false true)) else going_on (here (with_byte a InPlain b)) (Collecting (Telling false false))) ≡ going_on (here u.1) (Collecting (Telling false u.0))
 turns-if names texts i a b true = refl
 turns-if names texts i a b false = refl
 
@@ -165,7 +166,7 @@ told-front [] = refl
 told-front (b ∷ bytes) = told-if b bytes (b == blank) (told-front bytes)
 
 -- the name, the blank behind it, and the front of the message
-reads-message : (names : Named Entry) (control : ℕ) (name : ShortName) → HasMessage names control name → ReadsAs names name (Telling false true)
+reads-message : (names : Named Entry) (control : ℕ) (name : ShortName) → HasMessage names control name → ReadsAs names name (Collecting (Telling false true))
 reads-message names control name has = record {
   called = ARequest has.of_request;
   is = has.stands_for;
@@ -179,11 +180,11 @@ pub path-front : (names : Named Entry) (texts : List (List ℕ)) (most : ℕ) (c
     → Path (most_of most texts) names (stage LineStart no_arguments texts) ((control ∷ name_bytes name) ++ blank ∷ front) (telling texts (fold tell (true, no_arguments) front))
 path-front names texts most control name front has themselves few =
     let allows : Allows (most_of most texts) no_arguments texts = record { held_few = omega arith; stored_few = omega arith; texts_few = omega arith } in
-    let begins : ReadsName (most_of most texts) names no_arguments texts (control ∷ name_bytes name) (Telling false true) =
-    reads-name (most_of most texts) names no_arguments texts control name (Telling false true) has.begins has.is_name allows (reads-message names control name has) in
+    let begins : ReadsName (most_of most texts) names no_arguments texts (control ∷ name_bytes name) (Collecting (Telling false true)) =
+    reads-name (most_of most texts) names no_arguments texts control name (Collecting (Telling false true)) has.begins has.is_name allows (reads-message names control name has) in
     let mid : Stage = stage begins.reading no_arguments texts in
     let end : Stage = telling texts (fold tell (true, no_arguments) front) in
     Path-append (most_of most texts) names (stage LineStart no_arguments texts) mid end (control ∷ name_bytes name) (blank ∷ front) begins.path
-    (onward (most_of most texts) names no_arguments texts begins.reading (Telling false true) blank front end begins.does.none_due
+    (onward (most_of most texts) names no_arguments texts begins.reading (Collecting (Telling false true)) blank front end begins.does.none_due
     (λ k i. begins.does.at_blank k mid i ∙ turns-tell names texts (true, no_arguments) blank refl k i) allows
     (path-tell names texts most (true, no_arguments) front themselves (omega (arith, few))))

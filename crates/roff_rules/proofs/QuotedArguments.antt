@@ -34,7 +34,8 @@ use Rattle.roff_run.specs.declared.request.LineReading.{LineReading}
 use Rattle.roff_run.specs.declared.request.LineReading.TheVariants.{ByArguments, ByCondition, ByElse, ByLastLine, ByLines, ByMessage, ByString, ByTitle}
 use Rattle.roff_run.specs.declared.request.LinesFor.{LinesFor}
 use Rattle.roff_run.specs.declared.request.LinesFor.TheVariants.{Macro, Nobody}
-use Rattle.roff_run.specs.declared.line_state.LineState.TheVariants.{Arguments as InArguments}
+use Rattle.roff_run.specs.declared.line_state.LineState.TheVariants.{Collecting}
+use Rattle.roff_run.specs.declared.purpose.Purpose.TheVariants.{Arguments as InArguments}
 use Rattle.roff_run.specs.declared.request.Request.{Request}
 
 -- an input that holds what is kept of some arguments
@@ -43,15 +44,15 @@ with_kept i a = record i { escapes = []; arguments = only_kept a }
 
 -- a byte of the arguments goes to them
 taking-argument : (k : Known) (breaks : Bool) (request : Request) (i : PageInput) (a : Arguments) (b : ℕ) → StandsForItself b
-    → taking k (InArguments breaks request) (with_kept i a) b ≡ going_on (with_kept i (with_argument_byte a b)) (InArguments breaks request)
+    → taking k (Collecting (InArguments breaks request)) (with_kept i a) b ≡ going_on (with_kept i (with_argument_byte a b)) (Collecting (InArguments breaks request))
 taking-argument k breaks request i a b itself =
-    let reading : LineState = InArguments breaks request in
+    let reading : LineState = Collecting (InArguments breaks request) in
     let held : PageInput = with_kept i a in
     let read : IsRead b = IsRead-itself b itself in
     let unit : byte_read AboveArguments [] b ≡ (GivesUnit (Byte b), []) =
     ap (λ (c : Bool). if c then (GoesOn, Backslash ∷ []) else (GivesUnit (Byte b), [])) (not-first (b == backslash) (is_dropped b || b == newline) itself) in
     ap (λ (c : Bool). if c then going_on (settling held) reading else undropped_taking k reading held b) (not-first (is_dropped b) (b == newline) read)
-    ∙ ap (read_in k (InArguments breaks request) held) unit
+    ∙ ap (read_in k (Collecting (InArguments breaks request)) held) unit
     ∙ ap (λ (c : Bool). if c then arguments_ended k held breaks request (row_of request).line else going_on (holding (Byte b) held) reading) (not-second (is_dropped b) (b == newline) read)
     ∙ ap (λ (arguments : Arguments). going_on (record i { escapes = []; arguments = arguments }) reading) (only_kept-with_unit a (Byte b))
 
@@ -100,7 +101,7 @@ both-none t = rw (append-nil t.effect.messages, append-nil t.effect.changes, app
 
 -- bytes of the arguments, and a newline
 taking_all-arguments : (k : Known) (breaks : Bool) (request : Request) (i : PageInput) (a : Arguments) (bytes : List ℕ) → All StandsForItself bytes
-    → taking_all k (InArguments breaks request) (with_kept i a) (bytes ++ newline ∷ [])
+    → taking_all k (Collecting (InArguments breaks request)) (with_kept i a) (bytes ++ newline ∷ [])
     ≡ line_taken k breaks request i (kept (arguments_read (fold with_argument_byte a bytes)))
 taking_all-arguments k breaks request i a [] themselves =
     both-none (arguments_ended k (with_kept i a) breaks request (row_of request).line)
@@ -148,11 +149,11 @@ itself-quoted_line (argument ∷ next ∷ arguments) themselves =
 -- a request gets the arguments that bytes of a line are read as
 pub gets-read : (k : Known) (breaks : Bool) (request : Request) (i : PageInput) (bytes : List ℕ) (read : List (List ℕ)) → i.escapes ≡ [] → i.arguments ≡ no_arguments
     → All StandsForItself bytes → arguments_read (fold with_argument_byte no_arguments bytes) ≡ read
-    → taking_all k (InArguments breaks request) i (bytes ++ newline ∷ []) ≡ given_taking k breaks request i (row_of request).line (kept read)
+    → taking_all k (Collecting (InArguments breaks request)) i (bytes ++ newline ∷ []) ≡ given_taking k breaks request i (row_of request).line (kept read)
 gets-read k breaks request i bytes read half none themselves is =
     let input : record i { escapes = []; arguments = no_arguments } ≡ i =
     ap (λ (h : List OpenEscape). record i { escapes = h; arguments = no_arguments }) (sym half) ∙ ap (λ (a : Arguments). record i { arguments = a }) (sym none) in
-    ap (λ (j : PageInput). taking_all k (InArguments breaks request) j (bytes ++ newline ∷ [])) (sym input)
+    ap (λ (j : PageInput). taking_all k (Collecting (InArguments breaks request)) j (bytes ++ newline ∷ [])) (sym input)
     ∙ taking_all-arguments k breaks request i no_arguments bytes themselves
     ∙ ap (λ (texts : List (List ℕ)). line_taken k breaks request i (kept texts)) is
     ∙ ap (λ (h : List OpenEscape). given_taking k breaks request (record i { escapes = h }) (row_of request).line (kept read)) (sym half)

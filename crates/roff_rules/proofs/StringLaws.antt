@@ -46,7 +46,8 @@ use Rattle.roff_run.specs.Run.{State, after, byte_taken, taken_as}
 use Rattle.roff_run.specs.Stages.{Stage, Turns, input_at}
 use Rattle.roff_run.specs.Within.{IsWithin}
 use Rattle.roff_run.specs.declared.line_state.LineState.{LineState}
-use Rattle.roff_run.specs.declared.line_state.LineState.TheVariants.{LineStart, StringName, StringText}
+use Rattle.roff_run.specs.declared.line_state.LineState.TheVariants.{LineStart, Collecting}
+use Rattle.roff_run.specs.declared.purpose.Purpose.TheVariants.{StringName, StringText}
 use Rattle.roff_run.specs.declared.request.Called.TheVariants.{Request as ARequest}
 use Rattle.roff_run.specs.declared.request.LineReading.{LineReading}
 use Rattle.roff_run.specs.declared.request.LineReading.TheVariants.{ByString}
@@ -54,14 +55,14 @@ use Rattle.roff_run.specs.declared.request.Request.{Request}
 
 -- where the name of a string is read, and where its text is, beside these in the making
 abbrev pub naming : Bool → List (List ℕ) → List ℕ → Place → Stage
-naming appends texts begun place = stage (StringName appends) (arguments_at [] begun place) texts
+naming appends texts begun place = stage (Collecting (StringName appends)) (arguments_at [] begun place) texts
 
 abbrev pub setting : ShortName → Bool → List (List ℕ) → Bool → List ℕ → Stage
-setting name appends before is_front text = stage (StringText (Some name) appends is_front) no_arguments (before ++ text ∷ [])
+setting name appends before is_front text = stage (Collecting (StringText (Some name) appends is_front)) no_arguments (before ++ text ∷ [])
 
 -- a request whose line is read so
 pub reads-request : (names : Named Entry) (request : ShortName) (appends : Bool) (of : Request) → called_by request names ≡ ARequest of → (row_of of).line ≡ ByString appends
-    → ReadsAs names request (StringName appends)
+    → ReadsAs names request (Collecting (StringName appends))
 reads-request names request appends of stands_for line = record {
   called = ARequest of;
   is = stands_for;
@@ -107,7 +108,7 @@ settled-plain _ _ (BehindByte begun) = refl
 turns-naming : (names : Named Entry) (appends : Bool) (texts : List (List ℕ)) (begun : List ℕ) (place : Place) (b : ℕ) → IsPlain begun place → IsOfWord b
     → Turns names (naming appends texts begun place) b (naming appends texts (b ∷ begun) InPlain)
 turns-naming names appends texts begun place b plain of_word k i =
-    let reading : LineState = StringName appends in
+    let reading : LineState = Collecting (StringName appends) in
     let here : PageInput = input_at names (naming appends texts begun place) i in
     let itself : StandsForItself b = word-itself b of_word in
     let at : Arguments → PageInput = λ a. record here { arguments = only_kept a } in
@@ -115,7 +116,7 @@ turns-naming names appends texts begun place b plain of_word k i =
     ap (λ (c : Bool). if c then (GoesOn, Backslash ∷ []) else (GivesUnit (Byte b), [])) (no_backslash b itself) in
     let others : Taking = if b == quote then string_name_or_text here appends (Byte b) (name_at 0 []) else string_name_or_text (settling here) appends (Byte b) (name_at 0 (reverse (settling here).arguments.whole)) in
     ap (λ (c : Bool). if c then going_on (settling here) reading else undropped_taking k reading here b) (none_dropped b itself)
-    ∙ ap (read_in k (StringName appends) here) unit
+    ∙ ap (read_in k (Collecting (StringName appends)) here) unit
     ∙ ap (λ (c : Bool). if c then string_line_ended here appends (name_at 0 (arguments_given here)) else others) (no_newline b itself)
     ∙ ap (λ (c : Bool). if c then string_name_or_text here appends (Byte b) (name_at 0 []) else string_name_or_text (settling here) appends (Byte b) (name_at 0 (reverse (settling here).arguments.whole))) (no_quote b of_word)
     ∙ ap (λ (a : Arguments). string_name_or_text (at a) appends (Byte b) (name_at 0 (reverse (only_kept a).whole))) (settled-plain begun place plain)
@@ -174,16 +175,16 @@ neither-front false blank_is quote_is false a b c d none front = refl
 unit-grows : (names : Named Entry) (name : ShortName) (appends : Bool) (before : List (List ℕ)) (is_front : Bool) (text : List ℕ) (unit : CopyUnit) (i : PageInput)
     → matched_behind unit ≡ None → StaysInText is_front unit
     → string_unit (input_at names (setting name appends before is_front text) i) (Some name) appends is_front unit
-    ≡ going_on (input_at names (setting name appends before false (text ++ unit_bytes unit)) i) (StringText (Some name) appends false)
+    ≡ going_on (input_at names (setting name appends before false (text ++ unit_bytes unit)) i) (Collecting (StringText (Some name) appends false))
 unit-grows names name appends before is_front text (Byte b) i behind front =
     let here : PageInput = input_at names (setting name appends before is_front text) i in
     neither-front is_front (b == blank) (b == quote) (b == newline)
-    (going_on (string_entered (Some name) appends here) LineStart) (going_on here (StringText (Some name) appends true)) (going_on here (StringText (Some name) appends false))
-    (going_on (string_grown (Some name) (Byte b) here) (StringText (Some name) appends false)) (none-newline (b == newline) behind) front
-    ∙ ap (λ (j : PageInput). going_on j (StringText (Some name) appends false)) (grown-by (Some name) before [] text (b ∷ []) here)
+    (going_on (string_entered (Some name) appends here) LineStart) (going_on here (Collecting (StringText (Some name) appends true))) (going_on here (Collecting (StringText (Some name) appends false)))
+    (going_on (string_grown (Some name) (Byte b) here) (Collecting (StringText (Some name) appends false))) (none-newline (b == newline) behind) front
+    ∙ ap (λ (j : PageInput). going_on j (Collecting (StringText (Some name) appends false))) (grown-by (Some name) before [] text (b ∷ []) here)
 unit-grows names name appends before is_front text (Kept b) i behind front =
     let here : PageInput = input_at names (setting name appends before is_front text) i in
-    ap (λ (j : PageInput). going_on j (StringText (Some name) appends false)) (grown-by (Some name) before [] text (backslash ∷ b ∷ []) here)
+    ap (λ (j : PageInput). going_on j (Collecting (StringText (Some name) appends false))) (grown-by (Some name) before [] text (backslash ∷ b ∷ []) here)
 
 -- the bytes of a unit, and others behind it
 abbrev escaping : ShortName → Bool → List (List ℕ) → Bool → List ℕ → Stage
@@ -191,13 +192,13 @@ escaping name appends before is_front text = record (setting name appends before
 
 gives-unit : (names : Named Entry) (name : ShortName) (appends : Bool) (before : List (List ℕ)) (is_front : Bool) (text : List ℕ) (half : List OpenEscape) (unit : CopyUnit) (b : ℕ) (k : Known) (i : PageInput)
     → is_dropped b ≡ false → byte_read AboveCopy half b ≡ (GivesUnit unit, [])
-    → taking k (StringText (Some name) appends is_front) (record (input_at names (setting name appends before is_front text) i) { escapes = half }) b
+    → taking k (Collecting (StringText (Some name) appends is_front)) (record (input_at names (setting name appends before is_front text) i) { escapes = half }) b
     ≡ string_unit (input_at names (setting name appends before is_front text) i) (Some name) appends is_front unit
 gives-unit names name appends before is_front text half unit b k i is_kept reads =
-    let reading : LineState = StringText (Some name) appends is_front in
+    let reading : LineState = Collecting (StringText (Some name) appends is_front) in
     let here : PageInput = record (input_at names (setting name appends before is_front text) i) { escapes = half } in
     ap (λ (c : Bool). if c then going_on here reading else undropped_taking k reading here b) is_kept
-    ∙ ap (read_in k (StringText (Some name) appends is_front) here) reads
+    ∙ ap (read_in k (Collecting (StringText (Some name) appends is_front)) here) reads
 
 pub path-unit : (names : Named Entry) (name : ShortName) (appends : Bool) (before : List (List ℕ)) (bound : ℕ) (is_front : Bool) (text : List ℕ) (unit : CopyUnit) (written bytes : List ℕ) (r : Stage)
     → Writes unit written → matched_behind unit ≡ None → StaysInText is_front unit → length text ≤ bound → length (text ++ unit_bytes unit) ≤ bound
@@ -359,12 +360,12 @@ set-from l s from control request appends name blanks quoted text begins sets ah
     let start : Stage = stage LineStart no_arguments before in
     let mid : Stage = setting name appends before true [] in
     let allows : Allows most no_arguments before = record { held_few = omega arith; stored_few = omega arith; texts_few = omega arith } in
-    let reads : ReadsName most names no_arguments before (control ∷ name_bytes request) (StringName appends) =
-    reads-name most names no_arguments before control request (StringName appends) sets.begins sets.is_name_of_request allows
+    let reads : ReadsName most names no_arguments before (control ∷ name_bytes request) (Collecting (StringName appends)) =
+    reads-name most names no_arguments before control request (Collecting (StringName appends)) sets.begins sets.is_name_of_request allows
     (reads-request names request appends sets.of_request sets.stands_for sets.reads_string) in
     let named : Stage = stage reads.reading no_arguments before in
     let path_named : Path most names named behind_name mid =
-    onward most names no_arguments before reads.reading (StringName appends) blank (name_bytes name ++ blank ∷ replicate blanks blank) mid reads.does.none_due
+    onward most names no_arguments before reads.reading (Collecting (StringName appends)) blank (name_bytes name ++ blank ∷ replicate blanks blank) mid reads.does.none_due
     (λ k i. reads.does.at_blank k named i) allows
     (path-name names appends before bound name.first name.second (replicate blanks blank) mid sets.is_name (path-blanks names name appends before bound blanks)) in
     let written = reads-behind names name appends before bound quoted text (copied text) (copied-line text sets.bytes sets.only_copied sets.whole) sets.stands (omega arith) in

@@ -44,7 +44,8 @@ use Rattle.roff_run.specs.Reading.Waiting.{waiting_above}
 use Rattle.roff_run.specs.Run.Counts.{first_passed}
 use Rattle.roff_rules.specs.WidthLaws.{MayDelimit, IsPlain, text_units, width_escape, measures_texts, with_width_ahead, WidthsReadAsDigits, WidthsOfTheSourceReadAsDigits, MeasuredTextsReadAsDigits, MeasuredTextsOfTheSourceReadAsDigits, MotionsAreAsLongAsTheirColumns, MotionsCountInTheLine, TabsAreAsLongAsTheirColumns, TabsCountInTheLine, EndsText, NewlineAhead, NewlineOfTheSource, EndOfTheSource, WidthsEndWithTheirLine}
 use Rattle.roff_run.specs.declared.line_state.LineState.{LineState}
-use Rattle.roff_run.specs.declared.line_state.LineState.TheVariants.{LineStart, Branch, Braced, Text as InText, Control, Name as NameOf, Arguments as InArguments, Deciding, StringName, StringText, Skipping, Dropped, Telling, Told, Exiting, Calling, Defining, TitleFront, Title as InTitle}
+use Rattle.roff_run.specs.declared.line_state.LineState.TheVariants.{LineStart, Branch, Braced, Text as InText, Control, Name as NameOf, Deciding, Skipping, Dropped, Told, Exiting, TitleFront, Title as InTitle, Collecting}
+use Rattle.roff_run.specs.declared.purpose.Purpose.TheVariants.{Arguments as InArguments, StringName, StringText, Telling, Calling, Defining}
 
 -- a width was measured where escapes are read
 read_in-measures : (k : Known) (reading : LineState) (i : PageInput) (half : List OpenEscape) (width : ℕ) → ReadsEscapes reading
@@ -238,15 +239,15 @@ reads_escapes-measures_texts Braced is = refl
 reads_escapes-measures_texts (InText line) is = refl
 reads_escapes-measures_texts (Control breaks) is = absurd (cc)
 reads_escapes-measures_texts (NameOf breaks first) is = absurd (cc)
-reads_escapes-measures_texts (InArguments breaks request) is = refl
+reads_escapes-measures_texts (Collecting (InArguments breaks request)) is = refl
 reads_escapes-measures_texts (Deciding keeps) is = refl
-reads_escapes-measures_texts (StringName appends) is = refl
-reads_escapes-measures_texts (Calling name) is = refl
-reads_escapes-measures_texts (StringText name appends is_front) is = absurd (cc)
-reads_escapes-measures_texts (Defining name appends end matched) is = absurd (cc)
+reads_escapes-measures_texts (Collecting (StringName appends)) is = refl
+reads_escapes-measures_texts (Collecting (Calling name)) is = refl
+reads_escapes-measures_texts (Collecting (StringText name appends is_front)) is = absurd (cc)
+reads_escapes-measures_texts (Collecting (Defining name appends end matched)) is = absurd (cc)
 reads_escapes-measures_texts (Skipping opened closed behind) is = absurd (cc)
 reads_escapes-measures_texts Dropped is = absurd (cc)
-reads_escapes-measures_texts (Telling aborts is_front) is = absurd (cc)
+reads_escapes-measures_texts (Collecting (Telling aborts is_front)) is = absurd (cc)
 reads_escapes-measures_texts (Told aborts) is = absurd (cc)
 reads_escapes-measures_texts Exiting is = absurd (cc)
 reads_escapes-measures_texts TitleFront is = absurd (cc)

@@ -27,16 +27,17 @@ use Rattle.roff_run.specs.Reading.Items.{PageInput}
 use Rattle.roff_run.specs.Run.{State, after}
 use Rattle.roff_run.specs.Stages.{Stage}
 use Rattle.roff_run.specs.Within.{IsWithin}
-use Rattle.roff_run.specs.declared.line_state.LineState.TheVariants.{Calling, LineStart}
+use Rattle.roff_run.specs.declared.line_state.LineState.TheVariants.{LineStart, Collecting}
+use Rattle.roff_run.specs.declared.purpose.Purpose.TheVariants.{Calling}
 
 -- the bytes behind the blank go to the arguments
 pub path-call : (names : Named Entry) (name : ShortName) (texts : List (List ℕ)) (most : ℕ) (a : Arguments) (bytes : List ℕ) → All StandsForItself bytes
     → held (fold call_byte a bytes) ≤ most
-    → Path (most_of most texts) names (stage (Calling name) a texts) bytes (stage (Calling name) (fold call_byte a bytes) texts)
-path-call names name texts most a [] themselves few = Here (stage (Calling name) a texts)
+    → Path (most_of most texts) names (stage (Collecting (Calling name)) a texts) bytes (stage (Collecting (Calling name)) (fold call_byte a bytes) texts)
+path-call names name texts most a [] themselves few = Here (stage (Collecting (Calling name)) a texts)
 path-call names name texts most a (b ∷ bytes) themselves few =
     let there : Arguments = call_byte a b in
-    Onward (stage (Calling name) a texts) (stage (Calling name) there texts) (stage (Calling name) (fold call_byte there bytes) texts) b bytes refl refl
+    Onward (stage (Collecting (Calling name)) a texts) (stage (Collecting (Calling name)) there texts) (stage (Collecting (Calling name)) (fold call_byte there bytes) texts) b bytes refl refl
     (turns-call names name a texts b (All-head StandsForItself b bytes themselves))
     (record { none_half = refl; held_few = omega (arith, held-least there bytes, few); stored_few = omega arith; texts_few = omega arith }) (held-call_byte a b).1
     (path-call names name texts most there bytes (All-tail StandsForItself b bytes themselves) few)
@@ -51,18 +52,18 @@ held-read bytes =
     let u : Arguments = fold with_argument_byte no_arguments bytes in
     held-agrees a u (agrees bytes) ∙ ap total_length (given-agrees a u (agrees bytes))
 
-reads-call : (names : Named Entry) (name : ShortName) (texts : List (List ℕ)) (most : ℕ) (front bytes : List ℕ) → ReadsName (most_of most texts) names no_arguments texts front (Calling name)
+reads-call : (names : Named Entry) (name : ShortName) (texts : List (List ℕ)) (most : ℕ) (front bytes : List ℕ) → ReadsName (most_of most texts) names no_arguments texts front (Collecting (Calling name))
     → All StandsForItself bytes → total_length (take 9 (read_as bytes)) ≤ most → ReadsCall names name texts most (front ++ blank ∷ bytes) (take 9 (read_as bytes))
 reads-call names name texts most front bytes begins themselves few =
     let there : Arguments = fold call_byte no_arguments bytes in
     let mid : Stage = stage begins.reading no_arguments texts in
-    let end : Stage = stage (Calling name) there texts in
+    let end : Stage = stage (Collecting (Calling name)) there texts in
     record {
-      reading = Calling name;
+      reading = Collecting (Calling name);
       there = there;
       path =
           Path-append (most_of most texts) names (stage LineStart no_arguments texts) mid end front (blank ∷ bytes) begins.path
-          (onward (most_of most texts) names no_arguments texts begins.reading (Calling name) blank bytes end begins.does.none_due
+          (onward (most_of most texts) names no_arguments texts begins.reading (Collecting (Calling name)) blank bytes end begins.does.none_due
           (λ k i. begins.does.at_blank k mid i ∙ turns-call names name no_arguments texts blank refl k i)
           (record { held_few = omega arith; stored_few = omega arith; texts_few = omega arith })
           (path-call names name texts most no_arguments bytes themselves (omega (arith, few, held-read bytes))));
@@ -87,7 +88,7 @@ called-with l s from control name body bytes begins call themselves ahead tape w
     let is : run_at s names start from line s.input ≡ s = is-run_at s from line start begins.reading begins.escapes begins.arguments refl ahead tape in
     let reads : ReadsCall names name texts most front (take 9 arguments) =
     reads-call names name texts most (control ∷ name_bytes name) bytes
-    (reads-name (most_of most texts) names no_arguments texts control name (Calling name) call.begins call.is_name
+    (reads-name (most_of most texts) names no_arguments texts control name (Collecting (Calling name)) call.begins call.is_name
     (record { held_few = omega arith; stored_few = omega arith; texts_few = omega arith }) (reads-body names name body call.stands_for))
     themselves (omega arith) in
     let room : HasRoom l s names from (most_of most texts) start line s.input =

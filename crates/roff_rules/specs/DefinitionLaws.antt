@@ -20,7 +20,8 @@ use Rattle.roff_run.specs.Registers.{Known}
 use Rattle.roff_run.specs.PageEvents.{PageEvent}
 use Rattle.roff_run.specs.Run.{State, known, taken_as, after}
 use Rattle.roff_num.specs.ShortNames.{name_bytes}
-use Rattle.roff_run.specs.declared.line_state.LineState.TheVariants.{LineStart, Defining}
+use Rattle.roff_run.specs.declared.line_state.LineState.TheVariants.{LineStart, Collecting}
+use Rattle.roff_run.specs.declared.purpose.Purpose.TheVariants.{Defining}
 use Rattle.roff_num.specs.declared.short_name.ShortName.{ShortName}
 
 -- whether a line ends a definition with this mark: the mark stands in front of it, and behind that the line ends, or a blank or
@@ -57,7 +58,7 @@ definition_bytes end lines = bytes_of_lines lines ++ end_mark end ++ newline ∷
 -- a run reads the first line of a definition's text: it takes items, and nothing is half read
 pub record BeginsDefinition (s : State) (name : Option ShortName) (appends : Bool) (end : Option ShortName) : Type 0 where
   pub takes : TakesItems s
-  pub reading : s.reading ≡ Defining name appends end (Some 0)
+  pub reading : s.reading ≡ Collecting (Defining name appends end (Some 0))
   pub escapes : s.input.escapes ≡ []
 
 -- these are the lines of its text, and the bytes of the mark that ends it stand for themselves

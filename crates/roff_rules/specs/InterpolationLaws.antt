@@ -25,7 +25,7 @@ use Rattle.roff_run.specs.Requests.Effects.{page_numbered}
 use Rattle.roff_run.specs.PageEvents.{PageEvent}
 use Rattle.roff_run.specs.Run.{State, known, answered, item_read, step, after, source_answer}
 use Rattle.roff_run.specs.declared.line_state.LineState.{LineState}
-use Rattle.roff_run.specs.declared.line_state.LineState.TheVariants.{LineStart, Branch, Braced, Text as InText, Control, Name, Arguments as InArguments, Deciding, StringName, StringText, Skipping, Dropped, Telling, Told, Exiting, Calling, Defining, TitleFront, Title as InTitle}
+use Rattle.roff_run.specs.declared.line_state.LineState.TheVariants.{LineStart, Branch, Braced, Text as InText, Control, Name, Deciding, Skipping, Dropped, Told, Exiting, TitleFront, Title as InTitle, Collecting}
 use Rattle.roff_run.specs.ItemsTaken.{TakesItems}
 
 -- where nothing is ahead and nothing is half read, the unread input is the source's tape, or it has ended where it is closed
@@ -62,15 +62,10 @@ reads_text Braced = true
 reads_text (InText line) = true
 reads_text (Control breaks) = false
 reads_text (Name breaks first) = false
-reads_text (InArguments breaks request) = false
+reads_text (Collecting purpose) = false
 reads_text (Deciding keeps) = false
-reads_text (StringName appends) = false
-reads_text (Calling name) = false
-reads_text (StringText name appends is_front) = false
-reads_text (Defining name appends end matched) = false
 reads_text (Skipping opened closed behind) = false
 reads_text Dropped = false
-reads_text (Telling aborts is_front) = false
 reads_text (Told aborts) = false
 reads_text Exiting = false
 reads_text TitleFront = false
@@ -85,15 +80,10 @@ reads_escapes Braced = true
 reads_escapes (InText line) = true
 reads_escapes (Control breaks) = false
 reads_escapes (Name breaks first) = false
-reads_escapes (InArguments breaks request) = true
+reads_escapes (Collecting purpose) = true
 reads_escapes (Deciding keeps) = true
-reads_escapes (StringName appends) = true
-reads_escapes (Calling name) = true
-reads_escapes (StringText name appends is_front) = true
-reads_escapes (Defining name appends end matched) = true
 reads_escapes (Skipping opened closed behind) = false
 reads_escapes Dropped = false
-reads_escapes (Telling aborts is_front) = true
 reads_escapes (Told aborts) = false
 reads_escapes Exiting = false
 reads_escapes TitleFront = false

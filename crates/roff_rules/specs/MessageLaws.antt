@@ -14,7 +14,8 @@ use Rattle.roff_run.specs.Reading.Items.{PageInput, Taking}
 use Rattle.roff_run.specs.Reading.Messages.{message_text_read}
 use Rattle.roff_run.specs.Registers.{Known}
 use Rattle.roff_run.specs.Requests.{called_by, row_of}
-use Rattle.roff_run.specs.declared.line_state.LineState.TheVariants.{Telling, Told}
+use Rattle.roff_run.specs.declared.line_state.LineState.TheVariants.{Told, Collecting}
+use Rattle.roff_run.specs.declared.purpose.Purpose.TheVariants.{Telling}
 use Rattle.roff_run.specs.declared.request.Called.TheVariants.{Request as ARequest}
 use Rattle.roff_run.specs.declared.request.LineReading.TheVariants.{ByMessage}
 use Rattle.roff_run.specs.declared.request.Request.{Request}
@@ -42,4 +43,4 @@ abbrev pub MessagesAreTheirTexts : Type 0
 MessagesAreTheirTexts =
     (k : Known) (aborts : Bool) (i : PageInput) (text : List ℕ) → i.escapes ≡ [] → i.arguments ≡ no_arguments →
     All StandsForItself text →
-    TellsText aborts (without_front text) (taking_all k (Telling aborts true) i (text ++ newline ∷ []))
+    TellsText aborts (without_front text) (taking_all k (Collecting (Telling aborts true)) i (text ++ newline ∷ []))

@@ -13,7 +13,8 @@ use Rattle.roff_run.specs.Requests.{Effect, request_effect, row_of}
 use Rattle.roff_run.specs.declared.request.LineReading.{LineReading}
 use Rattle.roff_run.specs.declared.request.LineReading.TheVariants.{ByLines}
 use Rattle.roff_run.specs.declared.line_state.LineState.{LineState}
-use Rattle.roff_run.specs.declared.line_state.LineState.TheVariants.{Arguments as InArguments}
+use Rattle.roff_run.specs.declared.line_state.LineState.TheVariants.{Collecting}
+use Rattle.roff_run.specs.declared.purpose.Purpose.TheVariants.{Arguments as InArguments}
 use Rattle.roff_run.specs.declared.request.Request.{Request}
 
 -- what two effects mean together, one after the other
@@ -48,5 +49,5 @@ abbrev pub RequestsGetQuotedArguments : Type 0
 RequestsGetQuotedArguments =
     (k : Known) (breaks : Bool) (request : Request) (i : PageInput) (arguments : List (List ℕ)) →
     i.escapes ≡ [] → i.arguments ≡ no_arguments → All (All StandsForItself) arguments →
-    taking_all k (InArguments breaks request) i (quoted_line arguments ++ newline ∷ [])
+    taking_all k (Collecting (InArguments breaks request)) i (quoted_line arguments ++ newline ∷ [])
     ≡ given_taking k breaks request i (row_of request).line (kept arguments)

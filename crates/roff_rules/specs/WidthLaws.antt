@@ -24,7 +24,8 @@ use Rattle.roff_run.specs.declared.event.PageEvent.TheVariants.{Text}
 use Rattle.roff_run.specs.Run.{State, step, after, source_answer}
 use Rattle.roff_run.specs.Run.Counts.{refusal}
 use Rattle.roff_run.specs.declared.line_state.LineState.{LineState}
-use Rattle.roff_run.specs.declared.line_state.LineState.TheVariants.{StringText, Telling, Defining}
+use Rattle.roff_run.specs.declared.line_state.LineState.TheVariants.{Collecting}
+use Rattle.roff_run.specs.declared.purpose.Purpose.TheVariants.{StringText, Telling, Defining}
 
 -- The digits of a width and their end stand in front of the rest, this is half read, and so many bytes more were
 -- taken. What isn't a byte of the line has come: among arguments, and in a string's name, no quote follows the quote before
@@ -74,9 +75,9 @@ WidthsEndWithTheirLine =
 
 -- whether texts are measured: where escapes are read, but for a string's text and a message's, into which they are copied
 abbrev pub measures_texts : LineState → Bool
-measures_texts (StringText name appends is_front) = false
-measures_texts (Defining name appends end matched) = false
-measures_texts (Telling aborts is_front) = false
+measures_texts (Collecting (StringText name appends is_front)) = false
+measures_texts (Collecting (Defining name appends end matched)) = false
+measures_texts (Collecting (Telling aborts is_front)) = false
 measures_texts reading = reads_escapes reading
 
 -- `\w`, a delimiter, a text, and the delimiter again

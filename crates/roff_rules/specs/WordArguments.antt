@@ -8,7 +8,8 @@ use Rattle.roff_rules.specs.StringLaws.{IsOfWord}
 use Rattle.roff_run.specs.Reading.Items.{PageInput}
 use Rattle.roff_run.specs.Registers.{Known}
 use Rattle.roff_run.specs.Requests.{row_of}
-use Rattle.roff_run.specs.declared.line_state.LineState.TheVariants.{Arguments as InArguments}
+use Rattle.roff_run.specs.declared.line_state.LineState.TheVariants.{Collecting}
+use Rattle.roff_run.specs.declared.purpose.Purpose.TheVariants.{Arguments as InArguments}
 use Rattle.roff_run.specs.declared.request.Request.{Request}
 
 -- a byte within a word: it stands for itself, and doesn't separate; a quote is as good as another there
@@ -52,7 +53,7 @@ abbrev pub RequestsGetWords : Type 0
 RequestsGetWords =
     (k : Known) (breaks : Bool) (request : Request) (i : PageInput) (leading : ℕ) (words : List (List ℕ × ℕ)) →
     i.escapes ≡ [] → i.arguments ≡ no_arguments → AreWords words →
-    taking_all k (InArguments breaks request) i (words_line leading words ++ newline ∷ [])
+    taking_all k (Collecting (InArguments breaks request)) i (words_line leading words ++ newline ∷ [])
     ≡ given_taking k breaks request i (row_of request).line (kept (words_of words))
 
 -- and so it is of one more word at the line's end
@@ -60,5 +61,5 @@ abbrev pub RequestsGetWordsAtTheLinesEnd : Type 0
 RequestsGetWordsAtTheLinesEnd =
     (k : Known) (breaks : Bool) (request : Request) (i : PageInput) (leading : ℕ) (words : List (List ℕ × ℕ)) (last : List ℕ) →
     i.escapes ≡ [] → i.arguments ≡ no_arguments → AreWords words → IsWord last →
-    taking_all k (InArguments breaks request) i (words_line leading words ++ last ++ newline ∷ [])
+    taking_all k (Collecting (InArguments breaks request)) i (words_line leading words ++ last ++ newline ∷ [])
     ≡ given_taking k breaks request i (row_of request).line (kept (words_of words ++ last ∷ []))

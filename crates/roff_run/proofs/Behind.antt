@@ -14,7 +14,7 @@ use Rattle.roff_input.specs.Input.Names.{body_named}
 use Rattle.roff_input.proofs.FewEvents.{few-called, few-more}
 use Rattle.roff_run.specs.Reading.Returns.{back_of, behind_return, gone_back_to, line_of}
 use Rattle.roff_run.specs.declared.line_state.LineState.{LineState}
-use Rattle.roff_run.specs.declared.line_state.LineState.TheVariants.{LineStart, Branch, Braced, Text as InText, Control, Name, Arguments as InArguments, Deciding, StringName, StringText, Skipping, Dropped, Telling, Told, Exiting, Calling, Defining, TitleFront, Title as InTitle}
+use Rattle.roff_run.specs.declared.line_state.LineState.TheVariants.{LineStart, Branch, Braced, Text as InText, Control, Name, Deciding, Skipping, Dropped, Told, Exiting, TitleFront, Title as InTitle, Collecting}
 use Rattle.roff_run.specs.Run.{State, known, byte_taken, escape_ends, ahead_taken, phase_ended, sprung_read}
 use Rattle.roff_run.specs.declared.phase.Phase.{Phase}
 use Rattle.roff_run.specs.declared.phase.Phase.TheVariants.{Reading, LastMacro, Closing}
@@ -22,7 +22,7 @@ use Rattle.roff_run.specs.TurnsToCome.{begun, endings_of}
 use Rattle.roff_run.proofs.KeepingText.{Keeps, free_ahead-called}
 use Rattle.roff_run.proofs.KeepingNames.{KeepsTwoMore-same}
 use Rattle.roff_run.proofs.Keeping.{Keeps-taking, Keeps-interrupted, Keeps-escape_ended, Keeps-end_taking, Keeps-last_called}
-use Rattle.roff_run.proofs.Readings.{line_ends, within}
+use Rattle.roff_run.proofs.Readings.{line_ends}
 
 -- a state behind what was read of an item: the input is changed by reading alone, and what isn't read stays
 pub record Behind (most : ℕ) (s t : State) : Type 0 where
@@ -77,15 +77,10 @@ begun-behind_return back Braced = begun-gone_back_to back
 begun-behind_return back (InText line) = begun-gone_back_to back
 begun-behind_return back (Control breaks) = refl
 begun-behind_return back (Name breaks first) = refl
-begun-behind_return back (InArguments breaks request) = refl
+begun-behind_return back (Collecting purpose) = refl
 begun-behind_return back (Deciding keeps) = refl
-begun-behind_return back (StringName appends) = refl
-begun-behind_return back (StringText name appends is_front) = refl
-begun-behind_return back (Calling name) = refl
-begun-behind_return back (Defining name appends end matched) = refl
 begun-behind_return back (Skipping opened closed behind) = refl
 begun-behind_return back Dropped = refl
-begun-behind_return back (Telling aborts is_front) = refl
 begun-behind_return back (Told aborts) = refl
 begun-behind_return back Exiting = refl
 begun-behind_return back TitleFront = refl

@@ -13,7 +13,8 @@ use Rattle.roff_run.specs.Reading.Items.{PageInput}
 use Rattle.roff_run.specs.Registers.{Known}
 use Rattle.roff_run.specs.Requests.{called_by}
 use Rattle.roff_run.specs.declared.line_state.LineState.{LineState}
-use Rattle.roff_run.specs.declared.line_state.LineState.TheVariants.{LineStart, Branch, Braced, Text as InText, Control, Name, Arguments as InArguments, Deciding, StringName, StringText, Skipping, Dropped, Telling, Told, Exiting, Calling, Defining, TitleFront, Title as InTitle}
+use Rattle.roff_run.specs.declared.line_state.LineState.TheVariants.{LineStart, Branch, Braced, Text as InText, Control, Name, Deciding, Skipping, Dropped, Told, Exiting, TitleFront, Title as InTitle, Collecting}
+use Rattle.roff_run.specs.declared.purpose.Purpose.TheVariants.{Arguments as InArguments, StringName, StringText, Telling, Calling, Defining}
 use Rattle.roff_run.proofs.NoConditions.{Over-text_found, Over-beginning_found}
 use Rattle.roff_run.proofs.TitlesOver.{Over-behind_part, Over-title_found, Over-title_front_unit}
 use Rattle.roff_run.proofs.CalmFound.{Calm, Calm-if, calm-anywhere, over-calm, Calm-collected, Calm-unit_found, Calm-skipping_taking, Calm-condition_found, Calm-string_name_unit, Calm-string_unit, Calm-message_unit, Calm-call_unit, Calm-dropped_taking, Calm-name_ended_taking, Calm-behind_called, Calm-definition_found}
@@ -24,13 +25,13 @@ Calm-found_in k i LineStart found = over-calm _ _ (Over-beginning_found k i Line
 Calm-found_in k i Branch found = over-calm _ _ (Over-beginning_found k i Branch found tt)
 Calm-found_in k i Braced found = over-calm _ _ (Over-beginning_found k i Braced found tt)
 Calm-found_in k i (InText line) found = over-calm _ _ (Over-text_found k i line found)
-Calm-found_in k i (InArguments breaks request) found = Calm-collected k i (InArguments breaks request) found (Calm-unit_found k i breaks request)
+Calm-found_in k i (Collecting (InArguments breaks request)) found = Calm-collected k i (Collecting (InArguments breaks request)) found (Calm-unit_found k i breaks request)
 Calm-found_in k i (Deciding keeps) found = Calm-condition_found k i keeps found
-Calm-found_in k i (StringName appends) found = Calm-collected k i (StringName appends) found (Calm-string_name_unit i appends)
-Calm-found_in k i (StringText name appends is_front) found = Calm-collected k i (StringText name appends is_front) found (Calm-string_unit i name appends is_front)
-Calm-found_in k i (Telling aborts is_front) found = Calm-collected k i (Telling aborts is_front) found (Calm-message_unit i aborts is_front)
-Calm-found_in k i (Calling name) found = Calm-collected k i (Calling name) found (Calm-call_unit i name)
-Calm-found_in k i (Defining name appends end matched) found = Calm-definition_found k i name appends end matched found
+Calm-found_in k i (Collecting (StringName appends)) found = Calm-collected k i (Collecting (StringName appends)) found (Calm-string_name_unit i appends)
+Calm-found_in k i (Collecting (StringText name appends is_front)) found = Calm-collected k i (Collecting (StringText name appends is_front)) found (Calm-string_unit i name appends is_front)
+Calm-found_in k i (Collecting (Telling aborts is_front)) found = Calm-collected k i (Collecting (Telling aborts is_front)) found (Calm-message_unit i aborts is_front)
+Calm-found_in k i (Collecting (Calling name)) found = Calm-collected k i (Collecting (Calling name)) found (Calm-call_unit i name)
+Calm-found_in k i (Collecting (Defining name appends end matched)) found = Calm-definition_found k i name appends end matched found
 Calm-found_in k i (Control breaks) found = tt
 Calm-found_in k i (Name breaks first) found = tt
 Calm-found_in k i (Skipping opened closed behind) found = tt
@@ -66,13 +67,8 @@ Calm-undropped_taking k LineStart i b = Calm-read k LineStart i b
 Calm-undropped_taking k Branch i b = Calm-read k Branch i b
 Calm-undropped_taking k Braced i b = Calm-read k Braced i b
 Calm-undropped_taking k (InText line) i b = Calm-read k (InText line) i b
-Calm-undropped_taking k (InArguments breaks request) i b = Calm-read k (InArguments breaks request) i b
+Calm-undropped_taking k (Collecting purpose) i b = Calm-read k (Collecting purpose) i b
 Calm-undropped_taking k (Deciding keeps) i b = Calm-read k (Deciding keeps) i b
-Calm-undropped_taking k (StringName appends) i b = Calm-read k (StringName appends) i b
-Calm-undropped_taking k (StringText name appends is_front) i b = Calm-read k (StringText name appends is_front) i b
-Calm-undropped_taking k (Telling aborts is_front) i b = Calm-read k (Telling aborts is_front) i b
-Calm-undropped_taking k (Calling name) i b = Calm-read k (Calling name) i b
-Calm-undropped_taking k (Defining name appends end matched) i b = Calm-read k (Defining name appends end matched) i b
 
 -- a byte
 pub Calm-taking : (k : Known) (reading : LineState) (i : PageInput) (b : ℕ) → Calm (taking k reading i b)
@@ -89,18 +85,18 @@ Calm-end_taking k LineStart i = tt
 Calm-end_taking k Braced i = tt
 Calm-end_taking k (Control breaks) i = tt
 Calm-end_taking k (Deciding keeps) i = tt
-Calm-end_taking k (StringName appends) i = tt
-Calm-end_taking k (StringText name appends is_front) i = tt
+Calm-end_taking k (Collecting (StringName appends)) i = tt
+Calm-end_taking k (Collecting (StringText name appends is_front)) i = tt
 Calm-end_taking k (Skipping opened closed behind) i = tt
 Calm-end_taking k Dropped i = tt
 Calm-end_taking k (Told aborts) i = tt
 Calm-end_taking k Exiting i = tt
-Calm-end_taking k (Defining name appends end matched) i = tt
+Calm-end_taking k (Collecting (Defining name appends end matched)) i = tt
 Calm-end_taking k TitleFront i = Calm-undropped_taking k TitleFront i newline
 Calm-end_taking k (InTitle delimiter) i = tt
 Calm-end_taking k Branch i = Calm-undropped_taking k Branch i newline
 Calm-end_taking k (InText line) i = Calm-undropped_taking k (InText line) i newline
 Calm-end_taking k (Name breaks first) i = Calm-undropped_taking k (Name breaks first) i newline
-Calm-end_taking k (InArguments breaks request) i = Calm-undropped_taking k (InArguments breaks request) i newline
-Calm-end_taking k (Calling name) i = Calm-undropped_taking k (Calling name) i newline
-Calm-end_taking k (Telling aborts is_front) i = Calm-undropped_taking k (Telling aborts is_front) i newline
+Calm-end_taking k (Collecting (InArguments breaks request)) i = Calm-undropped_taking k (Collecting (InArguments breaks request)) i newline
+Calm-end_taking k (Collecting (Calling name)) i = Calm-undropped_taking k (Collecting (Calling name)) i newline
+Calm-end_taking k (Collecting (Telling aborts is_front)) i = Calm-undropped_taking k (Collecting (Telling aborts is_front)) i newline

@@ -33,7 +33,8 @@ use Rattle.roff_run.specs.Requests.{PageEvent, Page, called_by, row_of}
 use Rattle.roff_run.specs.declared.definition.DefinitionLine.{DefinitionLine}
 use Rattle.roff_run.specs.declared.definition.DefinitionLine.TheVariants.{MayBeLast, IsLast, IsText}
 use Rattle.roff_run.specs.declared.line_state.LineState.{LineState}
-use Rattle.roff_run.specs.declared.line_state.LineState.TheVariants.{LineStart, Branch, Braced, Text as InText, Control, Name, Arguments as InArguments, Deciding, StringName, StringText, Skipping, Dropped, Telling, Told, Exiting, Calling, Defining, TitleFront, Title as InTitle}
+use Rattle.roff_run.specs.declared.line_state.LineState.TheVariants.{LineStart, Branch, Braced, Text as InText, Control, Name, Deciding, Skipping, Dropped, Told, Exiting, TitleFront, Title as InTitle, Collecting}
+use Rattle.roff_run.specs.declared.purpose.Purpose.TheVariants.{Arguments as InArguments, StringName, Telling, Calling, Defining}
 use Rattle.roff_run.specs.declared.request.Called.{Called}
 use Rattle.roff_run.specs.declared.request.Called.TheVariants.{Request as ARequest, Body as ABody, Nothing as Unknown}
 use Rattle.roff_run.specs.declared.request.LineReading.{LineReading}
@@ -79,17 +80,12 @@ calm-anywhere Braced events calm = tt
 calm-anywhere (InText line) events calm = tt
 calm-anywhere (Control breaks) events calm = tt
 calm-anywhere (Name breaks first) events calm = tt
-calm-anywhere (InArguments breaks request) events calm = tt
+calm-anywhere (Collecting purpose) events calm = tt
 calm-anywhere (Deciding keeps) events calm = calm
-calm-anywhere (StringName appends) events calm = tt
-calm-anywhere (StringText name appends is_front) events calm = tt
 calm-anywhere (Skipping opened closed behind) events calm = tt
 calm-anywhere Dropped events calm = tt
-calm-anywhere (Telling aborts is_front) events calm = tt
 calm-anywhere (Told aborts) events calm = tt
 calm-anywhere Exiting events calm = tt
-calm-anywhere (Calling name) events calm = tt
-calm-anywhere (Defining name appends end matched) events calm = tt
 calm-anywhere TitleFront events calm = tt
 calm-anywhere (InTitle delimiter) events calm = tt
 
@@ -101,17 +97,12 @@ over-calm Braced events over = tt
 over-calm (InText line) events over = tt
 over-calm (Control breaks) events over = tt
 over-calm (Name breaks first) events over = tt
-over-calm (InArguments breaks request) events over = tt
+over-calm (Collecting purpose) events over = tt
 over-calm (Deciding keeps) events over = absurd over
-over-calm (StringName appends) events over = tt
-over-calm (StringText name appends is_front) events over = tt
 over-calm (Skipping opened closed behind) events over = tt
 over-calm Dropped events over = tt
-over-calm (Telling aborts is_front) events over = tt
 over-calm (Told aborts) events over = tt
 over-calm Exiting events over = tt
-over-calm (Calling name) events over = tt
-over-calm (Defining name appends end matched) events over = tt
 over-calm TitleFront events over = tt
 over-calm (InTitle delimiter) events over = tt
 
@@ -259,20 +250,20 @@ Calm-call_unit i name (Kept b) = tt
 pub Calm-line_taking : (k : Known) (i : PageInput) (breaks : Bool) (request : Request) (line : LineReading) (b : ℕ) → Calm (line_taking k i breaks request line b)
 Calm-line_taking k i breaks request ByArguments b =
     let read = byte_read AboveArguments i.escapes b in let j : PageInput = record i { escapes = read.1 } in
-    Calm-collected k j (InArguments breaks request) read.0 (Calm-unit_found k j breaks request)
+    Calm-collected k j (Collecting (InArguments breaks request)) read.0 (Calm-unit_found k j breaks request)
 Calm-line_taking k i breaks request (ByCondition keeps) b = Calm-condition_begun k i keeps b
 Calm-line_taking k i breaks request (ByString appends) b =
     let read = byte_read AboveArguments i.escapes b in let j : PageInput = record i { escapes = read.1 } in
-    Calm-collected k j (StringName appends) read.0 (Calm-string_name_unit j appends)
+    Calm-collected k j (Collecting (StringName appends)) read.0 (Calm-string_name_unit j appends)
 Calm-line_taking k i breaks request ByLastLine b =
     let read = byte_read AboveArguments i.escapes b in let j : PageInput = record i { escapes = read.1 } in
-    Calm-collected k j (InArguments breaks request) read.0 (Calm-unit_found k j breaks request)
+    Calm-collected k j (Collecting (InArguments breaks request)) read.0 (Calm-unit_found k j breaks request)
 Calm-line_taking k i breaks request (ByMessage aborts) b =
     let read = byte_read AboveCopy i.escapes b in let j : PageInput = record i { escapes = read.1 } in
-    Calm-collected k j (Telling aborts true) read.0 (Calm-message_unit j aborts true)
+    Calm-collected k j (Collecting (Telling aborts true)) read.0 (Calm-message_unit j aborts true)
 Calm-line_taking k i breaks request (ByLines lines) b =
     let read = byte_read AboveArguments i.escapes b in let j : PageInput = record i { escapes = read.1 } in
-    Calm-collected k j (InArguments breaks request) read.0 (Calm-unit_found k j breaks request)
+    Calm-collected k j (Collecting (InArguments breaks request)) read.0 (Calm-unit_found k j breaks request)
 Calm-line_taking k i breaks request ByTitle b =
     let read = byte_read AboveArguments i.escapes b in let j : PageInput = record i { escapes = read.1 } in
     Calm-collected k j TitleFront read.0 (λ unit. over-calm _ _ (Over-title_front_unit k j unit))
@@ -289,7 +280,7 @@ pub Calm-called_taking : (k : Known) (i : PageInput) (breaks : Bool) (called : C
 Calm-called_taking k i breaks (ARequest request) b = Calm-line_taking k i breaks request (row_of request).line b
 Calm-called_taking k i breaks (ABody name) b =
     let read = byte_read AboveArguments i.escapes b in let j : PageInput = record i { escapes = read.1 } in
-    Calm-collected k j (Calling name) read.0 (Calm-call_unit j name)
+    Calm-collected k j (Collecting (Calling name)) read.0 (Calm-call_unit j name)
 Calm-called_taking k i breaks Unknown b = Calm-dropped_taking i b
 
 pub Calm-name_ended_taking : (k : Known) (i : PageInput) (breaks : Bool) (name : ShortName) (b : ℕ) → Calm (name_ended_taking k i breaks name b)
@@ -325,6 +316,6 @@ Calm-definition_unit k i name appends end front unit IsText = tt
 pub Calm-definition_found : (k : Known) (i : PageInput) (name : Option ShortName) (appends : Bool) (end : Option ShortName) (matched : Option ℕ) (found : Found)
     → Calm (definition_found k i name appends end matched found)
 Calm-definition_found k i name appends end matched found =
-    of-unit_or Calm (definition_line k i name appends end matched) (no_unit_found k i (Defining name appends end matched) found) (unit_in found)
+    of-unit_or Calm (definition_line k i name appends end matched) (no_unit_found k i (Collecting (Defining name appends end matched)) found) (unit_in found)
     (λ unit. Calm-definition_unit k i name appends end (front_of (end_mark end) matched) unit (line_from (end_mark end) matched unit))
-    (Calm-no_unit_found k i (Defining name appends end matched) found)
+    (Calm-no_unit_found k i (Collecting (Defining name appends end matched)) found)

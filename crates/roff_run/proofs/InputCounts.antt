@@ -25,7 +25,8 @@ use Rattle.roff_run.specs.Requests.{PageEvent}
 use Rattle.roff_run.specs.TitleTexts.{title_length}
 use Rattle.roff_run.specs.Run.Counts.{first_passed, counts_in}
 use Rattle.roff_run.specs.declared.line_state.LineState.{LineState}
-use Rattle.roff_run.specs.declared.line_state.LineState.TheVariants.{Arguments as InArguments, StringName, Calling}
+use Rattle.roff_run.specs.declared.line_state.LineState.TheVariants.{Collecting}
+use Rattle.roff_run.specs.declared.purpose.Purpose.TheVariants.{Arguments as InArguments, StringName, Calling}
 
 -- of either part of a test it holds
 pub one_of : {A : Type 0} (P : A → Type 0) (c : Bool) (x y : A) → P x → P y → P (if c then x else y)
@@ -154,9 +155,9 @@ pub NoMore-settling : (i : PageInput) → NoMore (settling i) i
 NoMore-settling i = record { bytes = omega (arith, pushed-settling i); texts = omega arith; results = omega arith; stored = omega arith; names = omega arith; open_texts = omega arith }
 
 pub NoMore-interrupted : (reading : LineState) (i : PageInput) → NoMore (interrupted reading i) i
-NoMore-interrupted (InArguments breaks request) i = NoMore-settling i
-NoMore-interrupted (StringName appends) i = NoMore-settling i
-NoMore-interrupted (Calling name) i = NoMore-settling i
+NoMore-interrupted (Collecting (InArguments breaks request)) i = NoMore-settling i
+NoMore-interrupted (Collecting (StringName appends)) i = NoMore-settling i
+NoMore-interrupted (Collecting (Calling name)) i = NoMore-settling i
 NoMore-interrupted (_) i = NoMore-same i
 
 -- where the arguments are released

@@ -15,7 +15,8 @@ use Rattle.roff_escape.specs.OpenEscape.{OpenEscape}
 use Rattle.roff_escape.specs.declared.open_escape.Surroundings.{Surroundings}
 use Rattle.roff_escape.specs.declared.open_escape.Surroundings.TheVariants.{Text as AboveText, Arguments as AboveArguments, Copy as AboveCopy}
 use Rattle.roff_run.specs.declared.line_state.LineState.{LineState}
-use Rattle.roff_run.specs.declared.line_state.LineState.TheVariants.{LineStart, Branch, Braced, Text as InText, Control, Name, Arguments as InArguments, Deciding, StringName, StringText, Skipping, Dropped, Telling, Told, Exiting, Calling, Defining, TitleFront, Title as InTitle}
+use Rattle.roff_run.specs.declared.line_state.LineState.TheVariants.{LineStart, Branch, Braced, Text as InText, Control, Name, Deciding, Skipping, Dropped, Told, Exiting, TitleFront, Title as InTitle, Collecting}
+use Rattle.roff_run.specs.declared.purpose.Purpose.TheVariants.{Arguments as InArguments, StringName, StringText, Telling, Calling, Defining}
 use Rattle.roff_num.specs.declared.short_name.ShortName.{ShortName}
 use Rattle.roff_run.specs.declared.request.Called.{Called}
 use Rattle.roff_run.specs.declared.request.Called.TheVariants.{Request as ARequest, Body as ABody, Nothing as Unknown}
@@ -55,29 +56,29 @@ Keeps-undropped_taking k (Name breaks first) i b =
     (λ base. endings-byte_read base i.escapes b) (endings-byte_read AboveArguments (choosing i).escapes b) (omega arith) breaks
     (record { first = first; second = None }))
     (Keeps-behind_called i breaks first (called_by (record { first = first; second = Some b }) i.names))
-Keeps-undropped_taking k (InArguments breaks request) i b =
-    Keeps-collected _ k i _ (InArguments breaks request) (byte_read AboveArguments i.escapes b).0 (Keeps-same_reading AboveArguments i (InArguments breaks request) b)
+Keeps-undropped_taking k (Collecting (InArguments breaks request)) i b =
+    Keeps-collected _ k i _ (Collecting (InArguments breaks request)) (byte_read AboveArguments i.escapes b).0 (Keeps-same_reading AboveArguments i (Collecting (InArguments breaks request)) b)
     (Keeps-unit_found _ k i _ breaks request)
 Keeps-undropped_taking k (Deciding keeping) i b =
     let read : Leaves (endings_of i.escapes + 1) (byte_read AboveArguments i.escapes b) = endings-byte_read AboveArguments i.escapes b in
     Keeps-condition_found (2 * endings_of (byte_read AboveArguments i.escapes b).1) _ k i (record i { escapes = (byte_read AboveArguments i.escapes b).1 }) keeping (byte_read AboveArguments i.escapes b).0
     (Keeps-with_escapes _ _ i i (Deciding keeping) (Deciding keeping) (byte_read AboveArguments i.escapes b).1 (KeepsTwoMore-same i (Deciding keeping)) (omega arith)) (omega (arith, read))
-Keeps-undropped_taking k (StringName appends) i b =
-    Keeps-collected _ k i _ (StringName appends) (byte_read AboveArguments i.escapes b).0 (Keeps-same_reading AboveArguments i (StringName appends) b)
+Keeps-undropped_taking k (Collecting (StringName appends)) i b =
+    Keeps-collected _ k i _ (Collecting (StringName appends)) (byte_read AboveArguments i.escapes b).0 (Keeps-same_reading AboveArguments i (Collecting (StringName appends)) b)
     (Keeps-string_name_unit _ i _ _ appends)
-Keeps-undropped_taking k (StringText name appends is_front) i b =
-    Keeps-collected _ k i _ (StringText name appends is_front) (byte_read AboveCopy i.escapes b).0
-    (Keeps-same_reading AboveCopy i (StringText name appends is_front) b) (Keeps-string_unit _ i _ _ name appends is_front)
-Keeps-undropped_taking k (Calling name) i b =
-    Keeps-collected _ k i _ (Calling name) (byte_read AboveArguments i.escapes b).0 (Keeps-same_reading AboveArguments i (Calling name) b)
+Keeps-undropped_taking k (Collecting (StringText name appends is_front)) i b =
+    Keeps-collected _ k i _ (Collecting (StringText name appends is_front)) (byte_read AboveCopy i.escapes b).0
+    (Keeps-same_reading AboveCopy i (Collecting (StringText name appends is_front)) b) (Keeps-string_unit _ i _ _ name appends is_front)
+Keeps-undropped_taking k (Collecting (Calling name)) i b =
+    Keeps-collected _ k i _ (Collecting (Calling name)) (byte_read AboveArguments i.escapes b).0 (Keeps-same_reading AboveArguments i (Collecting (Calling name)) b)
     (Keeps-call_unit _ i _ name)
-Keeps-undropped_taking k (Defining name appends end matched) i b =
-    Keeps-definition_found _ k i _ name appends end matched (byte_read AboveCopy i.escapes b).0 (Keeps-same_reading AboveCopy i (Defining name appends end matched) b)
+Keeps-undropped_taking k (Collecting (Defining name appends end matched)) i b =
+    Keeps-definition_found _ k i _ name appends end matched (byte_read AboveCopy i.escapes b).0 (Keeps-same_reading AboveCopy i (Collecting (Defining name appends end matched)) b)
     (omega arith)
 Keeps-undropped_taking k (Skipping opened closed behind) i b = TwoMore-stays i (Skipping opened closed behind) _ (Stays-skipping_taking i opened closed behind b)
 Keeps-undropped_taking k Dropped i b = TwoMore-stays i Dropped _ (Stays-dropped_taking i b)
-Keeps-undropped_taking k (Telling aborts is_front) i b =
-    Keeps-collected _ k i _ (Telling aborts is_front) (byte_read AboveCopy i.escapes b).0 (Keeps-same_reading AboveCopy i (Telling aborts is_front) b)
+Keeps-undropped_taking k (Collecting (Telling aborts is_front)) i b =
+    Keeps-collected _ k i _ (Collecting (Telling aborts is_front)) (byte_read AboveCopy i.escapes b).0 (Keeps-same_reading AboveCopy i (Collecting (Telling aborts is_front)) b)
     (Keeps-message_unit _ i _ aborts is_front)
 Keeps-undropped_taking k (Told aborts) i b = KeepsTwoMore-same i (Told aborts)
 Keeps-undropped_taking k Exiting i b = KeepsTwoMore-same i Exiting
@@ -124,29 +125,29 @@ Keeps-escape_ended k (InText line) i first others is =
     Keeps-text_found _ k i _ line (reading_ended (on_line k line) i.escapes).0 (Keeps-ended (on_line k line) i (InText line) first others is)
 Keeps-escape_ended k (Control breaks) i first others is = Keeps-ended (AboveText (pos 0)) i (Control breaks) first others is
 Keeps-escape_ended k (Name breaks byte) i first others is = Keeps-ended (AboveText (pos 0)) i (Name breaks byte) first others is
-Keeps-escape_ended k (InArguments breaks request) i first others is =
-    Keeps-collected _ k i _ (InArguments breaks request) (reading_ended AboveArguments i.escapes).0 (Keeps-ended AboveArguments i (InArguments breaks request) first others is)
+Keeps-escape_ended k (Collecting (InArguments breaks request)) i first others is =
+    Keeps-collected _ k i _ (Collecting (InArguments breaks request)) (reading_ended AboveArguments i.escapes).0 (Keeps-ended AboveArguments i (Collecting (InArguments breaks request)) first others is)
     (Keeps-unit_found _ k i _ breaks request)
 Keeps-escape_ended k (Deciding keeping) i first others is =
     let fewer : Falls (endings_of i.escapes) (reading_ended AboveArguments i.escapes) = falls_ended AboveArguments i.escapes first others is in
     Keeps-condition_found (2 * endings_of (reading_ended AboveArguments i.escapes).1) _ k i (record i { escapes = (reading_ended AboveArguments i.escapes).1 }) keeping (reading_ended AboveArguments i.escapes).0
     (Keeps-with_escapes _ _ i i (Deciding keeping) (Deciding keeping) (reading_ended AboveArguments i.escapes).1 (KeepsTwoMore-same i (Deciding keeping)) (omega arith)) (omega (arith, fewer))
-Keeps-escape_ended k (StringName appends) i first others is =
-    Keeps-collected _ k i _ (StringName appends) (reading_ended AboveArguments i.escapes).0 (Keeps-ended AboveArguments i (StringName appends) first others is)
+Keeps-escape_ended k (Collecting (StringName appends)) i first others is =
+    Keeps-collected _ k i _ (Collecting (StringName appends)) (reading_ended AboveArguments i.escapes).0 (Keeps-ended AboveArguments i (Collecting (StringName appends)) first others is)
     (Keeps-string_name_unit _ i _ _ appends)
-Keeps-escape_ended k (StringText name appends is_front) i first others is =
-    Keeps-collected _ k i _ (StringText name appends is_front) (reading_ended AboveCopy i.escapes).0 (Keeps-ended AboveCopy i (StringText name appends is_front) first others is)
+Keeps-escape_ended k (Collecting (StringText name appends is_front)) i first others is =
+    Keeps-collected _ k i _ (Collecting (StringText name appends is_front)) (reading_ended AboveCopy i.escapes).0 (Keeps-ended AboveCopy i (Collecting (StringText name appends is_front)) first others is)
     (Keeps-string_unit _ i _ _ name appends is_front)
-Keeps-escape_ended k (Calling name) i first others is =
-    Keeps-collected _ k i _ (Calling name) (reading_ended AboveArguments i.escapes).0 (Keeps-ended AboveArguments i (Calling name) first others is)
+Keeps-escape_ended k (Collecting (Calling name)) i first others is =
+    Keeps-collected _ k i _ (Collecting (Calling name)) (reading_ended AboveArguments i.escapes).0 (Keeps-ended AboveArguments i (Collecting (Calling name)) first others is)
     (Keeps-call_unit _ i _ name)
-Keeps-escape_ended k (Defining name appends end matched) i first others is =
-    Keeps-definition_found _ k i _ name appends end matched (reading_ended AboveCopy i.escapes).0 (Keeps-ended AboveCopy i (Defining name appends end matched) first others is)
+Keeps-escape_ended k (Collecting (Defining name appends end matched)) i first others is =
+    Keeps-definition_found _ k i _ name appends end matched (reading_ended AboveCopy i.escapes).0 (Keeps-ended AboveCopy i (Collecting (Defining name appends end matched)) first others is)
     (let some : 1 ≤ endings_of i.escapes = rw is (omega (arith, some_ending first others)) in omega (arith, some))
 Keeps-escape_ended k (Skipping opened closed behind) i first others is = Keeps-ended (AboveText (pos 0)) i (Skipping opened closed behind) first others is
 Keeps-escape_ended k Dropped i first others is = Keeps-ended (AboveText (pos 0)) i Dropped first others is
-Keeps-escape_ended k (Telling aborts is_front) i first others is =
-    Keeps-collected _ k i _ (Telling aborts is_front) (reading_ended AboveCopy i.escapes).0 (Keeps-ended AboveCopy i (Telling aborts is_front) first others is)
+Keeps-escape_ended k (Collecting (Telling aborts is_front)) i first others is =
+    Keeps-collected _ k i _ (Collecting (Telling aborts is_front)) (reading_ended AboveCopy i.escapes).0 (Keeps-ended AboveCopy i (Collecting (Telling aborts is_front)) first others is)
     (Keeps-message_unit _ i _ aborts is_front)
 Keeps-escape_ended k (Told aborts) i first others is = Keeps-ended (AboveText (pos 0)) i (Told aborts) first others is
 Keeps-escape_ended k Exiting i first others is = Keeps-ended (AboveText (pos 0)) i Exiting first others is
@@ -158,7 +159,7 @@ Keeps-escape_ended k (InTitle delimiter) i first others is =
 
 -- a string's line that ends with the input where its name is read
 Keeps-last_string : (i : PageInput) (appends : Bool) (name : Option (Option ShortName))
-    → KeepsTwoMore i (StringName appends) (string_line_ended i appends name).input LineStart
+    → KeepsTwoMore i (Collecting (StringName appends)) (string_line_ended i appends name).input LineStart
 Keeps-last_string i appends None = Keeps-string_line_ended _ i i LineStart appends None (KeepsTwoMore-same i LineStart)
 Keeps-last_string i appends (Some name) =
     Keeps-string_line_ended _ i i LineStart appends (Some name) (KeepsTwoMore-same i LineStart)
@@ -171,21 +172,21 @@ Keeps-end_taking k Braced i = KeepsTwoMore-same i LineStart
 Keeps-end_taking k (InText line) i = Keeps-undropped_taking k (InText line) i newline
 Keeps-end_taking k (Control breaks) i = KeepsTwoMore-same i LineStart
 Keeps-end_taking k (Name breaks first) i = Keeps-undropped_taking k (Name breaks first) i newline
-Keeps-end_taking k (InArguments breaks request) i = Keeps-undropped_taking k (InArguments breaks request) i newline
+Keeps-end_taking k (Collecting (InArguments breaks request)) i = Keeps-undropped_taking k (Collecting (InArguments breaks request)) i newline
 Keeps-end_taking k (Deciding keeping) i = KeepsTwoMore-same i LineStart
-Keeps-end_taking k (StringName appends) i = Keeps-last_string i appends (name_at 0 (arguments_given i))
-Keeps-end_taking k (StringText name appends is_front) i =
-    Keeps-alike _ i i (StringText name appends is_front) (string_entered name appends i) LineStart
-    (KeepsTwoMore-same i (StringText name appends is_front)) (Alike-string_entered name appends i) refl
-Keeps-end_taking k (Calling name) i = Keeps-undropped_taking k (Calling name) i newline
+Keeps-end_taking k (Collecting (StringName appends)) i = Keeps-last_string i appends (name_at 0 (arguments_given i))
+Keeps-end_taking k (Collecting (StringText name appends is_front)) i =
+    Keeps-alike _ i i (Collecting (StringText name appends is_front)) (string_entered name appends i) LineStart
+    (KeepsTwoMore-same i (Collecting (StringText name appends is_front))) (Alike-string_entered name appends i) refl
+Keeps-end_taking k (Collecting (Calling name)) i = Keeps-undropped_taking k (Collecting (Calling name)) i newline
 Keeps-end_taking k TitleFront i = Keeps-undropped_taking k TitleFront i newline
 Keeps-end_taking k (InTitle delimiter) i = Keeps-title_ended _ k i i (InTitle delimiter) (KeepsTwoMore-same i (InTitle delimiter))
-Keeps-end_taking k (Defining name appends end matched) i =
-    Keeps-alike _ i i (Defining name appends end matched) (definition_dropped name i) LineStart (KeepsTwoMore-same i (Defining name appends end matched))
+Keeps-end_taking k (Collecting (Defining name appends end matched)) i =
+    Keeps-alike _ i i (Collecting (Defining name appends end matched)) (definition_dropped name i) LineStart (KeepsTwoMore-same i (Collecting (Defining name appends end matched)))
     (Alike-definition_dropped name i) refl
 Keeps-end_taking k (Skipping opened closed behind) i = KeepsTwoMore-same i LineStart
 Keeps-end_taking k Dropped i = KeepsTwoMore-same i LineStart
-Keeps-end_taking k (Telling aborts is_front) i = Keeps-undropped_taking k (Telling aborts is_front) i newline
+Keeps-end_taking k (Collecting (Telling aborts is_front)) i = Keeps-undropped_taking k (Collecting (Telling aborts is_front)) i newline
 Keeps-end_taking k (Told aborts) i = record { charge = refl; newlines = refl; line = refl; free = refl; few = λ room within few. few; escapes = omega arith }
 Keeps-end_taking k Exiting i = record { charge = refl; newlines = refl; line = refl; free = refl; few = λ room within few. few; escapes = omega arith }
 

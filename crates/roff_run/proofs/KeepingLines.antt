@@ -14,7 +14,8 @@ use Rattle.roff_escape.specs.OpenEscape.{unit_bytes}
 use Rattle.roff_escape.specs.declared.open_escape.Found.{Found}
 use Rattle.roff_escape.specs.declared.open_escape.Found.TheVariants.{GoesOn, Unit as GivesUnit, Holds, Escape, Asks, Motion, Measures, Tells, Decides}
 use Rattle.roff_run.specs.declared.line_state.LineState.{LineState}
-use Rattle.roff_run.specs.declared.line_state.LineState.TheVariants.{LineStart, Arguments as InArguments, Telling, Calling, Defining}
+use Rattle.roff_run.specs.declared.line_state.LineState.TheVariants.{LineStart, Collecting}
+use Rattle.roff_run.specs.declared.purpose.Purpose.TheVariants.{Arguments as InArguments, Telling, Calling, Defining}
 use Rattle.roff_num.specs.declared.short_name.ShortName.{ShortName}
 use Rattle.roff_run.specs.declared.request.LineReading.{LineReading}
 use Rattle.roff_run.specs.declared.request.LineReading.TheVariants.{ByArguments, ByCondition, ByElse, ByLastLine, ByMessage, ByString, ByLines, ByTitle}
@@ -146,7 +147,7 @@ Keeps-ended_by most i j old request effect keeps few =
 Keeps-definition_begun : (most : ℕ) (i j : PageInput) (old : LineState) (name : Option ShortName) (appends : Bool)
     (end : Option ShortName) → Keeps most i j old → 3 ≤ begun old → KeepsBy most i (definition_begun j name appends end)
 Keeps-definition_begun most i j old name appends end keeps some =
-    Keeps-no_more most i j old (string_begun name j) (Defining name appends end (Some 0)) keeps (Alike-string_begun name j) some
+    Keeps-no_more most i j old (string_begun name j) (Collecting (Defining name appends end (Some 0))) keeps (Alike-string_begun name j) some
 
 Keeps-definition_named : (most : ℕ) (i j : PageInput) (old : LineState) (appends : Bool) (name : Option (Option ShortName))
     (end : Option ShortName) → Keeps most i j old → 3 ≤ begun old → KeepsBy most i (definition_named j appends name end)
@@ -192,11 +193,11 @@ Keeps-arguments_ended most k i j old breaks request ByTitle keeps some =
     Keeps-line_ended_by most k i j old breaks request keeps some
 
 -- a unit of a line of arguments
-pub Keeps-unit_found : (most : ℕ) (k : Known) (i j : PageInput) (breaks : Bool) (request : Request) (unit : CopyUnit) → Keeps most i j (InArguments breaks request)
+pub Keeps-unit_found : (most : ℕ) (k : Known) (i j : PageInput) (breaks : Bool) (request : Request) (unit : CopyUnit) → Keeps most i j (Collecting (InArguments breaks request))
     → KeepsBy most i (unit_found k j breaks request unit)
 Keeps-unit_found most k i j breaks request (Byte b) keeps =
     Keeps-if most i (b == newline) _ _
-    (Keeps-arguments_ended most k i j (InArguments breaks request) breaks request (row_of request).line keeps (omega arith))
+    (Keeps-arguments_ended most k i j (Collecting (InArguments breaks request)) breaks request (row_of request).line keeps (omega arith))
     (record { charge = keeps.charge; newlines = keeps.newlines; line = keeps.line; free = keeps.free; few = keeps.few; escapes = keeps.escapes })
 Keeps-unit_found most k i j breaks request (Kept b) keeps =
     record { charge = keeps.charge; newlines = keeps.newlines; line = keeps.line; free = keeps.free; few = keeps.few; escapes = keeps.escapes }
@@ -269,7 +270,7 @@ Keeps-string_name_unit most i j old appends (Kept b) keeps =
     (record { charge = keeps.charge; newlines = keeps.newlines; line = keeps.line; free = keeps.free; few = keeps.few; escapes = keeps.escapes })
 
 -- a unit of a message's text
-pub Keeps-message_unit : (most : ℕ) (i j : PageInput) (aborts is_front : Bool) (unit : CopyUnit) → Keeps most i j (Telling aborts is_front)
+pub Keeps-message_unit : (most : ℕ) (i j : PageInput) (aborts is_front : Bool) (unit : CopyUnit) → Keeps most i j (Collecting (Telling aborts is_front))
     → KeepsBy most i (message_unit j aborts is_front unit)
 Keeps-message_unit most i j aborts is_front (Byte b) keeps =
     Keeps-if most i (b == newline) _ _
@@ -293,15 +294,15 @@ Keeps-called most i j old name keeps = record {
 }
 
 -- a unit behind the name of a body that a line calls
-pub Keeps-call_unit : (most : ℕ) (i j : PageInput) (name : ShortName) (unit : CopyUnit) → Keeps most i j (Calling name) → KeepsBy most i (call_unit j name unit)
+pub Keeps-call_unit : (most : ℕ) (i j : PageInput) (name : ShortName) (unit : CopyUnit) → Keeps most i j (Collecting (Calling name)) → KeepsBy most i (call_unit j name unit)
 Keeps-call_unit most i j name (Byte b) keeps =
-    Keeps-if most i (b == newline) _ _ (Keeps-called most i j (Calling name) name keeps)
+    Keeps-if most i (b == newline) _ _ (Keeps-called most i j (Collecting (Calling name)) name keeps)
     (Keeps-if most i (b == quote) _ _
-    (Keeps-no_more most i j (Calling name) _ (Calling name) keeps (Alike-holding_call (Byte b) j) (omega arith))
-    (Keeps-no_more most i (settling j) (Calling name) _ (Calling name)
+    (Keeps-no_more most i j (Collecting (Calling name)) _ (Collecting (Calling name)) keeps (Alike-holding_call (Byte b) j) (omega arith))
+    (Keeps-no_more most i (settling j) (Collecting (Calling name)) _ (Collecting (Calling name))
     (record { charge = keeps.charge; newlines = keeps.newlines; line = keeps.line; free = keeps.free; few = keeps.few; escapes = keeps.escapes })
     (Alike-holding_call (Byte b) (settling j)) (omega arith)))
 Keeps-call_unit most i j name (Kept b) keeps =
-    Keeps-no_more most i (settling j) (Calling name) _ (Calling name)
+    Keeps-no_more most i (settling j) (Collecting (Calling name)) _ (Collecting (Calling name))
     (record { charge = keeps.charge; newlines = keeps.newlines; line = keeps.line; free = keeps.free; few = keeps.few; escapes = keeps.escapes })
     (Alike-holding_call (Kept b) (settling j)) (omega arith)

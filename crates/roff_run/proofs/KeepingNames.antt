@@ -2,7 +2,7 @@
 --
 -- A condition, a branch, a line of arguments and the text of a definition are read there. Each function f of reading has its lemma Keeps-f
 -- here, with a line for each of its cases.
-use Rattle.std.proofs.Common.{◌≡◌, ℕ, ◌+◌, ◌*◌, ◌-◌, ◌≤◌, Bool, true, false, List, ◌++◌, Option, Some, None, refl, arith, pos}
+use Rattle.std.proofs.Common.{◌≡◌, ℕ, ◌+◌, ◌*◌, ◌≤◌, Bool, true, false, List, ◌++◌, Option, Some, None, refl, arith, pos}
 use Rattle.std.specs.Prelude.{◌==◌}
 use Rattle.roff_source.specs.Bytes.{newline}
 use Rattle.roff_escape.specs.OpenEscapes.{byte_read}
@@ -17,7 +17,8 @@ use Rattle.roff_escape.specs.declared.open_escape.Found.TheVariants.{GoesOn, Uni
 use Rattle.roff_escape.specs.declared.open_escape.Surroundings.{Surroundings}
 use Rattle.roff_escape.specs.declared.open_escape.Surroundings.TheVariants.{Text as AboveText, Arguments as AboveArguments, Copy as AboveCopy}
 use Rattle.roff_run.specs.declared.line_state.LineState.{LineState}
-use Rattle.roff_run.specs.declared.line_state.LineState.TheVariants.{LineStart, Branch, Name, Arguments as InArguments, Deciding, StringName, Telling, Calling, Defining, TitleFront, Title as InTitle}
+use Rattle.roff_run.specs.declared.line_state.LineState.TheVariants.{LineStart, Branch, Name, Deciding, TitleFront, Title as InTitle, Collecting}
+use Rattle.roff_run.specs.declared.purpose.Purpose.TheVariants.{Arguments as InArguments, StringName, Telling, Calling, Defining}
 use Rattle.roff_num.specs.declared.short_name.ShortName.{ShortName}
 use Rattle.roff_run.specs.declared.request.LineReading.{LineReading}
 use Rattle.roff_run.specs.declared.request.LineReading.TheVariants.{ByArguments, ByCondition, ByElse, ByLastLine, ByMessage, ByString, ByLines, ByTitle}
@@ -137,20 +138,20 @@ module _ (some most : ℕ) (k : Known) (i j : PageInput) (b : ℕ) (keeps : Keep
   -- the first byte behind a request's name
   Keeps-line_taking : (breaks : Bool) (request : Request) (line : LineReading) → KeepsBy most i (line_taking k j breaks request line b)
   Keeps-line_taking breaks request ByArguments =
-      Keeps-collected most k i _ (InArguments breaks request) (byte_read AboveArguments j.escapes b).0 (Keeps-begins AboveArguments (InArguments breaks request) (omega arith))
+      Keeps-collected most k i _ (Collecting (InArguments breaks request)) (byte_read AboveArguments j.escapes b).0 (Keeps-begins AboveArguments (Collecting (InArguments breaks request)) (omega arith))
       (Keeps-unit_found _ k i _ breaks request)
   Keeps-line_taking breaks request (ByCondition keeping) = Keeps-condition_begun keeping
   Keeps-line_taking breaks request (ByString appends) =
-      Keeps-collected most k i _ (StringName appends) (byte_read AboveArguments j.escapes b).0 (Keeps-begins AboveArguments (StringName appends) (omega arith))
+      Keeps-collected most k i _ (Collecting (StringName appends)) (byte_read AboveArguments j.escapes b).0 (Keeps-begins AboveArguments (Collecting (StringName appends)) (omega arith))
       (Keeps-string_name_unit _ i _ _ appends)
   Keeps-line_taking breaks request ByLastLine =
-      Keeps-collected most k i _ (InArguments breaks request) (byte_read AboveArguments j.escapes b).0 (Keeps-begins AboveArguments (InArguments breaks request) (omega arith))
+      Keeps-collected most k i _ (Collecting (InArguments breaks request)) (byte_read AboveArguments j.escapes b).0 (Keeps-begins AboveArguments (Collecting (InArguments breaks request)) (omega arith))
       (Keeps-unit_found _ k i _ breaks request)
   Keeps-line_taking breaks request (ByMessage aborts) =
-      Keeps-collected most k i _ (Telling aborts true) (byte_read AboveCopy j.escapes b).0 (Keeps-begins AboveCopy (Telling aborts true) (omega arith))
+      Keeps-collected most k i _ (Collecting (Telling aborts true)) (byte_read AboveCopy j.escapes b).0 (Keeps-begins AboveCopy (Collecting (Telling aborts true)) (omega arith))
       (Keeps-message_unit _ i _ aborts true)
   Keeps-line_taking breaks request (ByLines lines) =
-      Keeps-collected most k i _ (InArguments breaks request) (byte_read AboveArguments j.escapes b).0 (Keeps-begins AboveArguments (InArguments breaks request) (omega arith))
+      Keeps-collected most k i _ (Collecting (InArguments breaks request)) (byte_read AboveArguments j.escapes b).0 (Keeps-begins AboveArguments (Collecting (InArguments breaks request)) (omega arith))
       (Keeps-unit_found _ k i _ breaks request)
   Keeps-line_taking breaks request ByTitle =
       Keeps-collected most k i _ TitleFront (byte_read AboveArguments j.escapes b).0 (Keeps-begins AboveArguments TitleFront (omega arith))
@@ -163,7 +164,7 @@ module _ (some most : ℕ) (k : Known) (i j : PageInput) (b : ℕ) (keeps : Keep
   Keeps-called_taking : (breaks : Bool) (called : Called) → KeepsBy most i (called_taking k j breaks called b)
   Keeps-called_taking breaks (ARequest request) = Keeps-line_taking breaks request (row_of request).line
   Keeps-called_taking breaks (ABody name) =
-      Keeps-collected most k i _ (Calling name) (byte_read AboveArguments j.escapes b).0 (Keeps-begins AboveArguments (Calling name) (omega arith))
+      Keeps-collected most k i _ (Collecting (Calling name)) (byte_read AboveArguments j.escapes b).0 (Keeps-begins AboveArguments (Collecting (Calling name)) (omega arith))
       (Keeps-call_unit _ i _ name)
   Keeps-called_taking breaks Unknown =
       Keeps-stays most i j LineStart _ (Keeps-with_escapes _ most i j LineStart LineStart j.escapes keeps (omega (arith, few))) (Stays-dropped_taking j b)
@@ -182,30 +183,30 @@ Keeps-behind_definition most k i j (Some name) b ends keeps few =
 
 -- a unit of a definition's text, where its line is this
 Keeps-definition_unit : (most : ℕ) (k : Known) (i j : PageInput) (name : Option ShortName) (appends : Bool) (end : Option ShortName) (matched : Option ℕ) (front : List ℕ) (unit : CopyUnit)
-    (line : DefinitionLine) → ((b : ℕ) → line ≡ IsLast b → ends_mark b ≡ true) → Keeps most i j (Defining name appends end matched) → 4 ≤ most
+    (line : DefinitionLine) → ((b : ℕ) → line ≡ IsLast b → ends_mark b ≡ true) → Keeps most i j (Collecting (Defining name appends end matched)) → 4 ≤ most
     → KeepsBy most i (definition_unit k j name appends end front unit line)
 Keeps-definition_unit most k i j name appends end matched front unit (MayBeLast more) ends keeps few =
-    Keeps-no_more most i j (Defining name appends end matched) j (Defining name appends end (Some more)) keeps (Alike-same j) (omega arith)
+    Keeps-no_more most i j (Collecting (Defining name appends end matched)) j (Collecting (Defining name appends end (Some more))) keeps (Alike-same j) (omega arith)
 Keeps-definition_unit most k i j name appends end matched front unit (IsLast b) ends keeps few =
     Keeps-behind_definition most k i (string_entered name appends j) end b (ends b refl)
-    (Keeps-alike most i j (Defining name appends end matched) (string_entered name appends j) LineStart keeps (Alike-string_entered name appends j) refl)
+    (Keeps-alike most i j (Collecting (Defining name appends end matched)) (string_entered name appends j) LineStart keeps (Alike-string_entered name appends j) refl)
     few
 Keeps-definition_unit most k i j name appends end matched front unit IsText ends keeps few =
-    Keeps-no_more most i j (Defining name appends end matched) (definition_grown name (front ++ unit_bytes unit) j) (Defining name appends end (matched_behind unit)) keeps
+    Keeps-no_more most i j (Collecting (Defining name appends end matched)) (definition_grown name (front ++ unit_bytes unit) j) (Collecting (Defining name appends end (matched_behind unit))) keeps
     (Alike-definition_grown name (front ++ unit_bytes unit) j) (omega arith)
 
 Keeps-definition_line : (most : ℕ) (k : Known) (i j : PageInput) (name : Option ShortName) (appends : Bool) (end : Option ShortName) (matched : Option ℕ) (unit : CopyUnit)
-    → Keeps most i j (Defining name appends end matched) → 4 ≤ most → KeepsBy most i (definition_line k j name appends end matched unit)
+    → Keeps most i j (Collecting (Defining name appends end matched)) → 4 ≤ most → KeepsBy most i (definition_line k j name appends end matched unit)
 Keeps-definition_line most k i j name appends end matched unit keeps few =
     Keeps-definition_unit most k i j name appends end matched (front_of (end_mark end) matched) unit (line_from (end_mark end) matched unit)
     (λ b last. ends-line_from (end_mark end) matched unit b last) keeps few
 
 -- what was found of it
 pub Keeps-definition_found : (most : ℕ) (k : Known) (i j : PageInput) (name : Option ShortName) (appends : Bool) (end : Option ShortName) (matched : Option ℕ) (found : Found)
-    → Keeps most i j (Defining name appends end matched) → 4 ≤ most → KeepsBy most i (definition_found k j name appends end matched found)
+    → Keeps most i j (Collecting (Defining name appends end matched)) → 4 ≤ most → KeepsBy most i (definition_found k j name appends end matched found)
 Keeps-definition_found most k i j name appends end matched found keeps few =
-    of-unit_or (KeepsBy most i) (definition_line k j name appends end matched) (no_unit_found k j (Defining name appends end matched) found) (unit_in found)
-    (λ unit. Keeps-definition_line most k i j name appends end matched unit keeps few) (Keeps-no_unit_found most k i j (Defining name appends end matched) found keeps)
+    of-unit_or (KeepsBy most i) (definition_line k j name appends end matched) (no_unit_found k j (Collecting (Defining name appends end matched)) found) (unit_in found)
+    (λ unit. Keeps-definition_line most k i j name appends end matched unit keeps few) (Keeps-no_unit_found most k i j (Collecting (Defining name appends end matched)) found keeps)
 
 -- what is read behind a request's name
 Keeps-behind_name : (i : PageInput) (breaks : Bool) (first : ℕ) (request : Request) (line : LineReading) → TwoMore i (Name breaks first) (behind_name i breaks request line)

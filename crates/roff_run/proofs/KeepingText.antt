@@ -26,7 +26,7 @@ use Rattle.roff_escape.specs.declared.open_escape.Found.{Found}
 use Rattle.roff_escape.specs.declared.open_escape.Found.TheVariants.{GoesOn, Unit as GivesUnit, Holds, Escape, Asks, Motion, Measures, Tells, Decides}
 use Rattle.roff_num.specs.declared.direction.Direction.{Direction}
 use Rattle.roff_run.specs.declared.line_state.LineState.{LineState}
-use Rattle.roff_run.specs.declared.line_state.LineState.TheVariants.{LineStart, Branch, Braced, Text as InText, Control, Name, Arguments as InArguments, Deciding, StringName, StringText, Skipping, Dropped, Telling, Told, Exiting, Calling, Defining, TitleFront, Title as InTitle}
+use Rattle.roff_run.specs.declared.line_state.LineState.TheVariants.{LineStart, Branch, Braced, Text as InText, Control, Name, Deciding, Skipping, Dropped, Told, Exiting, TitleFront, Title as InTitle, Collecting}
 use Rattle.roff_run.specs.declared.line_state.TextLine.{TextLine}
 use Rattle.roff_run.specs.Reading.Beginnings.{line_begun, first_taking, first_escape, beginning_found, beginning_text, line_begun_as, escape_begun, first_name}
 use Rattle.roff_run.specs.Reading.Branches.{skipping_taking, branch_of}
@@ -153,19 +153,14 @@ Stays-first_taking k i LineStart b = Stays-line_begun k i b
 Stays-first_taking k i (InText line) b = Stays-line_begun k i b
 Stays-first_taking k i (Control breaks) b = Stays-line_begun k i b
 Stays-first_taking k i (Name breaks first) b = Stays-line_begun k i b
-Stays-first_taking k i (InArguments breaks request) b = Stays-line_begun k i b
+Stays-first_taking k i (Collecting purpose) b = Stays-line_begun k i b
 Stays-first_taking k i (Deciding keeps) b = Stays-line_begun k i b
 Stays-first_taking k i (Skipping opened closed behind) b = Stays-line_begun k i b
-Stays-first_taking k i (StringName appends) b = Stays-line_begun k i b
-Stays-first_taking k i (StringText name appends is_front) b = Stays-line_begun k i b
 Stays-first_taking k i Dropped b = Stays-line_begun k i b
-Stays-first_taking k i (Telling aborts is_front) b = Stays-line_begun k i b
 Stays-first_taking k i (Told aborts) b = Stays-line_begun k i b
 Stays-first_taking k i Exiting b = Stays-line_begun k i b
-Stays-first_taking k i (Calling name) b = Stays-line_begun k i b
 Stays-first_taking k i TitleFront b = Stays-line_begun k i b
 Stays-first_taking k i (InTitle delimiter) b = Stays-line_begun k i b
-Stays-first_taking k i (Defining name appends end matched) b = Stays-line_begun k i b
 
 -- an escape there
 Stays-escape_begun : (k : Known) (i : PageInput) (b : ℕ) → Stays i (escape_begun k i b)
@@ -180,19 +175,14 @@ Stays-first_escape k i LineStart b = Stays-if i (b == newline) _ _ (record { inp
 Stays-first_escape k i (InText line) b = Stays-if i (b == newline) _ _ (record { input = refl; unnamed = refl }) (Stays-escape_begun k i b)
 Stays-first_escape k i (Control breaks) b = Stays-if i (b == newline) _ _ (record { input = refl; unnamed = refl }) (Stays-escape_begun k i b)
 Stays-first_escape k i (Name breaks first) b = Stays-if i (b == newline) _ _ (record { input = refl; unnamed = refl }) (Stays-escape_begun k i b)
-Stays-first_escape k i (InArguments breaks request) b = Stays-if i (b == newline) _ _ (record { input = refl; unnamed = refl }) (Stays-escape_begun k i b)
+Stays-first_escape k i (Collecting purpose) b = Stays-if i (b == newline) _ _ (record { input = refl; unnamed = refl }) (Stays-escape_begun k i b)
 Stays-first_escape k i (Deciding keeps) b = Stays-if i (b == newline) _ _ (record { input = refl; unnamed = refl }) (Stays-escape_begun k i b)
 Stays-first_escape k i (Skipping opened closed behind) b = Stays-if i (b == newline) _ _ (record { input = refl; unnamed = refl }) (Stays-escape_begun k i b)
-Stays-first_escape k i (StringName appends) b = Stays-if i (b == newline) _ _ (record { input = refl; unnamed = refl }) (Stays-escape_begun k i b)
-Stays-first_escape k i (StringText name appends is_front) b = Stays-if i (b == newline) _ _ (record { input = refl; unnamed = refl }) (Stays-escape_begun k i b)
 Stays-first_escape k i Dropped b = Stays-if i (b == newline) _ _ (record { input = refl; unnamed = refl }) (Stays-escape_begun k i b)
-Stays-first_escape k i (Telling aborts is_front) b = Stays-if i (b == newline) _ _ (record { input = refl; unnamed = refl }) (Stays-escape_begun k i b)
 Stays-first_escape k i (Told aborts) b = Stays-if i (b == newline) _ _ (record { input = refl; unnamed = refl }) (Stays-escape_begun k i b)
 Stays-first_escape k i Exiting b = Stays-if i (b == newline) _ _ (record { input = refl; unnamed = refl }) (Stays-escape_begun k i b)
 Stays-first_escape k i TitleFront b = Stays-if i (b == newline) _ _ (record { input = refl; unnamed = refl }) (Stays-escape_begun k i b)
 Stays-first_escape k i (InTitle delimiter) b = Stays-if i (b == newline) _ _ (record { input = refl; unnamed = refl }) (Stays-escape_begun k i b)
-Stays-first_escape k i (Calling name) b = Stays-if i (b == newline) _ _ (record { input = refl; unnamed = refl }) (Stays-escape_begun k i b)
-Stays-first_escape k i (Defining name appends end matched) b = Stays-if i (b == newline) _ _ (record { input = refl; unnamed = refl }) (Stays-escape_begun k i b)
 
 -- a byte of a branch that is skipped
 pub Stays-skipping_taking : (i : PageInput) (opened closed : ℕ) (behind : Bool) (b : ℕ) → Stays i (skipping_taking i opened closed behind b)

@@ -1,12 +1,13 @@
 -- What the end of a line with the input leaves to come: where a line begins nothing changes, and else fewer turns are to come.
-use Rattle.std.proofs.Common.{◌≡◌, ℕ, ◌+◌, ◌-◌, ◌≤◌, Bool, false, List, [], Some, None, refl, sym, subst, arith}
+use Rattle.std.proofs.Common.{◌≡◌, ℕ, ◌+◌, ◌≤◌, Bool, false, List, [], Some, None, refl, sym, subst, arith}
 use Rattle.roff_source.specs.Bytes.{newline}
 use Rattle.roff_input.specs.Input.Calls.{arguments_given, last_result, without_last}
 use Rattle.roff_escape.specs.OpenEscape.{OpenEscape}
 use Rattle.roff_escape.specs.declared.open_escape.Decision.TheVariants.{Is}
 use Rattle.roff_escape.specs.declared.open_escape.Found.TheVariants.{Decides}
 use Rattle.roff_run.specs.declared.line_state.LineState.{LineState}
-use Rattle.roff_run.specs.declared.line_state.LineState.TheVariants.{LineStart, Branch, Braced, Text as InText, Control, Name, Arguments as InArguments, Deciding, StringName, StringText, Skipping, Dropped, Telling, Told, Exiting, Calling, Defining, TitleFront, Title as InTitle}
+use Rattle.roff_run.specs.declared.line_state.LineState.TheVariants.{LineStart, Branch, Braced, Text as InText, Control, Name, Deciding, Skipping, Dropped, Told, Exiting, TitleFront, Title as InTitle, Collecting}
+use Rattle.roff_run.specs.declared.purpose.Purpose.TheVariants.{Arguments as InArguments, StringName, StringText, Telling, Calling, Defining}
 use Rattle.roff_run.specs.declared.request.LineReading.{LineReading}
 use Rattle.roff_run.specs.declared.request.LineReading.TheVariants.{ByArguments, ByCondition, ByElse, ByLastLine, ByMessage, ByString, ByLines, ByTitle}
 use Rattle.roff_run.specs.declared.request.Called.{Called}
@@ -41,7 +42,7 @@ module _ (k : Known) (i : PageInput) (breaks : Bool) where
   Keeps-last_arguments : (request : Request)
       → KeepsBy 3 (plain i) (arguments_ended k (plain i) breaks request (row_of request).line)
   Keeps-last_arguments request =
-      let old : LineState = Defining None false None None in
+      let old : LineState = Collecting (Defining None false None None) in
       Keeps-arguments_ended 3 k (plain i) (plain i) old breaks request (row_of request).line
       (Keeps-plain i 3 old (omega arith)) (omega arith)
 
@@ -77,15 +78,10 @@ unended-few Braced = omega arith
 unended-few (InText line) = omega arith
 unended-few (Control breaks) = omega arith
 unended-few (Name breaks first) = omega arith
-unended-few (InArguments breaks request) = omega arith
+unended-few (Collecting purpose) = omega arith
 unended-few (Deciding keeping) = omega arith
-unended-few (StringName appends) = omega arith
-unended-few (StringText name appends is_front) = omega arith
-unended-few (Calling name) = omega arith
-unended-few (Defining name appends end matched) = omega arith
 unended-few (Skipping opened closed behind) = omega arith
 unended-few Dropped = omega arith
-unended-few (Telling aborts is_front) = omega arith
 unended-few (Told aborts) = omega arith
 unended-few Exiting = omega arith
 unended-few TitleFront = omega arith
@@ -115,24 +111,24 @@ line_ended_plain k (InText line) i = Within (InText line) (omega arith)
 line_ended_plain k (Control breaks) i = Within (Control breaks) (omega arith)
 line_ended_plain k (Name breaks first) i =
     within_fewer k (Name breaks first) i 3 (Keeps-last_name k i breaks (called_by (record { first = first; second = None }) i.names)) (omega arith)
-line_ended_plain k (InArguments breaks request) i = within_fewer k (InArguments breaks request) i 3 (Keeps-last_arguments k i breaks request) (omega arith)
+line_ended_plain k (Collecting (InArguments breaks request)) i = within_fewer k (Collecting (InArguments breaks request)) i 3 (Keeps-last_arguments k i breaks request) (omega arith)
 line_ended_plain k (Deciding keeping) i = Within (Deciding keeping) (omega arith)
-line_ended_plain k (StringName appends) i =
+line_ended_plain k (Collecting (StringName appends)) i =
     let keeps = Keeps-string_line_ended 0 (plain i) (plain i) LineStart appends (name_at 0 (arguments_given (plain i))) (Keeps-plain i 0 LineStart (omega arith)) in
-    Within (StringName appends) (omega (arith, keeps.escapes))
-line_ended_plain k (StringText name appends is_front) i =
+    Within (Collecting (StringName appends)) (omega (arith, keeps.escapes))
+line_ended_plain k (Collecting (StringText name appends is_front)) i =
     let keeps = Keeps-alike 0 (plain i) (plain i) LineStart (string_entered name appends (plain i)) LineStart
     (Keeps-plain i 0 LineStart (omega arith)) (Alike-string_entered name appends (plain i)) refl in
-    Within (StringText name appends is_front) (omega (arith, keeps.escapes))
-line_ended_plain k (Calling name) i =
-    within_fewer k (Calling name) i 0 (Keeps-called 0 (plain i) (plain i) LineStart name (Keeps-plain i 0 LineStart (omega arith))) (omega arith)
-line_ended_plain k (Defining name appends end matched) i =
-    within_fewer k (Defining name appends end matched) i 0
+    Within (Collecting (StringText name appends is_front)) (omega (arith, keeps.escapes))
+line_ended_plain k (Collecting (Calling name)) i =
+    within_fewer k (Collecting (Calling name)) i 0 (Keeps-called 0 (plain i) (plain i) LineStart name (Keeps-plain i 0 LineStart (omega arith))) (omega arith)
+line_ended_plain k (Collecting (Defining name appends end matched)) i =
+    within_fewer k (Collecting (Defining name appends end matched)) i 0
     (Keeps-alike 0 (plain i) (plain i) LineStart (definition_dropped name (plain i)) LineStart (Keeps-plain i 0 LineStart (omega arith))
     (Alike-definition_dropped name (plain i)) refl) (omega arith)
 line_ended_plain k (Skipping opened closed behind) i = Within (Skipping opened closed behind) (omega arith)
 line_ended_plain k Dropped i = Within Dropped (omega arith)
-line_ended_plain k (Telling aborts is_front) i = within_fewer k (Telling aborts is_front) i 1 (Keeps-plain i 1 (Told aborts) (omega arith)) (omega arith)
+line_ended_plain k (Collecting (Telling aborts is_front)) i = within_fewer k (Collecting (Telling aborts is_front)) i 1 (Keeps-plain i 1 (Told aborts) (omega arith)) (omega arith)
 line_ended_plain k (Told aborts) i = Within (Told aborts) (omega arith)
 line_ended_plain k Exiting i = Within Exiting (omega arith)
 line_ended_plain k TitleFront i = Within TitleFront (omega arith)

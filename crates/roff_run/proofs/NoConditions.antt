@@ -22,7 +22,7 @@ use Rattle.roff_run.specs.Reading.Items.{PageInput, Taking}
 use Rattle.roff_run.specs.Reading.TextLines.{blank_taking, character_printed, character_taking, escape_meant, escape_taking, glyph_taking, name_taking, text_found, text_taking}
 use Rattle.roff_run.specs.Registers.{Known}
 use Rattle.roff_run.specs.declared.line_state.LineState.{LineState}
-use Rattle.roff_run.specs.declared.line_state.LineState.TheVariants.{LineStart, Branch, Braced, Text as InText, Control, Name, Arguments as InArguments, Deciding, StringName, StringText, Skipping, Dropped, Telling, Told, Exiting, Calling, Defining, TitleFront, Title as InTitle}
+use Rattle.roff_run.specs.declared.line_state.LineState.TheVariants.{LineStart, Branch, Braced, Text as InText, Control, Name, Deciding, Skipping, Dropped, Told, Exiting, TitleFront, Title as InTitle, Collecting}
 use Rattle.roff_run.specs.declared.line_state.TextLine.{TextLine}
 
 -- no condition is read
@@ -100,19 +100,14 @@ Over-first_taking k i LineStart b = Over-line_begun k i b
 Over-first_taking k i (InText line) b = Over-line_begun k i b
 Over-first_taking k i (Control breaks) b = Over-line_begun k i b
 Over-first_taking k i (Name breaks first) b = Over-line_begun k i b
-Over-first_taking k i (InArguments breaks request) b = Over-line_begun k i b
+Over-first_taking k i (Collecting purpose) b = Over-line_begun k i b
 Over-first_taking k i (Deciding keeps) b = Over-line_begun k i b
 Over-first_taking k i (Skipping opened closed behind) b = Over-line_begun k i b
-Over-first_taking k i (StringName appends) b = Over-line_begun k i b
-Over-first_taking k i (StringText name appends is_front) b = Over-line_begun k i b
 Over-first_taking k i Dropped b = Over-line_begun k i b
-Over-first_taking k i (Telling aborts is_front) b = Over-line_begun k i b
 Over-first_taking k i (Told aborts) b = Over-line_begun k i b
 Over-first_taking k i Exiting b = Over-line_begun k i b
 Over-first_taking k i TitleFront b = Over-line_begun k i b
 Over-first_taking k i (InTitle delimiter) b = Over-line_begun k i b
-Over-first_taking k i (Calling name) b = Over-line_begun k i b
-Over-first_taking k i (Defining name appends end matched) b = Over-line_begun k i b
 
 -- an escape there
 Over-escape_begun : (k : Known) (i : PageInput) (b : ℕ) → Over (escape_begun k i b)
@@ -125,19 +120,14 @@ Over-first_escape k i Braced b = Over-if (b == newline) _ _ tt (Over-escape_begu
 Over-first_escape k i (InText line) b = Over-if (b == newline) _ _ tt (Over-escape_begun k i b)
 Over-first_escape k i (Control breaks) b = Over-if (b == newline) _ _ tt (Over-escape_begun k i b)
 Over-first_escape k i (Name breaks first) b = Over-if (b == newline) _ _ tt (Over-escape_begun k i b)
-Over-first_escape k i (InArguments breaks request) b = Over-if (b == newline) _ _ tt (Over-escape_begun k i b)
+Over-first_escape k i (Collecting purpose) b = Over-if (b == newline) _ _ tt (Over-escape_begun k i b)
 Over-first_escape k i (Deciding keeps) b = Over-if (b == newline) _ _ tt (Over-escape_begun k i b)
 Over-first_escape k i (Skipping opened closed behind) b = Over-if (b == newline) _ _ tt (Over-escape_begun k i b)
-Over-first_escape k i (StringName appends) b = Over-if (b == newline) _ _ tt (Over-escape_begun k i b)
-Over-first_escape k i (StringText name appends is_front) b = Over-if (b == newline) _ _ tt (Over-escape_begun k i b)
 Over-first_escape k i Dropped b = Over-if (b == newline) _ _ tt (Over-escape_begun k i b)
-Over-first_escape k i (Telling aborts is_front) b = Over-if (b == newline) _ _ tt (Over-escape_begun k i b)
 Over-first_escape k i (Told aborts) b = Over-if (b == newline) _ _ tt (Over-escape_begun k i b)
 Over-first_escape k i Exiting b = Over-if (b == newline) _ _ tt (Over-escape_begun k i b)
 Over-first_escape k i TitleFront b = Over-if (b == newline) _ _ tt (Over-escape_begun k i b)
 Over-first_escape k i (InTitle delimiter) b = Over-if (b == newline) _ _ tt (Over-escape_begun k i b)
-Over-first_escape k i (Calling name) b = Over-if (b == newline) _ _ tt (Over-escape_begun k i b)
-Over-first_escape k i (Defining name appends end matched) b = Over-if (b == newline) _ _ tt (Over-escape_begun k i b)
 
 -- what a name asks for
 pub Over-asking : (k : Known) (i : PageInput) (reading : LineState) (purpose : NameUse) (name : Option (List ℕ)) → NoCondition reading → Over (asking k i reading purpose name)

@@ -1,7 +1,7 @@
 -- The step with nothing to do has few outcomes, where a run isn't closing. What is proved of each holds of it.
 --
 -- Each function f of the run has its lemma ReadsOn-f here, with a line for each of its cases.
-use Rattle.std.proofs.Common.{◌≡◌, ℕ, ◌+◌, ◌≤◌, Bool, true, false, List, [], ◌∷◌, ◌++◌, ◌-◌, Option, Some, None, refl, ap, arith, ◌⊎◌, inl, inr}
+use Rattle.std.proofs.Common.{◌≡◌, ℕ, ◌+◌, ◌≤◌, Bool, true, false, List, [], ◌∷◌, ◌++◌, Option, Some, None, refl, ap, arith, ◌⊎◌, inl, inr}
 use Rattle.std.specs.Prelude.{nat_lt, if◌then◌else◌}
 use Rattle.std.proofs.lemmas.Bool.Decides.{nat_tests}
 use Rattle.roff_num.specs.declared.limit.Limit.{Limit}
@@ -20,7 +20,7 @@ use Rattle.roff_run.specs.Reading.Ends.{due, is_unfinished}
 use Rattle.roff_run.specs.declared.line_state.Due.{Due}
 use Rattle.roff_run.specs.declared.line_state.Due.TheVariants.{Leaves, Tells as TellsText}
 use Rattle.roff_run.specs.declared.line_state.LineState.{LineState}
-use Rattle.roff_run.specs.declared.line_state.LineState.TheVariants.{LineStart, Branch, Braced, Text as InText, Control, Name, Arguments as InArguments, Deciding, StringName, StringText, Skipping, Dropped, Telling, Told, Exiting, Calling, Defining, TitleFront, Title as InTitle}
+use Rattle.roff_run.specs.declared.line_state.LineState.TheVariants.{LineStart, Branch, Braced, Text as InText, Control, Name, Deciding, Skipping, Dropped, Told, Exiting, TitleFront, Title as InTitle, Collecting}
 use Rattle.roff_run.specs.Reading.Waiting.{waiting_in}
 use Rattle.roff_run.specs.Run.{read_waiting, State, known, ending_as, ending_with, stopped_by, unless_refused, grown, made, moved, byte_taken, escape_ends, ahead_taken, taking_ahead, taking_byte, ending_input, answered, in_front_taken, front_seen, awaited_of_source, awaited, item_read, input_ended, message_told, aborted, left_in, reading_by, reading_on, phase_ended, sprung_read, with_sprung}
 use Rattle.roff_run.specs.Run.Counts.{passes_bytes, first_passed}
@@ -203,15 +203,10 @@ told_where_due Braced aborts is = absurd (cc)
 told_where_due (InText line) aborts is = absurd (cc)
 told_where_due (Control breaks) aborts is = absurd (cc)
 told_where_due (Name breaks first) aborts is = absurd (cc)
-told_where_due (InArguments breaks request) aborts is = absurd (cc)
+told_where_due (Collecting purpose) aborts is = absurd (cc)
 told_where_due (Deciding keeping) aborts is = absurd (cc)
-told_where_due (StringName appends) aborts is = absurd (cc)
-told_where_due (Calling name) aborts is = absurd (cc)
-told_where_due (StringText name appends is_front) aborts is = absurd (cc)
-told_where_due (Defining name appends end matched) aborts is = absurd (cc)
 told_where_due (Skipping opened closed behind) aborts is = absurd (cc)
 told_where_due Dropped aborts is = absurd (cc)
-told_where_due (Telling other is_front) aborts is = absurd (cc)
 told_where_due Exiting aborts is = absurd (cc)
 told_where_due TitleFront aborts is = absurd (cc)
 told_where_due (InTitle delimiter) aborts is = absurd (cc)
@@ -227,15 +222,10 @@ left_where_due TitleFront is = absurd (cc)
 left_where_due (InTitle delimiter) is = absurd (cc)
 left_where_due (Control breaks) is = absurd (cc)
 left_where_due (Name breaks first) is = absurd (cc)
-left_where_due (InArguments breaks request) is = absurd (cc)
+left_where_due (Collecting purpose) is = absurd (cc)
 left_where_due (Deciding keeping) is = absurd (cc)
-left_where_due (StringName appends) is = absurd (cc)
-left_where_due (Calling name) is = absurd (cc)
-left_where_due (StringText name appends is_front) is = absurd (cc)
-left_where_due (Defining name appends end matched) is = absurd (cc)
 left_where_due (Skipping opened closed behind) is = absurd (cc)
 left_where_due Dropped is = absurd (cc)
-left_where_due (Telling aborts is_front) is = absurd (cc)
 left_where_due (Told aborts) is = absurd (cc)
 
 -- what is due comes first

@@ -23,7 +23,8 @@ use Rattle.roff_run.specs.Springs.{may_spring}
 use Rattle.roff_run.specs.declared.definition.DefinitionLine.{DefinitionLine}
 use Rattle.roff_run.specs.declared.definition.DefinitionLine.TheVariants.{MayBeLast, IsLast, IsText}
 use Rattle.roff_run.specs.declared.line_state.LineState.{LineState}
-use Rattle.roff_run.specs.declared.line_state.LineState.TheVariants.{LineStart, Branch, Braced, Text as InText, Control, Name, Arguments as InArguments, Deciding, StringName, StringText, Skipping, Dropped, Telling, Told, Exiting, Calling, Defining, TitleFront, Title as InTitle}
+use Rattle.roff_run.specs.declared.line_state.LineState.TheVariants.{LineStart, Branch, Braced, Text as InText, Control, Name, Deciding, Skipping, Dropped, Told, Exiting, TitleFront, Title as InTitle, Collecting}
+use Rattle.roff_run.specs.declared.purpose.Purpose.TheVariants.{Arguments as InArguments, StringName, StringText, Telling, Calling, Defining}
 use Rattle.roff_run.specs.declared.line_state.TextLine.{TextLine}
 
 -- none of these events may spring a macro
@@ -85,17 +86,17 @@ quiet-escape k i Braced = quiet-told k.interrupted
 quiet-escape k i (InText line) = tt
 quiet-escape k i (Control breaks) = tt
 quiet-escape k i (Name breaks first) = tt
-quiet-escape k i (InArguments breaks request) = tt
+quiet-escape k i (Collecting (InArguments breaks request)) = tt
 quiet-escape k i (Deciding keeps) = tt
-quiet-escape k i (StringName appends) = quiet-string_name i appends (name_read (settling i))
-quiet-escape k i (StringText name appends is_front) = tt
+quiet-escape k i (Collecting (StringName appends)) = quiet-string_name i appends (name_read (settling i))
+quiet-escape k i (Collecting (StringText name appends is_front)) = tt
 quiet-escape k i (Skipping opened closed behind) = tt
 quiet-escape k i Dropped = tt
-quiet-escape k i (Telling aborts is_front) = tt
+quiet-escape k i (Collecting (Telling aborts is_front)) = tt
 quiet-escape k i (Told aborts) = tt
 quiet-escape k i Exiting = tt
-quiet-escape k i (Calling name) = tt
-quiet-escape k i (Defining name appends end matched) = quiet-definition k i name appends end (front_of (end_mark end) matched) (line_from (end_mark end) matched (Kept 115)) (goes_on-line_from (end_mark end) matched)
+quiet-escape k i (Collecting (Calling name)) = tt
+quiet-escape k i (Collecting (Defining name appends end matched)) = quiet-definition k i name appends end (front_of (end_mark end) matched) (line_from (end_mark end) matched (Kept 115)) (goes_on-line_from (end_mark end) matched)
 quiet-escape k i TitleFront = tt
 quiet-escape k i (InTitle delimiter) = tt
 
@@ -106,17 +107,17 @@ quiet-nothing k i Braced = tt
 quiet-nothing k i (InText line) = tt
 quiet-nothing k i (Control breaks) = tt
 quiet-nothing k i (Name breaks first) = tt
-quiet-nothing k i (InArguments breaks request) = tt
+quiet-nothing k i (Collecting (InArguments breaks request)) = tt
 quiet-nothing k i (Deciding keeps) = tt
-quiet-nothing k i (StringName appends) = tt
-quiet-nothing k i (StringText name appends is_front) = tt
+quiet-nothing k i (Collecting (StringName appends)) = tt
+quiet-nothing k i (Collecting (StringText name appends is_front)) = tt
 quiet-nothing k i (Skipping opened closed behind) = tt
 quiet-nothing k i Dropped = tt
-quiet-nothing k i (Telling aborts is_front) = tt
+quiet-nothing k i (Collecting (Telling aborts is_front)) = tt
 quiet-nothing k i (Told aborts) = tt
 quiet-nothing k i Exiting = tt
-quiet-nothing k i (Calling name) = tt
-quiet-nothing k i (Defining name appends end matched) = tt
+quiet-nothing k i (Collecting (Calling name)) = tt
+quiet-nothing k i (Collecting (Defining name appends end matched)) = tt
 quiet-nothing k i TitleFront = tt
 quiet-nothing k i (InTitle delimiter) = tt
 

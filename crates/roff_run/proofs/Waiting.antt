@@ -12,7 +12,8 @@ use Rattle.roff_escape.specs.declared.open_escape.ConditionPart.TheVariants.{Cho
 use Rattle.roff_escape.specs.declared.open_escape.Waiting.TheVariants.{Takes, Decides, Waits}
 use Rattle.roff_run.specs.Reading.Waiting.{copies_in, line_waits, waiting_above}
 use Rattle.roff_run.specs.declared.line_state.LineState.{LineState}
-use Rattle.roff_run.specs.declared.line_state.LineState.TheVariants.{LineStart, Branch, Braced, Text as InText, Control, Name as InName, Arguments as InArguments, Deciding, StringName, StringText, Skipping, Dropped, Telling, Told, Exiting, Calling, Defining, TitleFront, Title as InTitle}
+use Rattle.roff_run.specs.declared.line_state.LineState.TheVariants.{LineStart, Branch, Braced, Text as InText, Control, Name as InName, Deciding, Skipping, Dropped, Told, Exiting, TitleFront, Title as InTitle, Collecting}
+use Rattle.roff_run.specs.declared.purpose.Purpose.TheVariants.{Arguments as InArguments, StringName, StringText, Telling, Calling, Defining}
 
 -- what takes or waits doesn't decide
 undecided-if : (c : Bool) → decides (if c then Takes else Waits) ≡ false
@@ -31,19 +32,19 @@ undecided-line Braced place = refl
 undecided-line (InText line) place = refl
 undecided-line (Control breaks) place = refl
 undecided-line (InName breaks first) place = refl
-undecided-line (InArguments breaks request) place = undecided-quote (is_behind_quote place)
+undecided-line (Collecting (InArguments breaks request)) place = undecided-quote (is_behind_quote place)
 undecided-line (Deciding keeps) place = refl
-undecided-line (StringName appends) place = undecided-quote (is_behind_quote place)
-undecided-line (StringText name appends is_front) place = refl
+undecided-line (Collecting (StringName appends)) place = undecided-quote (is_behind_quote place)
+undecided-line (Collecting (StringText name appends is_front)) place = refl
 undecided-line (Skipping opened closed behind) place = refl
 undecided-line Dropped place = refl
-undecided-line (Telling aborts is_front) place = refl
+undecided-line (Collecting (Telling aborts is_front)) place = refl
 undecided-line (Told aborts) place = refl
 undecided-line Exiting place = refl
 undecided-line TitleFront place = refl
 undecided-line (InTitle delimiter) place = refl
-undecided-line (Calling name) place = undecided-quote (is_behind_quote place)
-undecided-line (Defining name appends end matched) place = refl
+undecided-line (Collecting (Calling name)) place = undecided-quote (is_behind_quote place)
+undecided-line (Collecting (Defining name appends end matched)) place = refl
 
 -- a condition that is read ends, whatever is seen
 undecided-part : (part : ConditionPart) (seen : Option ℕ) → ends_condition part seen ≡ false → is_decided part ≡ false

@@ -39,7 +39,8 @@ use Rattle.roff_run.specs.Springs.{AreFewBehind}
 use Rattle.roff_run.specs.declared.definition.DefinitionLine.{DefinitionLine}
 use Rattle.roff_run.specs.declared.definition.DefinitionLine.TheVariants.{MayBeLast, IsLast, IsText}
 use Rattle.roff_run.specs.declared.line_state.LineState.{LineState}
-use Rattle.roff_run.specs.declared.line_state.LineState.TheVariants.{LineStart, Branch, Braced, Text as InText, Control, Name, Arguments as InArguments, Deciding, StringName, StringText, Skipping, Dropped, Telling, Told, Exiting, Calling, Defining, TitleFront, Title as InTitle}
+use Rattle.roff_run.specs.declared.line_state.LineState.TheVariants.{LineStart, Branch, Braced, Text as InText, Control, Name, Deciding, Skipping, Dropped, Told, Exiting, TitleFront, Title as InTitle, Collecting}
+use Rattle.roff_run.specs.declared.purpose.Purpose.TheVariants.{Arguments as InArguments, StringName, StringText, Telling, Calling, Defining}
 use Rattle.roff_run.specs.declared.line_state.TextLine.{TextLine}
 use Rattle.roff_run.specs.declared.request.Called.{Called}
 use Rattle.roff_run.specs.declared.request.Called.TheVariants.{Request as ARequest, Body as ABody, Nothing as Unknown}
@@ -153,20 +154,20 @@ Waits-call_unit i name (Kept b) = tt
 Waits-line_taking : (k : Known) (i : PageInput) (breaks : Bool) (request : Request) (line : LineReading) (b : ℕ) → Waits (line_taking k i breaks request line b)
 Waits-line_taking k i breaks request ByArguments b =
     let read = byte_read AboveArguments i.escapes b in let j : PageInput = record i { escapes = read.1 } in
-    Waits-collected k j (InArguments breaks request) read.0 (Waits-unit_found k j breaks request)
+    Waits-collected k j (Collecting (InArguments breaks request)) read.0 (Waits-unit_found k j breaks request)
 Waits-line_taking k i breaks request (ByCondition keeps) b = Waits-condition_begun k i keeps b
 Waits-line_taking k i breaks request (ByString appends) b =
     let read = byte_read AboveArguments i.escapes b in let j : PageInput = record i { escapes = read.1 } in
-    Waits-collected k j (StringName appends) read.0 (Waits-string_name_unit j appends)
+    Waits-collected k j (Collecting (StringName appends)) read.0 (Waits-string_name_unit j appends)
 Waits-line_taking k i breaks request ByLastLine b =
     let read = byte_read AboveArguments i.escapes b in let j : PageInput = record i { escapes = read.1 } in
-    Waits-collected k j (InArguments breaks request) read.0 (Waits-unit_found k j breaks request)
+    Waits-collected k j (Collecting (InArguments breaks request)) read.0 (Waits-unit_found k j breaks request)
 Waits-line_taking k i breaks request (ByMessage aborts) b =
     let read = byte_read AboveCopy i.escapes b in let j : PageInput = record i { escapes = read.1 } in
-    Waits-collected k j (Telling aborts true) read.0 (Waits-message_unit j aborts true)
+    Waits-collected k j (Collecting (Telling aborts true)) read.0 (Waits-message_unit j aborts true)
 Waits-line_taking k i breaks request (ByLines lines) b =
     let read = byte_read AboveArguments i.escapes b in let j : PageInput = record i { escapes = read.1 } in
-    Waits-collected k j (InArguments breaks request) read.0 (Waits-unit_found k j breaks request)
+    Waits-collected k j (Collecting (InArguments breaks request)) read.0 (Waits-unit_found k j breaks request)
 Waits-line_taking k i breaks request ByTitle b =
     let read = byte_read AboveArguments i.escapes b in let j : PageInput = record i { escapes = read.1 } in
     Waits-collected k j TitleFront read.0 (Waits-title_front_unit k j)
@@ -176,7 +177,7 @@ Waits-called_taking : (k : Known) (i : PageInput) (breaks : Bool) (called : Call
 Waits-called_taking k i breaks (ARequest request) b = Waits-line_taking k i breaks request (row_of request).line b
 Waits-called_taking k i breaks (ABody name) b =
     let read = byte_read AboveArguments i.escapes b in let j : PageInput = record i { escapes = read.1 } in
-    Waits-collected k j (Calling name) read.0 (Waits-call_unit j name)
+    Waits-collected k j (Collecting (Calling name)) read.0 (Waits-call_unit j name)
 Waits-called_taking k i breaks Unknown b = tt
 
 Waits-name_ended_taking : (k : Known) (i : PageInput) (breaks : Bool) (name : ShortName) (b : ℕ) → Waits (name_ended_taking k i breaks name b)
@@ -212,9 +213,9 @@ Waits-definition_unit k i name appends end front unit IsText = tt
 Waits-definition_found : (k : Known) (i : PageInput) (name : Option ShortName) (appends : Bool) (end : Option ShortName) (matched : Option ℕ) (found : Found)
     → Waits (definition_found k i name appends end matched found)
 Waits-definition_found k i name appends end matched found =
-    of-unit_or Waits (definition_line k i name appends end matched) (no_unit_found k i (Defining name appends end matched) found) (unit_in found)
+    of-unit_or Waits (definition_line k i name appends end matched) (no_unit_found k i (Collecting (Defining name appends end matched)) found) (unit_in found)
     (λ unit. Waits-definition_unit k i name appends end (front_of (end_mark end) matched) unit (line_from (end_mark end) matched unit))
-    (Waits-no_unit_found k i (Defining name appends end matched) found)
+    (Waits-no_unit_found k i (Collecting (Defining name appends end matched)) found)
 
 -- what was found where this is read
 Waits-found_in : (k : Known) (i : PageInput) (reading : LineState) (found : Found) → Waits (found_in k i reading found)
@@ -222,13 +223,13 @@ Waits-found_in k i LineStart found = Waits-beginning_found k i LineStart found
 Waits-found_in k i Branch found = Waits-beginning_found k i Branch found
 Waits-found_in k i Braced found = Waits-beginning_found k i Braced found
 Waits-found_in k i (InText line) found = Waits-text_found k i line found
-Waits-found_in k i (InArguments breaks request) found = Waits-collected k i (InArguments breaks request) found (Waits-unit_found k i breaks request)
+Waits-found_in k i (Collecting (InArguments breaks request)) found = Waits-collected k i (Collecting (InArguments breaks request)) found (Waits-unit_found k i breaks request)
 Waits-found_in k i (Deciding keeps) found = Waits-condition_found k i keeps found
-Waits-found_in k i (StringName appends) found = Waits-collected k i (StringName appends) found (Waits-string_name_unit i appends)
-Waits-found_in k i (StringText name appends is_front) found = Waits-collected k i (StringText name appends is_front) found (Waits-string_unit i name appends is_front)
-Waits-found_in k i (Telling aborts is_front) found = Waits-collected k i (Telling aborts is_front) found (Waits-message_unit i aborts is_front)
-Waits-found_in k i (Calling name) found = Waits-collected k i (Calling name) found (Waits-call_unit i name)
-Waits-found_in k i (Defining name appends end matched) found = Waits-definition_found k i name appends end matched found
+Waits-found_in k i (Collecting (StringName appends)) found = Waits-collected k i (Collecting (StringName appends)) found (Waits-string_name_unit i appends)
+Waits-found_in k i (Collecting (StringText name appends is_front)) found = Waits-collected k i (Collecting (StringText name appends is_front)) found (Waits-string_unit i name appends is_front)
+Waits-found_in k i (Collecting (Telling aborts is_front)) found = Waits-collected k i (Collecting (Telling aborts is_front)) found (Waits-message_unit i aborts is_front)
+Waits-found_in k i (Collecting (Calling name)) found = Waits-collected k i (Collecting (Calling name)) found (Waits-call_unit i name)
+Waits-found_in k i (Collecting (Defining name appends end matched)) found = Waits-definition_found k i name appends end matched found
 Waits-found_in k i (Control breaks) found = tt
 Waits-found_in k i (Name breaks first) found = tt
 Waits-found_in k i (Skipping opened closed behind) found = tt
@@ -264,13 +265,8 @@ Waits-undropped_taking k LineStart i b = Waits-read k LineStart i b
 Waits-undropped_taking k Branch i b = Waits-read k Branch i b
 Waits-undropped_taking k Braced i b = Waits-read k Braced i b
 Waits-undropped_taking k (InText line) i b = Waits-read k (InText line) i b
-Waits-undropped_taking k (InArguments breaks request) i b = Waits-read k (InArguments breaks request) i b
+Waits-undropped_taking k (Collecting purpose) i b = Waits-read k (Collecting purpose) i b
 Waits-undropped_taking k (Deciding keeps) i b = Waits-read k (Deciding keeps) i b
-Waits-undropped_taking k (StringName appends) i b = Waits-read k (StringName appends) i b
-Waits-undropped_taking k (StringText name appends is_front) i b = Waits-read k (StringText name appends is_front) i b
-Waits-undropped_taking k (Telling aborts is_front) i b = Waits-read k (Telling aborts is_front) i b
-Waits-undropped_taking k (Calling name) i b = Waits-read k (Calling name) i b
-Waits-undropped_taking k (Defining name appends end matched) i b = Waits-read k (Defining name appends end matched) i b
 
 -- a byte
 Waits-taking : (k : Known) (reading : LineState) (i : PageInput) (b : ℕ) → FewWait (taking k reading i b).effect.events
@@ -292,21 +288,21 @@ Waits-end_taking k LineStart i = waits-interrupted_end k.interrupted
 Waits-end_taking k Braced i = waits-interrupted_end k.interrupted
 Waits-end_taking k (Control breaks) i = waits-interrupted_end k.interrupted
 Waits-end_taking k (Deciding keeps) i = waits-interrupted_end k.interrupted
-Waits-end_taking k (StringName appends) i = waits-interrupted_end k.interrupted
-Waits-end_taking k (StringText name appends is_front) i = waits-interrupted_end k.interrupted
+Waits-end_taking k (Collecting (StringName appends)) i = waits-interrupted_end k.interrupted
+Waits-end_taking k (Collecting (StringText name appends is_front)) i = waits-interrupted_end k.interrupted
 Waits-end_taking k (Skipping opened closed behind) i = waits-interrupted_end k.interrupted
 Waits-end_taking k Dropped i = waits-interrupted_end k.interrupted
 Waits-end_taking k (Told aborts) i = waits-interrupted_end k.interrupted
 Waits-end_taking k Exiting i = waits-interrupted_end k.interrupted
-Waits-end_taking k (Defining name appends end matched) i = tt
+Waits-end_taking k (Collecting (Defining name appends end matched)) i = tt
 Waits-end_taking k TitleFront i = Waits-undropped_taking k TitleFront i newline
 Waits-end_taking k (InTitle delimiter) i = Waits-title_ended k i
 Waits-end_taking k Branch i = Waits-undropped_taking k Branch i newline
 Waits-end_taking k (InText line) i = Waits-undropped_taking k (InText line) i newline
 Waits-end_taking k (Name breaks first) i = Waits-undropped_taking k (Name breaks first) i newline
-Waits-end_taking k (InArguments breaks request) i = Waits-undropped_taking k (InArguments breaks request) i newline
-Waits-end_taking k (Calling name) i = Waits-undropped_taking k (Calling name) i newline
-Waits-end_taking k (Telling aborts is_front) i = Waits-undropped_taking k (Telling aborts is_front) i newline
+Waits-end_taking k (Collecting (InArguments breaks request)) i = Waits-undropped_taking k (Collecting (InArguments breaks request)) i newline
+Waits-end_taking k (Collecting (Calling name)) i = Waits-undropped_taking k (Collecting (Calling name)) i newline
+Waits-end_taking k (Collecting (Telling aborts is_front)) i = Waits-undropped_taking k (Collecting (Telling aborts is_front)) i newline
 
 -- so few stand behind each of these events that may spring a macro
 pub AreFewBehind-taking : (k : Known) (reading : LineState) (i : PageInput) (b : ℕ) → AreFewBehind (taking k reading i b).effect.events

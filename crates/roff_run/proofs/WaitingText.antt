@@ -28,7 +28,7 @@ use Rattle.roff_run.proofs.WaitingRequests.{waits-numbered}
 use Rattle.roff_run.specs.Requests.{PageEvent, Text}
 use Rattle.roff_run.proofs.WaitingFew.{AtMost, FewWait, FewWait-short, at_most-more}
 use Rattle.roff_run.specs.declared.line_state.LineState.{LineState}
-use Rattle.roff_run.specs.declared.line_state.LineState.TheVariants.{LineStart, Branch, Braced, Text as InText, Control, Name, Arguments as InArguments, Deciding, StringName, StringText, Skipping, Dropped, Telling, Told, Exiting, Calling, Defining, TitleFront, Title as InTitle}
+use Rattle.roff_run.specs.declared.line_state.LineState.TheVariants.{LineStart, Branch, Braced, Text as InText, Control, Name, Deciding, Skipping, Dropped, Told, Exiting, TitleFront, Title as InTitle, Collecting}
 use Rattle.roff_run.specs.declared.line_state.TextLine.{TextLine}
 
 -- what is done with an item means events of which few wait
@@ -151,19 +151,14 @@ Waits-first_taking k i LineStart b = Waits-line_begun k i b
 Waits-first_taking k i (InText line) b = Waits-line_begun k i b
 Waits-first_taking k i (Control breaks) b = Waits-line_begun k i b
 Waits-first_taking k i (Name breaks first) b = Waits-line_begun k i b
-Waits-first_taking k i (InArguments breaks request) b = Waits-line_begun k i b
+Waits-first_taking k i (Collecting purpose) b = Waits-line_begun k i b
 Waits-first_taking k i (Deciding keeps) b = Waits-line_begun k i b
 Waits-first_taking k i (Skipping opened closed behind) b = Waits-line_begun k i b
-Waits-first_taking k i (StringName appends) b = Waits-line_begun k i b
-Waits-first_taking k i (StringText name appends is_front) b = Waits-line_begun k i b
 Waits-first_taking k i Dropped b = Waits-line_begun k i b
-Waits-first_taking k i (Telling aborts is_front) b = Waits-line_begun k i b
 Waits-first_taking k i (Told aborts) b = Waits-line_begun k i b
 Waits-first_taking k i Exiting b = Waits-line_begun k i b
 Waits-first_taking k i TitleFront b = Waits-line_begun k i b
 Waits-first_taking k i (InTitle delimiter) b = Waits-line_begun k i b
-Waits-first_taking k i (Calling name) b = Waits-line_begun k i b
-Waits-first_taking k i (Defining name appends end matched) b = Waits-line_begun k i b
 
 -- an escape there
 Waits-escape_begun : (k : Known) (i : PageInput) (b : ℕ) → Waits (escape_begun k i b)
@@ -176,19 +171,14 @@ Waits-first_escape k i Braced b = Waits-if (b == newline) _ _ tt (Waits-escape_b
 Waits-first_escape k i (InText line) b = Waits-if (b == newline) _ _ tt (Waits-escape_begun k i b)
 Waits-first_escape k i (Control breaks) b = Waits-if (b == newline) _ _ tt (Waits-escape_begun k i b)
 Waits-first_escape k i (Name breaks first) b = Waits-if (b == newline) _ _ tt (Waits-escape_begun k i b)
-Waits-first_escape k i (InArguments breaks request) b = Waits-if (b == newline) _ _ tt (Waits-escape_begun k i b)
+Waits-first_escape k i (Collecting purpose) b = Waits-if (b == newline) _ _ tt (Waits-escape_begun k i b)
 Waits-first_escape k i (Deciding keeps) b = Waits-if (b == newline) _ _ tt (Waits-escape_begun k i b)
 Waits-first_escape k i (Skipping opened closed behind) b = Waits-if (b == newline) _ _ tt (Waits-escape_begun k i b)
-Waits-first_escape k i (StringName appends) b = Waits-if (b == newline) _ _ tt (Waits-escape_begun k i b)
-Waits-first_escape k i (StringText name appends is_front) b = Waits-if (b == newline) _ _ tt (Waits-escape_begun k i b)
 Waits-first_escape k i Dropped b = Waits-if (b == newline) _ _ tt (Waits-escape_begun k i b)
-Waits-first_escape k i (Telling aborts is_front) b = Waits-if (b == newline) _ _ tt (Waits-escape_begun k i b)
 Waits-first_escape k i (Told aborts) b = Waits-if (b == newline) _ _ tt (Waits-escape_begun k i b)
 Waits-first_escape k i Exiting b = Waits-if (b == newline) _ _ tt (Waits-escape_begun k i b)
 Waits-first_escape k i TitleFront b = Waits-if (b == newline) _ _ tt (Waits-escape_begun k i b)
 Waits-first_escape k i (InTitle delimiter) b = Waits-if (b == newline) _ _ tt (Waits-escape_begun k i b)
-Waits-first_escape k i (Calling name) b = Waits-if (b == newline) _ _ tt (Waits-escape_begun k i b)
-Waits-first_escape k i (Defining name appends end matched) b = Waits-if (b == newline) _ _ tt (Waits-escape_begun k i b)
 
 -- what a name asks for
 pub Waits-asking : (k : Known) (i : PageInput) (reading : LineState) (purpose : NameUse) (name : Option (List ℕ)) → Waits (asking k i reading purpose name)

@@ -42,8 +42,8 @@ Turns names p b q =
     (k : Known) (i : PageInput) → taking k p.reading (input_at names p i) b ≡ going_on (input_at names q i) q.reading
 
 -- where this is read, a newline changes nothing else, and a line begins behind it
-abbrev pub EndsLine : LineState → Type 0
-EndsLine reading = (k : Known) (i : PageInput) → taking k reading i newline ≡ going_on i LineStart
+abbrev pub EndsByNewline : LineState → Type 0
+EndsByNewline reading = (k : Known) (i : PageInput) → taking k reading i newline ≡ going_on i LineStart
 
 -- a byte is held in the arguments of the line where nothing is half read, and this is read on
 abbrev pub Holds : LineState → ℕ → Type 0

@@ -14,7 +14,8 @@ use Rattle.roff_run.specs.declared.line_state.TextLine.{TextLine}
 use Rattle.roff_run.specs.declared.phase.Phase.{Phase}
 use Rattle.roff_run.specs.declared.phase.Phase.TheVariants.{Reading, LastMacro, Closing}
 use Rattle.roff_run.specs.declared.line_state.LineState.{LineState}
-use Rattle.roff_run.specs.declared.line_state.LineState.TheVariants.{LineStart, Braced, Name, Arguments as InArguments, Telling, Told, Calling, Defining, Exiting}
+use Rattle.roff_run.specs.declared.line_state.LineState.TheVariants.{LineStart, Braced, Name, Told, Exiting, Collecting}
+use Rattle.roff_run.specs.declared.purpose.Purpose.TheVariants.{Arguments as InArguments, Telling, Calling, Defining}
 
 -- the bytes ahead that cost nothing
 abbrev pub free_ahead : List (Ahead PageEvent) → ℕ
@@ -37,12 +38,12 @@ endings_of (half ∷ rest) = endings_of rest + 1
 -- is told, or a definition begins; what ends in a definition may end that, and begin a line of arguments or a condition.
 abbrev pub begun : LineState → ℕ
 begun (Name breaks first) = 4
-begun (InArguments breaks request) = 4
-begun (Calling name) = 1
-begun (Telling aborts is_front) = 2
+begun (Collecting (InArguments breaks request)) = 4
+begun (Collecting (Calling name)) = 1
+begun (Collecting (Telling aborts is_front)) = 2
 begun (Told aborts) = 1
 begun Exiting = 1
-begun (Defining name appends end matched) = 3
+begun (Collecting (Defining name appends end matched)) = 3
 begun (_) = 0
 
 -- how many unfinished lines are read: one, but at the beginning of one

@@ -15,10 +15,10 @@ mod text_steps;
 
 use crate::event::LineEvents;
 use crate::message::Message;
-use crate::request::Request;
+use crate::purpose::Purpose;
 use roff_escape::Surroundings;
 use roff_layout::Glyph;
-use roff_num::{Name, ShortName};
+use roff_num::Name;
 
 /// What is being read of a line.
 #[derive(Clone, Copy)]
@@ -40,37 +40,11 @@ pub enum LineState {
         breaks: bool,
         first: u8,
     },
-    /// Behind a request's name.
-    Arguments {
-        breaks: bool,
-        request: Request,
-    },
+    /// A line whose bytes are collected for this, up to its end.
+    Collecting(Purpose),
     /// A condition, whose result may be kept.
     Deciding {
         keeps: bool,
-    },
-    /// The name of a string, which may be appended to.
-    StringName {
-        appends: bool,
-    },
-    /// A string's text, of a string with this name, and whether it is in front of it.
-    StringText {
-        name: Option<ShortName>,
-        appends: bool,
-        is_front: bool,
-    },
-    /// The arguments of a line that calls the body of this name.
-    Calling {
-        name: ShortName,
-    },
-    /// The text of a definition: what gets it, if anything does, whether it is put behind that, the
-    /// name that its last line has, and how many bytes of that line's mark stand in front of a line
-    /// that may be the last one.
-    Defining {
-        name: Option<ShortName>,
-        appends: bool,
-        end: Option<ShortName>,
-        matched: Option<u8>,
     },
     /// A branch that is skipped: how many braces were opened and closed in it, and whether a
     /// backslash stands in front.
@@ -81,11 +55,6 @@ pub enum LineState {
     },
     /// A line that is dropped.
     Dropped,
-    /// The text of a message, which may abort the run, and whether it is in front of it.
-    Telling {
-        aborts: bool,
-        is_front: bool,
-    },
     /// The line of a message has ended; its text is held still.
     Told {
         aborts: bool,

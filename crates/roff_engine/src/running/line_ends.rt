@@ -3,13 +3,14 @@
 ghost use Rattle.std.specs.Prelude.{◌≡◌, ℕ, []};
 ghost use Rattle.roff_source.specs.Bytes.{newline};
 ghost use Rattle.roff_run.specs.Run.{byte_taken};
-ghost use Rattle.roff_run.specs.declared.line_state.LineState.TheVariants.{Arguments, Calling};
+ghost use Rattle.roff_run.specs.declared.line_state.LineState.TheVariants.{Collecting};
+ghost use Rattle.roff_run.specs.declared.purpose.Purpose.TheVariants.{Arguments, Calling};
 ghost use Rattle.roff_run.specs.declared.request.Request.TheVariants.{Break};
 ghost use Rattle.roff_engine.specs.Clauses.{seen};
 
 use super::Running;
 use roff_num::ShortName;
-use roff_run::{LineState, Request, Status};
+use roff_run::{LineState, Purpose, Request, Status};
 use roff_sinks::ByteSink;
 
 impl Running {
@@ -47,12 +48,14 @@ impl Running {
             return self.end_any_line(out, err);
         }
         match self.interpreter.reader.reading() {
-            LineState::Calling { name } => self.end_call_line(name, out, err),
-            LineState::Arguments {
-                breaks,
-                request: Request::Break,
-            } => self.end_break(breaks, out, err),
-            LineState::Arguments { breaks, request } => {
+            LineState::Collecting(Purpose::Calling { name }) => self.end_call_line(name, out, err),
+            LineState::Collecting(
+                Purpose::Arguments {
+                    breaks,
+                    request: Request::Break,
+                },
+            ) => self.end_break(breaks, out, err),
+            LineState::Collecting(Purpose::Arguments { breaks, request }) => {
                 self.end_request(breaks, request, out, err)
             }
             _ => self.end_any_line(out, err),
@@ -82,7 +85,7 @@ impl Running {
         out: &mut O,
         err: &mut E,
     ) -> Result<(), Status>
-        requires line { self.old.interpreter.reader.reading ≡ Calling name }
+        requires line { self.old.interpreter.reader.reading ≡ Collecting (Calling name) }
         requires none_half { self.old.unread.input.escapes ≡ [] }
         ensures { (failures : ℕ) → DoesItem self.old.unread.input.line (byte_taken newline)
             self.old self.new (seen failures (O.sunk out.old) (E.sunk err.old))
@@ -106,7 +109,7 @@ impl Running {
         out: &mut O,
         err: &mut E,
     ) -> Result<(), Status>
-        requires line { self.old.interpreter.reader.reading ≡ Arguments breaks Break }
+        requires line { self.old.interpreter.reader.reading ≡ Collecting (Arguments breaks Break) }
         requires none_half { self.old.unread.input.escapes ≡ [] }
         ensures { (failures : ℕ) → DoesItem self.old.unread.input.line (byte_taken newline)
             self.old self.new (seen failures (O.sunk out.old) (E.sunk err.old))
@@ -131,7 +134,8 @@ impl Running {
         out: &mut O,
         err: &mut E,
     ) -> Result<(), Status>
-        requires line { self.old.interpreter.reader.reading ≡ Arguments breaks request }
+        requires line { self.old.interpreter.reader.reading
+            ≡ Collecting (Arguments breaks request) }
         requires none_half { self.old.unread.input.escapes ≡ [] }
         ensures { (failures : ℕ) → DoesItem self.old.unread.input.line (byte_taken newline)
             self.old self.new (seen failures (O.sunk out.old) (E.sunk err.old))

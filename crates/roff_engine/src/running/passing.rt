@@ -5,7 +5,7 @@ ghost use Rattle.roff_fronts.specs.ControlFronts.{BeginsControl, TakesAtBeginnin
 ghost use Rattle.roff_fronts.specs.Runs.{IsRun};
 ghost use Rattle.roff_scan.specs.declared.run_kind.RunKind.TheVariants.{Dropped as DroppedRun};
 ghost use Rattle.roff_run.specs.Reading.Returns.{behind_return};
-ghost use Rattle.roff_run.specs.Stages.{EndsLine};
+ghost use Rattle.roff_run.specs.Stages.{EndsByNewline};
 ghost use Rattle.roff_escape.specs.declared.open_escape.Waiting.TheVariants.{Takes};
 ghost use Rattle.roff_input.specs.Unread.{IsWithin};
 ghost use Rattle.roff_scan.specs.Unread.Calls.{PassesEnd, PassesReturn};
@@ -256,7 +256,7 @@ impl Running {
     /// Takes a newline at once that ends the line, if it stands in front. Returns whether it did.
     #[inline(always)]
     fn end_dropped<S: ByteSource>(&mut self, source: &mut S) -> bool
-        requires ends { EndsLine self.old.interpreter.reader.reading }
+        requires ends { EndsByNewline self.old.interpreter.reader.reading }
         requires none_due { due self.old.interpreter.reader.reading ≡ None }
         requires none_half { self.old.unread.input.escapes ≡ [] }
         ensures { GoesFurtherOver result S.ByteSource source.old source.new self.old self.new }

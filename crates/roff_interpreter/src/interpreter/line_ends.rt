@@ -2,7 +2,8 @@
 
 ghost use Rattle.std.specs.Prelude.{◌≡◌, []};
 ghost use Rattle.roff_interpreter.specs.Clauses.{DoesTaking, sinks, taking};
-ghost use Rattle.roff_run.specs.declared.line_state.LineState.TheVariants.{Arguments, Calling};
+ghost use Rattle.roff_run.specs.declared.line_state.LineState.TheVariants.{Collecting};
+ghost use Rattle.roff_run.specs.declared.purpose.Purpose.TheVariants.{Arguments, Calling};
 ghost use Rattle.roff_run.specs.declared.request.Request.TheVariants.{Break};
 ghost use Rattle.roff_source.specs.Bytes.{newline};
 
@@ -30,7 +31,7 @@ impl Interpreter {
         out: &mut O,
         err: &mut E,
     ) -> Result<Option<Sprung>, Halt>
-        requires line { self.old.reader.reading ≡ Arguments breaks request }
+        requires line { self.old.reader.reading ≡ Collecting (Arguments breaks request) }
         requires none_half { unread.old.input.escapes ≡ [] }
         ensures { DoesTaking (λ k. taking k self.old.reader.reading unread.old.input newline) []
             self.old self.new unread.old unread.new
@@ -62,7 +63,7 @@ impl Interpreter {
         out: &mut O,
         err: &mut E,
     ) -> Result<Option<Sprung>, Halt>
-        requires line { self.old.reader.reading ≡ Arguments breaks Break }
+        requires line { self.old.reader.reading ≡ Collecting (Arguments breaks Break) }
         requires none_half { unread.old.input.escapes ≡ [] }
         ensures { DoesTaking (λ k. taking k self.old.reader.reading unread.old.input newline) []
             self.old self.new unread.old unread.new
@@ -86,7 +87,7 @@ impl Interpreter {
         out: &mut O,
         err: &mut E,
     ) -> Result<Option<Sprung>, Halt>
-        requires line { self.old.reader.reading ≡ Calling name }
+        requires line { self.old.reader.reading ≡ Collecting (Calling name) }
         requires none_half { unread.old.input.escapes ≡ [] }
         ensures { DoesTaking (λ k. taking k self.old.reader.reading unread.old.input newline) []
             self.old self.new unread.old unread.new

@@ -10,7 +10,7 @@ ghost use Rattle.roff_run.specs.declared.request.Called.TheVariants as Called;
 use super::Reader;
 use roff_names::{called_by, whole_name};
 use roff_num::{Limit, ShortName};
-use roff_run::{Called, LineState, PageEvent, Step};
+use roff_run::{Called, LineState, PageEvent, Purpose, Step};
 use roff_scan::{CopyUnit, Unread};
 
 /// How many arguments a body gets that a line calls.
@@ -41,7 +41,7 @@ impl Reader {
         if unread.arguments().len() < CALL_ARGUMENTS {
             unread.hold(unit)?;
         }
-        Ok(self.read_on(LineState::Calling { name }))
+        Ok(self.read_on(LineState::Collecting(Purpose::Calling { name })))
     }
 
     /// The end of the line: the body is read.

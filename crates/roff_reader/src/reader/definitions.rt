@@ -7,7 +7,7 @@ ghost use Rattle.roff_reader.specs.Clauses.{definition_begun};
 use super::Reader;
 use roff_names::{begin_string, short_name_at};
 use roff_num::{Limit, ShortName};
-use roff_run::{LineState, LinesFor, PageEvent, Step};
+use roff_run::{LineState, LinesFor, PageEvent, Purpose, Step};
 use roff_scan::Unread;
 
 impl Reader {
@@ -53,11 +53,11 @@ impl Reader {
             es self.old self.new unread.old unread.new result }
     {
         begin_string(name, unread)?;
-        Ok(self.read_on(LineState::Defining {
+        Ok(self.read_on(LineState::Collecting(Purpose::Defining {
             name,
             appends,
             end,
             matched: Some(0),
-        }))
+        })))
     }
 }

@@ -1,12 +1,13 @@
 //! The texts of messages.
 
 ghost use Rattle.std.specs.Prelude.{false};
-ghost use Rattle.roff_reader.specs.Clauses.{ComposerOf, Telling, TakesAs, going_on, holding_plain};
+ghost use Rattle.roff_reader.specs.Clauses.{Collecting, ComposerOf, Telling, TakesAs};
+ghost use Rattle.roff_reader.specs.Clauses.{going_on, holding_plain};
 ghost use Rattle.roff_reader.specs.Clauses.{message_unit};
 
 use super::Reader;
 use roff_num::Limit;
-use roff_run::{LineState, PageEvent, Step};
+use roff_run::{LineState, PageEvent, Purpose, Step};
 use roff_scan::{CopyUnit, Unread};
 
 impl Reader {
@@ -28,10 +29,12 @@ impl Reader {
     {
         match unit {
             CopyUnit::Byte(b'\n') => Ok(self.read_on(LineState::Told { aborts })),
-            CopyUnit::Byte(b' ') if is_front => Ok(self.read_on(LineState::Telling {
-                aborts,
-                is_front: true,
-            })),
+            CopyUnit::Byte(b' ') if is_front => Ok(self.read_on(LineState::Collecting(
+                Purpose::Telling {
+                    aborts,
+                    is_front: true,
+                },
+            ))),
             _ => self.hold_plain(unit, aborts, unread),
         }
     }
@@ -44,13 +47,14 @@ impl Reader {
         unread: &mut Unread<PageEvent>,
     ) -> Result<Step, Limit>
         ensures { (es : ComposerOf)
-            → TakesAs (λ k. going_on (holding_plain unit unread.old.input) (Telling aborts false))
+            → TakesAs (λ k. going_on (holding_plain unit unread.old.input)
+            (Collecting (Telling aborts false)))
             es self.old self.new unread.old unread.new result }
     {
         unread.hold_plain(unit)?;
-        Ok(self.read_on(LineState::Telling {
+        Ok(self.read_on(LineState::Collecting(Purpose::Telling {
             aborts,
             is_front: false,
-        }))
+        })))
     }
 }

@@ -12,7 +12,7 @@ ghost use Rattle.roff_reader.specs.Clauses.{name_at as name_given_at};
 use super::Reader;
 use roff_names::{begin_string, empty_string, first_bytes, first_name};
 use roff_num::Limit;
-use roff_run::{LineState, PageEvent, Step};
+use roff_run::{LineState, PageEvent, Purpose, Step};
 use roff_scan::{CopyUnit, Unread};
 
 impl Reader {
@@ -85,13 +85,13 @@ impl Reader {
         match first_name(unread.arguments()) {
             Some(name) => {
                 begin_string(name, unread)?;
-                Ok(self.read_on(LineState::StringText {
+                Ok(self.read_on(LineState::Collecting(Purpose::StringText {
                     name,
                     appends,
                     is_front: true,
-                }))
+                })))
             }
-            None => Ok(self.read_on(LineState::StringName { appends })),
+            None => Ok(self.read_on(LineState::Collecting(Purpose::StringName { appends }))),
         }
     }
 

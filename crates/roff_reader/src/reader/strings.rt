@@ -6,7 +6,7 @@ ghost use Rattle.roff_reader.specs.Clauses.{string_unit};
 use super::Reader;
 use roff_names::{enter_string, grow_string};
 use roff_num::{Limit, ShortName};
-use roff_run::{LineState, PageEvent, Step};
+use roff_run::{LineState, PageEvent, Purpose, Step};
 use roff_scan::{CopyUnit, Unread};
 
 impl Reader {
@@ -28,10 +28,12 @@ impl Reader {
             → TakesAs (λ k. string_unit unread.old.input name appends is_front unit)
             es self.old self.new unread.old unread.new result }
     {
-        let text = |is_front| LineState::StringText {
-            name,
-            appends,
-            is_front,
+        let text = |is_front| {
+            LineState::Collecting(Purpose::StringText {
+                name,
+                appends,
+                is_front,
+            })
         };
         match unit {
             CopyUnit::Byte(b'\n') => {

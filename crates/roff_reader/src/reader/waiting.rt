@@ -37,9 +37,9 @@ impl Reader {
         match self.reading {
             LineState::Control { .. } => true,
             LineState::Name { .. } => true,
-            LineState::Arguments { .. } => unread.is_behind_quote(),
-            LineState::StringName { .. } => unread.is_behind_quote(),
-            LineState::Calling { .. } => unread.is_behind_quote(),
+            LineState::Collecting(purpose) => {
+                purpose.collects_arguments() && unread.is_behind_quote()
+            }
             _ => false,
         }
     }

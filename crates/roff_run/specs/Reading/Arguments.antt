@@ -10,7 +10,8 @@ use Rattle.roff_escape.specs.declared.open_escape.CopyUnit.{CopyUnit}
 use Rattle.roff_escape.specs.declared.open_escape.CopyUnit.TheVariants.{Byte, Kept}
 use Rattle.roff_store.specs.TextCalls.{Call}
 use Rattle.roff_run.specs.declared.line_state.LineState.{LineState}
-use Rattle.roff_run.specs.declared.line_state.LineState.TheVariants.{LineStart, Arguments as InArguments, Exiting}
+use Rattle.roff_run.specs.declared.line_state.LineState.TheVariants.{LineStart, Exiting, Collecting}
+use Rattle.roff_run.specs.declared.purpose.Purpose.TheVariants.{Arguments as InArguments}
 use Rattle.roff_run.specs.declared.request.Request.{Request}
 use Rattle.roff_run.specs.declared.request.LineReading.{LineReading}
 use Rattle.roff_run.specs.declared.request.LineReading.TheVariants.{ByLastLine, ByLines}
@@ -52,5 +53,5 @@ arguments_ended k i breaks request (_) = line_ended k i breaks request
 abbrev pub unit_found : Known → PageInput → Bool → Request → CopyUnit → Taking
 unit_found k i breaks request (Byte b) =
     if b == newline then arguments_ended k i breaks request (row_of request).line
-    else going_on (holding (Byte b) i) (InArguments breaks request)
-unit_found k i breaks request (Kept b) = going_on (holding (Kept b) i) (InArguments breaks request)
+    else going_on (holding (Byte b) i) (Collecting (InArguments breaks request))
+unit_found k i breaks request (Kept b) = going_on (holding (Kept b) i) (Collecting (InArguments breaks request))

@@ -10,7 +10,8 @@ use Rattle.roff_escape.specs.declared.open_escape.CopyUnit.TheVariants.{Byte, Ke
 use Rattle.roff_run.specs.Reading.Items.{PageInput, Taking, going_on}
 use Rattle.roff_run.specs.Reading.Units.{holding, settling}
 use Rattle.roff_num.specs.ShortNames.{name_bytes}
-use Rattle.roff_run.specs.declared.line_state.LineState.TheVariants.{LineStart, Calling}
+use Rattle.roff_run.specs.declared.line_state.LineState.TheVariants.{LineStart, Collecting}
+use Rattle.roff_run.specs.declared.purpose.Purpose.TheVariants.{Calling}
 use Rattle.roff_num.specs.declared.short_name.ShortName.{ShortName}
 use Rattle.roff_run.specs.declared.request.Called.{Called}
 use Rattle.roff_run.specs.declared.request.Called.TheVariants.{Request as ARequest, Body as ABody, Nothing as Unknown}
@@ -25,9 +26,9 @@ holding_call unit i = if nat_le 9 (length i.arguments.whole) then i else holding
 abbrev pub call_unit : PageInput → ShortName → CopyUnit → Taking
 call_unit i name (Byte b) =
     if b == newline then going_on (calling_body (body_named (name_bytes name) i) i) LineStart
-    else if b == quote then going_on (holding_call (Byte b) i) (Calling name)
-    else going_on (holding_call (Byte b) (settling i)) (Calling name)
-call_unit i name (Kept b) = going_on (holding_call (Kept b) (settling i)) (Calling name)
+    else if b == quote then going_on (holding_call (Byte b) i) (Collecting (Calling name))
+    else going_on (holding_call (Byte b) (settling i)) (Collecting (Calling name))
+call_unit i name (Kept b) = going_on (holding_call (Kept b) (settling i)) (Collecting (Calling name))
 
 -- what a name stands for is read as the body of a call without arguments, if it is one
 abbrev pub called_last : Called → PageInput → PageInput

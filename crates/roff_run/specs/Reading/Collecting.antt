@@ -10,15 +10,16 @@ use Rattle.roff_run.specs.Reading.Titles.{title_front_unit}
 use Rattle.roff_run.specs.Reading.Units.{interrupted, no_unit_found, unit_in, unit_or}
 use Rattle.roff_run.specs.Registers.{Known}
 use Rattle.roff_run.specs.declared.line_state.LineState.{LineState}
-use Rattle.roff_run.specs.declared.line_state.LineState.TheVariants.{StringName, StringText, Arguments as InArguments, Telling, Calling, TitleFront}
+use Rattle.roff_run.specs.declared.line_state.LineState.TheVariants.{TitleFront, Collecting}
+use Rattle.roff_run.specs.declared.purpose.Purpose.TheVariants.{StringName, StringText, Arguments as InArguments, Telling, Calling}
 
 -- what a unit does there
 abbrev pub unit_taking : Known → PageInput → LineState → CopyUnit → Taking
-unit_taking k i (InArguments breaks request) = unit_found k i breaks request
-unit_taking k i (StringName appends) = string_name_unit i appends
-unit_taking k i (StringText name appends is_front) = string_unit i name appends is_front
-unit_taking k i (Telling aborts is_front) = message_unit i aborts is_front
-unit_taking k i (Calling name) = call_unit i name
+unit_taking k i (Collecting (InArguments breaks request)) = unit_found k i breaks request
+unit_taking k i (Collecting (StringName appends)) = string_name_unit i appends
+unit_taking k i (Collecting (StringText name appends is_front)) = string_unit i name appends is_front
+unit_taking k i (Collecting (Telling aborts is_front)) = message_unit i aborts is_front
+unit_taking k i (Collecting (Calling name)) = call_unit i name
 unit_taking k i TitleFront = title_front_unit k i
 unit_taking k i reading = λ unit. going_on i reading
 

@@ -5,7 +5,8 @@ use Rattle.roff_escape.specs.OpenEscapes.{byte_read}
 use Rattle.roff_input.specs.Input.{choosing}
 use Rattle.roff_input.specs.Input.Calls.{last_result, without_last}
 use Rattle.roff_escape.specs.declared.open_escape.Surroundings.TheVariants.{Arguments as AboveArguments, Copy as AboveCopy}
-use Rattle.roff_run.specs.declared.line_state.LineState.TheVariants.{LineStart, Arguments as InArguments, Deciding, StringName, Dropped, Telling, Calling, TitleFront}
+use Rattle.roff_run.specs.declared.line_state.LineState.TheVariants.{LineStart, Deciding, Dropped, TitleFront, Collecting}
+use Rattle.roff_run.specs.declared.purpose.Purpose.TheVariants.{Arguments as InArguments, StringName, Telling, Calling}
 use Rattle.roff_num.specs.declared.short_name.ShortName.{ShortName}
 use Rattle.roff_run.specs.declared.request.Request.{Request}
 use Rattle.roff_run.specs.declared.request.LineReading.{LineReading}
@@ -29,23 +30,23 @@ ends_name b = b == blank || (b == tab || (b == newline || b == backslash))
 -- the first byte behind a request's name, by how its line is read
 abbrev pub line_taking : Known → PageInput → Bool → Request → LineReading → ℕ → Taking
 line_taking k i breaks request ByArguments b =
-    read_by (λ j. collected k j (InArguments breaks request)) i (byte_read AboveArguments i.escapes b)
+    read_by (λ j. collected k j (Collecting (InArguments breaks request))) i (byte_read AboveArguments i.escapes b)
 line_taking k i breaks request (ByCondition keeps) b = condition_begun k i keeps b
 line_taking k i breaks request (ByString appends) b =
-    read_by (λ j. collected k j (StringName appends)) i (byte_read AboveArguments i.escapes b)
+    read_by (λ j. collected k j (Collecting (StringName appends))) i (byte_read AboveArguments i.escapes b)
 line_taking k i breaks request ByLastLine b =
-    read_by (λ j. collected k j (InArguments breaks request)) i (byte_read AboveArguments i.escapes b)
+    read_by (λ j. collected k j (Collecting (InArguments breaks request))) i (byte_read AboveArguments i.escapes b)
 line_taking k i breaks request (ByMessage aborts) b =
-    read_by (λ j. collected k j (Telling aborts true)) i (byte_read AboveCopy i.escapes b)
+    read_by (λ j. collected k j (Collecting (Telling aborts true))) i (byte_read AboveCopy i.escapes b)
 line_taking k i breaks request (ByLines lines) b =
-    read_by (λ j. collected k j (InArguments breaks request)) i (byte_read AboveArguments i.escapes b)
+    read_by (λ j. collected k j (Collecting (InArguments breaks request))) i (byte_read AboveArguments i.escapes b)
 line_taking k i breaks request ByTitle b = read_by (λ j. collected k j TitleFront) i (byte_read AboveArguments i.escapes b)
 line_taking k i breaks request ByElse b = branch_taking k (without_last i) (reads_else (last_result i)) b
 
 -- a byte behind a name that stands for this: a request is read on, a body is called, and any other line is dropped
 abbrev pub called_taking : Known → PageInput → Bool → Called → ℕ → Taking
 called_taking k i breaks (ARequest request) b = line_taking k i breaks request (row_of request).line b
-called_taking k i breaks (ABody name) b = read_by (λ j. collected k j (Calling name)) i (byte_read AboveArguments i.escapes b)
+called_taking k i breaks (ABody name) b = read_by (λ j. collected k j (Collecting (Calling name))) i (byte_read AboveArguments i.escapes b)
 called_taking k i breaks Unknown b = dropped_taking i b
 
 -- a byte behind a name that it doesn't belong to
@@ -55,19 +56,19 @@ name_ended_taking k i breaks name b = called_taking k i breaks (called_by name i
 -- what is read behind a request's name, by how its line is read: a condition, or the other branch of the last one whose
 -- result was kept
 abbrev pub behind_name : PageInput → Bool → Request → LineReading → Taking
-behind_name i breaks request ByArguments = going_on i (InArguments breaks request)
+behind_name i breaks request ByArguments = going_on i (Collecting (InArguments breaks request))
 behind_name i breaks request (ByCondition keeps) = going_on (choosing i) (Deciding keeps)
-behind_name i breaks request (ByString appends) = going_on i (StringName appends)
-behind_name i breaks request ByLastLine = going_on i (InArguments breaks request)
-behind_name i breaks request (ByMessage aborts) = going_on i (Telling aborts true)
-behind_name i breaks request (ByLines lines) = going_on i (InArguments breaks request)
+behind_name i breaks request (ByString appends) = going_on i (Collecting (StringName appends))
+behind_name i breaks request ByLastLine = going_on i (Collecting (InArguments breaks request))
+behind_name i breaks request (ByMessage aborts) = going_on i (Collecting (Telling aborts true))
+behind_name i breaks request (ByLines lines) = going_on i (Collecting (InArguments breaks request))
 behind_name i breaks request ByTitle = going_on i TitleFront
 behind_name i breaks request ByElse = going_on (without_last i) (branch_of (reads_else (last_result i)))
 
 -- what is read behind a name that stands for this
 abbrev pub behind_called : PageInput → Bool → Called → Taking
 behind_called i breaks (ARequest request) = behind_name i breaks request (row_of request).line
-behind_called i breaks (ABody name) = going_on i (Calling name)
+behind_called i breaks (ABody name) = going_on i (Collecting (Calling name))
 behind_called i breaks Unknown = going_on i Dropped
 
 -- the last byte of a name of two bytes

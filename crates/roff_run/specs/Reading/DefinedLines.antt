@@ -7,7 +7,8 @@ use Rattle.roff_escape.specs.declared.open_escape.Found.{Found}
 use Rattle.roff_run.specs.Definitions.{end_mark, front_of, line_from, matched_behind}
 use Rattle.roff_run.specs.declared.definition.DefinitionLine.{DefinitionLine}
 use Rattle.roff_run.specs.declared.definition.DefinitionLine.TheVariants.{MayBeLast, IsLast, IsText}
-use Rattle.roff_run.specs.declared.line_state.LineState.TheVariants.{Defining}
+use Rattle.roff_run.specs.declared.line_state.LineState.TheVariants.{Collecting}
+use Rattle.roff_run.specs.declared.purpose.Purpose.TheVariants.{Defining}
 use Rattle.roff_num.specs.declared.short_name.ShortName.{ShortName}
 use Rattle.roff_run.specs.Reading.ControlLines.{dropped_taking, name_ended_taking}
 use Rattle.roff_run.specs.Reading.Definitions.{definition_grown}
@@ -25,10 +26,10 @@ behind_definition k i (Some name) b = name_ended_taking k (beginning_line i) tru
 -- a unit of a definition's text, where its line is this
 abbrev pub definition_unit : Known → PageInput → Option ShortName → Bool → Option ShortName → List ℕ → CopyUnit → DefinitionLine
     → Taking
-definition_unit k i name appends end front unit (MayBeLast matched) = going_on i (Defining name appends end (Some matched))
+definition_unit k i name appends end front unit (MayBeLast matched) = going_on i (Collecting (Defining name appends end (Some matched)))
 definition_unit k i name appends end front unit (IsLast b) = behind_definition k (string_entered name appends i) end b
 definition_unit k i name appends end front unit IsText =
-    going_on (definition_grown name (front ++ unit_bytes unit) i) (Defining name appends end (matched_behind unit))
+    going_on (definition_grown name (front ++ unit_bytes unit) i) (Collecting (Defining name appends end (matched_behind unit)))
 
 -- a unit of a definition's text: what stands in front of a line that may be the last one is no text yet
 abbrev pub definition_line : Known → PageInput → Option ShortName → Bool → Option ShortName → Option ℕ → CopyUnit → Taking
@@ -38,4 +39,4 @@ definition_line k i name appends end matched unit =
 -- what was found of it
 abbrev pub definition_found : Known → PageInput → Option ShortName → Bool → Option ShortName → Option ℕ → Found → Taking
 definition_found k i name appends end matched found =
-    unit_or (definition_line k i name appends end matched) (no_unit_found k i (Defining name appends end matched) found) (unit_in found)
+    unit_or (definition_line k i name appends end matched) (no_unit_found k i (Collecting (Defining name appends end matched)) found) (unit_in found)

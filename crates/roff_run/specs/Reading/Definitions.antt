@@ -7,7 +7,8 @@ use Rattle.roff_run.specs.Reading.Items.{PageInput, Taking, going_on}
 use Rattle.roff_run.specs.Reading.Strings.{string_begun}
 use Rattle.roff_num.specs.ShortNames.{name_at, name_or_none}
 use Rattle.roff_run.specs.declared.message.Message.TheVariants.{DefinitionNotEnded}
-use Rattle.roff_run.specs.declared.line_state.LineState.TheVariants.{LineStart, Defining}
+use Rattle.roff_run.specs.declared.line_state.LineState.TheVariants.{LineStart, Collecting}
+use Rattle.roff_run.specs.declared.purpose.Purpose.TheVariants.{Defining}
 use Rattle.roff_num.specs.declared.short_name.ShortName.{ShortName}
 use Rattle.roff_run.specs.declared.request.LinesFor.{LinesFor}
 use Rattle.roff_run.specs.declared.request.LinesFor.TheVariants.{Macro, Nobody}
@@ -15,7 +16,7 @@ use Rattle.roff_run.specs.Requests.{saying}
 
 -- the text of a definition is begun, if a name gets it, and lines are read up to the one that ends it
 abbrev pub definition_begun : PageInput → Option ShortName → Bool → Option ShortName → Taking
-definition_begun i name appends end = going_on (string_begun name i) (Defining name appends end (Some 0))
+definition_begun i name appends end = going_on (string_begun name i) (Collecting (Defining name appends end (Some 0)))
 
 -- a definition's line has ended: without the name of a macro it is ignored
 abbrev pub definition_named : PageInput → Bool → Option (Option ShortName) → Option ShortName → Taking

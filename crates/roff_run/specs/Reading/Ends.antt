@@ -13,7 +13,8 @@ use Rattle.roff_num.specs.ShortNames.{name_at}
 use Rattle.roff_run.specs.declared.line_state.Due.{Due}
 use Rattle.roff_run.specs.declared.line_state.Due.TheVariants.{Leaves, Tells as TellsText}
 use Rattle.roff_run.specs.declared.line_state.LineState.{LineState}
-use Rattle.roff_run.specs.declared.line_state.LineState.TheVariants.{LineStart, Braced, Control, Deciding, StringName, StringText, Skipping, Dropped, Told, Exiting, Defining, Title as InTitle}
+use Rattle.roff_run.specs.declared.line_state.LineState.TheVariants.{LineStart, Braced, Control, Deciding, Skipping, Dropped, Told, Exiting, Title as InTitle, Collecting}
+use Rattle.roff_run.specs.declared.purpose.Purpose.TheVariants.{StringName, StringText, Defining}
 use Rattle.roff_run.specs.declared.line_state.TextLine.{TextLine}
 use Rattle.roff_run.specs.declared.phase.Phase.{Phase}
 use Rattle.roff_run.specs.declared.phase.Phase.TheVariants.{Reading, LastMacro, Closing}
@@ -56,12 +57,12 @@ end_taking k LineStart i = last_line_ended k i
 end_taking k Braced i = last_line_ended k i
 end_taking k (Control breaks) i = last_line_ended k i
 end_taking k (Deciding keeps) i = last_line_ended k i
-end_taking k (StringName appends) i = last_line_ended k (string_line_ended i appends (name_at 0 (arguments_given i))).input
-end_taking k (StringText name appends is_front) i = last_line_ended k (string_entered name appends i)
+end_taking k (Collecting (StringName appends)) i = last_line_ended k (string_line_ended i appends (name_at 0 (arguments_given i))).input
+end_taking k (Collecting (StringText name appends is_front)) i = last_line_ended k (string_entered name appends i)
 end_taking k (Skipping opened closed behind) i = last_line_ended k i
 end_taking k Dropped i = last_line_ended k i
 end_taking k (Told aborts) i = last_line_ended k i
 end_taking k Exiting i = last_line_ended k i
-end_taking k (Defining name appends end matched) i = definition_cut i name
+end_taking k (Collecting (Defining name appends end matched)) i = definition_cut i name
 end_taking k (InTitle delimiter) i = title_ended k i
 end_taking k reading i = undropped_taking k reading i newline

@@ -1,5 +1,5 @@
 -- How a byte is read above what is read, and what does that which was found there.
-use Rattle.std.specs.Prelude.{Bool, true, false, pos}
+use Rattle.std.specs.Prelude.{Bool, true, false, pos, if◌then◌else◌}
 use Rattle.roff_escape.specs.OpenEscapes.{Reads}
 use Rattle.roff_escape.specs.declared.open_escape.Found.{Found}
 use Rattle.roff_escape.specs.declared.open_escape.Surroundings.{Surroundings}
@@ -11,9 +11,11 @@ use Rattle.roff_run.specs.Reading.DefinedLines.{definition_found}
 use Rattle.roff_run.specs.Reading.Items.{PageInput, Taking, going_on, read_by}
 use Rattle.roff_run.specs.Reading.TextLines.{on_line, text_found}
 use Rattle.roff_run.specs.Reading.Titles.{title_found}
+use Rattle.roff_run.specs.Reading.Units.{collects_arguments}
 use Rattle.roff_run.specs.Registers.{Known}
 use Rattle.roff_run.specs.declared.line_state.LineState.{LineState}
-use Rattle.roff_run.specs.declared.line_state.LineState.TheVariants.{StringName, StringText, LineStart, Branch, Braced, Text as InText, Control, Name, Arguments as InArguments, Deciding, Skipping, Dropped, Telling, Told, Exiting, Calling, Defining, TitleFront, Title as InTitle}
+use Rattle.roff_run.specs.declared.line_state.LineState.TheVariants.{LineStart, Branch, Braced, Text as InText, Control, Name, Deciding, Skipping, Dropped, Told, Exiting, TitleFront, Title as InTitle, Collecting}
+use Rattle.roff_run.specs.declared.purpose.Purpose.TheVariants.{Defining}
 
 -- whether a byte may be read by what is half read
 abbrev pub has_place : LineState → Bool
@@ -31,14 +33,9 @@ place_in k LineStart = at_start k
 place_in k Branch = at_start k
 place_in k Braced = at_start k
 place_in k (InText line) = on_line k line
-place_in k (InArguments breaks request) = AboveArguments
 place_in k (Deciding keeps) = AboveArguments
-place_in k (StringName appends) = AboveArguments
-place_in k (Calling name) = AboveArguments
 place_in k TitleFront = AboveArguments
-place_in k (StringText name appends is_front) = AboveCopy
-place_in k (Telling aborts is_front) = AboveCopy
-place_in k (Defining name appends end matched) = AboveCopy
+place_in k (Collecting purpose) = if collects_arguments purpose then AboveArguments else AboveCopy
 place_in k (_) = AboveText (pos 0)
 
 -- what does that which was found there: most lines collect units
@@ -48,7 +45,7 @@ found_in k i Branch found = beginning_found k i Branch found
 found_in k i Braced found = beginning_found k i Braced found
 found_in k i (InText line) found = text_found k i line found
 found_in k i (Deciding keeps) found = condition_found k i keeps found
-found_in k i (Defining name appends end matched) found = definition_found k i name appends end matched found
+found_in k i (Collecting (Defining name appends end matched)) found = definition_found k i name appends end matched found
 found_in k i (InTitle delimiter) found = title_found k i delimiter found
 found_in k i (Control breaks) found = going_on i (Control breaks)
 found_in k i (Name breaks first) found = going_on i (Name breaks first)

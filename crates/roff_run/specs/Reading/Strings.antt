@@ -14,7 +14,8 @@ use Rattle.roff_store.specs.Texts.{Body, has_body}
 use Rattle.roff_run.specs.Reading.Items.{PageInput, Taking, going_on}
 use Rattle.roff_run.specs.Reading.Units.{holding, settling}
 use Rattle.roff_num.specs.ShortNames.{name_at, name_bytes}
-use Rattle.roff_run.specs.declared.line_state.LineState.TheVariants.{LineStart, StringName, StringText}
+use Rattle.roff_run.specs.declared.line_state.LineState.TheVariants.{LineStart, Collecting}
+use Rattle.roff_run.specs.declared.purpose.Purpose.TheVariants.{StringName, StringText}
 use Rattle.roff_num.specs.declared.short_name.ShortName.{ShortName}
 
 -- the name of a string, if the argument that gives it is whole
@@ -46,10 +47,10 @@ string_emptied (Some name) appends i =
 abbrev pub string_unit : PageInput → Option ShortName → Bool → Bool → CopyUnit → Taking
 string_unit i name appends is_front (Byte b) =
     if b == newline then going_on (string_entered name appends i) LineStart
-    else if is_front && b == blank then going_on i (StringText name appends true)
-    else if is_front && b == quote then going_on i (StringText name appends false)
-    else going_on (string_grown name (Byte b) i) (StringText name appends false)
-string_unit i name appends is_front (Kept b) = going_on (string_grown name (Kept b) i) (StringText name appends false)
+    else if is_front && b == blank then going_on i (Collecting (StringText name appends true))
+    else if is_front && b == quote then going_on i (Collecting (StringText name appends false))
+    else going_on (string_grown name (Byte b) i) (Collecting (StringText name appends false))
+string_unit i name appends is_front (Kept b) = going_on (string_grown name (Kept b) i) (Collecting (StringText name appends false))
 
 -- the line ends where its name is read: the string is without a text
 abbrev pub string_line_ended : PageInput → Bool → Option (Option ShortName) → Taking
@@ -58,8 +59,8 @@ string_line_ended i appends (Some name) = going_on (string_emptied name appends 
 
 -- behind a unit of the name: where the name is whole the text comes
 abbrev pub string_name_behind : PageInput → Bool → Option (Option ShortName) → Taking
-string_name_behind i appends None = going_on i (StringName appends)
-string_name_behind i appends (Some name) = going_on (string_begun name i) (StringText name appends true)
+string_name_behind i appends None = going_on i (Collecting (StringName appends))
+string_name_behind i appends (Some name) = going_on (string_begun name i) (Collecting (StringText name appends true))
 
 -- a unit where the name may be whole: it is the text's first one, or one of the name
 abbrev pub string_name_or_text : PageInput → Bool → CopyUnit → Option (Option ShortName) → Taking

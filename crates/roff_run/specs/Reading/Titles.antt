@@ -21,7 +21,8 @@ use Rattle.roff_escape.specs.declared.open_escape.Found.TheVariants.{GoesOn, Uni
 use Rattle.roff_run.specs.Messages.{character_name, remark_messages}
 use Rattle.roff_run.specs.declared.message.Message.{Message}
 use Rattle.roff_run.specs.declared.message.Message.TheVariants.{LeftOut, UnknownCharacter}
-use Rattle.roff_run.specs.declared.line_state.LineState.TheVariants.{Arguments as InArguments, Title as InTitle, TitleFront}
+use Rattle.roff_run.specs.declared.line_state.LineState.TheVariants.{Title as InTitle, TitleFront, Collecting}
+use Rattle.roff_run.specs.declared.purpose.Purpose.TheVariants.{Arguments as InArguments}
 use Rattle.roff_run.specs.declared.request.Request.TheVariants.{Title as TitleRequest}
 use Rattle.roff_run.specs.Reading.Arguments.{line_ended}
 use Rattle.roff_run.specs.Reading.Escapes.{measuring, asking}
@@ -70,7 +71,7 @@ title_ended k i = line_ended k i false TitleRequest
 abbrev pub behind_part : PageInput → ℕ → TitlePart → Taking
 behind_part i delimiter Left = title_taking i delimiter (PartEnds ∷ []) []
 behind_part i delimiter Centre = title_taking i delimiter (PartEnds ∷ []) []
-behind_part i delimiter Right = going_on i (InArguments false TitleRequest)
+behind_part i delimiter Right = going_on i (Collecting (InArguments false TitleRequest))
 
 -- a byte of a part that is no delimiter
 abbrev pub title_byte : Known → PageInput → ℕ → ℕ → Taking

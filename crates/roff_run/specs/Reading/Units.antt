@@ -1,5 +1,5 @@
 -- The units of the lines that collect them, and what was found there that is none (manual, section 7.3).
-use Rattle.std.specs.Prelude.{Some, None, Option}
+use Rattle.std.specs.Prelude.{Bool, true, false, Some, None, Option, if◌then◌else◌}
 use Rattle.roff_input.specs.Arguments.{Arguments, with_unit, settled, only_kept}
 use Rattle.roff_input.specs.Input.{holding_text}
 use Rattle.roff_escape.specs.declared.open_escape.CopyUnit.{CopyUnit}
@@ -7,7 +7,9 @@ use Rattle.roff_escape.specs.declared.open_escape.CopyUnit.TheVariants.{Kept}
 use Rattle.roff_escape.specs.declared.open_escape.Found.{Found}
 use Rattle.roff_escape.specs.declared.open_escape.Found.TheVariants.{Unit, Holds, Escape, Asks, Measures, Tells}
 use Rattle.roff_run.specs.declared.line_state.LineState.{LineState}
-use Rattle.roff_run.specs.declared.line_state.LineState.TheVariants.{Arguments as InArguments, StringName, Calling}
+use Rattle.roff_run.specs.declared.line_state.LineState.TheVariants.{Collecting}
+use Rattle.roff_run.specs.declared.purpose.Purpose.TheVariants.{Arguments as InArguments, StringName, Calling}
+use Rattle.roff_run.specs.declared.purpose.Purpose.{Purpose}
 use Rattle.roff_run.specs.Reading.Escapes.{measuring, asking}
 use Rattle.roff_run.specs.Reading.Items.{PageInput, Taking, going_on, telling}
 use Rattle.roff_run.specs.Registers.{Known}
@@ -20,11 +22,17 @@ holding unit i = record i { arguments = only_kept (with_unit i.arguments unit) }
 abbrev pub settling : PageInput → PageInput
 settling i = record i { arguments = only_kept (settled i.arguments) }
 
+-- whether arguments are collected, in which a quote may wait for another one: of a request, of a call, or those of which a
+-- string's name is the first
+abbrev pub collects_arguments : Purpose → Bool
+collects_arguments (InArguments breaks request) = true
+collects_arguments (StringName appends) = true
+collects_arguments (Calling name) = true
+collects_arguments (_) = false
+
 -- the arguments where this is read and no unit comes: no quote follows the quote before
 abbrev pub settled_for : LineState → Arguments → Arguments
-settled_for (InArguments breaks request) a = only_kept (settled a)
-settled_for (StringName appends) a = only_kept (settled a)
-settled_for (Calling name) a = only_kept (settled a)
+settled_for (Collecting purpose) a = if collects_arguments purpose then only_kept (settled a) else a
 settled_for (_) a = a
 
 -- the input there

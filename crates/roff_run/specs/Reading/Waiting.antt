@@ -9,8 +9,9 @@ use Rattle.roff_escape.specs.declared.open_escape.Surroundings.TheVariants.{Text
 use Rattle.roff_escape.specs.declared.open_escape.Waiting.{Waiting}
 use Rattle.roff_escape.specs.declared.open_escape.Waiting.TheVariants.{Takes, Waits}
 use Rattle.roff_run.specs.Reading.Items.{PageInput}
+use Rattle.roff_run.specs.Reading.Units.{collects_arguments}
 use Rattle.roff_run.specs.declared.line_state.LineState.{LineState}
-use Rattle.roff_run.specs.declared.line_state.LineState.TheVariants.{LineStart, Branch, Braced, Text as InText, Control, Name, Arguments as InArguments, StringName, Calling, Title as InTitle}
+use Rattle.roff_run.specs.declared.line_state.LineState.TheVariants.{LineStart, Branch, Braced, Text as InText, Control, Name, Title as InTitle, Collecting}
 
 -- how a backslash is read of what is read: as in a text line, whatever the place on it, and in titles, or in copy mode
 abbrev pub copies_in : LineState → Surroundings
@@ -29,9 +30,7 @@ arguments_wait place = if is_behind_quote place then Waits else Takes
 abbrev pub line_waits : LineState → Place → Waiting
 line_waits (Control breaks) place = Waits
 line_waits (Name breaks first) place = Waits
-line_waits (InArguments breaks request) place = arguments_wait place
-line_waits (StringName appends) place = arguments_wait place
-line_waits (Calling name) place = arguments_wait place
+line_waits (Collecting purpose) place = if collects_arguments purpose then arguments_wait place else Takes
 line_waits (_) place = Takes
 
 -- what is read does at the next item, with these half read

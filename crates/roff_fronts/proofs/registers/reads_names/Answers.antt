@@ -1,5 +1,7 @@
-use Rattle.std.proofs.Common.{subst, sym, ◌∙◌}
+use Rattle.std.proofs.Common.{ap, subst, sym, ◌∙◌}
 use Rattle.roff_run.specs.declared.line_state.LineState.{LineState}
+use Rattle.roff_run.specs.declared.line_state.LineState.TheVariants.{Collecting}
+use Rattle.roff_run.specs.declared.purpose.Purpose.{Purpose}
 use Rattle.roff_fronts.specs.Registers.{ReadsNames}
 use Rattle.roff_fronts.proofs.RegisterNames.{reads_names-arguments, reads_names-calling, reads_names-start, reads_names-text}
 use Rattle.roff_fronts.proofs.registers.reads_names.Goals as goal
@@ -14,12 +16,12 @@ returns-in-Text c = λ so.
     let is = sym c.reading.ensures ∙ c.in-Text.is in
     subst (λ (reading : LineState). ReadsNames reading) (sym is) (reads_names-text c.in-Text.field-0)
 
-pub returns-in-Arguments : goal.returns-in-Arguments
-returns-in-Arguments c = λ so.
-    let is = sym c.reading.ensures ∙ c.in-Arguments.is in
-    subst (λ (reading : LineState). ReadsNames reading) (sym is) (reads_names-arguments c.in-Arguments.breaks c.in-Arguments.request)
+pub returns-in-Collecting-Arguments : goal.returns-in-Collecting-Arguments
+returns-in-Collecting-Arguments c = λ so.
+    let is = sym c.reading.ensures ∙ c.in-Collecting-Arguments.is ∙ ap (λ (purpose : Purpose). Collecting purpose) c.in-Collecting-Arguments.field-0-is in
+    subst (λ (reading : LineState). ReadsNames reading) (sym is) (reads_names-arguments c.in-Collecting-Arguments.field-0-0 c.in-Collecting-Arguments.field-0-1)
 
-pub returns-in-Calling : goal.returns-in-Calling
-returns-in-Calling c = λ so.
-    let is = sym c.reading.ensures ∙ c.in-Calling.is in
-    subst (λ (reading : LineState). ReadsNames reading) (sym is) (reads_names-calling c.in-Calling.name)
+pub returns-in-Collecting-Calling : goal.returns-in-Collecting-Calling
+returns-in-Collecting-Calling c = λ so.
+    let is = sym c.reading.ensures ∙ c.in-Collecting-Calling.is ∙ ap (λ (purpose : Purpose). Collecting purpose) c.in-Collecting-Calling.field-0-is in
+    subst (λ (reading : LineState). ReadsNames reading) (sym is) (reads_names-calling c.in-Collecting-Calling.field-0-0)

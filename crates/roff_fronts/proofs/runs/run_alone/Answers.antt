@@ -1,14 +1,14 @@
-use Rattle.std.proofs.Common.{◌∙◌, ap, sym}
-use Rattle.roff_run.specs.Reading.Ends.{due}
+use Rattle.std.proofs.Common.{List, ◌∙◌, subst, sym}
+use Rattle.std.specs.Prelude.{IfSome}
+use Rattle.roff_escape.specs.OpenEscape.{OpenEscape}
 use Rattle.roff_run.specs.declared.line_state.LineState.{LineState}
-use Rattle.roff_fronts.proofs.HeldRuns.{holds_call_where}
+use Rattle.roff_run.specs.declared.line_state.LineState.TheVariants.{Collecting}
+use Rattle.roff_fronts.specs.Runs.{IsRun}
 use Rattle.roff_fronts.proofs.runs.run_alone.Goals as goal
 
-pub returns-in-Calling : goal.returns-in-Calling
-returns-in-Calling c =
-    let is = sym c.reading.ensures ∙ c.in-Calling.is in
-    record {
-      does = holds_call_where c.args.reader.now.reading c.in-Calling.name is;
-      half_read = c.requires.none_half;
-      none_due = ap (λ (reading : LineState). due reading) is;
-    }
+pub returns-in-Collecting : goal.returns-in-Collecting
+returns-in-Collecting c =
+    let is = sym c.reading.ensures ∙ c.in-Collecting.is in
+    let found = c.run_collected in
+    subst (λ (reading : LineState). IfSome found.result (λ kind. IsRun kind reading c.args.unread.now.input.escapes)) (sym is)
+    (subst (λ (half : List OpenEscape). IfSome found.result (λ kind. IsRun kind (Collecting c.in-Collecting.purpose) half)) (sym c.requires.none_half) found.ensures)

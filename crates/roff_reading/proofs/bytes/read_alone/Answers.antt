@@ -1,16 +1,12 @@
 use Rattle.std.proofs.Common.{◌≡◌, ◌∙◌, true, false, Ok, ap, rules, sym}
-use Rattle.roff_escape.specs.declared.open_escape.CopyUnit.TheVariants.{Byte}
 use Rattle.roff_run.specs.Events.Steps.{events_of, messages_of}
 use Rattle.std.proofs.lemmas.Bool.{eq-eqb}
 use Rattle.roff_run.specs.Reading.{title_read, undropped_taking}
-use Rattle.roff_run.specs.Reading.Arguments.{unit_found}
 use Rattle.roff_run.specs.Reading.Beginnings.{first_taking}
-use Rattle.roff_run.specs.Reading.Calls.{call_unit}
 use Rattle.roff_run.specs.Reading.Items.{meaning_events}
-use Rattle.roff_run.specs.Reading.Strings.{string_name_unit, string_unit}
 use Rattle.roff_run.specs.Reading.Titles.{title_byte}
 use Rattle.roff_run.specs.declared.line_state.LineState.{LineState}
-use Rattle.roff_run.specs.declared.line_state.LineState.TheVariants.{Arguments as InArguments, Calling, LineStart, StringName, StringText, Text as InText, Title as InTitle}
+use Rattle.roff_run.specs.declared.line_state.LineState.TheVariants.{LineStart, Text as InText, Title as InTitle, Collecting}
 use Rattle.roff_run.specs.declared.step.Step.{Step}
 use Rattle.roff_reader.proofs.TakesAs.{TakesAs-as, TakesAs-where}
 use Rattle.roff_reader.proofs.Strings.{other}
@@ -46,58 +42,13 @@ returns-in-Text c =
     ∙ ap (λ (s : Step). meaning_events u.input taken.result.0 (events_of kept s)) (sym done.ensures.step))
     (λ kept. ap (messages_of kept) done.ensures.step ∙ taken.ensures.quiet kept) done.ensures.reading)
 
-pub returns-in-Arguments : goal.returns-in-Arguments
-returns-in-Arguments c =
-    let es = c.args.composer.now in
-    let old = c.args.reader.now in
+pub returns-in-Collecting : goal.returns-in-Collecting
+returns-in-Collecting c =
     let u = c.args.unread.now in
-    let b = c.args.byte in
-    let done = c.read_unit in
-    let place : LineState = InArguments c.in-Arguments.breaks c.in-Arguments.request in
-    let is : old.reading ≡ place = search rules in
-    TakesAs-where (λ k r. undropped_taking k r u.input b) place es old done.new.reader u done.new.unread done.result is
-    (TakesAs-as (λ k. unit_found k u.input c.in-Arguments.breaks c.in-Arguments.request (Byte b)) (λ k. undropped_taking k place u.input b) es old done.new.reader u done.new.unread done.result
-    (λ k. plain-found k place u.input b c.requires.none_half c.requires.no_escape) done.ensures)
-
-pub returns-in-Calling : goal.returns-in-Calling
-returns-in-Calling c =
-    let es = c.args.composer.now in
-    let old = c.args.reader.now in
-    let u = c.args.unread.now in
-    let b = c.args.byte in
-    let done = c.read_unit_of_call in
-    let place : LineState = Calling c.in-Calling.name in
-    let is : old.reading ≡ place = search rules in
-    TakesAs-where (λ k r. undropped_taking k r u.input b) place es old done.new.self u done.new.unread done.result is
-    (TakesAs-as (λ k. call_unit u.input c.in-Calling.name (Byte b)) (λ k. undropped_taking k place u.input b) es old done.new.self u done.new.unread done.result
-    (λ k. plain-found k place u.input b c.requires.none_half c.requires.no_escape) (done.ensures es))
-
-pub returns-in-StringName : goal.returns-in-StringName
-returns-in-StringName c =
-    let es = c.args.composer.now in
-    let old = c.args.reader.now in
-    let u = c.args.unread.now in
-    let b = c.args.byte in
-    let done = c.read_unit_of_string_name in
-    let place : LineState = StringName c.in-StringName.appends in
-    let is : old.reading ≡ place = search rules in
-    TakesAs-where (λ k r. undropped_taking k r u.input b) place es old done.new.self u done.new.unread done.result is
-    (TakesAs-as (λ k. string_name_unit u.input c.in-StringName.appends (Byte b)) (λ k. undropped_taking k place u.input b) es old done.new.self u done.new.unread done.result
-    (λ k. plain-found k place u.input b c.requires.none_half c.requires.no_escape) (done.ensures es))
-
-pub returns-in-StringText : goal.returns-in-StringText
-returns-in-StringText c =
-    let es = c.args.composer.now in
-    let old = c.args.reader.now in
-    let u = c.args.unread.now in
-    let b = c.args.byte in
-    let done = c.read_unit_of_string in
-    let at = c.in-StringText in
-    let place : LineState = StringText at.name at.appends at.is_front in
-    let is : old.reading ≡ place = search rules in
-    TakesAs-where (λ k r. undropped_taking k r u.input b) place es old done.new.self u done.new.unread done.result is
-    (TakesAs-as (λ k. string_unit u.input at.name at.appends at.is_front (Byte b)) (λ k. undropped_taking k place u.input b) es old done.new.self u done.new.unread done.result
-    (λ k. plain-found k place u.input b c.requires.none_half c.requires.no_escape) (done.ensures es))
+    let done = c.read_byte_for in
+    let place : LineState = Collecting c.in-Collecting.purpose in
+    let is : c.args.reader.now.reading ≡ place = search rules in
+    TakesAs-where (λ k r. undropped_taking k r u.input c.args.byte) place c.args.composer.now c.args.reader.now done.new.reader u done.new.unread done.result is done.ensures
 
 pub returns-then-byte-delimiter : goal.returns-then-byte-delimiter
 returns-then-byte-delimiter c =

@@ -1,9 +1,11 @@
-use Rattle.std.proofs.Common.{◌≡◌, ◌∙◌, Ok, ap, refl, rules}
+use Rattle.std.proofs.Common.{◌≡◌, ◌∙◌, Ok, ap, refl, rules, subst, sym}
 use Rattle.roff_escape.specs.OpenEscapes.{byte_read}
 use Rattle.roff_reader.specs.Reader.State.{ReaderState}
 use Rattle.roff_run.specs.Reading.{undropped_taking}
 use Rattle.roff_run.specs.Reading.Found.{place_in, read_in}
-use Rattle.roff_run.specs.declared.line_state.LineState.TheVariants.{Arguments as InArguments, Control, Deciding, Dropped, Name, Skipping, Text as InText, Told, Exiting, Title as InTitle}
+use Rattle.roff_run.specs.declared.line_state.LineState.{LineState}
+use Rattle.roff_run.specs.declared.line_state.LineState.TheVariants.{Control, Deciding, Dropped, Name, Skipping, Text as InText, Told, Exiting, Title as InTitle, Collecting}
+use Rattle.roff_run.specs.declared.purpose.Purpose.TheVariants.{Arguments as InArguments}
 use Rattle.roff_reading.proofs.Placed.{kept-placed}
 use Rattle.roff_reader.proofs.TakesAs.{TakesAs-as, TakesAs-where}
 use Rattle.roff_reader.proofs.LinesTaken.{TakesAs-meant}
@@ -15,7 +17,7 @@ returns-in_default c =
     let b = c.args.byte in
     let r = c.args.reader.now.reading in
     let same = ap (λ (s : ReaderState). s.reading) c.reader.view_is in
-    let done = c.read_placed in
+    let done = c.read_placed-in_default in
     TakesAs-as (λ k. read_in k r u.input (byte_read (place_in k r) u.input.escapes b)) (λ k. undropped_taking k r u.input b) c.args.composer.now c.args.reader.now
     done.new.reader u done.new.unread done.result
     (λ k. kept-placed k u.input r b (λ breaks is. c.in_default.not-Control breaks (same ∙ is)) (λ breaks first is. c.in_default.not-Name breaks first (same ∙ is))
@@ -105,14 +107,26 @@ returns-in-Deciding c =
     let done = c.read_byte_of_condition in
     TakesAs-where (λ k r. undropped_taking k r u.input c.args.byte) place c.args.composer.now old done.new.reader u done.new.unread done.result is done.ensures
 
-pub returns-in-Arguments : goal.returns-in-Arguments
-returns-in-Arguments c =
+pub returns-in-Collecting-Arguments : goal.returns-in-Collecting-Arguments
+returns-in-Collecting-Arguments c =
     let u = c.args.unread.now in
     let old = c.args.reader.now in
-    let place = InArguments c.in-Arguments.breaks c.in-Arguments.request in
+    let place = Collecting (InArguments c.in-Collecting-Arguments.breaks c.in-Collecting-Arguments.request) in
     let is : old.reading ≡ place = search rules in
     let done = c.read_byte_of_arguments in
     TakesAs-where (λ k r. undropped_taking k r u.input c.args.byte) place c.args.composer.now old done.new.reader u done.new.unread done.result is done.ensures
+
+pub returns-in-Collecting : goal.returns-in-Collecting
+returns-in-Collecting c =
+    let u = c.args.unread.now in
+    let b = c.args.byte in
+    let old = c.args.reader.now in
+    let place : LineState = Collecting c.in-Collecting.field-0 in
+    let is : old.reading ≡ place = search rules in
+    let done = c.read_placed in
+    TakesAs-as (λ k. read_in k old.reading u.input (byte_read (place_in k old.reading) u.input.escapes b)) (λ k. undropped_taking k old.reading u.input b) c.args.composer.now old
+    done.new.reader u done.new.unread done.result
+    (λ k. subst (λ (r : LineState). read_in k r u.input (byte_read (place_in k r) u.input.escapes b) ≡ undropped_taking k r u.input b) (sym is) refl) done.ensures
 
 pub returns-in-Text : goal.returns-in-Text
 returns-in-Text c =

@@ -5,7 +5,8 @@ use Rattle.roff_run.specs.Reading.ControlLines.{called_taking, line_taking, name
 use Rattle.roff_run.specs.Reading.Collecting.{collected}
 use Rattle.roff_run.specs.Reading.Items.{read_by}
 use Rattle.roff_run.specs.Requests.{row_of}
-use Rattle.roff_run.specs.declared.line_state.LineState.TheVariants.{Calling}
+use Rattle.roff_run.specs.declared.line_state.LineState.TheVariants.{Collecting}
+use Rattle.roff_run.specs.declared.purpose.Purpose.TheVariants.{Calling}
 use Rattle.roff_run.specs.declared.request.Called.{Called}
 use Rattle.roff_reader.proofs.TakesAs.{TakesAs-as}
 use Rattle.roff_reader.proofs.LinesTaken.{TakesAs-meant}
@@ -27,7 +28,7 @@ returns-in-Body c =
     let b = c.args.byte in
     let breaks = c.args.breaks in
     let done = c.read_from in
-    TakesAs-as (λ k. read_by (λ i. collected k i (Calling c.in-Body.name)) u.input (byte_read AboveArguments u.input.escapes b)) (λ k. name_ended_taking k u.input breaks c.args.name b) c.args.composer.now
+    TakesAs-as (λ k. read_by (λ i. collected k i (Collecting (Calling c.in-Body.name))) u.input (byte_read AboveArguments u.input.escapes b)) (λ k. name_ended_taking k u.input breaks c.args.name b) c.args.composer.now
     c.args.reader.now done.new.reader u done.new.unread done.result (λ k. ap (λ (called : Called). called_taking k u.input breaks called b) c.in-Body.ensures) done.ensures
 
 pub returns-in-Nothing : goal.returns-in-Nothing

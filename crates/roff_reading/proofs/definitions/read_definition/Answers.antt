@@ -2,14 +2,15 @@ use Rattle.std.proofs.Common.{◌≡◌, Some, None, ap, rules}
 use Rattle.roff_run.specs.Reading.DefinedLines.{definition_found, definition_line}
 use Rattle.roff_run.specs.Reading.Units.{no_unit_found, unit_in, unit_or}
 use Rattle.roff_run.specs.declared.line_state.LineState.{LineState}
-use Rattle.roff_run.specs.declared.line_state.LineState.TheVariants.{Defining}
+use Rattle.roff_run.specs.declared.line_state.LineState.TheVariants.{Collecting}
+use Rattle.roff_run.specs.declared.purpose.Purpose.TheVariants.{Defining}
 use Rattle.roff_reader.proofs.TakesAs.{TakesAs-as}
 use Rattle.roff_reading.proofs.definitions.read_definition.Goals as goal
 
 pub returns-in-Some : goal.returns-in-Some
 returns-in-Some c =
     let u = c.args.unread.now in
-    let place : LineState = Defining c.args.name c.args.appends c.args.end c.args.matched in
+    let place : LineState = Collecting (Defining c.args.name c.args.appends c.args.end c.args.matched) in
     let found = c.args.found in
     let done = c.read_unit_of_definition in
     let is : Some c.in-Some.unit ≡ unit_in found = search rules in
@@ -20,7 +21,7 @@ returns-in-Some c =
 pub returns-in-None : goal.returns-in-None
 returns-in-None c =
     let u = c.args.unread.now in
-    let place : LineState = Defining c.args.name c.args.appends c.args.end c.args.matched in
+    let place : LineState = Collecting (Defining c.args.name c.args.appends c.args.end c.args.matched) in
     let found = c.args.found in
     let done = c.read_in_arguments in
     let is : None ≡ unit_in found = search rules in

@@ -6,7 +6,8 @@ use Rattle.roff_run.specs.Reading.Definitions.{definition_grown}
 use Rattle.roff_run.specs.Reading.Items.{going_on}
 use Rattle.roff_run.specs.Reading.Strings.{string_entered}
 use Rattle.roff_run.specs.declared.definition.DefinitionLine.TheVariants.{IsLast, IsText, MayBeLast}
-use Rattle.roff_run.specs.declared.line_state.LineState.TheVariants.{Defining}
+use Rattle.roff_run.specs.declared.line_state.LineState.TheVariants.{Collecting}
+use Rattle.roff_run.specs.declared.purpose.Purpose.TheVariants.{Defining}
 use Rattle.roff_reader.proofs.BegunDefinitions.{front_of-few}
 use Rattle.roff_run.proofs.MarkEnds.{ends-line_from}
 use Rattle.roff_reading.proofs.EndedDefinitions.{definition_line-text}
@@ -25,7 +26,7 @@ returns-in-MayBeLast c =
     let unit = c.args.unit in
     let done = c.read_on in
     let line : line_from (end_mark end) matched unit ≡ MayBeLast c.in-MayBeLast.matched = search rules in
-    TakesAs-meant (λ k. definition_line k i name appends end matched unit) (Defining name appends end (Some c.in-MayBeLast.matched)) c.args.composer.now c.args.reader.now
+    TakesAs-meant (λ k. definition_line k i name appends end matched unit) (Collecting (Defining name appends end (Some c.in-MayBeLast.matched))) c.args.composer.now c.args.reader.now
     done.new.self c.args.unread.now done.result (λ k. ap (definition_unit k i name appends end (front_of (end_mark end) matched) unit) line)
     (search rules) done.ensures.step
 
@@ -67,10 +68,10 @@ returns-in_err-grow_definition-in-IsText c =
     let stands : front ≡ front_of (end_mark end) matched = search rules in
     let refused : c.from_residual.result ≡ Err limit = search rules in
     rw refused
-    (TakesAs-as (λ k. going_on (definition_grown name (front ++ unit_bytes unit) u.input) (Defining name appends end (matched_behind unit)))
+    (TakesAs-as (λ k. going_on (definition_grown name (front ++ unit_bytes unit) u.input) (Collecting (Defining name appends end (matched_behind unit))))
     (λ k. definition_line k u.input name appends end matched unit) c.args.composer.now c.args.reader.now c.args.reader.now u c.grow_definition.new.unread (Err limit)
     (λ k. definition_line-text k u.input name appends end matched (matched_behind unit) unit front stands refl line)
-    (TakesAs-not_became (definition_grown name (front ++ unit_bytes unit) u.input) (Defining name appends end (matched_behind unit)) c.args.composer.now c.args.reader.now
+    (TakesAs-not_became (definition_grown name (front ++ unit_bytes unit) u.input) (Collecting (Defining name appends end (matched_behind unit))) c.args.composer.now c.args.reader.now
     c.args.reader.now u c.grow_definition.new.unread limit c.in_err-grow_definition-in-IsText.ensures))
 
 pub returns-in_ok-grow_definition-in-IsText : goal.returns-in_ok-grow_definition-in-IsText
@@ -85,9 +86,9 @@ returns-in_ok-grow_definition-in-IsText c =
     let done = c.read_on-in-IsText in
     let line : line_from (end_mark end) matched unit ≡ IsText = search rules in
     let stands : front ≡ front_of (end_mark end) matched = search rules in
-    TakesAs-as (λ k. going_on (definition_grown name (front ++ unit_bytes unit) u.input) (Defining name appends end (matched_behind unit)))
+    TakesAs-as (λ k. going_on (definition_grown name (front ++ unit_bytes unit) u.input) (Collecting (Defining name appends end (matched_behind unit))))
     (λ k. definition_line k u.input name appends end matched unit) c.args.composer.now c.args.reader.now done.new.self u c.grow_definition.new.unread (Ok done.result)
     (λ k. definition_line-text k u.input name appends end matched (matched_behind unit) unit front stands refl line)
-    (TakesAs-became (definition_grown name (front ++ unit_bytes unit) u.input) (Defining name appends end (matched_behind unit)) c.args.composer.now c.args.reader.now
+    (TakesAs-became (definition_grown name (front ++ unit_bytes unit) u.input) (Collecting (Defining name appends end (matched_behind unit))) c.args.composer.now c.args.reader.now
     done.new.self u c.grow_definition.new.unread done.result c.in_ok-grow_definition-in-IsText.field-0 c.in_ok-grow_definition-in-IsText.ensures
     (search rules) done.ensures.step)

@@ -2,7 +2,7 @@ use Rattle.std.proofs.Common.{◌≡◌, ◌∙◌, ap, refl, rules}
 use Rattle.roff_run.specs.Reading.Found.{found_in}
 use Rattle.roff_reader.specs.Reader.State.{ReaderState}
 use Rattle.roff_run.specs.declared.line_state.LineState.{LineState}
-use Rattle.roff_run.specs.declared.line_state.LineState.TheVariants.{StringName, StringText, LineStart, Branch, Braced, Text as InText, Arguments as InArguments, Deciding, Telling, Calling, Defining, TitleFront, Title as InTitle}
+use Rattle.roff_run.specs.declared.line_state.LineState.TheVariants.{LineStart, Branch, Braced, Text as InText, Deciding, TitleFront, Title as InTitle, Collecting}
 use Rattle.roff_reading.proofs.Placed.{found-elsewhere}
 use Rattle.roff_reader.proofs.TakesAs.{TakesAs-where}
 use Rattle.roff_reader.proofs.LinesTaken.{TakesAs-collected, TakesAs-meant}
@@ -41,14 +41,6 @@ returns-in-Text c =
     let is : c.args.reader.now.reading ≡ place = search rules in
     TakesAs-where (λ k r. found_in k u.input r c.args.found) place c.args.composer.now c.args.reader.now done.new.self u done.new.unread done.result is done.ensures
 
-pub returns-in-Arguments : goal.returns-in-Arguments
-returns-in-Arguments c =
-    let u = c.args.unread.now in
-    let done = c.read_collected in
-    let place : LineState = InArguments c.in-Arguments.breaks c.in-Arguments.request in
-    let is : c.args.reader.now.reading ≡ place = search rules in
-    TakesAs-collected place c.args.found c.args.composer.now c.args.reader.now done.new.reader u done.new.unread done.result (λ k i. refl) is done.ensures
-
 pub returns-in-Deciding : goal.returns-in-Deciding
 returns-in-Deciding c =
     let u = c.args.unread.now in
@@ -57,50 +49,18 @@ returns-in-Deciding c =
     let is : c.args.reader.now.reading ≡ place = search rules in
     TakesAs-where (λ k r. found_in k u.input r c.args.found) place c.args.composer.now c.args.reader.now done.new.self u done.new.unread done.result is done.ensures
 
-pub returns-in-StringName : goal.returns-in-StringName
-returns-in-StringName c =
+pub returns-in-Collecting : goal.returns-in-Collecting
+returns-in-Collecting c =
     let u = c.args.unread.now in
-    let done = c.read_collected-in-StringName in
-    let place : LineState = StringName c.in-StringName.appends in
-    let is : c.args.reader.now.reading ≡ place = search rules in
-    TakesAs-collected place c.args.found c.args.composer.now c.args.reader.now done.new.reader u done.new.unread done.result (λ k i. refl) is done.ensures
-
-pub returns-in-StringText : goal.returns-in-StringText
-returns-in-StringText c =
-    let u = c.args.unread.now in
-    let done = c.read_collected-in-StringText in
-    let place : LineState = StringText c.in-StringText.name c.in-StringText.appends c.in-StringText.is_front in
-    let is : c.args.reader.now.reading ≡ place = search rules in
-    TakesAs-collected place c.args.found c.args.composer.now c.args.reader.now done.new.reader u done.new.unread done.result (λ k i. refl) is done.ensures
-
-pub returns-in-Telling : goal.returns-in-Telling
-returns-in-Telling c =
-    let u = c.args.unread.now in
-    let done = c.read_collected-in-Telling in
-    let place : LineState = Telling c.in-Telling.aborts c.in-Telling.is_front in
-    let is : c.args.reader.now.reading ≡ place = search rules in
-    TakesAs-collected place c.args.found c.args.composer.now c.args.reader.now done.new.reader u done.new.unread done.result (λ k i. refl) is done.ensures
-
-pub returns-in-Calling : goal.returns-in-Calling
-returns-in-Calling c =
-    let u = c.args.unread.now in
-    let done = c.read_collected-in-Calling in
-    let place : LineState = Calling c.in-Calling.name in
-    let is : c.args.reader.now.reading ≡ place = search rules in
-    TakesAs-collected place c.args.found c.args.composer.now c.args.reader.now done.new.reader u done.new.unread done.result (λ k i. refl) is done.ensures
-
-pub returns-in-Defining : goal.returns-in-Defining
-returns-in-Defining c =
-    let u = c.args.unread.now in
-    let done = c.read_definition in
-    let place : LineState = Defining c.in-Defining.name c.in-Defining.appends c.in-Defining.end c.in-Defining.matched in
+    let done = c.read_for in
+    let place : LineState = Collecting c.in-Collecting.purpose in
     let is : c.args.reader.now.reading ≡ place = search rules in
     TakesAs-where (λ k r. found_in k u.input r c.args.found) place c.args.composer.now c.args.reader.now done.new.reader u done.new.unread done.result is done.ensures
 
 pub returns-in-TitleFront : goal.returns-in-TitleFront
 returns-in-TitleFront c =
     let u = c.args.unread.now in
-    let done = c.read_collected-in-TitleFront in
+    let done = c.read_collected in
     let place : LineState = TitleFront in
     let is : c.args.reader.now.reading ≡ place = search rules in
     TakesAs-collected place c.args.found c.args.composer.now c.args.reader.now done.new.reader u done.new.unread done.result (λ k i. refl) is done.ensures
@@ -121,9 +81,6 @@ returns-in_default c =
     let same = ap (λ (s : ReaderState). s.reading) c.reader.view_is in
     TakesAs-meant (λ k. found_in k u.input old.reading c.args.found) old.reading c.args.composer.now old old u Nothing
     (λ k. found-elsewhere k u.input old.reading c.args.found (λ is. others.not-LineStart (same ∙ is)) (λ is. others.not-Branch (same ∙ is)) (λ is. others.not-Braced (same ∙ is))
-    (λ line is. others.not-Text line (same ∙ is)) (λ breaks request is. others.not-Arguments breaks request (same ∙ is))
-    (λ keeps is. others.not-Deciding keeps (same ∙ is)) (λ appends is. others.not-StringName appends (same ∙ is))
-    (λ name appends is_front is. others.not-StringText name appends is_front (same ∙ is)) (λ name is. others.not-Calling name (same ∙ is))
-    (λ name appends end matched is. others.not-Defining name appends end matched (same ∙ is))
-    (λ aborts is_front is. others.not-Telling aborts is_front (same ∙ is)) (λ is. others.not-TitleFront (same ∙ is))
+    (λ line is. others.not-Text line (same ∙ is)) (λ purpose is. others.not-Collecting purpose (same ∙ is))
+    (λ keeps is. others.not-Deciding keeps (same ∙ is)) (λ is. others.not-TitleFront (same ∙ is))
     (λ delimiter is. others.not-Title delimiter (same ∙ is))) refl refl

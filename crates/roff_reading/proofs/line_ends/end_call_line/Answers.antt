@@ -2,7 +2,8 @@ use Rattle.std.proofs.Common.{refl}
 use Rattle.roff_run.specs.Reading.{undropped_taking}
 use Rattle.roff_run.specs.Reading.Calls.{call_unit}
 use Rattle.roff_run.specs.declared.line_state.LineState.{LineState}
-use Rattle.roff_run.specs.declared.line_state.LineState.TheVariants.{Calling}
+use Rattle.roff_run.specs.declared.line_state.LineState.TheVariants.{Collecting}
+use Rattle.roff_run.specs.declared.purpose.Purpose.TheVariants.{Calling}
 use Rattle.roff_escape.specs.declared.open_escape.CopyUnit.TheVariants.{Byte}
 use Rattle.roff_reader.proofs.LinesTaken.{TakesAs-undropped}
 use Rattle.roff_reader.proofs.TakesAs.{TakesAs-as, TakesAs-where}
@@ -14,7 +15,7 @@ returns c = λ es.
     let old = c.args.reader.now in
     let u = c.args.unread.now in
     let done = c.call_body in
-    let place : LineState = Calling c.args.name in
+    let place : LineState = Collecting (Calling c.args.name) in
     TakesAs-undropped 10 es old done.new.self u done.new.unread done.result refl
     (TakesAs-where (λ k r. undropped_taking k r u.input 10) place es old done.new.self u done.new.unread done.result c.requires.line
     (TakesAs-as (λ k. call_unit u.input c.args.name (Byte 10)) (λ k. undropped_taking k place u.input 10) es old done.new.self u done.new.unread done.result

@@ -1,14 +1,14 @@
 use Rattle.std.proofs.Common.{ap, sym, subst, ◌∙◌}
 use Rattle.roff_reader.specs.Reader.State.{ReaderState}
 use Rattle.roff_run.specs.Reading.Ends.{due}
-use Rattle.roff_run.specs.Stages.{EndsLine}
+use Rattle.roff_run.specs.Stages.{EndsByNewline}
 use Rattle.roff_engine.proofs.PassingOn.{goes_further_both, goes_further_none}
 use Rattle.roff_engine.proofs.Turned.{goes_past_turned}
 use Rattle.roff_engine.proofs.running.Running.pass_dropped.Goals as goal
 
 pub end_dropped-requires-clause-ends : goal.end_dropped-requires-clause-ends
 end_dropped-requires-clause-ends g c =
-    subst (λ (r : ReaderState). EndsLine r.reading) (sym c.take_run.ensures.kept) (c.requires.does.1 c.if-not-within_block.true)
+    subst (λ (r : ReaderState). EndsByNewline r.reading) (sym c.take_run.ensures.kept) (c.requires.does.1 c.if-not-within_block.true)
 
 pub end_dropped-requires-clause-none_due : goal.end_dropped-requires-clause-none_due
 end_dropped-requires-clause-none_due g c = ap (λ (r : ReaderState). due r.reading) c.take_run.ensures.kept ∙ c.requires.none_due

@@ -1,4 +1,4 @@
-use Rattle.std.proofs.Common.{◌≡◌, ℕ, List, [], ◌∷◌, None, Ok, arith, refl, subst, sym}
+use Rattle.std.proofs.Common.{ℕ, List, [], ◌∷◌, None, Ok, arith, refl, subst, sym}
 use Rattle.roff_layout.specs.declared.event.Event.TheVariants.{Count, LineEnd, WordEnd}
 use Rattle.roff_run.specs.declared.event.PageEvent.TheVariants.{Text}
 use Rattle.roff_formatter.specs.Formatter.Unfilled.{StandsNear}

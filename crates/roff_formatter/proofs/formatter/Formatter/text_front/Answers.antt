@@ -1,4 +1,4 @@
-use Rattle.std.proofs.Common.{◌≤◌, length, take, sym, ap, ◌∙◌, arith}
+use Rattle.std.proofs.Common.{take, sym, ap, ◌∙◌, arith}
 use Rattle.roff_formatter.proofs.Telling.{plain_le, tells_counted, tells_none, tells_of_all, text_above}
 use Rattle.roff_formatter.proofs.formatter.Formatter.text_front.Goals as goal
 

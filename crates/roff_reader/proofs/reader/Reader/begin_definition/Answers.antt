@@ -1,7 +1,8 @@
 use Rattle.std.proofs.Common.{◌≡◌, Err, Some, rules}
 use Rattle.roff_run.specs.Reading.Strings.{string_begun}
 use Rattle.roff_run.specs.declared.line_state.LineState.{LineState}
-use Rattle.roff_run.specs.declared.line_state.LineState.TheVariants.{Defining}
+use Rattle.roff_run.specs.declared.line_state.LineState.TheVariants.{Collecting}
+use Rattle.roff_run.specs.declared.purpose.Purpose.TheVariants.{Defining}
 use Rattle.roff_reader.proofs.Strings.{TakesAs-became, TakesAs-not_became}
 use Rattle.roff_reader.proofs.reader.Reader.begin_definition.Goals as goal
 
@@ -10,7 +11,7 @@ returns-in_err-begin_string c = λ es.
     let old = c.args.self.now in
     let u = c.args.unread.now in
     let name = c.args.name in
-    let place : LineState = Defining name c.args.appends c.args.end (Some 0) in
+    let place : LineState = Collecting (Defining name c.args.appends c.args.end (Some 0)) in
     let refused : c.from_residual.result ≡ Err c.in_err-begin_string.field-0.0 = search rules in
     rw refused
     (TakesAs-not_became (string_begun name u.input) place es old old u c.begin_string.new.unread c.in_err-begin_string.field-0.0 c.in_err-begin_string.ensures)
@@ -19,7 +20,7 @@ pub returns : goal.returns
 returns c = λ es.
     let u = c.args.unread.now in
     let name = c.args.name in
-    let place : LineState = Defining name c.args.appends c.args.end (Some 0) in
+    let place : LineState = Collecting (Defining name c.args.appends c.args.end (Some 0)) in
     let done = c.read_on in
     TakesAs-became (string_begun name u.input) place es c.args.self.now done.new.self u c.begin_string.new.unread done.result c.in_ok-begin_string.field-0
     c.in_ok-begin_string.ensures done.ensures.reading done.ensures.step

@@ -2,7 +2,8 @@ use Rattle.std.proofs.Common.{◌≡◌, Err, Some, Option, true, ap, rules, sym
 use Rattle.roff_num.specs.declared.short_name.ShortName.{ShortName}
 use Rattle.roff_run.specs.Reading.Items.{going_on}
 use Rattle.roff_run.specs.Reading.Strings.{name_read, string_begun, string_name_behind}
-use Rattle.roff_run.specs.declared.line_state.LineState.TheVariants.{StringText}
+use Rattle.roff_run.specs.declared.line_state.LineState.TheVariants.{Collecting}
+use Rattle.roff_run.specs.declared.purpose.Purpose.TheVariants.{StringText}
 use Rattle.roff_reader.proofs.Strings.{TakesAs-not_became}
 use Rattle.roff_reader.proofs.TakesAs.{TakesAs-as}
 use Rattle.roff_reader.proofs.reader.Reader.begin_text_if_named.Goals as goal
@@ -16,6 +17,6 @@ returns-in_err-begin_string-in-Some c = λ es.
     let named : name_read u.input ≡ Some name = search rules in
     let refused : c.from_residual.result ≡ Err limit = search rules in
     rw refused
-    (TakesAs-as (λ k. going_on (string_begun name u.input) (StringText name appends true)) (λ k. string_name_behind u.input appends (name_read u.input)) es c.args.self.now
+    (TakesAs-as (λ k. going_on (string_begun name u.input) (Collecting (StringText name appends true))) (λ k. string_name_behind u.input appends (name_read u.input)) es c.args.self.now
     c.args.self.now u c.begin_string.new.unread (Err limit) (λ k. ap (λ (read : Option (Option ShortName)). string_name_behind u.input appends read) (sym named))
-    (TakesAs-not_became (string_begun name u.input) (StringText name appends true) es c.args.self.now c.args.self.now u c.begin_string.new.unread limit (search rules)))
+    (TakesAs-not_became (string_begun name u.input) (Collecting (StringText name appends true)) es c.args.self.now c.args.self.now u c.begin_string.new.unread limit (search rules)))

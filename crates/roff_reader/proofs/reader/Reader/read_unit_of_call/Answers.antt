@@ -4,7 +4,8 @@ use Rattle.roff_reader.specs.Reader.Taken.{TakesAs}
 use Rattle.roff_run.specs.Reading.Items.{PageUnread}
 use Rattle.roff_run.specs.Reading.Calls.{call_unit, holding_call}
 use Rattle.roff_run.specs.Reading.Items.{going_on}
-use Rattle.roff_run.specs.declared.line_state.LineState.TheVariants.{Calling}
+use Rattle.roff_run.specs.declared.line_state.LineState.TheVariants.{Collecting}
+use Rattle.roff_run.specs.declared.purpose.Purpose.TheVariants.{Calling}
 use Rattle.roff_escape.specs.declared.open_escape.CopyUnit.TheVariants.{Byte}
 use Rattle.roff_reader.proofs.CalledBodies.{TakesAs-call_full, TakesAs-call_held, TakesAs-call_not_held, TakesAs-call_other, TakesAs-call_quote}
 use Rattle.roff_reader.proofs.reader.Reader.read_unit_of_call.Goals.{in-Byte-eq34, in_default, then-len-lt-CALL_ARGUMENTS+in_ok-hold, else-len-lt-CALL_ARGUMENTS}
@@ -38,7 +39,7 @@ returns c = λ es.
     let read = c.read_on in
     let new = read.new.self in
     let count = ap length c.arguments.ensures ∙ length-reverse mid.input.arguments.whole in
-    let behind_line : (behind : PageUnread) → TakesAs (λ k. going_on (holding_call unit mid.input) (Calling name)) es old new mid behind (Ok read.result)
+    let behind_line : (behind : PageUnread) → TakesAs (λ k. going_on (holding_call unit mid.input) (Collecting (Calling name))) es old new mid behind (Ok read.result)
     → TakesAs (λ k. call_unit u.input name unit) es old new u behind (Ok read.result) =
     λ behind took. elim c.match-unit.branch [
       | in-Byte-eq34 w ↦ TakesAs-call_quote unit name es old new u mid behind (Ok read.result) w.unread-is (search rules) took

@@ -2,7 +2,8 @@ use Rattle.std.proofs.Common.{◌≡◌, Ok, Err, false, rules}
 use Rattle.roff_escape.specs.declared.open_escape.CopyUnit.TheVariants.{Byte}
 use Rattle.roff_run.specs.Reading.Items.{going_on}
 use Rattle.roff_run.specs.Reading.Strings.{string_entered, string_grown, string_unit}
-use Rattle.roff_run.specs.declared.line_state.LineState.TheVariants.{LineStart, StringText}
+use Rattle.roff_run.specs.declared.line_state.LineState.TheVariants.{LineStart, Collecting}
+use Rattle.roff_run.specs.declared.purpose.Purpose.TheVariants.{StringText}
 use Rattle.roff_reader.proofs.Strings.{TakesAs-became, TakesAs-not_became, string_unit-grown}
 use Rattle.roff_reader.proofs.TakesAs.{TakesAs-as}
 use Rattle.roff_reader.proofs.reader.Reader.read_unit_of_string.Goals.{in_default-via-in-Byte-eq32+else-is_front, in_default-via-in-Byte-eq34+else-is_front-2, in_default-via-in-Byte+in_default, in_default-via-in_default}
@@ -16,15 +17,15 @@ returns-in_ok-grow_string-in_default c = λ es.
     let is_front = c.args.is_front in
     let unit = c.args.unit in
     let done = c.read_on-in_default in
-    let grown : going_on (string_grown name unit u.input) (StringText name appends false) ≡ string_unit u.input name appends is_front unit = elim c.in_default.branch [
+    let grown : going_on (string_grown name unit u.input) (Collecting (StringText name appends false)) ≡ string_unit u.input name appends is_front unit = elim c.in_default.branch [
       | in_default-via-in-Byte-eq32+else-is_front w ↦ string_unit-grown u.input name appends is_front unit (λ is. search rules) (λ is front. search rules) (λ is front. search rules)
       | in_default-via-in-Byte-eq34+else-is_front-2 w ↦ string_unit-grown u.input name appends is_front unit (λ is. search rules) (λ is front. search rules) (λ is front. search rules)
       | in_default-via-in-Byte+in_default w ↦ string_unit-grown u.input name appends is_front unit (λ is. search rules) (λ is front. search rules) (λ is front. search rules)
       | in_default-via-in_default w ↦ string_unit-grown u.input name appends is_front unit (λ is. search rules) (λ is front. search rules) (λ is front. search rules)
     ] in
-    TakesAs-as (λ k. going_on (string_grown name unit u.input) (StringText name appends false)) (λ k. string_unit u.input name appends is_front unit) es c.args.self.now
+    TakesAs-as (λ k. going_on (string_grown name unit u.input) (Collecting (StringText name appends false))) (λ k. string_unit u.input name appends is_front unit) es c.args.self.now
     done.new.self u c.grow_string.new.unread (Ok done.result) (λ k. grown)
-    (TakesAs-became (string_grown name unit u.input) (StringText name appends false) es c.args.self.now done.new.self u c.grow_string.new.unread done.result
+    (TakesAs-became (string_grown name unit u.input) (Collecting (StringText name appends false)) es c.args.self.now done.new.self u c.grow_string.new.unread done.result
     c.in_ok-grow_string-in_default.field-0 (search rules) (search rules) done.ensures.step)
 
 pub returns-in_err-grow_string-in_default : goal.returns-in_err-grow_string-in_default
@@ -35,7 +36,7 @@ returns-in_err-grow_string-in_default c = λ es.
     let is_front = c.args.is_front in
     let unit = c.args.unit in
     let limit = c.in_err-grow_string-in_default.field-0.0 in
-    let grown : going_on (string_grown name unit u.input) (StringText name appends false) ≡ string_unit u.input name appends is_front unit = elim c.in_default.branch [
+    let grown : going_on (string_grown name unit u.input) (Collecting (StringText name appends false)) ≡ string_unit u.input name appends is_front unit = elim c.in_default.branch [
       | in_default-via-in-Byte-eq32+else-is_front w ↦ string_unit-grown u.input name appends is_front unit (λ is. search rules) (λ is front. search rules) (λ is front. search rules)
       | in_default-via-in-Byte-eq34+else-is_front-2 w ↦ string_unit-grown u.input name appends is_front unit (λ is. search rules) (λ is front. search rules) (λ is front. search rules)
       | in_default-via-in-Byte+in_default w ↦ string_unit-grown u.input name appends is_front unit (λ is. search rules) (λ is front. search rules) (λ is front. search rules)
@@ -43,9 +44,9 @@ returns-in_err-grow_string-in_default c = λ es.
     ] in
     let refused : c.from_residual-in_err-grow_string-in_default.result ≡ Err limit = search rules in
     rw refused
-    (TakesAs-as (λ k. going_on (string_grown name unit u.input) (StringText name appends false)) (λ k. string_unit u.input name appends is_front unit) es c.args.self.now
+    (TakesAs-as (λ k. going_on (string_grown name unit u.input) (Collecting (StringText name appends false))) (λ k. string_unit u.input name appends is_front unit) es c.args.self.now
     c.args.self.now u c.grow_string.new.unread (Err limit) (λ k. grown)
-    (TakesAs-not_became (string_grown name unit u.input) (StringText name appends false) es c.args.self.now c.args.self.now u c.grow_string.new.unread limit (search rules)))
+    (TakesAs-not_became (string_grown name unit u.input) (Collecting (StringText name appends false)) es c.args.self.now c.args.self.now u c.grow_string.new.unread limit (search rules)))
 
 pub returns-in_ok-enter_string-in-Byte-eq10 : goal.returns-in_ok-enter_string-in-Byte-eq10
 returns-in_ok-enter_string-in-Byte-eq10 c = λ es.

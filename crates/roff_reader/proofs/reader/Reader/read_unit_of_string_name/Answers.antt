@@ -2,7 +2,8 @@ use Rattle.std.proofs.Common.{◌≡◌, rules}
 use Rattle.roff_escape.specs.declared.open_escape.CopyUnit.TheVariants.{Byte}
 use Rattle.roff_run.specs.Reading.Strings.{name_read, string_name_or_text, string_name_unit}
 use Rattle.roff_run.specs.Reading.Units.{settling}
-use Rattle.roff_run.specs.declared.line_state.LineState.TheVariants.{StringName}
+use Rattle.roff_run.specs.declared.line_state.LineState.TheVariants.{Collecting}
+use Rattle.roff_run.specs.declared.purpose.Purpose.TheVariants.{StringName}
 use Rattle.roff_reader.proofs.Strings.{string_name_unit-other, string_name_unit-quote}
 use Rattle.roff_reader.proofs.TakesAs.{TakesAs-as, TakesAs-settled}
 use Rattle.roff_reader.proofs.reader.Reader.read_unit_of_string_name.Goals as goal
@@ -27,5 +28,5 @@ returns-in_default c = λ es.
     let done = c.read_name_or_string-in_default in
     TakesAs-as (λ k. string_name_or_text (settling u.input) appends unit (name_read (settling u.input))) (λ k. string_name_unit u.input appends unit) es old done.new.self u
     done.new.unread done.result (λ k. string_name_unit-other u.input appends unit (λ is. search rules) (λ is. search rules))
-    (TakesAs-settled (StringName appends) (λ k i. string_name_or_text i appends unit (name_read i)) es old done.new.self u c.settle.new.self done.new.unread done.result
+    (TakesAs-settled (Collecting (StringName appends)) (λ k i. string_name_or_text i appends unit (name_read i)) es old done.new.self u c.settle.new.self done.new.unread done.result
     c.settle.ensures.change (done.ensures es))
