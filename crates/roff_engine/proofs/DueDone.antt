@@ -19,7 +19,7 @@ use Rattle.roff_run.specs.Run.Counts.{counts_in, first_passed}
 use Rattle.roff_run.specs.declared.line_state.Due.{Due}
 use Rattle.roff_run.specs.declared.line_state.Due.TheVariants.{Leaves as LeavesInput, Tells}
 use Rattle.roff_run.specs.declared.line_state.LineState.{LineState}
-use Rattle.roff_run.specs.declared.line_state.LineState.TheVariants.{LineStart, Branch, Braced, Text as InText, Control, Name, Deciding, Skipping, Dropped, Told, Exiting, TitleFront, Title as InTitle, Collecting}
+use Rattle.roff_run.specs.declared.line_state.LineState.TheVariants.{LineStart, Branch, Braced, Text as InText}
 use Rattle.roff_run.specs.declared.status.Status.TheVariants.{Aborted, Device}
 use Rattle.roff_run.proofs.InputCounts.{NoMore-leaving, NoMore-released, first_passed-no_more}
 use Rattle.roff_engine.specs.declared.running.Running.{Running as Coded}
@@ -30,7 +30,7 @@ use Rattle.roff_interpreter.proofs.Fronts.{few-nothing, few-over}
 use Rattle.roff_engine.proofs.Acting.{IsLeftOf-looked_then}
 use Rattle.roff_interpreter.proofs.Calls.{Leaves}
 use Rattle.roff_engine.proofs.Items.{lost, one_more}
-use Rattle.roff_engine.proofs.TurnsLeft.{lines_left_in-few}
+use Rattle.roff_engine.proofs.TurnsLeft.{line_turns-by, lines_left_in-few}
 use Rattle.roff_input.specs.Looking.{closing, is_closed, looked_then}
 use Rattle.roff_input.specs.declared.looked.Looked.{Looked}
 use Rattle.roff_input.specs.declared.looked.Looked.TheVariants.{Nothing, Byte, Closed}
@@ -49,20 +49,10 @@ nothing_due old now none = record {
 
 -- where something is due a line has been read
 due-line : (reading : LineState) (what : Due) (left : ℕ) → due reading ≡ Some what → 2 ≤ line_turns reading left
-due-line LineStart what left is = cc
-due-line Branch what left is = omega arith
-due-line Braced what left is = cc
-due-line (InText line) what left is = omega arith
-due-line (Control breaks) what left is = omega arith
-due-line (Name breaks first) what left is = omega arith
-due-line (Collecting purpose) what left is = omega arith
-due-line (Deciding keeping) what left is = omega arith
-due-line (Skipping opened closed behind) what left is = omega arith
-due-line Dropped what left is = omega arith
-due-line (Told aborts) what left is = omega arith
-due-line Exiting what left is = omega arith
-due-line TitleFront what left is = omega arith
-due-line (InTitle delimiter) what left is = omega arith
+due-line reading what left is = elim (line_turns-by reading) [
+  | inl begins ↦ let wrong = sym begins.1.0 ∙ is in absurd (cc)
+  | inr within ↦ let two = within.1 left in omega (arith, two)
+]
 
 -- nothing is taken, over this tape
 abbrev IsTape : Tape → Tape → Type 0

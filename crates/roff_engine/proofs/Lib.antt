@@ -12,6 +12,7 @@ pub mod Starting
 pub mod Outcomes
 pub mod TwoRuns
 pub mod Passing
+pub mod BytesPassed
 pub mod Turned
 pub mod PassingOn
 pub mod PassingEnds

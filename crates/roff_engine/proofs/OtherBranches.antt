@@ -1,6 +1,5 @@
 -- The front of the other branch of a condition was taken at once: the run has come behind it.
 use Rattle.std.proofs.Common.{◌≡◌, ℕ, ◌+◌, ◌<◌, ◌≤◌, Bool, true, false, List, [], ◌∷◌, length, None, refl, sym, ap, subst, ◌∙◌, arith}
-use Rattle.std.specs.Prelude.{map}
 use Rattle.roff_num.specs.declared.limits.Limits.{Limits}
 use Rattle.roff_escape.specs.OpenEscape.{OpenEscape}
 use Rattle.roff_input.specs.Input.{Ahead}
@@ -8,14 +7,12 @@ use Rattle.roff_input.specs.Input.Calls.{last_result, without_last}
 use Rattle.roff_input.specs.Input.Few.{AreFew, AreFewFrom}
 use Rattle.roff_input.specs.Looking.{is_closed, looked_then}
 use Rattle.roff_input.specs.Unread.{IsWithin}
-use Rattle.roff_input.specs.declared.looked.Looked.{Looked}
-use Rattle.roff_source.specs.Tape.{OneByte, Tape, items_then}
-use Rattle.roff_scan.specs.Unread.Calls.{OfSource, OfTexts, PassesFront}
+use Rattle.roff_source.specs.Tape.{Tape}
 use Rattle.roff_reader.proofs.TakesAs.{few_names, short_title}
 use Rattle.roff_reader.specs.Reader.State.{ReaderState}
 use Rattle.roff_run.proofs.InputCounts.{IsWithin-allowed, first_passed-few_names}
-use Rattle.roff_run.proofs.ItemsTaken.{FromAhead, FromSource, IsOpenFor, Origin, ahead_at, tape_at}
-use Rattle.roff_run.proofs.PlainRuns.{counted, counted-source}
+use Rattle.roff_run.proofs.ItemsTaken.{IsOpenFor, Origin, ahead_at, tape_at}
+use Rattle.roff_run.proofs.PlainRuns.{counted}
 use Rattle.roff_run.specs.PageEvents.{PageEvent}
 use Rattle.roff_run.specs.Reading.Branches.{branch_of, reads_else}
 use Rattle.roff_run.specs.Reading.Items.{PageInput, PageUnread}
@@ -30,13 +27,13 @@ use Rattle.roff_fronts.specs.OtherBranches.{TakesOther}
 use Rattle.roff_fronts.proofs.ControlFronts.{stage_with}
 use Rattle.roff_fronts.proofs.OtherBranches.{changes-other, leads-changed, naming, turned-naming}
 use Rattle.roff_fronts.proofs.RegistersPut.{leaves}
-use Rattle.roff_fronts.proofs.TurnedRuns.{counted-bytes_taken}
 use Rattle.roff_engine.specs.declared.running.Running.{Running as Coded}
 use Rattle.roff_interpreter.specs.Outcome.{Beginning, Seen, seen}
-use Rattle.roff_engine.specs.Running.Turning.{GoesFurther, GoesPast, IsAt, state_at, turns_of_run}
+use Rattle.roff_engine.specs.Running.Turning.{GoesFurther, IsAt, state_at}
 use Rattle.roff_sinks.specs.Sinks.{Sunk}
 use Rattle.roff_interpreter.proofs.Fronts.{few-none}
-use Rattle.roff_engine.proofs.Passing.{IsAt-leads, goes_past_fewer, none-read}
+use Rattle.roff_engine.proofs.BytesPassed.{ComesBehind, goes_further-passed}
+use Rattle.roff_engine.proofs.Passing.{IsAt-leads, none-read}
 use Rattle.roff_engine.proofs.SteppedRegisters.{run_with}
 use Rattle.roff_engine.proofs.TurnsLeft.{turns_of_run-fewer}
 
@@ -107,9 +104,6 @@ module _ (gave gives : Tape → Type 0) (old : Coded) (after : PageUnread) (new 
   fewer-taken =
       subst (λ (u : PageUnread). turns_to_come u < turns_to_come old.unread) (sym takes.is) (leaves gave gives bytes old.unread takes.passed (omega arith) takes.passes).turns
 
-  fewer-other : (u : PageUnread) → turns_to_come u < turns_to_come old.unread → turns_of_run (run_with old reader u) < turns_of_run old
-  fewer-other u less = turns_of_run-fewer old (run_with old reader u) (omega (arith, less, none_begun (reads_else (last_result i)))) refl
-
   -- the input where it was taken
   is_behind : (from : Origin) → takes.passed ≡ record old.unread { input = counted from bytes i } → after ≡ record old.unread { input = behind from }
   is_behind from passed =
@@ -120,56 +114,20 @@ module _ (gave gives : Tape → Type 0) (old : Coded) (after : PageUnread) (new 
   is_reader from passed =
       takes.reads ∙ ap (λ (u : PageUnread). record old.interpreter.reader { reading = branch_of (reads_else (last_result u.input)) }) passed
 
-  -- the run goes past it, wherever it stood
-  past-other : (notes : ℕ) (now : Seen) → PassesFront gave gives bytes old.unread takes.passed → GoesPast gave gives notes notes old (run_with old new after) now now
-  past-other notes now (OfSource passes) =
-      let less : turns_to_come after < turns_to_come old.unread = fewer-taken in
-      let some : Tape = passes.some.0 in
-      let at : (tape : Tape) → takes.passed ≡ record old.unread { input = counted (FromSource tape) bytes i } = λ tape.
-      passes.input ∙ ap (λ (j : PageInput). record old.unread { input = j }) (sym (counted-source tape bytes i passes.ahead)) in
-      let turns = fewer-other after less in
-      subst (λ (r : ReaderState). GoesPast gave gives notes notes old (run_with old r after) now now) (sym (is_reader (FromSource some) (at some)))
-      (record {
-        limits = refl;
-        taken = map OneByte bytes;
-        before = passes.in_front;
-        past = λ t tape start may stood.
-            let same : after ≡ record old.unread { input = behind (FromSource tape) } = is_behind (FromSource tape) (at tape) in
-            subst (λ (u : PageUnread). IsAt t tape start now (run_with old reader u)) (sym same)
-            (IsAt-other t tape (items_then (map OneByte bytes) tape) start now (FromSource tape) (ap is_closed passes.looked) passes.ahead passes.within (subst IsWithin same takes.within)
-            (ap (λ (looked : Looked). looked_then looked (items_then (map OneByte bytes) tape)) passes.looked)
-            (sym (ap (λ (looked : Looked). looked_then looked tape) passes.looked)) stood);
-        turns = omega (arith, turns);
-      })
-  past-other notes now (OfTexts passes) =
-      let less : turns_to_come after < turns_to_come old.unread = fewer-taken in
-      let from : Origin = FromAhead passes.behind in
-      let at : takes.passed ≡ record old.unread { input = counted from bytes i } =
-      passes.input ∙ ap (λ (j : PageInput). record old.unread { input = j }) (sym (counted-bytes_taken passes.behind bytes i passes.in_front)) in
-      let same : after ≡ record old.unread { input = behind from } = is_behind from at in
-      let turns = fewer-other after less in
-      subst (λ (r : ReaderState). GoesPast gave gives notes notes old (run_with old r after) now now) (sym (is_reader from at))
-      (record {
-        limits = refl;
-        taken = [];
-        before = passes.stays.before;
-        past = λ t tape start may stood.
-            subst (λ (u : PageUnread). IsAt t tape start now (run_with old reader u)) (sym same)
-            (IsAt-other t tape tape start now from tt passes.in_front passes.within (subst IsWithin same takes.within) refl refl stood);
-        turns = omega (arith, turns);
-      })
+  -- so the run comes behind it
+  comes-other : ComesBehind bytes takes.passed old (run_with old new after)
+  comes-other whole t taken start now from is_open ahead charged passed asked left at =
+      let same : after ≡ record old.unread { input = behind from } = is_behind from passed in
+      subst (λ (r : ReaderState). IsAt whole t start now (run_with old r after)) (sym (is_reader from passed))
+      (subst (λ (u : PageUnread). IsAt whole t start now (run_with old reader u)) (sym same)
+      (IsAt-other whole t taken start now from is_open ahead charged (subst IsWithin same takes.within) asked left at))
 
   -- and fewer turns are to come
   pub goes_further_other : (noted notes failed failures : ℕ) (out err : Sunk) → notes ≤ noted → failures ≡ failed
       → GoesFurther true gave gives noted notes old (run_with old new after) (seen failed out err) (seen failures out err)
   goes_further_other noted notes failed failures out err few same =
-      let there : GoesPast gave gives noted noted old (run_with old new after) (seen failed out err) (seen failed out err) = past-other noted (seen failed out err) takes.passes in
       let behind : new.reading ≡ branch_of (reads_else (last_result takes.passed.input)) = ap (λ (r : ReaderState). r.reading) takes.reads in
       let none = ap begun behind ∙ none_begun (reads_else (last_result takes.passed.input)) in
       let less = fewer-taken in
-      let turns = turns_of_run-fewer old (run_with old new after) (omega (arith, less, none)) refl in
-      record {
-        past = subst (λ (f : ℕ). GoesPast gave gives noted notes old (run_with old new after) (seen failed out err) (seen f out err)) (sym same)
-            (goes_past_fewer gave gives noted noted notes old (run_with old new after) (seen failed out err) (seen failed out err) few there);
-        fewer = λ begins. omega (arith, turns, few);
-      }
+      goes_further-passed gave gives noted notes failed failures out err bytes old (run_with old new after) takes.passed refl comes-other
+      (turns_of_run-fewer old (run_with old new after) (omega (arith, less, none)) refl) takes.passes few same

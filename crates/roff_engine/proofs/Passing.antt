@@ -82,6 +82,11 @@ none-read (FromAhead items) b bytes few = none-bytes bytes items few
     none-bytes [] items few = few
     none-bytes (b ∷ bytes) items few = none-bytes bytes items few
 
+-- nor does it behind an escape, which has a last byte
+pub few-behind_escape : (from : Origin) (front : List ℕ) (last : ℕ) → AreFew (ahead_at from (front ++ last ∷ [])) → AreFewFrom 0 (ahead_at from [])
+few-behind_escape from [] last few = none-read from last [] few
+few-behind_escape from (b ∷ front) last few = none-read from b (front ++ last ∷ []) few
+
 -- bytes leave what is half read
 escapes-behind : (from : Origin) (bytes : List ℕ) (i : PageInput) → (behind_bytes from bytes i).escapes ≡ i.escapes
 escapes-behind from [] i = refl

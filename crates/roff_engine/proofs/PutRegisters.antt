@@ -1,22 +1,19 @@
 -- The escape of a register, a string or an argument that was taken at once, with its text in front: the run has come behind it.
-use Rattle.std.proofs.Common.{◌≡◌, ℕ, ◌+◌, ◌<◌, ◌≤◌, Bool, true, false, List, [], ◌∷◌, ◌++◌, length, take, None, refl, sym, ap, subst, ◌∙◌, arith}
-use Rattle.std.specs.Prelude.{map}
+use Rattle.std.proofs.Common.{◌≡◌, ℕ, ◌+◌, ◌<◌, ◌≤◌, Bool, true, false, List, [], length, take, None, refl, sym, ap, subst, ◌∙◌, arith}
 use Rattle.std.proofs.Math.Seq.{take-length}
 use Rattle.roff_num.specs.declared.limits.Limits.{Limits}
 use Rattle.roff_input.proofs.FewEvents.{few-more, few-text}
 use Rattle.roff_input.specs.Input.{Ahead, pushing}
 use Rattle.roff_input.specs.Input.Few.{AreFew, AreFewFrom}
-use Rattle.roff_input.specs.Looking.{is_closed, looked_then}
 use Rattle.roff_input.specs.Unread.{IsWithin}
-use Rattle.roff_input.specs.declared.looked.Looked.{Looked}
-use Rattle.roff_source.specs.Tape.{OneByte, Tape, items_then}
-use Rattle.roff_scan.specs.Unread.Calls.{OfSource, OfTexts, PassesEnd, PassesFront, front_bytes, next_bytes}
+use Rattle.roff_source.specs.Tape.{Tape}
+use Rattle.roff_scan.specs.Unread.Calls.{PassesEnd, PassesFront, front_bytes, next_bytes}
 use Rattle.roff_composer.specs.declared.composer.Composer.{Composer as ComposerOf}
 use Rattle.roff_reader.specs.Reader.State.{ReaderState}
 use Rattle.roff_reader.proofs.TakesAs.{few_names, short_title}
 use Rattle.roff_run.proofs.InputCounts.{IsWithin-allowed, first_passed-few_names}
-use Rattle.roff_run.proofs.ItemsTaken.{FromAhead, FromSource, IsOpenFor, Origin, ahead_at, tape_at}
-use Rattle.roff_run.proofs.PlainRuns.{counted, counted-source}
+use Rattle.roff_run.proofs.ItemsTaken.{ahead_at, tape_at}
+use Rattle.roff_run.proofs.PlainRuns.{counted}
 use Rattle.roff_run.specs.PageEvents.{PageEvent}
 use Rattle.roff_run.specs.Reading.Items.{PageInput, PageUnread}
 use Rattle.roff_run.specs.Reading.Units.{interrupted}
@@ -37,13 +34,13 @@ use Rattle.roff_run.specs.Reading.Waiting.{waiting_above}
 use Rattle.roff_scan.specs.declared.run_kind.RunKind.{RunKind}
 use Rattle.roff_scan.specs.declared.run_kind.RunKind.TheVariants.{Text as TextRun}
 use Rattle.roff_fronts.proofs.PuttingRuns.{input_put, leads-put}
-use Rattle.roff_fronts.proofs.TurnedRuns.{counted-bytes_taken}
 use Rattle.roff_engine.specs.declared.running.Running.{Running as Coded}
-use Rattle.roff_interpreter.specs.Outcome.{Beginning, Seen, seen}
+use Rattle.roff_interpreter.specs.Outcome.{Seen, seen}
 use Rattle.roff_engine.specs.Running.Turning.{GoesFurther, GoesPast, IsAt, state_at}
 use Rattle.roff_sinks.specs.Sinks.{Sunk}
 use Rattle.roff_interpreter.proofs.Fronts.{few-none}
-use Rattle.roff_engine.proofs.Passing.{IsAt-leads, goes_past_fewer, none-read}
+use Rattle.roff_engine.proofs.BytesPassed.{ComesBehind, goes_further-passed}
+use Rattle.roff_engine.proofs.Passing.{IsAt-leads, few-behind_escape}
 use Rattle.roff_engine.proofs.PassingEnds.{goes_further_passed}
 use Rattle.roff_engine.proofs.PassingOn.{goes_further_none, goes_past_both, goes_past_kept}
 use Rattle.roff_engine.proofs.Telling.{goes_past_told}
@@ -62,18 +59,8 @@ module _ (purpose : Asked) (gave gives : Tape → Type 0) (old : Coded) (after :
   abbrev new : Coded
   new = record old { unread = after }
 
-  -- the escape has a byte, so few events stand in front behind it
-  few-behind_escape : (from : Origin) (front : List ℕ) (last : ℕ) → AreFew (ahead_at from (front ++ last ∷ [])) → AreFewFrom 0 (ahead_at from [])
-  few-behind_escape from [] last few = none-read from last [] few
-  few-behind_escape from (b ∷ front) last few = none-read from b (front ++ last ∷ []) few
-
   -- so the run is at its place behind it, over what is left of the tape
-  IsAt-put : (whole : Beginning) (t taken : Tape) (start now : Seen) (from : Origin) → IsOpenFor from (is_closed old.unread.looked)
-      → i.ahead ≡ ahead_at from puts.bytes → i.charge + length puts.bytes ≤ old.unread.limits.bytes
-      → puts.passed ≡ record old.unread { input = counted from puts.bytes i }
-      → looked_then old.unread.looked taken ≡ tape_at from puts.bytes (looked_then old.unread.looked taken)
-      → tape_at from [] (looked_then old.unread.looked taken) ≡ looked_then old.unread.looked t
-      → IsAt whole taken start now old → IsAt whole t start now new
+  IsAt-put : ComesBehind puts.bytes puts.passed old new
   IsAt-put whole t taken start now from is_open ahead charged passed asked left at =
       let l : Limits = old.unread.limits in
       let rs : AllRegisters = old.interpreter.reader.registers.all in
@@ -99,45 +86,11 @@ module _ (purpose : Asked) (gave gives : Tape → Type 0) (old : Coded) (after :
       (subst (λ (k : Limits). Leads k s behind) at.limits comes) refl at.stands (record { cap = at.ready.cap; line = at.ready.line; within = fits }) at.limits
       (few-none [] reading input.escapes input.ahead (few-text 0 puts.text (ahead_at from []) (few-more 0 5 (ahead_at from []) (omega arith) few)) (λ keeps is. refl)))
 
-  -- the run goes past it, wherever it stood
-  past-put : (notes : ℕ) (now : Seen) → PassesFront gave gives puts.bytes old.unread puts.passed → GoesPast gave gives notes notes old new now now
-  past-put notes now (OfSource passes) =
-      let less = turns_of_run-fewer old new (omega (arith, puts.fewer)) refl in
-      record {
-        limits = refl;
-        taken = map OneByte puts.bytes;
-        before = passes.in_front;
-        past = λ t tape start may at.
-            IsAt-put t tape (items_then (map OneByte puts.bytes) tape) start now (FromSource tape) (ap is_closed passes.looked) passes.ahead passes.within
-            (passes.input ∙ ap (λ (j : PageInput). record old.unread { input = j }) (sym (counted-source tape puts.bytes i passes.ahead)))
-            (ap (λ (looked : Looked). looked_then looked (items_then (map OneByte puts.bytes) tape)) passes.looked)
-            (sym (ap (λ (looked : Looked). looked_then looked tape) passes.looked)) at;
-        turns = omega (arith, less);
-      }
-  past-put notes now (OfTexts passes) =
-      let less = turns_of_run-fewer old new (omega (arith, puts.fewer)) refl in
-      record {
-        limits = refl;
-        taken = [];
-        before = passes.stays.before;
-        past = λ t tape start may at.
-            IsAt-put t tape tape start now (FromAhead passes.behind) tt passes.in_front passes.within
-            (passes.input ∙ ap (λ (j : PageInput). record old.unread { input = j }) (sym (counted-bytes_taken passes.behind puts.bytes i passes.in_front)))
-            refl refl at;
-        turns = omega (arith, less);
-      }
-
-  -- and fewer turns are to come
+  -- the run goes past it, and fewer turns are to come
   pub goes_further_put : (noted notes failed failures : ℕ) (out err : Sunk) → notes ≤ noted → failures ≡ failed
       → GoesFurther true gave gives noted notes old new (seen failed out err) (seen failures out err)
   goes_further_put noted notes failed failures out err few same =
-      let there : GoesPast gave gives noted noted old new (seen failed out err) (seen failed out err) = past-put noted (seen failed out err) puts.passes in
-      let less = turns_of_run-fewer old new (omega (arith, puts.fewer)) refl in
-      record {
-        past = subst (λ (f : ℕ). GoesPast gave gives noted notes old new (seen failed out err) (seen f out err)) (sym same)
-            (goes_past_fewer gave gives noted noted notes old new (seen failed out err) (seen failed out err) few there);
-        fewer = λ begins. omega (arith, less, few);
-      }
+      goes_further-passed gave gives noted notes failed failures out err puts.bytes old new puts.passed refl IsAt-put (turns_of_run-fewer old new (omega (arith, puts.fewer)) refl) puts.passes few same
 
 -- a run that goes further, and then past other bytes
 pub goes_further_then : (begins : Bool) (gave mid gives : Tape → Type 0) (noted kept notes : ℕ) (old between new : Coded) (now halfway behind : Seen)

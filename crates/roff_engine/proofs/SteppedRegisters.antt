@@ -1,21 +1,18 @@
 -- The escape that steps a register on a text line, taken at once: the run has come behind it, and its text was told.
-use Rattle.std.proofs.Common.{◌≡◌, ℕ, ◌+◌, ◌<◌, ◌≤◌, Bool, true, false, List, [], ◌∷◌, ◌++◌, length, take, Some, None, refl, sym, ap, subst, ◌∙◌, arith}
-use Rattle.std.specs.Prelude.{map}
+use Rattle.std.proofs.Common.{◌≡◌, ℕ, ◌+◌, ◌<◌, ◌≤◌, Bool, true, false, List, [], length, take, Some, None, refl, sym, ap, subst, ◌∙◌, arith}
 use Rattle.std.proofs.Math.Seq.{take-length}
 use Rattle.roff_num.specs.declared.limits.Limits.{Limits}
 use Rattle.roff_input.proofs.FewEvents.{few-more, few-text}
 use Rattle.roff_input.specs.Input.{Ahead, pushing}
 use Rattle.roff_input.specs.Input.Few.{AreFew, AreFewFrom}
-use Rattle.roff_input.specs.Looking.{is_closed, looked_then}
 use Rattle.roff_input.specs.Unread.{IsWithin}
-use Rattle.roff_input.specs.declared.looked.Looked.{Looked}
-use Rattle.roff_source.specs.Tape.{OneByte, Tape, items_then}
-use Rattle.roff_scan.specs.Unread.Calls.{OfSource, OfTexts, PassesFront, front_bytes, next_bytes}
+use Rattle.roff_source.specs.Tape.{Tape}
+use Rattle.roff_scan.specs.Unread.Calls.{PassesFront, front_bytes, next_bytes}
 use Rattle.roff_reader.specs.Reader.State.{ReaderState}
 use Rattle.roff_reader.proofs.TakesAs.{passed-stepped}
 use Rattle.roff_run.proofs.InputCounts.{IsWithin-allowed}
-use Rattle.roff_run.proofs.ItemsTaken.{FromAhead, FromSource, IsOpenFor, Origin, ahead_at, tape_at}
-use Rattle.roff_run.proofs.PlainRuns.{counted, counted-source}
+use Rattle.roff_run.proofs.ItemsTaken.{ahead_at, tape_at}
+use Rattle.roff_run.proofs.PlainRuns.{counted}
 use Rattle.roff_run.specs.PageEvents.{PageEvent}
 use Rattle.roff_run.specs.Reading.Items.{PageInput, PageUnread}
 use Rattle.roff_run.specs.Registers.{AllRegisters, StepBy, text_of_register}
@@ -29,11 +26,10 @@ use Rattle.roff_fronts.specs.Stepped.{StepsText}
 use Rattle.roff_fronts.proofs.RegisterNames.{reads_names-text}
 use Rattle.roff_fronts.proofs.RegistersHeld.{ReadsText, next_bytes-put, passes-end, passes-read, read}
 use Rattle.roff_fronts.proofs.SteppingRuns.{leads-stepped}
-use Rattle.roff_fronts.proofs.TurnedRuns.{counted-bytes_taken}
 use Rattle.roff_formatter.specs.Formatter.Telling.{TellsFront}
 use Rattle.roff_formatter.specs.declared.formatter.Formatter.{Formatter}
 use Rattle.roff_interpreter.specs.declared.interpreter.Interpreter.{Interpreter}
-use Rattle.roff_interpreter.specs.Outcome.{Beginning, Seen, seen}
+use Rattle.roff_interpreter.specs.Outcome.{Seen, seen}
 use Rattle.roff_interpreter.proofs.Fronts.{few-none}
 use Rattle.roff_input.specs.Arguments.{Arguments, is_behind_quote}
 use Rattle.roff_escape.specs.OpenEscape.{OpenEscape}
@@ -42,7 +38,8 @@ use Rattle.roff_scan.specs.declared.run_kind.RunKind.TheVariants.{Text as TextRu
 use Rattle.roff_engine.specs.declared.running.Running.{Running as Coded}
 use Rattle.roff_engine.specs.Running.Turning.{GoesFurther, GoesPast, IsAt, state_at}
 use Rattle.roff_sinks.specs.Sinks.{Sunk}
-use Rattle.roff_engine.proofs.Passing.{IsAt-leads, goes_past_fewer, none-read}
+use Rattle.roff_engine.proofs.BytesPassed.{ComesBehind, goes_further-passed}
+use Rattle.roff_engine.proofs.Passing.{IsAt-leads, few-behind_escape}
 use Rattle.roff_engine.proofs.PassingEnds.{goes_further_passed}
 use Rattle.roff_engine.proofs.PassingOn.{goes_past_both}
 use Rattle.roff_engine.proofs.PutRegisters.{goes_further_then}
@@ -73,18 +70,8 @@ module _ (gave gives : Tape → Type 0) (old : Coded) (reader : ReaderState) (af
   abbrev new : Coded
   new = run_with old stepped_reader after
 
-  -- the escape has a byte, so few events stand in front behind it
-  few-behind_escape : (from : Origin) (front : List ℕ) (last : ℕ) → AreFew (ahead_at from (front ++ last ∷ [])) → AreFewFrom 0 (ahead_at from [])
-  few-behind_escape from [] last few = none-read from last [] few
-  few-behind_escape from (b ∷ front) last few = none-read from b (front ++ last ∷ []) few
-
   -- so the run is at its place behind it, over what is left of the tape
-  IsAt-stepped : (whole : Beginning) (t taken : Tape) (start now : Seen) (from : Origin) → IsOpenFor from (is_closed old.unread.looked)
-      → i.ahead ≡ ahead_at from steps.bytes → i.charge + length steps.bytes ≤ old.unread.limits.bytes
-      → steps.passed ≡ record old.unread { input = counted from steps.bytes i }
-      → looked_then old.unread.looked taken ≡ tape_at from steps.bytes (looked_then old.unread.looked taken)
-      → tape_at from [] (looked_then old.unread.looked taken) ≡ looked_then old.unread.looked t
-      → IsAt whole taken start now old → IsAt whole t start now new
+  IsAt-stepped : ComesBehind steps.bytes steps.passed old new
   IsAt-stepped whole t taken start now from is_open ahead charged passed asked left at =
       let l : Limits = old.unread.limits in
       let rs : AllRegisters = registers.all in
@@ -112,46 +99,13 @@ module _ (gave gives : Tape → Type 0) (old : Coded) (reader : ReaderState) (af
       (subst (λ (k : Limits). Leads k s behind) at.limits comes) refl at.stands (record { cap = at.ready.cap; line = at.ready.line; within = fits }) at.limits
       (few-none [] old.interpreter.reader.reading input.escapes input.ahead (few-text 0 steps.text (ahead_at from []) (few-more 0 5 (ahead_at from []) (omega arith) few)) (λ keeps is. refl)))
 
-  -- the run goes past it, wherever it stood
-  past-stepped : (notes : ℕ) (now : Seen) → PassesFront gave gives steps.bytes old.unread steps.passed → GoesPast gave gives notes notes old new now now
-  past-stepped notes now (OfSource passes) =
-      let less = turns_of_run-fewer old new (omega (arith, steps.fewer)) refl in
-      record {
-        limits = refl;
-        taken = map OneByte steps.bytes;
-        before = passes.in_front;
-        past = λ t tape start may at.
-            IsAt-stepped t tape (items_then (map OneByte steps.bytes) tape) start now (FromSource tape) (ap is_closed passes.looked) passes.ahead passes.within
-            (passes.input ∙ ap (λ (j : PageInput). record old.unread { input = j }) (sym (counted-source tape steps.bytes i passes.ahead)))
-            (ap (λ (looked : Looked). looked_then looked (items_then (map OneByte steps.bytes) tape)) passes.looked)
-            (sym (ap (λ (looked : Looked). looked_then looked tape) passes.looked)) at;
-        turns = omega (arith, less);
-      }
-  past-stepped notes now (OfTexts passes) =
-      let less = turns_of_run-fewer old new (omega (arith, steps.fewer)) refl in
-      record {
-        limits = refl;
-        taken = [];
-        before = passes.stays.before;
-        past = λ t tape start may at.
-            IsAt-stepped t tape tape start now (FromAhead passes.behind) tt passes.in_front passes.within
-            (passes.input ∙ ap (λ (j : PageInput). record old.unread { input = j }) (sym (counted-bytes_taken passes.behind steps.bytes i passes.in_front)))
-            refl refl at;
-        turns = omega (arith, less);
-      }
-
-  -- and fewer turns are to come
+  -- the run goes past it, and fewer turns are to come
   goes_further_stepped : (noted notes failed failures : ℕ) (out err : Sunk) → notes ≤ noted → failures ≡ failed
       → GoesFurther true gave gives noted notes old (run_with old reader after) (seen failed out err) (seen failures out err)
   goes_further_stepped noted notes failed failures out err few same =
-      let there : GoesPast gave gives noted noted old new (seen failed out err) (seen failed out err) = past-stepped noted (seen failed out err) steps.passes in
-      let less = turns_of_run-fewer old new (omega (arith, steps.fewer)) refl in
       subst (λ (r : ReaderState). GoesFurther true gave gives noted notes old (run_with old r after) (seen failed out err) (seen failures out err)) (sym is_reader)
-      (record {
-        past = subst (λ (f : ℕ). GoesPast gave gives noted notes old new (seen failed out err) (seen f out err)) (sym same)
-            (goes_past_fewer gave gives noted noted notes old new (seen failed out err) (seen failed out err) few there);
-        fewer = λ begins. omega (arith, less, few);
-      })
+      (goes_further-passed gave gives noted notes failed failures out err steps.bytes old new steps.passed refl IsAt-stepped (turns_of_run-fewer old new (omega (arith, steps.fewer)) refl)
+      steps.passes few same)
 
   -- as much is read as before
   pub same_reading : reader.reading ≡ old.interpreter.reader.reading

@@ -1,15 +1,13 @@
 -- Bytes of a text line that stand in front are told: the run has come behind them.
 use Rattle.std.proofs.Common.{◌≡◌, ℕ, ◌+◌, ◌≤◌, Bool, true, List, [], ◌∷◌, length, length-take, take, None, refl, sym, ap, subst, ◌∙◌, arith}
-use Rattle.std.specs.Prelude.{map}
 use Rattle.std.specs.List.{AllByRecursion}
 use Rattle.roff_layout.specs.Telling.{QuietlyTold}
 use Rattle.roff_num.specs.declared.limits.Limits.{Limits}
 use Rattle.roff_source.specs.Bytes.{is_text_byte}
-use Rattle.roff_input.specs.Input.{Ahead, bytes_taken, lines_taken}
-use Rattle.roff_source.specs.Tape.{Tape, OneByte, items_then}
+use Rattle.roff_input.specs.Input.{Ahead}
+use Rattle.roff_source.specs.Tape.{Tape}
 use Rattle.roff_input.specs.Looking.{is_closed, looked_then}
-use Rattle.roff_input.specs.declared.looked.Looked.{Looked}
-use Rattle.roff_scan.specs.Unread.Calls.{OfSource, OfTexts, PassesFront, front_bytes}
+use Rattle.roff_scan.specs.Unread.Calls.{PassesFront, front_bytes}
 use Rattle.roff_run.specs.Environments.{text_of}
 use Rattle.roff_composer.specs.Composer.Standing.{StandFor}
 use Rattle.roff_composer.specs.declared.composer.Composer.{Composer as ComposerOf}
@@ -26,10 +24,9 @@ use Rattle.roff_run.specs.TurnsToCome.{turns_within}
 use Rattle.roff_run.specs.PageEvents.{PageEvent}
 use Rattle.roff_run.specs.declared.line_state.LineState.{LineState}
 use Rattle.roff_run.specs.declared.phase.Phase.{Phase}
-use Rattle.roff_run.proofs.ItemsTaken.{FromAhead, FromSource, IsOpenFor, Origin, ahead_at, tape_at}
+use Rattle.roff_run.proofs.ItemsTaken.{IsOpenFor, Origin, ahead_at, tape_at}
 use Rattle.roff_run.proofs.Leads.{Leads-refl}
-use Rattle.roff_run.proofs.PlainRuns.{behind_bytes, counted, counted-source}
-use Rattle.roff_fronts.proofs.TurnedRuns.{counted-bytes_taken}
+use Rattle.roff_run.proofs.PlainRuns.{behind_bytes, counted}
 use Rattle.roff_fronts.proofs.RunsRead.{first_of_front}
 use Rattle.roff_composer.proofs.ToldBytes.{written-told}
 use Rattle.roff_fronts.proofs.PrintedRuns.{TakesText, counted-behind, leads-told, turns-counted}
@@ -42,6 +39,7 @@ use Rattle.roff_formatter.specs.Formatter.Telling.{TellsFront}
 use Rattle.roff_engine.specs.Running.Turning.{GoesPast, GoesPastIf, IsAt, line_turns, lines_left_in, state_at, turns_of_run}
 use Rattle.roff_sinks.specs.Sinks.{Sunk}
 use Rattle.roff_formatter.proofs.Telling.{all_by}
+use Rattle.roff_engine.proofs.BytesPassed.{ComesBehind, goes_past_if-passed}
 use Rattle.roff_engine.proofs.Passing.{IsAt-leads, few-alone, goes_past_if-fewer}
 use Rattle.roff_interpreter.specs.Room.{FewFor}
 use Rattle.roff_engine.proofs.TurnsLeft.{turns_of_run-no_more}
@@ -149,15 +147,12 @@ module _ (P : Type 0) (old : Coded) (f : Formatter) (there : LineState) (front :
       (written-told old.unread.limits.line bytes at.history (quiet whole tape start now at))
       (told.stands old.limits at.history at.stands) (record { cap = at.ready.cap; line = at.ready.line; within = within }) at.limits few
 
-  -- from there
-  IsAt-from : (from : Origin) (whole : Beginning) (t taken : Tape) (start now : Seen) (input : PageInput) → IsOpenFor from (is_closed old.unread.looked) → old.unread.input.ahead ≡ ahead_at from bytes
-      → input ≡ counted from bytes old.unread.input → old.unread.input.charge + length bytes ≤ old.unread.limits.bytes
-      → looked_then old.unread.looked taken ≡ tape_at from bytes (looked_then old.unread.looked taken)
-      → tape_at from [] (looked_then old.unread.looked taken) ≡ looked_then old.unread.looked t
-      → IsAt whole taken start now old → IsAt whole t start now (behind input)
-  IsAt-from from whole t taken start now input is_open front is few asked left at =
+  -- so it comes behind the bytes that were told, with what is unread then
+  comes-told : (u : PageUnread) → ComesBehind bytes u old (told_by old f there u)
+  comes-told u whole t taken start now from is_open front few passed asked left at =
       let l : Limits = old.unread.limits in
       let i : PageInput = old.unread.input in
+      let input : PageInput = counted from bytes i in
       let tape : Tape = looked_then old.unread.looked taken in
       let h : PageHistory = page_told bytes at.history in
       let here : LineState → Tape → PageInput → PageHistory → State = λ reading tape j h. going tape j reading rs h at.messages old.phase (is_closed old.unread.looked) [] in
@@ -167,42 +162,23 @@ module _ (P : Type 0) (old : Coded) (f : Formatter) (there : LineState) (front :
       let stands : here reading (tape_at from bytes tape) (record i { ahead = ahead_at from bytes }) at.history ≡ here reading tape i at.history =
       ap (λ (tape : Tape). here reading tape (record i { ahead = ahead_at from bytes }) at.history) (sym asked)
       ∙ ap (λ (items : List (Ahead PageEvent)). here reading tape (record i { ahead = items }) at.history) (sym front) in
-      let same : record (behind_bytes from bytes i) { ahead = ahead_at from [] } ≡ input = counted-behind from bytes i ∙ sym is in
+      let same : record (behind_bytes from bytes i) { ahead = ahead_at from [] } ≡ input = counted-behind from bytes i in
       let comes : here there (tape_at from [] tape) (record (behind_bytes from bytes i) { ahead = ahead_at from [] }) h ≡ here there (looked_then old.unread.looked t) input h =
       ap (λ (j : PageInput). here there (tape_at from [] tape) j h) same ∙ ap (λ (tape : Tape). here there tape input h) left in
-      IsAt-told whole taken t start now input at
+      subst (λ (v : PageUnread). IsAt whole t start now (told_by old f there v)) (sym passed)
+      (IsAt-told whole taken t start now input at
       (subst (λ (from : State). Leads l from (here there (looked_then old.unread.looked t) input h)) stands
       (subst (λ (next : State). Leads l (here reading (tape_at from bytes tape) (record i { ahead = ahead_at from bytes }) at.history) next) comes led.0))
       (subst (λ (j : PageInput). first_passed l (counts_in rs j) ≡ None) same led.1)
-      (few-alone from bytes reading there i input none_half at.few front same)
+      (few-alone from bytes reading there i input none_half at.few front same))
 
-  -- the run goes past the bytes that were told, wherever they stood
+  -- the run goes past them, wherever they stood
   past-told : (gave gives : Tape → Type 0) (notes : ℕ) (now : Seen) (u : PageUnread) → PassesFront gave gives bytes old.unread u
-      → GoesPastIf P gave gives notes notes old (record old { interpreter = interpreter_behind; unread = u }) now now
-  past-told gave gives notes now u (OfSource passes) =
-      let input : PageInput = lines_taken bytes old.unread.input in
-      let is : (tape : Tape) → input ≡ counted (FromSource tape) bytes old.unread.input = λ tape. sym (counted-source tape bytes old.unread.input passes.ahead) in
-      subst (λ (v : PageUnread). GoesPastIf P gave gives notes notes old (record old { interpreter = interpreter_behind; unread = v }) now now) (sym passes.input) (record {
-        limits = refl;
-        taken = map OneByte bytes;
-        before = passes.in_front;
-        past = λ t tape start may at.
-            IsAt-from (FromSource tape) t tape (items_then (map OneByte bytes) tape) start now input (ap is_closed passes.looked) passes.ahead (is tape) passes.within
-            (ap (λ (looked : Looked). looked_then looked (items_then (map OneByte bytes) tape)) passes.looked)
-            (sym (ap (λ (looked : Looked). looked_then looked tape) passes.looked)) at;
-        turns = λ so. (let few = no_more (FromSource passes.some.0) input passes.ahead (is passes.some.0) passes.within so in omega (arith, few));
-      })
-  past-told gave gives notes now u (OfTexts passes) =
-      let items : List (Ahead PageEvent) = passes.behind in
-      let input : PageInput = bytes_taken bytes items old.unread.input in
-      let is : input ≡ counted (FromAhead items) bytes old.unread.input = sym (counted-bytes_taken items bytes old.unread.input passes.in_front) in
-      subst (λ (v : PageUnread). GoesPastIf P gave gives notes notes old (record old { interpreter = interpreter_behind; unread = v }) now now) (sym passes.input) (record {
-        limits = refl;
-        taken = [];
-        before = passes.stays.before;
-        past = λ t tape start may at. IsAt-from (FromAhead items) t tape tape start now input tt passes.in_front is passes.within refl refl at;
-        turns = λ so. (let few = no_more (FromAhead items) input passes.in_front is passes.within so in omega (arith, few));
-      })
+      → GoesPastIf P gave gives notes notes old (told_by old f there u) now now
+  past-told gave gives notes now u passes =
+      goes_past_if-passed P gave gives notes now bytes old (told_by old f there u) u refl (comes-told u)
+      (λ from ahead charged passed so. subst (λ (v : PageUnread). turns_of_run (told_by old f there v) ≤ turns_of_run old) (sym passed)
+      (no_more from (counted from bytes old.unread.input) ahead refl charged so)) passes
 
   -- the same, as the source counts, and told the bytes that stood in front
   pub goes_past_front : (gave gives : Tape → Type 0) (ready : List ℕ) (noted notes failed failures : ℕ) (out err : Sunk) (u : PageUnread)

@@ -12,21 +12,20 @@ use Rattle.roff_layout.specs.Words.{is_empty}
 use Rattle.roff_sinks.specs.Sinks.{Sunk}
 use Rattle.roff_layout.specs.Titles.{page_mark}
 use Rattle.roff_source.specs.Bytes.{backslash, blank, is_silent, is_text_byte, newline, tab}
-use Rattle.roff_source.specs.Tape.{Tape, OneByte, items_then}
+use Rattle.roff_source.specs.Tape.{Tape}
 use Rattle.roff_escape.specs.OpenEscape.{OpenEscape, Backslash}
 use Rattle.roff_escape.specs.OpenEscapes.{byte_read}
 use Rattle.roff_escape.specs.Waiting.{is_ended_by}
 use Rattle.roff_escape.specs.declared.open_escape.CopyUnit.TheVariants.{Byte}
 use Rattle.roff_escape.specs.declared.open_escape.Found.TheVariants.{GoesOn, Unit as GivesUnit}
 use Rattle.roff_escape.specs.declared.open_escape.Surroundings.TheVariants.{Text as AboveText}
-use Rattle.roff_input.specs.Input.{Ahead, ByteAhead, bytes_taken, lines_taken}
+use Rattle.roff_input.specs.Input.{Ahead, ByteAhead}
 use Rattle.roff_input.specs.Looking.{is_closed, looked_then}
-use Rattle.roff_scan.specs.Unread.Calls.{OfSource, OfTexts, PassesFront}
-use Rattle.roff_input.specs.declared.looked.Looked.{Looked}
+use Rattle.roff_scan.specs.Unread.Calls.{PassesFront}
 use Rattle.roff_run.proofs.InputCounts.{NoMore-item_taken, first_passed-few_names, first_passed-no_more}
 use Rattle.roff_run.proofs.ItemsTaken.{FromAhead, FromSource, IsOpenFor, Origin, ahead_at, byte_ahead_is_taken, bytes_of_the_source_are_taken, tape_at}
 use Rattle.roff_run.proofs.Leads.{Leads-refl, Leads-trans}
-use Rattle.roff_run.proofs.PlainRuns.{behind_byte, behind_bytes, counted, counted-source}
+use Rattle.roff_run.proofs.PlainRuns.{behind_byte, behind_bytes, counted}
 use Rattle.roff_run.proofs.TextBytes.{heard-text, is_other, kept-text}
 use Rattle.roff_run.specs.Environments.{PageHistory}
 use Rattle.roff_run.specs.PageEvents.{PageEvent}
@@ -49,15 +48,15 @@ use Rattle.roff_composer.proofs.TitleTexts.{bytes_added_again, bytes_added_lengt
 use Rattle.roff_requests.specs.Registers.Fronts.{IsPlain, is_plain, kept_byte}
 use Rattle.roff_fronts.proofs.PrintedRuns.{counted-behind, turns-counted}
 use Rattle.roff_reader.proofs.TakesAs.{few_names_in}
-use Rattle.roff_fronts.proofs.TurnedRuns.{counted-bytes_taken}
 use Rattle.roff_reader.specs.Reader.State.{ReaderState}
 use Rattle.roff_reader.specs.Reader.Titles.{ReadsTitle, TitleBytes}
 use Rattle.roff_interpreter.specs.declared.interpreter.Interpreter.{Interpreter}
 use Rattle.roff_engine.specs.declared.running.Running.{Running as Coded}
-use Rattle.roff_interpreter.specs.Outcome.{Beginning, Seen, seen}
+use Rattle.roff_interpreter.specs.Outcome.{seen}
 use Rattle.roff_interpreter.specs.Performing.{going}
 use Rattle.roff_engine.specs.Running.Turning.{GoesPast, IsAt, turns_of_run}
-use Rattle.roff_engine.proofs.Passing.{IsAt-leads, few-alone, goes_past_fewer}
+use Rattle.roff_engine.proofs.BytesPassed.{ComesBehind, goes_past-passed}
+use Rattle.roff_engine.proofs.Passing.{IsAt-leads, few-alone}
 use Rattle.roff_engine.proofs.TurnsLeft.{turns_of_run-no_more}
 
 -- what a byte is that stands for the page number, a blank or itself
@@ -229,15 +228,12 @@ module _ (old : Coded) (delimiter : ℕ) (bytes : List ℕ) (in_title : old.inte
   abbrev behind : PageInput → Coded
   behind input = record old { interpreter = interpreter_behind; unread = record old.unread { input = input } }
 
-  -- the run is at its place behind them, from there
-  IsAt-from : (from : Origin) (whole : Beginning) (t taken : Tape) (start now : Seen) (input : PageInput) → IsOpenFor from (is_closed old.unread.looked) → old.unread.input.ahead ≡ ahead_at from bytes
-      → input ≡ counted from bytes old.unread.input → old.unread.input.charge + length bytes ≤ old.unread.limits.bytes
-      → looked_then old.unread.looked taken ≡ tape_at from bytes (looked_then old.unread.looked taken)
-      → tape_at from [] (looked_then old.unread.looked taken) ≡ looked_then old.unread.looked t
-      → IsAt whole taken start now old → IsAt whole t start now (behind input)
-  IsAt-from from whole t taken start now input is_open front is few asked left at =
+  -- the run comes behind them, with what is unread then
+  comes-title : (u : PageUnread) → ComesBehind bytes u old (record old { interpreter = interpreter_behind; unread = u })
+  comes-title u whole t taken start now from is_open front few passed asked left at =
       let l : Limits = old.unread.limits in
       let i : PageInput = old.unread.input in
+      let input : PageInput = counted from bytes i in
       let tape : Tape = looked_then old.unread.looked taken in
       let new : AllRegisters = with_title bytes rs in
       let here : Tape → PageInput → AllRegisters → State = λ tape j registers. going tape j old.interpreter.reader.reading registers at.history at.messages old.phase (is_closed old.unread.looked) [] in
@@ -247,16 +243,17 @@ module _ (old : Coded) (delimiter : ℕ) (bytes : List ℕ) (in_title : old.inte
       let stands : here (tape_at from bytes tape) (record i { ahead = ahead_at from bytes }) rs ≡ here tape i rs =
       ap (λ (tape : Tape). here tape (record i { ahead = ahead_at from bytes }) rs) (sym asked)
       ∙ ap (λ (items : List (Ahead PageEvent)). here tape (record i { ahead = items }) rs) (sym front) in
-      let same : record (behind_bytes from bytes i) { ahead = ahead_at from [] } ≡ input = counted-behind from bytes i ∙ sym is in
+      let same : record (behind_bytes from bytes i) { ahead = ahead_at from [] } ≡ input = counted-behind from bytes i in
       let comes : here (tape_at from [] tape) (record (behind_bytes from bytes i) { ahead = ahead_at from [] }) new ≡ here (looked_then old.unread.looked t) input new =
       ap (λ (j : PageInput). here (tape_at from [] tape) j new) same ∙ ap (λ (tape : Tape). here tape input new) left in
       let leads : Leads l (here tape i rs) (here (looked_then old.unread.looked t) input new) =
       subst (λ (from : State). Leads l from (here (looked_then old.unread.looked t) input new)) stands
       (subst (λ (there : State). Leads l (here (tape_at from bytes tape) (record i { ahead = ahead_at from bytes }) rs) there) comes led.0) in
-      IsAt-leads whole taken t start now old interpreter_behind (record old.unread { input = input }) at.history at
+      subst (λ (v : PageUnread). IsAt whole t start now (record old { interpreter = interpreter_behind; unread = v })) (sym passed)
+      (IsAt-leads whole taken t start now old interpreter_behind (record old.unread { input = input }) at.history at
       (subst (λ (l : Limits). Leads l (here tape i rs) (here (looked_then old.unread.looked t) input new)) at.limits leads) refl at.stands
       (record { cap = at.ready.cap; line = at.ready.line; within = subst (λ (j : PageInput). first_passed l (counts_in new j) ≡ None) same led.1 }) at.limits
-      (few-alone from bytes old.interpreter.reader.reading _ i input none_half at.few front same)
+      (few-alone from bytes old.interpreter.reader.reading _ i input none_half at.few front same))
 
   -- no more turns are to come
   turns-title : (from : Origin) (input : PageInput) → old.unread.input.ahead ≡ ahead_at from bytes → input ≡ counted from bytes old.unread.input
@@ -268,39 +265,18 @@ module _ (old : Coded) (delimiter : ℕ) (bytes : List ℕ) (in_title : old.inte
       turns_of_run-no_more old (behind input) (omega (arith, few)) refl refl
 
   -- the run goes past them, wherever they stood
-  past-title : (gave gives : Tape → Type 0) (notes : ℕ) (now : Seen) (u : PageUnread) → PassesFront gave gives bytes old.unread u
-      → GoesPast gave gives notes notes old (record old { interpreter = interpreter_behind; unread = u }) now now
-  past-title gave gives notes now u (OfSource passes) =
-      let input : PageInput = lines_taken bytes old.unread.input in
-      let is : (tape : Tape) → input ≡ counted (FromSource tape) bytes old.unread.input = λ tape. sym (counted-source tape bytes old.unread.input passes.ahead) in
-      let few : turns_of_run (behind input) ≤ turns_of_run old = turns-title (FromSource passes.some.0) input passes.ahead (is passes.some.0) in
-      subst (λ (v : PageUnread). GoesPast gave gives notes notes old (record old { interpreter = interpreter_behind; unread = v }) now now) (sym passes.input) (record {
-        limits = refl;
-        taken = map OneByte bytes;
-        before = passes.in_front;
-        past = λ t tape start may at.
-            IsAt-from (FromSource tape) t tape (items_then (map OneByte bytes) tape) start now input (ap is_closed passes.looked) passes.ahead (is tape) passes.within
-            (ap (λ (looked : Looked). looked_then looked (items_then (map OneByte bytes) tape)) passes.looked)
-            (sym (ap (λ (looked : Looked). looked_then looked tape) passes.looked)) at;
-        turns = omega (arith, few);
-      })
-  past-title gave gives notes now u (OfTexts passes) =
-      let items : List (Ahead PageEvent) = passes.behind in
-      let input : PageInput = bytes_taken bytes items old.unread.input in
-      let is : input ≡ counted (FromAhead items) bytes old.unread.input = sym (counted-bytes_taken items bytes old.unread.input passes.in_front) in
-      let few : turns_of_run (behind input) ≤ turns_of_run old = turns-title (FromAhead items) input passes.in_front is in
-      subst (λ (v : PageUnread). GoesPast gave gives notes notes old (record old { interpreter = interpreter_behind; unread = v }) now now) (sym passes.input) (record {
-        limits = refl;
-        taken = [];
-        before = passes.stays.before;
-        past = λ t tape start may at. IsAt-from (FromAhead items) t tape tape start now input tt passes.in_front is passes.within refl refl at;
-        turns = omega (arith, few);
-      })
+  past-title : (gave gives : Tape → Type 0) (noted notes failed failures : ℕ) (out err : Sunk) (u : PageUnread) → PassesFront gave gives bytes old.unread u → notes ≤ noted → failures ≡ failed
+      → GoesPast gave gives noted notes old (record old { interpreter = interpreter_behind; unread = u }) (seen failed out err) (seen failures out err)
+  past-title gave gives noted notes failed failures out err u passes fewer same =
+      goes_past-passed gave gives noted notes failed failures out err bytes old (record old { interpreter = interpreter_behind; unread = u }) u refl (comes-title u)
+      (λ from ahead charged passed so. subst (λ (v : PageUnread). turns_of_run (record old { interpreter = interpreter_behind; unread = v }) ≤ turns_of_run old) (sym passed)
+      (turns-title from (counted from bytes old.unread.input) ahead refl)) passes fewer same
 
--- the run goes past what was read at once of a title, or past nothing
-past-read : (gave gives : Tape → Type 0) (notes : ℕ) (now : Seen) (old : Coded) (reader : ReaderState) (u : PageUnread) → ReadsTitle gave gives old.interpreter.reader reader old.unread u
-    → GoesPast gave gives notes notes old (record old { interpreter = record old.interpreter { reader = reader }; unread = u }) now now
-past-read gave gives notes now old reader u reads = elim reads.took [
+-- the run goes past what was read at once of a title, or past nothing, as the source counts
+pub goes_past_title : (gave gives : Tape → Type 0) (noted notes failed failures : ℕ) (out err : Sunk) (old : Coded) (reader : ReaderState) (u : PageUnread)
+    → ReadsTitle gave gives old.interpreter.reader reader old.unread u → notes ≤ noted → failures ≡ failed
+    → GoesPast gave gives noted notes old (record old { interpreter = record old.interpreter { reader = reader }; unread = u }) (seen failed out err) (seen failures out err)
+goes_past_title gave gives noted notes failed failures out err old reader u reads fewer same = elim reads.took [
   | inl read ↦
       let delimiter : ℕ = read.0 in
       let bytes : List ℕ = read.1.0 in
@@ -309,25 +285,18 @@ past-read gave gives notes now old reader u reads = elim reads.took [
       subst (λ (r : ReaderState). title_length r.registers.all.title ≤ r.registers.line) title.added title.room in
       let room : title_length old.interpreter.reader.registers.all.title + length bytes ≤ old.interpreter.reader.registers.line =
       omega (arith, long, length-title bytes old.interpreter.reader.registers.all) in
-      subst (λ (r : ReaderState). GoesPast gave gives notes notes old (record old { interpreter = record old.interpreter { reader = r }; unread = u }) now now) (sym title.added)
-      (past-title old delimiter bytes title.reading title.none_half title.plain room gave gives notes now u title.passes)
+      subst (λ (r : ReaderState). GoesPast gave gives noted notes old (record old { interpreter = record old.interpreter { reader = r }; unread = u }) (seen failed out err) (seen failures out err))
+      (sym title.added)
+      (past-title old delimiter bytes title.reading title.none_half title.plain room gave gives noted notes failed failures out err u title.passes fewer same)
   | inr none ↦
-      subst (λ (r : ReaderState). GoesPast gave gives notes notes old (record old { interpreter = record old.interpreter { reader = r }; unread = u }) now now) (sym none.reader)
-      (subst (λ (v : PageUnread). GoesPast gave gives notes notes old (record old { unread = v }) now now) (sym none.unread) (record {
+      subst (λ (r : ReaderState). GoesPast gave gives noted notes old (record old { interpreter = record old.interpreter { reader = r }; unread = u }) (seen failed out err) (seen failures out err))
+      (sym none.reader)
+      (subst (λ (v : PageUnread). GoesPast gave gives noted notes old (record old { unread = v }) (seen failed out err) (seen failures out err)) (sym none.unread)
+      (subst (λ (n : ℕ). GoesPast gave gives noted notes old (record old { unread = old.unread }) (seen failed out err) (seen n out err)) (sym same) (record {
         limits = refl;
         taken = [];
         before = none.stays.before;
         past = λ t tape start may at. at;
-        turns = omega arith;
-      }))
+        turns = omega (arith, fewer);
+      })))
 ]
-
--- as the source counts
-pub goes_past_title : (gave gives : Tape → Type 0) (noted notes failed failures : ℕ) (out err : Sunk) (old : Coded) (reader : ReaderState) (u : PageUnread)
-    → ReadsTitle gave gives old.interpreter.reader reader old.unread u → notes ≤ noted → failures ≡ failed
-    → GoesPast gave gives noted notes old (record old { interpreter = record old.interpreter { reader = reader }; unread = u }) (seen failed out err) (seen failures out err)
-goes_past_title gave gives noted notes failed failures out err old reader u reads fewer same_failures =
-    let there : Coded = record old { interpreter = record old.interpreter { reader = reader }; unread = u } in
-    goes_past_fewer gave gives noted noted notes old there (seen failed out err) (seen failures out err) fewer
-    (subst (λ (f : ℕ). GoesPast gave gives noted noted old there (seen failed out err) (seen f out err)) (sym same_failures)
-    (past-read gave gives noted (seen failed out err) old reader u reads))

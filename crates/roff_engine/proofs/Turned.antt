@@ -1,14 +1,10 @@
 -- Bytes that were read at once and changed only what is read: the run has come behind them.
 use Rattle.std.proofs.Common.{◌≡◌, ℕ, ◌+◌, ◌≤◌, List, [], ◌∷◌, length, None, refl, sym, ap, subst, ◌∙◌, arith}
-use Rattle.std.specs.Prelude.{map}
 use Rattle.roff_num.specs.declared.limits.Limits.{Limits}
 use Rattle.roff_input.specs.Input.{Ahead}
-use Rattle.roff_source.specs.Tape.{Tape, OneByte, items_then}
+use Rattle.roff_source.specs.Tape.{Tape}
 use Rattle.roff_input.specs.Looking.{is_closed, looked_then}
-use Rattle.roff_input.specs.declared.looked.Looked.{Looked}
-use Rattle.roff_input.specs.declared.looked.Looked.TheVariants.{Nothing}
-use Rattle.roff_input.specs.Unread.{Stays, input_refusal}
-use Rattle.roff_scan.specs.Unread.Calls.{OfSource, OfTexts, PassesFront, PassesSource, PassesTexts}
+use Rattle.roff_input.specs.Unread.{input_refusal}
 use Rattle.roff_meaning.specs.Meaning.{MeaningKept}
 use Rattle.roff_reader.specs.Reader.State.{ReaderState}
 use Rattle.roff_reader.specs.Reader.Taken.{IsReady}
@@ -25,16 +21,17 @@ use Rattle.roff_fronts.specs.Stages.{ReadsPast}
 use Rattle.roff_run.specs.TurnsToCome.{begun, turns_within}
 use Rattle.roff_run.specs.declared.line_state.LineState.{LineState}
 use Rattle.roff_run.proofs.InputCounts.{IsWithin-allowed, first_passed-few_names}
-use Rattle.roff_run.proofs.ItemsTaken.{FromAhead, FromSource, IsOpenFor, Origin, ahead_at, tape_at}
-use Rattle.roff_run.proofs.PlainRuns.{behind_bytes, counted, counted-source, is-run_at, run_at}
+use Rattle.roff_run.proofs.ItemsTaken.{IsOpenFor, Origin, ahead_at, tape_at}
+use Rattle.roff_run.proofs.PlainRuns.{behind_bytes, counted, is-run_at, run_at}
 use Rattle.roff_reader.proofs.TakesAs.{few_names, short_title}
-use Rattle.roff_fronts.proofs.TurnedRuns.{FitsAt, Turned-none, after-Turned, counted-bytes_taken, input-passed, stage_input, stage_input-counted, turns_left-turned}
+use Rattle.roff_fronts.proofs.TurnedRuns.{FitsAt, Turned-none, after-Turned, input-passed, stage_input, stage_input-counted, turns_left-turned}
 use Rattle.roff_engine.specs.declared.running.Running.{Running as Coded}
 use Rattle.roff_interpreter.specs.Outcome.{Beginning, Seen, seen}
 use Rattle.roff_engine.specs.Running.Turning.{GoesPast, IsAt, line_turns, lines_left_in, state_at, turns_left, turns_of_run}
 use Rattle.roff_sinks.specs.Sinks.{Sunk}
 use Rattle.roff_interpreter.proofs.Fronts.{few-none}
-use Rattle.roff_engine.proofs.Passing.{IsAt-leads, goes_past_fewer, none-read}
+use Rattle.roff_engine.proofs.BytesPassed.{goes_past-passed}
+use Rattle.roff_engine.proofs.Passing.{IsAt-leads, none-read}
 use Rattle.roff_interpreter.specs.Room.{FewFor}
 use Rattle.roff_input.specs.Input.Few.{AreFew, AreFewFrom}
 use Rattle.roff_engine.proofs.TurnsLeft.{turns_of_run-fewer, turns_of_run-no_more}
@@ -127,108 +124,56 @@ turns-reads old reading input from (b ∷ bytes) read =
     let fewer = turns_of_run-fewer old (reads old reading input) (omega (arith, few)) refl in
     omega (arith, fewer)
 
--- the run goes past bytes of the source
-past-source : (gave gives : Tape → Type 0) (notes : ℕ) (now : Seen) (old : Coded) (reading : LineState) (input : PageInput) (bytes : List ℕ)
-    → ((tape : Tape) → ReadFrom (FromSource tape) bytes old reading input) → old.unread.looked ≡ Nothing
-    → ((t : Tape) → gives t → gave (items_then (map OneByte bytes) t)) → (t : Tape) × gives t
-    → GoesPast gave gives notes notes old (reads old reading input) now now
-past-source gave gives notes now old reading input bytes read none in_front some =
-    let few : turns_of_run (reads old reading input) ≤ turns_of_run old = turns-reads old reading input (FromSource some.0) bytes (read some.0) in
-    record {
-      limits = refl;
-      taken = map OneByte bytes;
-      before = in_front;
-      past = λ t tape start may at.
-          IsAt-turned t tape (items_then (map OneByte bytes) tape) start now old reading input (FromSource tape) bytes (ap is_closed none) (read tape)
-          (ap (λ (looked : Looked). looked_then looked (items_then (map OneByte bytes) tape)) none)
-          (sym (ap (λ (looked : Looked). looked_then looked tape) none)) at;
-      turns = omega (arith, few);
-    }
+-- bytes that were read past
+module _ (gave gives : Tape → Type 0) (old : Coded) (after : PageUnread) (new : ReaderState) (past : ReadsPast gave gives old.interpreter.reader new old.unread after) where
+  abbrev i : PageInput
+  i = old.unread.input
 
--- the run goes past bytes ahead
-past-texts : (gave gives : Tape → Type 0) (notes : ℕ) (now : Seen) (old : Coded) (reading : LineState) (input : PageInput) (rest : List (Ahead PageEvent)) (bytes : List ℕ)
-    → ReadFrom (FromAhead rest) bytes old reading input → Stays gave gives
-    → GoesPast gave gives notes notes old (reads old reading input) now now
-past-texts gave gives notes now old reading input rest bytes read stays =
-    let few : turns_of_run (reads old reading input) ≤ turns_of_run old = turns-reads old reading input (FromAhead rest) bytes read in
-    record {
-      limits = refl;
-      taken = [];
-      before = stays.before;
-      past = λ t tape start may at. IsAt-turned t tape tape start now old reading input (FromAhead rest) bytes tt read refl refl at;
-      turns = omega (arith, few);
-    }
+  -- the input behind them, but for what is read
+  abbrev passed : PageUnread
+  passed = record after { input = with_stage_of i after.input }
 
--- what was read past, by where the bytes came from
-read-source : (gave gives : Tape → Type 0) (old : Coded) (after : PageUnread) (new : ReaderState) (past : ReadsPast gave gives old.interpreter.reader new old.unread after)
-    → PassesSource gave gives past.bytes old.unread (record after { input = with_stage_of old.unread.input after.input }) → input_refusal old.unread.limits after.input ≡ None
-    → (tape : Tape) → ReadFrom (FromSource tape) past.bytes old new.reading after.input
-read-source gave gives old after new past passes within tape =
-    let i : PageInput = old.unread.input in
-    let is : with_stage_of i after.input ≡ counted (FromSource tape) past.bytes i =
-    ap (λ (u : PageUnread). u.input) passes.input ∙ sym (counted-source tape past.bytes i passes.ahead) in
-    record {
-      turned = past.turned;
-      ahead = passes.ahead;
-      leads = stage_input-counted i.names (stage_of new.reading after.input) (FromSource tape) past.bytes i
-          ∙ sym (input-passed new.reading i after.input (FromSource tape) past.bytes is);
-      charged = passes.within;
-      within = within;
-    }
+  -- the code behind them
+  abbrev behind : ReaderState → PageUnread → Coded
+  behind reader u = record old { unread = u; interpreter = record old.interpreter { reader = reader } }
 
-read-texts : (gave gives : Tape → Type 0) (old : Coded) (after : PageUnread) (new : ReaderState) (past : ReadsPast gave gives old.interpreter.reader new old.unread after)
-    → (passes : PassesTexts gave gives past.bytes old.unread (record after { input = with_stage_of old.unread.input after.input }))
-    → input_refusal old.unread.limits after.input ≡ None → ReadFrom (FromAhead passes.behind) past.bytes old new.reading after.input
-read-texts gave gives old after new past passes within =
-    let i : PageInput = old.unread.input in
-    let is : with_stage_of i after.input ≡ counted (FromAhead passes.behind) past.bytes i =
-    ap (λ (u : PageUnread). u.input) passes.input ∙ sym (counted-bytes_taken passes.behind past.bytes i passes.in_front) in
-    record {
-      turned = past.turned;
-      ahead = passes.in_front;
-      leads = stage_input-counted i.names (stage_of new.reading after.input) (FromAhead passes.behind) past.bytes i
-          ∙ sym (input-passed new.reading i after.input (FromAhead passes.behind) past.bytes is);
-      charged = passes.within;
-      within = within;
-    }
+  -- they lead there, wherever they came from
+  reads-passed : (from : Origin) → i.ahead ≡ ahead_at from past.bytes → i.charge + length past.bytes ≤ old.unread.limits.bytes
+      → passed ≡ record old.unread { input = counted from past.bytes i } → ReadFrom from past.bytes old new.reading after.input
+  reads-passed from ahead charged is =
+      let same : with_stage_of i after.input ≡ counted from past.bytes i = ap (λ (u : PageUnread). u.input) is in
+      let limits : after.limits ≡ old.unread.limits = ap (λ (u : PageUnread). u.limits) is in
+      record {
+        turned = past.turned;
+        ahead = ahead;
+        leads = stage_input-counted i.names (stage_of new.reading after.input) from past.bytes i ∙ sym (input-passed new.reading i after.input from past.bytes same);
+        charged = charged;
+        within = subst (λ (l : Limits). input_refusal l after.input ≡ None) limits (IsWithin-allowed after past.within);
+      }
 
--- the unread input behind it, and the reader
-unread-past : (before after : PageUnread) (input passed : PageInput) → record after { input = passed } ≡ record before { input = input }
-    → after ≡ record before { input = after.input }
-unread-past before after input passed same = ap (λ (u : PageUnread). record u { input = after.input }) same
+  -- the code is the one where that is read
+  as_read : (Q : Coded → Type 0) (input : PageInput) → passed ≡ record old.unread { input = input } → Q (reads old new.reading after.input) → Q (behind new after)
+  as_read Q input is read =
+      let kept : new ≡ record old.interpreter.reader { reading = new.reading } =
+      ap (λ (registers : Capped). record new { registers = registers }) past.registers
+      ∙ ap (λ (m : MeaningKept). record new { registers = old.interpreter.reader.registers; meaning = m }) past.meaning in
+      subst (λ (u : PageUnread). Q (behind new u)) (sym (ap (λ (u : PageUnread). record u { input = after.input }) is))
+      (subst (λ (r : ReaderState). Q (behind r (record old.unread { input = after.input }))) (sym kept) read)
 
-reader-past : (old new : ReaderState) → new.registers ≡ old.registers → new.meaning ≡ old.meaning → new ≡ record old { reading = new.reading }
-reader-past old new same kept =
-    ap (λ (registers : Capped). record new { registers = registers }) same
-    ∙ ap (λ (m : MeaningKept). record new { registers = old.registers; meaning = m }) kept
+  -- the run goes past them, as the source counts
+  goes_past_read : (noted notes failed failures : ℕ) (out err : Sunk) → notes ≤ noted → failures ≡ failed
+      → GoesPast gave gives noted notes old (behind new after) (seen failed out err) (seen failures out err)
+  goes_past_read noted notes failed failures out err fewer same =
+      goes_past-passed gave gives noted notes failed failures out err past.bytes old (behind new after) passed refl
+      (λ whole t taken start now from is_open ahead charged is asked left at.
+      as_read (λ run. IsAt whole t start now run) (counted from past.bytes i) is
+      (IsAt-turned whole t taken start now old new.reading after.input from past.bytes is_open (reads-passed from ahead charged is) asked left at))
+      (λ from ahead charged is so.
+      as_read (λ run. turns_of_run run ≤ turns_of_run old) (counted from past.bytes i) is
+      (turns-reads old new.reading after.input from past.bytes (reads-passed from ahead charged is))) past.passes fewer same
 
-past-read : (gave gives : Tape → Type 0) (notes : ℕ) (now : Seen) (old : Coded) (after : PageUnread) (new : ReaderState)
-    → (past : ReadsPast gave gives old.interpreter.reader new old.unread after)
-    → PassesFront gave gives past.bytes old.unread (record after { input = with_stage_of old.unread.input after.input })
-    → GoesPast gave gives notes notes old (record old { unread = after; interpreter = record old.interpreter { reader = new } }) now now
-past-read gave gives notes now old after new past (OfSource passes) =
-    let left : after ≡ record old.unread { input = after.input } = unread-past old.unread after _ _ passes.input in
-    let limits : after.limits ≡ old.unread.limits = ap (λ (u : PageUnread). u.limits) passes.input in
-    let within : input_refusal old.unread.limits after.input ≡ None = subst (λ (l : Limits). input_refusal l after.input ≡ None) limits (IsWithin-allowed after past.within) in
-    subst (λ (u : PageUnread). GoesPast gave gives notes notes old (record old { unread = u; interpreter = record old.interpreter { reader = new } }) now now) (sym left)
-    (subst (λ (r : ReaderState). GoesPast gave gives notes notes old (record old { unread = record old.unread { input = after.input }; interpreter = record old.interpreter { reader = r } }) now now)
-    (sym (reader-past old.interpreter.reader new past.registers past.meaning))
-    (past-source gave gives notes now old new.reading after.input past.bytes (read-source gave gives old after new past passes within) passes.looked passes.in_front passes.some))
-past-read gave gives notes now old after new past (OfTexts passes) =
-    let left : after ≡ record old.unread { input = after.input } = unread-past old.unread after _ _ passes.input in
-    let limits : after.limits ≡ old.unread.limits = ap (λ (u : PageUnread). u.limits) passes.input in
-    let within : input_refusal old.unread.limits after.input ≡ None = subst (λ (l : Limits). input_refusal l after.input ≡ None) limits (IsWithin-allowed after past.within) in
-    subst (λ (u : PageUnread). GoesPast gave gives notes notes old (record old { unread = u; interpreter = record old.interpreter { reader = new } }) now now) (sym left)
-    (subst (λ (r : ReaderState). GoesPast gave gives notes notes old (record old { unread = record old.unread { input = after.input }; interpreter = record old.interpreter { reader = r } }) now now)
-    (sym (reader-past old.interpreter.reader new past.registers past.meaning))
-    (past-texts gave gives notes now old new.reading after.input passes.behind past.bytes (read-texts gave gives old after new past passes within) passes.stays))
-
--- the run goes past the bytes that were read, as the source counts
 pub goes_past_turned : (gave gives : Tape → Type 0) (noted notes failed failures : ℕ) (out err : Sunk) (old : Coded) (after : PageUnread) (new : ReaderState)
     → ReadsPast gave gives old.interpreter.reader new old.unread after → notes ≤ noted → failures ≡ failed
     → GoesPast gave gives noted notes old (record old { unread = after; interpreter = record old.interpreter { reader = new } }) (seen failed out err) (seen failures out err)
-goes_past_turned gave gives noted notes failed failures out err old after new past fewer same_failures =
-    let there : Coded = record old { unread = after; interpreter = record old.interpreter { reader = new } } in
-    goes_past_fewer gave gives noted noted notes old there (seen failed out err) (seen failures out err) fewer
-    (subst (λ (f : ℕ). GoesPast gave gives noted noted old there (seen failed out err) (seen f out err)) (sym same_failures)
-    (past-read gave gives noted (seen failed out err) old after new past past.passes))
+goes_past_turned gave gives noted notes failed failures out err old after new past fewer same =
+    goes_past_read gave gives old after new past noted notes failed failures out err fewer same

@@ -1,5 +1,5 @@
 -- How many turns are to come of a run of the code, and of the definition's state.
-use Rattle.std.proofs.Common.{◌≡◌, ℕ, ◌+◌, ◌*◌, ◌<◌, ◌≤◌, Bool, true, false, List, [], ◌∷◌, ◌++◌, length, Some, None, refl, sym, ap, ◌∙◌, arith}
+use Rattle.std.proofs.Common.{◌≡◌, ◌⊎◌, ℕ, ◌+◌, ◌*◌, ◌<◌, ◌≤◌, Bool, true, false, List, [], ◌∷◌, ◌++◌, length, Some, None, inl, inr, refl, sym, ap, ◌∙◌, arith}
 use Rattle.std.specs.Prelude.{if◌then◌else◌}
 use Rattle.roff_num.specs.declared.limits.Limits.{Limits}
 use Rattle.roff_escape.specs.OpenEscape.{OpenEscape}
@@ -14,7 +14,7 @@ use Rattle.roff_composer.specs.declared.composer.Composer.{Composer as ComposerO
 use Rattle.roff_run.specs.Environments.{PageHistory, interrupted_line, line_left, environments, text_of}
 use Rattle.roff_layout.specs.Events.{is_interrupted}
 use Rattle.roff_run.specs.Events.Lines.{closing_events}
-use Rattle.roff_run.specs.Reading.Ends.{is_unfinished}
+use Rattle.roff_run.specs.Reading.Ends.{due, is_unfinished}
 use Rattle.roff_run.specs.Run.{State, escape_ends, input_ended, known, phase_ended}
 use Rattle.roff_run.specs.TurnsToCome.{begun, lines_left, phases_left, turns_within, unended}
 use Rattle.roff_run.specs.declared.line_state.LineState.{LineState}
@@ -38,56 +38,44 @@ lines_left-stands l h es stood =
     ap as_one stood.environments.in_force.lines.is_interrupted
     ∙ left-by (is_interrupted (text_of h)) (line_left (text_of h) (environments h).in_force.untold)
 
+-- where a line begins nothing is due, and its end takes as many turns as lines are left; within one it takes two
+pub line_turns-by : (reading : LineState)
+    → ((unended reading ≡ 0) × ((due reading ≡ None) × ((left : ℕ) → line_turns reading left ≡ left))) ⊎ ((unended reading ≡ 1) × ((left : ℕ) → line_turns reading left ≡ 2))
+line_turns-by LineStart = inl (refl, (refl, λ left. refl))
+line_turns-by Branch = inr (refl, λ left. refl)
+line_turns-by Braced = inl (refl, (refl, λ left. refl))
+line_turns-by (InText line) = inr (refl, λ left. refl)
+line_turns-by (Control breaks) = inr (refl, λ left. refl)
+line_turns-by (Name breaks first) = inr (refl, λ left. refl)
+line_turns-by (Collecting purpose) = inr (refl, λ left. refl)
+line_turns-by (Deciding keeping) = inr (refl, λ left. refl)
+line_turns-by (Skipping opened closed behind) = inr (refl, λ left. refl)
+line_turns-by Dropped = inr (refl, λ left. refl)
+line_turns-by (Told aborts) = inr (refl, λ left. refl)
+line_turns-by Exiting = inr (refl, λ left. refl)
+line_turns-by TitleFront = inr (refl, λ left. refl)
+line_turns-by (InTitle delimiter) = inr (refl, λ left. refl)
+
 -- a line that ends with the input counts no more than this
 line_turns-few : (reading : LineState) (left : ℕ) → left ≤ 1 → line_turns reading left ≤ 2 * unended reading + 1
-line_turns-few LineStart left few = omega (arith, few)
-line_turns-few Branch left few = omega arith
-line_turns-few Braced left few = omega (arith, few)
-line_turns-few (InText line) left few = omega arith
-line_turns-few (Control breaks) left few = omega arith
-line_turns-few (Name breaks first) left few = omega arith
-line_turns-few (Collecting purpose) left few = omega arith
-line_turns-few (Deciding keeping) left few = omega arith
-line_turns-few (Skipping opened closed behind) left few = omega arith
-line_turns-few Dropped left few = omega arith
-line_turns-few (Told aborts) left few = omega arith
-line_turns-few Exiting left few = omega arith
-line_turns-few TitleFront left few = omega arith
-line_turns-few (InTitle delimiter) left few = omega arith
+line_turns-few reading left few = elim (line_turns-by reading) [
+  | inl begins ↦ let is = begins.1.1 left in omega (arith, is, few)
+  | inr within ↦ let is = within.1 left in omega (arith, is, within.0)
+]
 
 -- nor less than this
 line_turns-least : (reading : LineState) (left : ℕ) → 2 * unended reading ≤ line_turns reading left
-line_turns-least LineStart left = omega arith
-line_turns-least Branch left = omega arith
-line_turns-least Braced left = omega arith
-line_turns-least (InText line) left = omega arith
-line_turns-least (Control breaks) left = omega arith
-line_turns-least (Name breaks first) left = omega arith
-line_turns-least (Collecting purpose) left = omega arith
-line_turns-least (Deciding keeping) left = omega arith
-line_turns-least (Skipping opened closed behind) left = omega arith
-line_turns-least Dropped left = omega arith
-line_turns-least (Told aborts) left = omega arith
-line_turns-least Exiting left = omega arith
-line_turns-least TitleFront left = omega arith
-line_turns-least (InTitle delimiter) left = omega arith
+line_turns-least reading left = elim (line_turns-by reading) [
+  | inl begins ↦ omega (arith, begins.0)
+  | inr within ↦ let is = within.1 left in omega (arith, is, within.0)
+]
 
 -- where fewer lines are left, no more
 pub line_turns-more : (reading : LineState) (left more : ℕ) → left ≤ more → line_turns reading left ≤ line_turns reading more
-line_turns-more LineStart left more few = few
-line_turns-more Branch left more few = omega arith
-line_turns-more Braced left more few = few
-line_turns-more (InText line) left more few = omega arith
-line_turns-more (Control breaks) left more few = omega arith
-line_turns-more (Name breaks first) left more few = omega arith
-line_turns-more (Collecting purpose) left more few = omega arith
-line_turns-more (Deciding keeping) left more few = omega arith
-line_turns-more (Skipping opened closed behind) left more few = omega arith
-line_turns-more Dropped left more few = omega arith
-line_turns-more (Told aborts) left more few = omega arith
-line_turns-more Exiting left more few = omega arith
-line_turns-more TitleFront left more few = omega arith
-line_turns-more (InTitle delimiter) left more few = omega arith
+line_turns-more reading left more few = elim (line_turns-by reading) [
+  | inl begins ↦ let is = begins.1.1 left in let others = begins.1.1 more in omega (arith, is, others, few)
+  | inr within ↦ let is = within.1 left in let others = within.1 more in omega (arith, is, others)
+]
 
 -- less than a turn counts
 pub line_turns-less : (reading : LineState) (left : ℕ) → left ≤ 1 → line_turns reading left ≤ 3
