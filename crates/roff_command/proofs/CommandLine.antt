@@ -133,11 +133,3 @@ found-rows m name rows named found = go (out-ArgMatches m).subcommand named foun
         let name_is : (out-SubCommand (box_value b)).name.now ≡ name = cc in
         let rows_are : rows_of (found_of (out-SubCommand (box_value b)).matches) ≡ rows = cc in
         rw (name_is, rows_are) refl
-
--- none was found
-pub none-rows : (m : ArgMatches) → subcommand_name_of m ≡ None → subcommand_rows_of m ≡ None
-none-rows m none = go (out-ArgMatches m).subcommand none
-  where
-    go : {Z : Type 0} (o : Option (Box SubCommand Z)) → option_map (λ b. (out-SubCommand (box_value b)).name.now) o ≡ None → subcommand_rows o ≡ None
-    go None e = refl
-    go (Some b) e = cc

@@ -1,5 +1,5 @@
 -- Lists of pages: their parts, their ranges and numbers, read one after another.
-use Rattle.std.proofs.Common.{◌≡◌, ◌≢◌, ◌∙◌, ◌<◌, ◌^◌, ◌&&◌, ◌++◌, ℕ, ℤ, suc, Bool, true, false, pos, List, [], ◌∷◌, Option, Some, None, ap, arith, get_or, length, nat_lt, refl, rules, sym, w32, lt-ltb, ltb-true}
+use Rattle.std.proofs.Common.{◌≡◌, ◌≢◌, ◌∙◌, ◌<◌, ◌^◌, ◌++◌, ℕ, ℤ, suc, Bool, true, false, List, [], ◌∷◌, Option, Some, None, ap, arith, get_or, length, nat_lt, refl, rules, sym, w32, lt-ltb, ltb-true}
 use Rattle.std.proofs.lemmas.Bool.{eq-eqb, ne_eqb}
 use Rattle.std.proofs.lemmas.Str.Parse.{IsNumeralModel, numerals_by_value, parse_signed_digits}
 use Rattle.std.specs.Borrow.{Bor}
@@ -9,9 +9,8 @@ use Rattle.std.specs.Option.{MatchOption}
 use Rattle.std.specs.Prelude.{Result, Ok, Err, if◌then◌else◌, option_and_then, option_map, ◌==◌}
 use Rattle.std.specs.Str.Parse.{ParsesSigned, digits_value}
 use Rattle.clap.specs.Words.{Text}
-use Rattle.clap.proofs.WalkLemmas.{both}
 use Rattle.roff_num.specs.declared.num.Num.{Num}
-use Rattle.roff_command.specs.PagesAsked.{are_digits, comma, in_front, next_range, page, page_written, parts_at, ranges_behind, split_at}
+use Rattle.roff_command.specs.PagesAsked.{are_digits, comma, in_front, next_range, page_written, parts_at, ranges_behind, split_at}
 use Rattle.roff_command.specs.RegistersAsked.{Adds}
 
 -- where there is no such byte nothing is split off

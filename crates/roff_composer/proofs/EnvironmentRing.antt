@@ -5,7 +5,7 @@ use Rattle.roff_lines.specs.Env.Kept.{Kept as KeptLines}
 use Rattle.roff_layout.specs.declared.event.Event.TheVariants.{Count, Interrupt as IsInterrupted}
 use Rattle.roff_run.specs.declared.environment_number.EnvironmentNumber.{EnvironmentNumber}
 use Rattle.roff_run.specs.declared.event.InputTrap.{InputTrap}
-use Rattle.roff_run.specs.Environments.{Environments, counted_down, gone_back, is_same, switched_to, turned_to, turned_unless, with_event, with_input_trap, with_interruption}
+use Rattle.roff_run.specs.Environments.{Environments, counted_down, gone_back, is_same, switched_to, turned_to, turned_unless, with_event, with_interruption}
 use Rattle.roff_composer.specs.Environments.Kept.{KeptNumbers}
 use Rattle.roff_composer.specs.Environments.Standing.{Becomes, StandBy}
 use Rattle.roff_composer.specs.declared.environments.Environments.{Environments as EnvironmentsOf}
@@ -77,22 +77,6 @@ Becomes-interrupted untold old new lines behind is = record {
       (record {
         number = stands.number;
         in_force = record { lines = behind l.line es.in_force.text stands.in_force.lines; untold = refl; input_trap = stands.in_force.input_trap };
-        next = stands.next;
-        last = stands.last;
-        left = stands.left;
-        cap = stands.cap;
-      });
-}
-
--- the one in force has this input-line trap
-pub Becomes-trapped : (trap : Option InputTrap) (old new : EnvironmentsOf) → new ≡ record old { in_force = record old.in_force { input_trap = trap } }
-    → Becomes (with_input_trap trap) old new
-Becomes-trapped trap old new is = record {
-  becomes = λ l es stands.
-      subst (λ (coded : EnvironmentsOf). StandBy l (with_input_trap trap es) coded) (sym is)
-      (record {
-        number = stands.number;
-        in_force = record { lines = stands.in_force.lines; untold = stands.in_force.untold; input_trap = refl };
         next = stands.next;
         last = stands.last;
         left = stands.left;

@@ -5,7 +5,6 @@ use Rattle.std.proofs.KnownBytes.{Keeps-refl}
 use Rattle.std.proofs.lemmas.List.{drop_all, take-append-drop}
 use Rattle.roff_devices.specs.Buffered.{with_held}
 use Rattle.roff_sinks.specs.Sinks.{Sunk, Writes}
-use Rattle.std.proofs.Math.Seq.{drop-append-le}
 
 -- the writer took bytes from the front of what is held
 pub written_out : (old new : Option (List ℕ)) (count : ℕ) (held : List ℕ) → Appends old new (take count held)
@@ -21,30 +20,11 @@ held_still None new held kept = tt
 held_still (Some x) None held kept = absurd kept
 held_still (Some x) (Some y) held kept = ap (λ l. l ++ held) kept
 
--- a piece is held behind what is held already
-pub held_more : (known : Option (List ℕ)) (items piece : List ℕ) (next : ℕ) → next ≤ length items
-    → Appends (append_known known (drop next items)) (append_known known (drop next (items ++ piece))) piece
-held_more None items piece next within = tt
-held_more (Some x) items piece next within =
-    ap (λ l. x ++ l) (drop-append-le next items piece within) ∙ sym (append_assoc x (drop next items) piece)
-
 -- a piece is written past a buffer that holds nothing
 pub written_past : (old new : Option (List ℕ)) (piece : List ℕ) → Appends old new piece → Appends (append_known old []) (append_known new []) piece
 written_past None new piece took = tt
 written_past (Some x) None piece took = absurd took
 written_past (Some x) (Some y) piece took = append-nil y ∙ took ∙ ap (λ l. l ++ piece) (sym (append-nil x))
-
--- a piece behind what stayed as it was
-pub behind_kept : (old mid new : Option (List ℕ)) (piece : List ℕ) → Keeps old mid → Appends mid new piece → Appends old new piece
-behind_kept None mid new piece kept took = tt
-behind_kept (Some x) None new piece kept took = absurd kept
-behind_kept (Some x) (Some y) None piece kept took = absurd took
-behind_kept (Some x) (Some y) (Some z) piece kept took = took ∙ ap (λ l. l ++ piece) kept
-
--- nothing is held
-pub held_none : (known : Option (List ℕ)) → Keeps (append_known known []) known
-held_none None = tt
-held_none (Some x) = sym (append-nil x)
 
 -- the same of what one write took of a piece
 pub some_written_past : (old new : Sunk) (items piece : List ℕ) (next : ℕ) (r : Option ℕ) → length items ≡ 0 → IfSome r (λ n. Writes old new (take n piece))

@@ -5,7 +5,7 @@ use Rattle.roff_formatter.proofs.EventsLeft.{few-none}
 use Rattle.roff_formatter.specs.declared.halt.Halt.{Halt}
 use Rattle.roff_formatter.specs.declared.sprung.Sprung.{Sprung}
 use Rattle.roff_run.proofs.Keeping.{Keeps-taking}
-use Rattle.roff_run.proofs.WaitingEvents.{AreFewBehind-taking}
+use Rattle.roff_run.proofs.ReadEvents.{AreFewBehind-taking}
 use Rattle.roff_run.specs.Reading.{taking}
 use Rattle.roff_run.specs.Reading.Items.{Taking}
 use Rattle.roff_run.specs.Registers.{Known}

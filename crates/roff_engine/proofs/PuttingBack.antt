@@ -36,10 +36,6 @@ is-back events old mid puts room =
     ∙ ap (λ (u : PageUnread). record old { unread = u; interpreter = mid.interpreter }) (puts.puts room)
     ∙ ap (λ (f : Interpreter). record old { unread = record old.unread { input = putting_all_back (map put_back events) old.unread.input }; interpreter = f }) puts.keeps
 
--- none
-pub puts_none : (run : Coded) → PutsBack [] run run
-puts_none run = record { others = refl; keeps = refl; puts = λ room. refl }
-
 -- events that are put back are so many more
 events_ahead-back : (events : List PageEvent) (items : List (Ahead PageEvent)) → events_ahead (map DoAhead events ++ items) ≡ length events + events_ahead items
 events_ahead-back [] items = omega arith

@@ -34,7 +34,7 @@ use Rattle.roff_sinks.specs.Sinks.{Sunk, Puts}
 use Rattle.roff_input.specs.Input.Few.{AreFew}
 use Rattle.roff_interpreter.specs.Room.{FewFor, SeesOn}
 use Rattle.roff_interpreter.proofs.Fronts.{few-ends, few-interrupted, few-taken}
-use Rattle.roff_run.proofs.CalmConditions.{Calm-taking}
+use Rattle.roff_run.proofs.ReadEvents.{Means-taking}
 use Rattle.roff_run.specs.Reading.Returns.{behind_return}
 use Rattle.roff_interpreter.proofs.Calls.{EndsThere, EndsThere-takes, FewBehind, Leaves, Leaves-takes, few-taking, none-taking}
 use Rattle.roff_engine.proofs.Items.{end_passed, moved, return_passed, returned, note_told, refused, source_failed, source_stopped, took}
@@ -203,7 +203,7 @@ module _ {gave gives : Tape → Type 0} {left : PageUnread} (old : Coded) (faile
       acted leaves _ noted notes (byte_taken b) line new failed failures out err after r more less line_is (shown_front old call) fewer
       (λ tape h ms few.
       let s : State = state_at tape (moved old left) h ms in
-      few-taken (byte_taking (known s) s.reading left.input b) left.input.ahead (few_front old call s.reading few.few) (Calm-taking (known s) s.reading left.input b)) acts
+      few-taken (byte_taking (known s) s.reading left.input b) left.input.ahead (few_front old call s.reading few.few) (Means-taking (known s) s.reading left.input b).0) acts
 
   -- an event that was put back
   pub front_event : SeesOn old.unread.input → (event : PageEvent) (line : ℕ) (new : Coded) (after : Seen) (r : Result (Unit {0}) Status) → Takes gave gives old.unread left (ShowsDo event)

@@ -26,7 +26,7 @@ use Rattle.roff_interpreter.specs.Outcome.{Seen, seen}
 use Rattle.roff_engine.specs.Running.Turning.{DoesItem, TurnsBy, state_at}
 use Rattle.roff_sinks.specs.Sinks.{Sunk}
 use Rattle.roff_interpreter.proofs.Fronts.{few-taken}
-use Rattle.roff_run.proofs.CalmConditions.{Calm-taking}
+use Rattle.roff_run.proofs.ReadEvents.{Means-taking}
 use Rattle.roff_engine.proofs.Items.{moved}
 use Rattle.roff_engine.proofs.Turns.{LeavesFewer, acted, falls_front, few_front, leaves_fewer, leaves_front, shown_front, turns_of}
 use Rattle.roff_run.proofs.InFront.{Given, WasAsked, WasNot, Given-asked, items_asked, over_unread}
@@ -110,7 +110,7 @@ module _ {gave gives : Tape → Type 0} {left : PageUnread} (old : Coded) (faile
       ∙ shown_front old call limits tape may h ms)
       fewer (λ tape h ms few.
       let s : State = state_at tape (moved old left) h ms in
-      few-taken (byte_taking (known s) s.reading left.input b) left.input.ahead (few_front old call s.reading few.few) (Calm-taking (known s) s.reading left.input b)) acts
+      few-taken (byte_taking (known s) s.reading left.input b) left.input.ahead (few_front old call s.reading few.few) (Means-taking (known s) s.reading left.input b).0) acts
 
   -- where nothing is half read, whatever the line waits for
   pub byte_alone : (b line : ℕ) (new : Coded) (after : Seen) (r : Result (Unit {0}) Status) → Takes gave gives old.unread left (ShowsByte b)

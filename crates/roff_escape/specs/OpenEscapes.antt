@@ -2,9 +2,9 @@
 -- 7.2, 8, 10.1, 11 and 16).
 --
 -- Units of copy mode are handed down from what stands above: a byte, or an escape that is kept.
-use Rattle.std.specs.Prelude.{ℕ, ℤ, pos, Bool, true, false, ◌&&◌, ◌||◌, not, List, [], ◌∷◌, take, nat_le, Option, Some, None, if◌then◌else◌, ◌==◌}
+use Rattle.std.specs.Prelude.{ℕ, ℤ, pos, Bool, true, false, ◌&&◌, ◌||◌, List, [], ◌∷◌, take, nat_le, Option, Some, None, if◌then◌else◌, ◌==◌}
 use Rattle.roff_num.specs.declared.direction.Direction.TheVariants.{Up, Down}
-use Rattle.roff_source.specs.Bytes.{start_of_text, tab, newline, quote, dot, backslash, is_digit, is_dropped}
+use Rattle.roff_source.specs.Bytes.{start_of_text, tab, newline, quote, dot, backslash}
 use Rattle.roff_escape.specs.Conditions.{byte_of_condition, condition_ended, unit_of_condition}
 use Rattle.roff_escape.specs.Escapes.{escape_of, is_copied}
 pub use Rattle.roff_escape.specs.OpenEscape.{Reads}

@@ -12,7 +12,6 @@ use Rattle.roff_run.specs.Layouts.{layout_of}
 use Rattle.roff_run.specs.Output.{PageHistory}
 use Rattle.roff_run.specs.Springs.{AreFewBehind, begins, may_spring, springs}
 use Rattle.roff_run.specs.declared.event.PageEvent.TheVariants.{Text, Page, Interrupt, Environment, Back, InputTrap as SetsTrap, Title}
-use Rattle.roff_run.proofs.CalmFound.{IsCalm}
 use Rattle.roff_run.proofs.UnseenEnds.{NoneSprings}
 use Rattle.roff_formatter.specs.Formatter.Sprung.{IsAmong, first_going_on, further, left_behind, may_be_left, most_back, reach_of}
 use Rattle.roff_formatter.specs.declared.sprung.Sprung.{Sprung}
@@ -101,54 +100,38 @@ quiet-none (e ∷ events) quiet = by (may_be_left e) refl (quiet-none events qui
     by true is none = absurd (let wrong : false ≡ true = sym quiet.0 ∙ left-springs e is in cc)
     by false is none = none
 
--- what may be left of the events of the pages: all but a page's number, which alone may stand among those that set no more
+-- what may be left of the events of the pages: all but a page's number
 abbrev IsPageKind : LayoutEvent → Type 0
-IsPageKind e = ((may_be_left (Page e) ≡ true) × ((events : List PageEvent) → IsCalm (Page e ∷ events) → ⊥)) ⊎ ((n : Num) × (e ≡ Number n))
+IsPageKind e = (may_be_left (Page e) ≡ true) ⊎ ((n : Num) × (e ≡ Number n))
 
 page_kind : (e : LayoutEvent) → IsPageKind e
-page_kind (ListPages first last) = inl (refl, λ events calm. calm)
-page_kind Begin = inl (refl, λ events calm. calm)
-page_kind Close = inl (refl, λ events calm. calm)
-page_kind (Space lines) = inl (refl, λ events calm. calm)
-page_kind (Need lines) = inl (refl, λ events calm. calm)
-page_kind (Eject asked) = inl (refl, λ events calm. calm)
-page_kind (EjectTo asked number) = inl (refl, λ events calm. calm)
-page_kind (EjectOn asked) = inl (refl, λ events calm. calm)
-page_kind EjectLast = inl (refl, λ events calm. calm)
-page_kind (Length lines) = inl (refl, λ events calm. calm)
-page_kind (Offset columns) = inl (refl, λ events calm. calm)
-page_kind (Next number) = inl (refl, λ events calm. calm)
+page_kind (ListPages first last) = inl refl
+page_kind Begin = inl refl
+page_kind Close = inl refl
+page_kind (Space lines) = inl refl
+page_kind (Need lines) = inl refl
+page_kind (Eject asked) = inl refl
+page_kind (EjectTo asked number) = inl refl
+page_kind (EjectOn asked) = inl refl
+page_kind EjectLast = inl refl
+page_kind (Length lines) = inl refl
+page_kind (Offset columns) = inl refl
+page_kind (Next number) = inl refl
 page_kind (Number number) = inr (number, refl)
-page_kind (NoSpace on) = inl (refl, λ events calm. calm)
-page_kind (Plant trap) = inl (refl, λ events calm. calm)
-page_kind (Uproot place) = inl (refl, λ events calm. calm)
-page_kind (MoveTrap name place) = inl (refl, λ events calm. calm)
-page_kind (RemoveTrap name) = inl (refl, λ events calm. calm)
-page_kind (DiversionTrap trap) = inl (refl, λ events calm. calm)
-page_kind NoDiversionTrap = inl (refl, λ events calm. calm)
-page_kind (Divert name appends) = inl (refl, λ events calm. calm)
-page_kind EndDivert = inl (refl, λ events calm. calm)
-
--- so none of these is left
-pub calm-none : (events : List PageEvent) → IsCalm events → most_back events ≡ 0
-calm-none [] calm = refl
-calm-none (Page e ∷ events) calm = elim (page_kind e) [
-  | inl other ↦ absurd (other.1 events calm)
-  | inr number ↦
-      let P : LayoutEvent → Type 0 = λ e. IsCalm (Page e ∷ events) → most_back (Page e ∷ events) ≡ 0 in
-      subst P (sym number.1) (λ calm. calm-none events calm) calm
-]
-calm-none (Text e ∷ events) calm = absurd calm
-calm-none (Interrupt untold ∷ events) calm = absurd calm
-calm-none (Environment number ∷ events) calm = absurd calm
-calm-none (Back ∷ events) calm = absurd calm
-calm-none (SetsTrap trap ∷ events) calm = absurd calm
-calm-none (Title which ∷ events) calm = absurd calm
+page_kind (NoSpace on) = inl refl
+page_kind (Plant trap) = inl refl
+page_kind (Uproot place) = inl refl
+page_kind (MoveTrap name place) = inl refl
+page_kind (RemoveTrap name) = inl refl
+page_kind (DiversionTrap trap) = inl refl
+page_kind NoDiversionTrap = inl refl
+page_kind (Divert name appends) = inl refl
+page_kind EndDivert = inl refl
 
 -- an event of the pages that sprang a macro may be left
 pub page-left : (e : LayoutEvent) (h : PageHistory) (name : ShortName) → springs h (Page e) ≡ Some name → may_be_left (Page e) ≡ true
 page-left e h name sprang = elim (page_kind e) [
-  | inl other ↦ other.0
+  | inl other ↦ other
   | inr number ↦ absurd (
       let springs_it = subst (λ (e : LayoutEvent). springs h (Page e) ≡ Some name) number.1 sprang in
       let wrong : None ≡ Some name = sym (springs-none (Number number.0) (layout_of h) refl) ∙ springs_it in cc)
@@ -157,7 +140,7 @@ page-left e h name sprang = elim (page_kind e) [
 -- and so may one in front of which the first page begins
 pub paged-left : (e : LayoutEvent) (h : PageHistory) → begins h (Page e) ≡ true → may_be_left (Page e) ≡ true
 paged-left e h begun = elim (page_kind e) [
-  | inl other ↦ other.0
+  | inl other ↦ other
   | inr number ↦ absurd (no_number (takes_text (layout_of h)) (subst (λ (e : LayoutEvent). begins h (Page e) ≡ true) number.1 begun))
 ]
   where
@@ -173,11 +156,6 @@ few-most (e ∷ events) few = by (may_be_left e) (λ may. few.0 (left-springs e 
     by : (b : Bool) → (b ≡ true → length (e ∷ events) ≤ 5) → most_back events ≤ 5 → (if b then length (e ∷ events) else most_back events) ≤ 5
     by true short others = short refl
     by false short others = others
-
--- that an eject goes on makes them no more
-pub going-length : (goes_on : Bool) (events : List PageEvent) → length (first_going_on goes_on events) ≡ length events
-going-length goes_on [] = refl
-going-length goes_on (e ∷ events) = refl
 
 pub going-none : (events : List PageEvent) → first_going_on false events ≡ events
 going-none [] = refl

@@ -1,7 +1,6 @@
 -- What a condition answers that stands whole in front and asks for a register: where its bytes stand, and what is taken of them.
-use Rattle.std.proofs.Common.{◌≡◌, ℕ, ◌≤◌, Bool, true, List, [], ◌∷◌, ◌++◌, length, take, drop, get_or, ◌-◌, Option, Some, None, refl, sym, ap, subst, ◌∙◌, arith, append_assoc, length-append, take-append-drop}
+use Rattle.std.proofs.Common.{◌≡◌, ℕ, ◌≤◌, Bool, List, [], ◌∷◌, ◌++◌, length, take, drop, get_or, ◌-◌, Option, Some, None, refl, sym, ap, subst, ◌∙◌, arith, length-append}
 use Rattle.std.specs.Prelude.{IfSome}
-use Rattle.std.proofs.lemmas.List.{length-take-le}
 use Rattle.std.proofs.Math.Seq.{take-length}
 use Rattle.roff_num.specs.declared.short_name.ShortName.{ShortName}
 use Rattle.roff_source.specs.Bytes.{blank}
@@ -11,10 +10,10 @@ use Rattle.roff_run.specs.Reading.Items.{PageUnread}
 use Rattle.roff_run.specs.declared.line_state.LineState.TheVariants.{Deciding}
 use Rattle.roff_scan.specs.Unread.Calls.{IsFront, NoNewline, front_bytes}
 use Rattle.roff_scan.specs.Unread.Texts.{CountsText}
-use Rattle.roff_fronts.specs.Answered.{AnswersBehind, AnswersFront, AreOfExpression, AsksFor, BeginsNumber, EndsBehind, IsAnswer, asking_bytes, begins_number}
+use Rattle.roff_fronts.specs.Answered.{AnswersBehind, AnswersFront, AsksFor, asking_bytes}
 use Rattle.roff_fronts.specs.ControlFronts.{StandsName, StandsReady}
 use Rattle.roff_fronts.specs.KeptResults.{kept_unread}
-use Rattle.roff_fronts.specs.Registers.{OfRegister, BeginsRegister, register_escape}
+use Rattle.roff_fronts.specs.Registers.{OfRegister, register_escape}
 use Rattle.roff_fronts.specs.declared.answered.Answer.{Answer}
 use Rattle.roff_fronts.specs.declared.control.ControlFront.{ControlFront}
 use Rattle.roff_fronts.proofs.ConstantConditions.{no_newline-blank}
@@ -22,49 +21,6 @@ use Rattle.roff_fronts.proofs.ControlFronts.{ready-some}
 use Rattle.roff_fronts.proofs.ExpressionFronts.{expression-plain}
 use Rattle.roff_fronts.proofs.LinesRead.{plain-append, three}
 use Rattle.roff_fronts.proofs.RegistersPut.{no_newline}
-
--- all of these bytes belong to an expression where so many do as they have
-pub number-begun : (bytes others : List ℕ) (first count : ℕ) → bytes ≡ first ∷ others → begins_number first ≡ true → count ≡ length bytes → AreOfExpression (take count bytes)
-    → BeginsNumber bytes
-number-begun bytes others first count is begins all are = record {
-  first = first;
-  others = others;
-  is = is;
-  begins = begins;
-  are = subst AreOfExpression (ap (λ (n : ℕ). take n bytes) all ∙ take-length bytes) are;
-}
-
--- behind the escape of a register with which bytes begin stands an expression that ends: they begin with a condition that asks for it
-asks-for : (name : ShortName) (bytes behind : List ℕ) (count : ℕ) → BeginsRegister bytes name → behind ≡ drop (length (register_escape name)) bytes → EndsBehind count behind
-    → AsksFor name (take count behind) bytes
-asks-for name bytes behind count begins is ends =
-    let escape : List ℕ = register_escape name in
-    let rest : List ℕ = take count behind in
-    let more : List ℕ = ends.more in
-    let parts : bytes ≡ escape ++ behind =
-    sym (take-append-drop (length escape) bytes) ∙ ap (λ (front : List ℕ). front ++ drop (length escape) bytes) begins.is ∙ ap (λ (others : List ℕ). escape ++ others) (sym is) in
-    let ended : behind ≡ rest ++ blank ∷ more = sym (take-append-drop count behind) ∙ ap (λ (others : List ℕ). rest ++ others) ends.ended in
-    record {
-      named = begins.named;
-      some = omega (arith, length-take-le count behind ends.few, ends.some);
-      are = ends.are;
-      more = more;
-      is = parts
-          ∙ ap (λ (others : List ℕ). escape ++ others) (ended ∙ sym (append_assoc rest (blank ∷ []) more))
-          ∙ sym (append_assoc escape (rest ++ blank ∷ []) more);
-    }
-
--- and if that answers, they do
-pub answers-behind : (found : Option Answer) (r : ReaderState) (es : ComposerOf) (u : PageUnread) (name : ShortName) (bytes behind rest : List ℕ) (len count : ℕ)
-    → BeginsRegister bytes name → len ≡ length (register_escape name) → behind ≡ drop len bytes → EndsBehind count behind → rest ≡ take count behind
-    → IfSome found (λ answer. IsAnswer r es u name rest answer) → IfSome found (λ answer. AnswersBehind r es u bytes answer)
-answers-behind None r es u name bytes behind rest len count begins long is ends rest_is answered = tt
-answers-behind (Some answer) r es u name bytes behind rest len count begins long is ends rest_is answered = record {
-  name = name;
-  rest = rest;
-  asks = subst (λ (xs : List ℕ). AsksFor name xs bytes) (sym rest_is) (asks-for name bytes behind count begins (is ∙ ap (λ (n : ℕ). drop n bytes) long) ends);
-  is = answered;
-}
 
 -- where the fourth of some bytes is a blank, others stand behind it
 behind-four : (bytes : List ℕ) → 4 ≤ length bytes → get_or bytes 3 0 ≡ blank

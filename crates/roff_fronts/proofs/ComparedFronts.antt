@@ -1,5 +1,5 @@
 -- Where a condition stands in front that compares an argument with a text.
-use Rattle.std.proofs.Common.{◌≡◌, ℕ, ◌-◌, ◌≤◌, Bool, true, false, List, [], ◌∷◌, ◌++◌, length, take, drop, get_or, Option, Some, None, sym, ap, subst, ◌∙◌, arith, append_assoc, take-append-drop}
+use Rattle.std.proofs.Common.{◌≡◌, ℕ, ◌-◌, ◌≤◌, Bool, true, false, List, [], ◌∷◌, length, take, drop, get_or, Option, Some, None, sym, ap, subst, ◌∙◌, arith, append_assoc}
 use Rattle.std.specs.Prelude.{IfSome}
 use Rattle.std.proofs.Math.Seq.{take-length}
 use Rattle.roff_input.specs.Input.Calls.{argument_live}
@@ -31,11 +31,6 @@ behind-four (a ∷ b ∷ c ∷ []) many = absurd (omega (arith, many))
 behind-four (a ∷ b ∷ c ∷ d ∷ bytes) many =
     let all : length (a ∷ b ∷ c ∷ d ∷ bytes) - 4 ≡ length bytes = omega arith in
     ap (λ (others : List ℕ). a ∷ b ∷ c ∷ d ∷ others) (sym (ap (λ (n : ℕ). take n bytes) all ∙ take-length bytes))
-
--- behind an argument's text and a delimiter stands a text, and another delimiter behind that
-pub text-stands : (d ended : ℕ) (behind more : List ℕ) (len : ℕ) → drop len behind ≡ ended ∷ more → ended ≡ d → behind ≡ take len behind ++ d ∷ more
-text-stands d ended behind more len rest same =
-    sym (take-append-drop len behind) ∙ ap (λ (others : List ℕ). take len behind ++ others) (rest ∙ ap (λ (b : ℕ). b ∷ more) same)
 
 -- so these bytes begin with such a condition, if it answers
 pub compares-behind : (found : Option Answer) (negated : Bool) (bytes : List ℕ) (u : PageUnread) (text : List ℕ) → 5 ≤ length bytes

@@ -1,7 +1,7 @@
 -- Results of conditions that are kept at once, and kept no more where the condition isn't taken.
 use Rattle.std.proofs.Common.{◌≡◌, Bool, true, false, Result, Option, Ok, Err, Some, None, refl, sym, ap, ◌∙◌}
 use Rattle.roff_num.specs.declared.limit.Limit.{Limit}
-use Rattle.roff_input.specs.Input.Calls.{with_result, without_last}
+use Rattle.roff_input.specs.Input.Calls.{with_result}
 use Rattle.roff_input.specs.Unread.{changing, input_refusal, unless_passed}
 use Rattle.roff_run.specs.Reading.Items.{PageInput, PageUnread}
 use Rattle.roff_fronts.specs.KeptResults.{kept_unread}
@@ -24,12 +24,6 @@ result-kept so u new r is done = changed (input_refusal u.limits (with_result so
 
 pub result-refused : (so : Bool) (u new : PageUnread) (r : Result (Unit {0}) Limit) (limit : Limit) → (r, new) ≡ changing (with_result so u.input) u → r ≡ Err limit → new ≡ u
 result-refused so u new r limit is done = stayed (input_refusal u.limits (with_result so u.input)) (with_result so u.input) u new r limit is done
-
--- one that is kept no more leaves what was there before
-pub forgotten : (keeps so : Bool) (u kept new : PageUnread) → kept ≡ kept_unread keeps so u
-    → (keeps ≡ true → new ≡ record kept { input = without_last kept.input }) → (keeps ≡ false → new ≡ kept) → new ≡ u
-forgotten true so u kept new is forgets stays = forgets refl ∙ ap (λ (v : PageUnread). record v { input = without_last v.input }) is
-forgotten false so u kept new is forgets stays = stays refl ∙ is
 
 -- a result that is to be kept was, and where none is, nothing changed
 pub kept-where : (keeps so : Bool) (u new : PageUnread) → keeps ≡ true → new ≡ kept_unread true so u → new ≡ kept_unread keeps so u

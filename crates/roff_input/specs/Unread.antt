@@ -10,7 +10,7 @@ use Rattle.roff_escape.specs.OpenEscapes.{Reads, reading_ended}
 use Rattle.roff_input.specs.Input.{with_escapes, Input, initial_input, is_none_ahead, Ahead, cost, counting, item_taken, pushed, depth, result_count}
 use Rattle.roff_input.specs.Input.Names.{stored, names_added}
 use Rattle.roff_store.specs.Texts.{Texts}
-use Rattle.roff_source.specs.Tape.{Tape, Answer, Answers, Gives, Ends, OneByte, OneNote, items_then}
+use Rattle.roff_source.specs.Tape.{Tape, Answer, Answers, Gives, Ends, OneByte, OneNote}
 use Rattle.roff_escape.specs.declared.open_escape.Decision.TheVariants.{Is}
 use Rattle.roff_escape.specs.declared.open_escape.Found.{Found}
 use Rattle.roff_escape.specs.declared.open_escape.Found.TheVariants.{Decides}

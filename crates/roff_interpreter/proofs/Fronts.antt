@@ -1,5 +1,5 @@
 -- Few events stand in front of a run, and none where a condition that decided is next.
-use Rattle.std.proofs.Common.{◌≡◌, ◌-◌, ◌≤◌, Bool, true, false, List, [], ◌∷◌, ◌++◌, length, refl, sym, ap, subst, append-nil, ◌∙◌, arith}
+use Rattle.std.proofs.Common.{◌≡◌, inl, inr, Option, Some, None, ◌-◌, ◌≤◌, Bool, true, false, List, [], ◌∷◌, ◌++◌, length, refl, sym, ap, subst, append-nil, ◌∙◌, arith}
 use Rattle.std.specs.Prelude.{map}
 use Rattle.roff_input.specs.Input.{Ahead, putting_all_back}
 use Rattle.roff_input.specs.Input.Few.{AreFewFrom}
@@ -8,9 +8,10 @@ use Rattle.roff_escape.specs.OpenEscape.{OpenEscape}
 use Rattle.roff_formatter.specs.Formatter.Sprung.{most_back}
 use Rattle.roff_interpreter.specs.Room.{FewFor, SeesOn, decides_next}
 use Rattle.roff_interpreter.specs.Ending.{input_ends}
-use Rattle.roff_formatter.proofs.EventsLeft.{calm-none}
 use Rattle.roff_interpreter.proofs.Room.{back_few}
+use Rattle.roff_num.specs.declared.num.Num.{Num}
 use Rattle.roff_run.specs.PageEvents.{PageEvent}
+use Rattle.roff_run.specs.Requests.Effects.{page_numbered}
 use Rattle.roff_run.specs.Reading.{escape_ended}
 use Rattle.roff_run.specs.Reading.Units.{interrupted}
 use Rattle.roff_run.specs.Reading.Ends.{end_taking, is_unfinished}
@@ -22,17 +23,21 @@ use Rattle.roff_run.specs.declared.line_state.LineState.{LineState}
 use Rattle.roff_run.specs.declared.line_state.LineState.TheVariants.{Deciding}
 use Rattle.roff_run.specs.declared.phase.Phase.{Phase}
 use Rattle.roff_run.specs.declared.phase.Phase.TheVariants.{Closing, LastMacro, Reading}
-use Rattle.roff_run.proofs.CalmConditions.{Calm-end_taking, Calm-escape_ended}
-use Rattle.roff_run.proofs.CalmFound.{CalmWhere}
+use Rattle.roff_run.proofs.MeantEvents.{MayMean, NoCondition}
+use Rattle.roff_run.proofs.ReadEvents.{Means-end_taking, Means-escape_ended}
 use Rattle.roff_run.proofs.KeepingText.{StaysFew}
-use Rattle.roff_run.proofs.NoConditions.{NoCondition}
 
 -- where a condition is read none of these is left
 abbrev pub NoneLeft : LineState → List PageEvent → Type 0
 NoneLeft reading events = (keeps : Bool) → reading ≡ Deciding keeps → most_back events ≡ 0
 
-pub none-left : (reading : LineState) (events : List PageEvent) → CalmWhere reading events → NoneLeft reading events
-none-left reading events calm = λ keeps is. calm-none events (subst (λ (r : LineState). CalmWhere r events) is calm)
+numbered-none : (n : Option Num) → most_back (page_numbered n) ≡ 0
+numbered-none None = refl
+numbered-none (Some n) = refl
+
+pub none-left : (reading : LineState) (events : List PageEvent) → MayMean reading events → NoneLeft reading events
+none-left reading events (inl sets) = λ keeps is. ap most_back sets.1 ∙ numbered-none sets.0
+none-left reading events (inr told) = λ keeps is. absurd (subst NoCondition is told.0)
 
 -- no event stands in front before an end
 pub few-none : (events : List PageEvent) (reading : LineState) (half : List OpenEscape) (items : List (Ahead PageEvent)) → AreFewFrom 0 items → NoneLeft reading events
@@ -83,16 +88,16 @@ few-appended t items few =
     subst (λ (events : List PageEvent). FewFor events t.reading t.input.escapes items) (sym (append-nil t.effect.events)) few
 
 -- so there is behind a byte, and where something ends before what is seen: no event stands there before an end
-pub few-taken : (t : Taking) (items : List (Ahead PageEvent)) → AreFewFrom 0 items → CalmWhere t.reading t.effect.events
+pub few-taken : (t : Taking) (items : List (Ahead PageEvent)) → AreFewFrom 0 items → MayMean t.reading t.effect.events
     → FewFor (t.effect.events ++ []) t.reading t.input.escapes items
-few-taken t items few calm =
-    few-appended t items (few-none t.effect.events t.reading t.input.escapes items few (none-left t.reading t.effect.events calm))
+few-taken t items few means =
+    few-appended t items (few-none t.effect.events t.reading t.input.escapes items few (none-left t.reading t.effect.events means))
 
 pub few-seen_ended : (k : Known) (reading : LineState) (i : PageInput) → AreFewFrom 0 i.ahead
     → let t : Taking = escape_ended k reading i in FewFor t.effect.events t.reading t.input.escapes i.ahead
 few-seen_ended k reading i few =
     let t : Taking = escape_ended k reading i in
-    few-none t.effect.events t.reading t.input.escapes i.ahead few (none-left t.reading t.effect.events (Calm-escape_ended k reading i))
+    few-none t.effect.events t.reading t.input.escapes i.ahead few (none-left t.reading t.effect.events (Means-escape_ended k reading i).0)
 
 -- of no events
 nothing : (events : List PageEvent) → length events ≤ 0 → events ≡ []
@@ -116,10 +121,10 @@ module _ (s : State) (idle : s.to_do ≡ []) where
   abbrev EndsFew : State → Type 0
   EndsFew done = NoneLeft done.reading done.to_do
 
-  ends_taking : (t : Taking) → CalmWhere t.reading t.effect.events → NoneLeft t.reading (t.effect.events ++ s.to_do)
-  ends_taking t calm =
+  ends_taking : (t : Taking) → MayMean t.reading t.effect.events → NoneLeft t.reading (t.effect.events ++ s.to_do)
+  ends_taking t means =
       subst (λ (more : List PageEvent). NoneLeft t.reading (t.effect.events ++ more)) (sym idle)
-      (subst (NoneLeft t.reading) (sym (append-nil t.effect.events)) (none-left t.reading t.effect.events calm))
+      (subst (NoneLeft t.reading) (sym (append-nil t.effect.events)) (none-left t.reading t.effect.events means))
 
   ends_phase : (phase : Phase) → EndsFew (phase_ended phase s)
   ends_phase Reading = λ keeps is. absurd (cc)
@@ -127,13 +132,13 @@ module _ (s : State) (idle : s.to_do ≡ []) where
   ends_phase Closing = λ keeps is. ap most_back idle
 
   ends_line : (unfinished : Bool) → EndsFew (input_ended unfinished s)
-  ends_line true = ends_taking (end_taking (known s) s.reading s.input) (Calm-end_taking (known s) s.reading s.input)
+  ends_line true = ends_taking (end_taking (known s) s.reading s.input) (Means-end_taking (known s) s.reading s.input).0
   ends_line false = ends_phase s.phase
 
   ends_half : (half : List OpenEscape)
       → EndsFew (elim half as (λ _. State) [ [] ↦ input_ended (is_unfinished s.phase (known s) s.reading) s | first ∷ others ↦ escape_ends s ])
   ends_half [] = ends_line (is_unfinished s.phase (known s) s.reading)
-  ends_half (first ∷ others) = ends_taking (escape_ended (known s) s.reading s.input) (Calm-escape_ended (known s) s.reading s.input)
+  ends_half (first ∷ others) = ends_taking (escape_ended (known s) s.reading s.input) (Means-escape_ended (known s) s.reading s.input).0
 
   pub few-ends : (items : List (Ahead PageEvent)) → items ≡ [] → FewFor (input_ends s).to_do (input_ends s).reading (input_ends s).input.escapes items
   few-ends items none =

@@ -10,11 +10,7 @@ pub mod RunsStayWithin
 pub mod TitlesStayWithin
 pub mod TurnsNeeded
 pub mod ComesBefore
-pub mod MeantEvents
-pub mod RequestEvents
-pub mod TextEvents
-pub mod MeantTitles
-pub mod ReadEvents
+pub mod MeantAhead
 pub mod Stages
 pub mod WaitingEvents
 pub mod Endings

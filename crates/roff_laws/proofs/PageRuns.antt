@@ -46,7 +46,8 @@ use Rattle.roff_laws.proofs.ClosingPhase.{closing-event}
 use Rattle.roff_laws.proofs.ComesBefore.{ComesBefore, NothingComes, PageComes, WordEndComes, comes_before}
 use Rattle.roff_laws.proofs.Endings.{at_last_state, not-ended, step-ended, step-going}
 use Rattle.roff_laws.proofs.InputLeaving.{IsLeft-left_in}
-use Rattle.roff_laws.proofs.MeantEvents.{AllMeant, AllMeantAhead, AreMeant, ahead-back, meant-back, meant-first}
+use Rattle.roff_run.proofs.MeantEvents.{AllMeant, AreMeant, MayBe}
+use Rattle.roff_laws.proofs.MeantAhead.{AllMeantAhead, ahead-back, meant-back}
 use Rattle.roff_laws.proofs.LastPage.{IsWhole, eject-over, is_whole, so_far-eject_last}
 use Rattle.roff_laws.proofs.PagesByRequests.{so_far-eject, so_far-eject_on, so_far-eject_to, so_far-move, so_far-need, so_far-no_space, so_far-plant, so_far-remove, so_far-space, so_far-uproot}
 use Rattle.roff_laws.proofs.PagesSoFar.{IsSoFar, so_far-begin, so_far-close, so_far-length, so_far-listed, so_far-next, so_far-nothing, so_far-number, so_far-offset, so_far-text, so_far-title}
@@ -55,7 +56,7 @@ use Rattle.roff_laws.proofs.Stages.{Goes, HasMeant, LaidOpen, Stage, Closes as S
 use Rattle.roff_laws.proofs.WaitingEvents.{IsLost, RunEnds, StillWaits, WaitsStill, among-behind, among-front, back-among, back-behind, none_back, put_back_where_idle, waits-read}
 
 -- behind an event that requests mean, with nothing before it
-so_far-event : (closing : Bool) (rs : AllRegisters) (h : PageHistory) (e : PageEvent) → AllMeant closing (e ∷ []) → begins h e ≡ false
+so_far-event : (closing : Bool) (rs : AllRegisters) (h : PageHistory) (e : PageEvent) → MayBe closing e → begins h e ≡ false
     → (layout_of h).is_over ≡ false → IsSoFar h → IsSoFar (told rs e ∷ h)
 so_far-event closing rs h (Text e) meant none goes so_far = so_far-text h e none goes so_far
 so_far-event closing rs h (Interrupt untold) meant none goes so_far = λ keeps writes. so_far-nothing h (so_far keeps.1 writes.1)
@@ -65,11 +66,11 @@ so_far-event closing rs h (SetsTrap trap) meant none goes so_far = λ keeps writ
 so_far-event closing rs h (Title which) meant none goes so_far = so_far-title h (title_told rs which) none goes so_far
 so_far-event closing rs h (Page (Space k)) meant none goes so_far = so_far-space h k none goes so_far
 so_far-event closing rs h (Page (Need k)) meant none goes so_far = so_far-need h k none goes so_far
-so_far-event closing rs h (Page (Eject asked)) meant none goes so_far = so_far-eject h asked meant.0 goes so_far
-so_far-event closing rs h (Page (EjectTo asked number)) meant none goes so_far = so_far-eject_to h asked number meant.0 goes so_far
-so_far-event closing rs h (Page (EjectOn asked)) meant none goes so_far = so_far-eject_on h asked meant.0 goes so_far
+so_far-event closing rs h (Page (Eject asked)) meant none goes so_far = so_far-eject h asked meant goes so_far
+so_far-event closing rs h (Page (EjectTo asked number)) meant none goes so_far = so_far-eject_to h asked number meant goes so_far
+so_far-event closing rs h (Page (EjectOn asked)) meant none goes so_far = so_far-eject_on h asked meant goes so_far
 so_far-event closing rs h (Page EjectLast) meant none goes so_far = so_far-eject_last h goes so_far
-so_far-event closing rs h (Page (Length k)) meant none goes so_far = so_far-length h k meant.0 goes so_far
+so_far-event closing rs h (Page (Length k)) meant none goes so_far = so_far-length h k meant goes so_far
 so_far-event closing rs h (Page (Number n)) meant none goes so_far = so_far-number h n so_far
 so_far-event closing rs h (Page (Offset k)) meant none goes so_far = so_far-offset h k so_far
 so_far-event closing rs h (Page (Next n)) meant none goes so_far = so_far-next h n so_far
@@ -78,13 +79,13 @@ so_far-event closing rs h (Page (Plant trap)) meant none goes so_far = so_far-pl
 so_far-event closing rs h (Page (Uproot place)) meant none goes so_far = so_far-uproot h place so_far
 so_far-event closing rs h (Page (MoveTrap name place)) meant none goes so_far = so_far-move h name place so_far
 so_far-event closing rs h (Page (RemoveTrap name)) meant none goes so_far = so_far-remove h name so_far
-so_far-event closing rs h (Page (ListPages first last)) meant none goes so_far = absurd meant.0
-so_far-event closing rs h (Page Begin) meant none goes so_far = absurd meant.0
-so_far-event closing rs h (Page Close) meant none goes so_far = absurd meant.0
-so_far-event closing rs h (Page (DiversionTrap trap)) meant none goes so_far = absurd meant.0
-so_far-event closing rs h (Page NoDiversionTrap) meant none goes so_far = absurd meant.0
-so_far-event closing rs h (Page (Divert name appends)) meant none goes so_far = absurd meant.0
-so_far-event closing rs h (Page EndDivert) meant none goes so_far = absurd meant.0
+so_far-event closing rs h (Page (ListPages first last)) meant none goes so_far = absurd meant
+so_far-event closing rs h (Page Begin) meant none goes so_far = absurd meant
+so_far-event closing rs h (Page Close) meant none goes so_far = absurd meant
+so_far-event closing rs h (Page (DiversionTrap trap)) meant none goes so_far = absurd meant
+so_far-event closing rs h (Page NoDiversionTrap) meant none goes so_far = absurd meant
+so_far-event closing rs h (Page (Divert name appends)) meant none goes so_far = absurd meant
+so_far-event closing rs h (Page EndDivert) meant none goes so_far = absurd meant
 
 -- where no text is taken no page was begun
 unbegun : (begun : ℕ) (diverting : Bool) → (not (begun == 0) || diverting) ≡ false → begun ≡ 0
@@ -165,7 +166,7 @@ begins-closing l s going phase none so_far =
     let rest : List PageEvent = Text WordEnd ∷ Text Break ∷ Page EjectLast ∷ [] in
     let h : PageHistory = Page Close ∷ s.history in
     subst (λ (own : Option PageEvent). Written (performing l own (Page Close) rest s)) (sym (none-closes (takes_text (layout_of s.history))))
-    (closes-performed l (Page Close) rest s _ (performed_or_stopped l None (Page Close) rest s) going phase (refl, tt)
+    (closes-performed l (Page Close) rest s _ (performed_or_stopped l None (Page Close) rest s) going phase (tt, (tt, (refl, tt)))
     (subst (AllMeantAhead true) (sym none) tt) (λ goes. inl (inr (inr (inl refl)))) refl (so_far-close s.history so_far))
 
 -- the last page's eject goes on, or the page has ended with it
@@ -206,7 +207,7 @@ closes-by l own e es s t to_do (NothingComes none_begins) done is so_far =
     closes-performed l e (left_behind None e es s) s t done is.going is.phase (meant-left true None e es s meant) is.meant.ahead
     (λ on. eject_left s.registers s.history e es s.input.ahead is.closing on (still_to_do s e es to_do is.waits))
     (closing-event s.registers s.history e is.closing)
-    (so_far-event true s.registers s.history e (meant-first true e es meant) none_begins is.over so_far)
+    (so_far-event true s.registers s.history e meant.0 none_begins is.over so_far)
 closes-by l own e es s t to_do (WordEndComes none_begins fewer) done is so_far =
     let h : PageHistory = s.history in
     own-closes l (Text WordEnd) e es s t to_do done is (so_far-text h WordEnd none_begins is.over so_far)
@@ -313,12 +314,11 @@ Writes-reading l (e ∷ es) s to_do going reads is laid so_far =
     let h : PageHistory = s.history in
     let done = performed_or_stopped l own e es s in
     let meant : AreMeant (e ∷ es) = subst (AllMeant false) to_do is.to_do in
-    let first : AreMeant (e ∷ []) = meant-first false e es meant in
     let written_on : IsSoFar (told s.registers (first_of own e) ∷ h) =
-    so_far-first s.registers h e own (comes_before h e) (λ none. so_far-event false s.registers h e first none laid.over so_far) laid.over so_far in
+    so_far-first s.registers h e own (comes_before h e) (λ none. so_far-event false s.registers h e meant.0 none laid.over so_far) laid.over so_far in
     reads-performed l (first_of own e) (left_behind own e es s) s _ done going reads
     (meant-performed false l (first_of own e) (left_behind own e es s) s _ done (meant-left false own e es s meant) is)
-    (open-first s.registers h e own (comes_before h e) first laid) written_on
+    (open-first s.registers h e own (comes_before h e) meant.0 laid) written_on
 Writes-reading l [] s to_do going reads is laid so_far =
     Writes-read l s _ (ReadsOn-with_sprung l s.sprung s refl) to_do going reads is laid so_far
 

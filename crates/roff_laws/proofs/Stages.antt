@@ -46,9 +46,11 @@ use Rattle.roff_run.proofs.Readings.{ReadsOn, LimitStops, AheadTaken, ByteTaken,
 use Rattle.roff_run.proofs.Behind.{Behind-ahead_taken, Behind-sprung_read, Passed-phase_ended}
 use Rattle.roff_laws.proofs.ComesBefore.{ComesBefore, NothingComes, PageComes, WordEndComes, comes_before}
 use Rattle.roff_laws.proofs.InputLeaving.{IsLeft-left_in}
-use Rattle.roff_laws.proofs.MeantEvents.{AllMeant, AllMeantAhead, AreMeant, Means, ahead-back, ahead-called, ahead-interrupted, ahead-same, all-meant, meant-append, meant-back, meant-first, meant-grown, meant-others}
+use Rattle.roff_run.proofs.GrowingAhead.{ahead-called, ahead-interrupted, ahead-same}
+use Rattle.roff_run.proofs.MeantEvents.{AllMeant, AreMeant, MayBe, meant-append, meant-events}
+use Rattle.roff_laws.proofs.MeantAhead.{AllMeantAhead, ahead-back, ahead-last_called, all-meant, meant-back, meant-grown}
 use Rattle.roff_laws.proofs.PerformedOrStopped.{PerformedOrStopped, Performed, Sprang, EndsOver, StoppedAt, first_of, left_behind}
-use Rattle.roff_laws.proofs.ReadEvents.{Means-end_taking, Means-escape_ended, Means-taking, ahead-last_called}
+use Rattle.roff_run.proofs.ReadEvents.{Means, Means-end_taking, Means-escape_ended, Means-taking}
 
 -- the closing phase hasn't begun, and the layout isn't over
 pub record LaidOpen (L : Layout) : Type 0 where
@@ -82,7 +84,7 @@ open-paged h e unput is =
     open-put x (puts x L) (appended x L) L unput is
 
 -- behind an event that reading means
-open-event : (rs : AllRegisters) (h : PageHistory) (e : PageEvent) → AreMeant (e ∷ []) → LaidOpen (layout_of h) → LaidOpen (layout_of (told rs e ∷ h))
+open-event : (rs : AllRegisters) (h : PageHistory) (e : PageEvent) → MayBe false e → LaidOpen (layout_of h) → LaidOpen (layout_of (told rs e ∷ h))
 open-event rs h (Text e) meant is = open-laid (finished (text_of h) e) (layout_of h) is
 open-event rs h (Interrupt untold) meant is = is
 open-event rs h (Environment number) meant is = is
@@ -96,7 +98,7 @@ open-event rs h (Page (Need k)) meant is = open-paged h (Need k) is is
 open-event rs h (Page (Eject asked)) meant is = open-paged h (Eject asked) is is
 open-event rs h (Page (EjectTo asked number)) meant is = open-paged h (EjectTo asked number) is is
 open-event rs h (Page (EjectOn asked)) meant is = open-paged h (EjectOn asked) is is
-open-event rs h (Page EjectLast) meant is = let wrong : false ≡ true = meant.0 in absurd (cc)
+open-event rs h (Page EjectLast) meant is = let wrong : false ≡ true = meant in absurd (cc)
 open-event rs h (Page (Length k)) meant is = record { closing = is.closing; over = is.over }
 open-event rs h (Page (Number n)) meant is = record { closing = is.closing; over = is.over }
 open-event rs h (Page (Offset k)) meant is = record { closing = is.closing; over = is.over }
@@ -106,17 +108,17 @@ open-event rs h (Page (Plant trap)) meant is = record { closing = is.closing; ov
 open-event rs h (Page (Uproot place)) meant is = record { closing = is.closing; over = is.over }
 open-event rs h (Page (MoveTrap name place)) meant is = record { closing = is.closing; over = is.over }
 open-event rs h (Page (RemoveTrap name)) meant is = record { closing = is.closing; over = is.over }
-open-event rs h (Page (ListPages first last)) meant is = absurd meant.0
-open-event rs h (Page Begin) meant is = absurd meant.0
-open-event rs h (Page Close) meant is = absurd meant.0
-open-event rs h (Page (DiversionTrap trap)) meant is = absurd meant.0
-open-event rs h (Page NoDiversionTrap) meant is = absurd meant.0
-open-event rs h (Page (Divert name appends)) meant is = absurd meant.0
-open-event rs h (Page EndDivert) meant is = absurd meant.0
+open-event rs h (Page (ListPages first last)) meant is = absurd meant
+open-event rs h (Page Begin) meant is = absurd meant
+open-event rs h (Page Close) meant is = absurd meant
+open-event rs h (Page (DiversionTrap trap)) meant is = absurd meant
+open-event rs h (Page NoDiversionTrap) meant is = absurd meant
+open-event rs h (Page (Divert name appends)) meant is = absurd meant
+open-event rs h (Page EndDivert) meant is = absurd meant
 
 -- behind what comes before one
 pub open-first : (rs : AllRegisters) (h : PageHistory) (e : PageEvent) (own : Option PageEvent) → ComesBefore h e own
-    → AreMeant (e ∷ []) → LaidOpen (layout_of h) → LaidOpen (layout_of (told rs (first_of own e) ∷ h))
+    → MayBe false e → LaidOpen (layout_of h) → LaidOpen (layout_of (told rs (first_of own e) ∷ h))
 open-first rs h e own (NothingComes none_begins) meant is = open-event rs h e meant is
 open-first rs h e own (WordEndComes none_begins fewer) meant is = open-event rs h (Text WordEnd) tt is
 open-first rs h e own (PageComes none_begun fewer) meant is = record { closing = is.closing; over = is.over }
@@ -146,7 +148,7 @@ pub ended-over : (s : State) (e : PageEvent) (es : List PageEvent) → s.to_do �
     → (layout_of (told s.registers (first_of (next s.history e) e) ∷ s.history)).is_over ≡ true → HasEnded s
 ended-over s e es to_do (Goes is opens) over =
     let meant : AreMeant (e ∷ es) = subst (AllMeant false) to_do is.to_do in
-    let laid = open-first s.registers s.history e (next s.history e) (comes_before s.history e) (meant-first false e es meant) opens in
+    let laid = open-first s.registers s.history e (next s.history e) (comes_before s.history e) meant.0 opens in
     let wrong : true ≡ false = sym over ∙ laid.over in absurd (cc)
 ended-over s e es to_do (Closes phase ended) over = ended
 
@@ -189,8 +191,7 @@ meant-left_of closing rs h (Title which) meant = tt
 pub meant-left : (closing : Bool) (own : Option PageEvent) (e : PageEvent) (es : List PageEvent) (s : State) → AllMeant closing (e ∷ es)
     → AllMeant closing (left_behind own e es s)
 meant-left closing None e es s meant =
-    meant-append closing (left_of s.history (told s.registers e)) es (meant-left_of closing s.registers s.history e (meant-first closing e es meant))
-    (meant-others closing e es meant)
+    meant-append closing (left_of s.history (told s.registers e)) es (meant-left_of closing s.registers s.history e (meant.0, tt)) meant.1
 meant-left closing (Some own) e es s meant = meant
 
 -- an event was performed, or the run ended
@@ -221,14 +222,14 @@ Stage-event l e es s t to_do done (Goes is opens) =
     let own : Option PageEvent = next s.history e in
     let meant : AreMeant (e ∷ es) = subst (AllMeant false) to_do is.to_do in
     goes-performed l _ _ s t done
-    (open-first s.registers s.history e own (comes_before s.history e) (meant-first false e es meant) opens) opens
+    (open-first s.registers s.history e own (comes_before s.history e) meant.0 opens) opens
     (meant-performed false l _ _ s t done (meant-left false own e es s meant) is)
 Stage-event l e es s t to_do done (Closes phase ended) = closes-performed l _ _ s t done phase ended
 
 -- what is done with an item
 meant-taken : (closing : Bool) (t : Taking) (s : State) → Means s.input.ahead t → HasMeant closing s → HasMeant closing (taken_as t s)
 meant-taken closing t s means is = record {
-  to_do = meant-append closing t.effect.events s.to_do (all-meant closing t.effect.events means.0) is.to_do;
+  to_do = meant-append closing t.effect.events s.to_do (all-meant closing t.effect.events (meant-events _ _ means.0)) is.to_do;
   ahead = meant-grown closing s.input.ahead t.input.ahead means.1 is.ahead;
 }
 
@@ -246,7 +247,7 @@ meant-ahead_taken closing (FreeAhead b) behind s ahead is =
 meant-ahead_taken closing EndAhead behind s ahead is = record { to_do = is.to_do; ahead = ahead }
 meant-ahead_taken closing (ReturnAhead back) behind s ahead is = record { to_do = is.to_do; ahead = ahead }
 meant-ahead_taken closing (DoAhead e) behind s ahead is = record {
-  to_do = ahead.0;
+  to_do = (ahead.0, tt);
   ahead = meant-grown closing behind _ (ahead-same (ahead-interrupted s.reading (item_taken (DoAhead e) behind s.input))) ahead.1;
 }
 

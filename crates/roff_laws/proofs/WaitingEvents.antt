@@ -21,9 +21,9 @@ use Rattle.roff_run.specs.declared.request.Called.{Called}
 use Rattle.roff_run.specs.declared.request.Called.TheVariants.{Request as ARequest, Body as ABody, Nothing as Unknown}
 use Rattle.roff_run.proofs.Readings.{ReadsOn, LimitStops, AheadTaken, ByteTaken, NoteTaken, HalfEnds, InputLeft, LineEnds, PhaseEnds, MessageTold, RunAborts, SourceFails, SourceStops, SprungRead}
 use Rattle.roff_laws.specs.TrapLaws.{IsAmong, IsPutBack, Waits}
-use Rattle.roff_laws.proofs.MeantEvents.{Grows, Means, Stays, WithByte, WithEnd, WithFree, WithReturn, ahead-called, ahead-interrupted, ahead-same}
+use Rattle.roff_run.proofs.GrowingAhead.{Grows, Stays, WithByte, WithEnd, WithFree, WithReturn, ahead-called, ahead-interrupted, ahead-same}
 use Rattle.roff_laws.proofs.PerformedOrStopped.{PerformedOrStopped, Performed, Sprang, EndsOver, StoppedAt}
-use Rattle.roff_laws.proofs.ReadEvents.{Means-end_taking, Means-escape_ended, Means-taking}
+use Rattle.roff_run.proofs.ReadEvents.{Means, Means-end_taking, Means-escape_ended, Means-taking}
 
 -- with others
 pub among-behind : (e : PageEvent) (front events : List PageEvent) → IsAmong e events → IsAmong e (front ++ events)

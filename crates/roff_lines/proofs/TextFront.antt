@@ -10,7 +10,7 @@ use Rattle.roff_layout.specs.Telling.{bytes_told, QuietlyTold}
 use Rattle.roff_lines.specs.GlyphsInFront.{glyphs_in_front}
 use Rattle.roff_lines.specs.Env.Kept.{Kept, word_finishes}
 use Rattle.roff_lines.specs.Env.Stands.{Stands}
-use Rattle.roff_lines.specs.Env.Tells.{Tells, TellsFront, TellsOf, EndsGlyphs, EndsBlanks}
+use Rattle.roff_lines.specs.Env.Tells.{TellsFront, TellsOf, EndsGlyphs, EndsBlanks}
 use Rattle.roff_lines.proofs.GlyphsInFront.{front-glyph, front-blank}
 use Rattle.roff_lines.proofs.Tells.{TellsFront-append}
 use Rattle.roff_lines.proofs.TextRuns.{QuietlyTold-told, Stands-told, most_told}

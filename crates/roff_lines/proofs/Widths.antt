@@ -1,8 +1,8 @@
 -- Widths of texts.
-use Rattle.std.proofs.Common.{◌≡◌, ℕ, ◌+◌, ◌<◌, ◌≤◌, Bool, true, false, ◌&&◌, List, [], ◌∷◌, ◌++◌, length, nat_le, nat_lt, cond, zero-add, refl, ◌∙◌, arith}
+use Rattle.std.proofs.Common.{◌≡◌, ℕ, ◌+◌, ◌<◌, ◌≤◌, Bool, true, false, ◌&&◌, List, [], ◌∷◌, length, nat_le, nat_lt, cond, zero-add, refl, ◌∙◌, arith}
 use Rattle.std.specs.Prelude.{if◌then◌else◌, ◌==◌}
 use Rattle.std.specs.List.{AllByRecursion}
-use Rattle.std.proofs.lemmas.List.Sums.{sum_by-cons, sum_by-append}
+use Rattle.std.proofs.lemmas.List.Sums.{sum_by-cons}
 use Rattle.roff_num.specs.Widths.{byte_width}
 use Rattle.roff_layout.specs.Glyphs.{gap_blank, text_width, gaps_in}
 use Rattle.roff_lines.proofs.GlyphsInFront.{eqb-above}
@@ -29,8 +29,3 @@ gaps_in-above [] above = refl
 gaps_in-above (b ∷ bytes) above =
     let here : (b == gap_blank) ≡ false = eqb-above b gap_blank (omega arith) above.0 in
     gaps_in-cons b bytes ∙ rw here (zero-add (gaps_in bytes)) ∙ gaps_in-above bytes above.1
-
--- so they add none to a text
-pub gaps_in-append_above : (text bytes : List ℕ) → AllByRecursion (λ b. 32 < b) bytes → gaps_in (text ++ bytes) ≡ gaps_in text
-gaps_in-append_above text bytes above =
-    omega (arith, sum_by-append (λ x. cond (x == gap_blank) 1 0) text bytes, gaps_in-above bytes above)

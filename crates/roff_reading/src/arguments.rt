@@ -1,13 +1,13 @@
-//! The arguments of requests, and the names that they give.
+//! What is read behind a request's name.
 
 ghost use Rattle.roff_reading.specs.Clauses.{TakesAs};
-ghost use Rattle.roff_reading.specs.Clauses.{row_of, unit_found, arguments_ended};
+ghost use Rattle.roff_reading.specs.Clauses.{unit_found};
 
-use crate::obeying::obey;
+use crate::line_ends::end_arguments;
 use roff_composer::Composer;
 use roff_num::Limit;
 use roff_reader::Reader;
-use roff_run::{LineReading, LineState, PageEvent, Purpose, Request, Step};
+use roff_run::{LineState, PageEvent, Purpose, Request, Step};
 use roff_scan::{CopyUnit, Unread};
 
 /// A unit behind a request's name: a newline ends the line, and all else is held.
@@ -29,24 +29,5 @@ pub(crate) fn read_unit(
             let reading = LineState::Collecting(Purpose::Arguments { breaks, request });
             reader.hold(unit, reading, unread)
         }
-    }
-}
-
-/// The end of a line that was read as arguments.
-#[inline(always)]
-pub(crate) fn end_arguments(
-    reader: &mut Reader,
-    breaks: bool,
-    request: Request,
-    composer: &Composer,
-    unread: &mut Unread<PageEvent>,
-) -> Result<Step, Limit>
-    ensures { TakesAs (λ k. arguments_ended k unread.old.input breaks request
-        (row_of request).line)
-        composer.now reader.old reader.new unread.old unread.new result }
-{
-    match request.row().line {
-        LineReading::ByLines(lines) => reader.begin_lines(lines, unread),
-        _ => obey(reader, breaks, request, composer, unread),
     }
 }

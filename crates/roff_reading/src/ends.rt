@@ -9,7 +9,7 @@ ghost use Rattle.roff_reading.specs.Clauses.{LineStart, meaning_events};
 use crate::bytes::read_undropped;
 use crate::found::{place, read_found};
 use crate::half_read::read_in_condition;
-use crate::obeying::obey;
+use crate::line_ends::obey;
 use roff_composer::Composer;
 use roff_num::{Limit, ShortName};
 use roff_reader::Reader;

@@ -9,7 +9,6 @@ mod ends;
 mod found;
 mod half_read;
 mod line_ends;
-mod obeying;
 mod reading;
 mod titles;
 

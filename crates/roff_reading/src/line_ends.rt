@@ -1,20 +1,21 @@
-//! Newlines that end control lines, where nothing is half read.
+//! The ends of control lines: what is done with the arguments that were read.
 
 ghost use Rattle.std.specs.Prelude.{◌≡◌, [], Ok};
 ghost use Rattle.roff_source.specs.Bytes.{newline};
 ghost use Rattle.roff_run.specs.declared.line_state.LineState.TheVariants.{Collecting};
 ghost use Rattle.roff_run.specs.declared.purpose.Purpose.TheVariants.{Arguments, Calling};
 ghost use Rattle.roff_run.specs.declared.request.Request.TheVariants.{Break};
-ghost use Rattle.roff_reading.specs.Clauses.{ComposerOf, TakesAs, line_ended, taking};
+ghost use Rattle.roff_reading.specs.Clauses.{ComposerOf, TakesAs, arguments_ended, line_ended, taking};
+ghost use Rattle.roff_reading.specs.Clauses.{row_of};
 
-use crate::arguments::end_arguments;
 use roff_composer::Composer;
 use roff_num::{Limit, ShortName};
+use roff_obeying::act;
 use roff_reader::Reader;
-use roff_run::{LineState, PageEvent, Request, Step, broken};
+use roff_run::{LineReading, LineState, PageEvent, Request, Step, broken};
 use roff_scan::Unread;
 
-/// A newline behind the arguments of this request: it is obeyed.
+/// A newline behind the arguments of this request, where nothing is half read: it is obeyed.
 ///
 /// # Errors
 ///
@@ -33,6 +34,51 @@ pub fn end_request(
         composer.now reader.old reader.new unread.old unread.new result }
 {
     end_arguments(reader, breaks, request, composer, unread)
+}
+
+/// The end of a line that was read as arguments.
+#[inline(always)]
+pub(crate) fn end_arguments(
+    reader: &mut Reader,
+    breaks: bool,
+    request: Request,
+    composer: &Composer,
+    unread: &mut Unread<PageEvent>,
+) -> Result<Step, Limit>
+    ensures { TakesAs (λ k. arguments_ended k unread.old.input breaks request
+        (row_of request).line)
+        composer.now reader.old reader.new unread.old unread.new result }
+{
+    match request.row().line {
+        LineReading::ByLines(lines) => reader.begin_lines(lines, unread),
+        _ => obey(reader, breaks, request, composer, unread),
+    }
+}
+
+/// The end of a request's line: it is obeyed with the arguments that were read.
+pub(crate) fn obey(
+    reader: &mut Reader,
+    breaks: bool,
+    request: Request,
+    composer: &Composer,
+    unread: &mut Unread<PageEvent>,
+) -> Result<Step, Limit>
+    ensures { TakesAs (λ k. line_ended k unread.old.input breaks request)
+        composer.now reader.old reader.new unread.old unread.new result }
+{
+    unread.finish_arguments();
+    let step = act(
+        &mut reader.registers,
+        &mut reader.meaning,
+        breaks,
+        request,
+        composer,
+        unread,
+    )?;
+    let behind = LineState::behind_line(request.row().line);
+    unread.begin_arguments();
+    reader.reading = behind;
+    Ok(step)
 }
 
 /// A newline that ends the line of a break.

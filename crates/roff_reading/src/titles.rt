@@ -15,7 +15,7 @@ ghost use Rattle.roff_run.specs.Registers.{Known};
 ghost use Rattle.roff_reading.specs.Clauses.{ComposerOf, PageUnread, TakesAs};
 ghost use Rattle.roff_reader.specs.Reader.Titles.{ReadsTitle};
 
-use crate::obeying::obey;
+use crate::line_ends::obey;
 use roff_composer::Composer;
 use roff_layout::UNPADDABLE;
 use roff_num::{Limit, Name};

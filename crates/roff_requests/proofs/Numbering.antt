@@ -1,8 +1,6 @@
 -- Number registers that are set and removed, by the arguments that are given.
-use Rattle.std.proofs.Common.{◌≡◌, ℕ, ℤ, Bool, true, false, cond, List, [], ◌∷◌, ◌++◌, take, drop, slice_get, IfSome, Some, Result, arith, ap, refl, sym, ◌∙◌}
+use Rattle.std.proofs.Common.{◌≡◌, ℕ, ℤ, Bool, true, false, cond, List, [], ◌∷◌, drop, slice_get, IfSome, Some, Result, arith, ap, refl, sym, ◌∙◌}
 use Rattle.std.specs.Prelude.{filter}
-use Rattle.std.proofs.lemmas.List.{take-append-drop}
-use Rattle.std.proofs.lemmas.List.Elements.{filter-append}
 use Rattle.std.proofs.lemmas.Bool.Decides.{nat_tests}
 use Rattle.roff_num.specs.declared.num.Num.{Num}
 use Rattle.roff_num.specs.declared.num.NumFault.{NumFault}
@@ -57,11 +55,3 @@ filter-filter p [] = refl
 filter-filter p (x ∷ xs) =
     filter-cond p x (filter p xs) (p x) refl
     ∙ ap (λ (ys : List (List ℕ)). cond (p x) (x ∷ ys) ys) (filter-filter p xs)
-
--- a list whose end is filtered first
-filter-end : (p : List ℕ → Bool) (n : ℕ) (xs : List (List ℕ)) → filter p (take n xs ++ filter p (drop n xs)) ≡ filter p xs
-filter-end p n xs =
-    filter-append p (take n xs) (filter p (drop n xs))
-    ∙ ap (λ (ys : List (List ℕ)). filter p (take n xs) ++ ys) (filter-filter p (drop n xs))
-    ∙ sym (filter-append p (take n xs) (drop n xs))
-    ∙ ap (filter p) (take-append-drop n xs)

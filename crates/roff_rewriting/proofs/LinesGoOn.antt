@@ -18,7 +18,7 @@ use Rattle.roff_laws.specs.EnvironmentLaws.{text_in}
 use Rattle.roff_laws.specs.SpringLaws.{with_rest_back}
 use Rattle.roff_laws.proofs.ComesBefore.{ComesBefore, NothingComes, PageComes, WordEndComes, comes_before}
 use Rattle.roff_laws.proofs.Endings.{ended_or_not, step-ended, step-going}
-use Rattle.roff_laws.proofs.MeantEvents.{ahead-interrupted}
+use Rattle.roff_run.proofs.GrowingAhead.{ahead-interrupted}
 use Rattle.roff_laws.proofs.PerformedOrStopped.{PerformedOrStopped, Performed, Sprang, EndsOver, StoppedAt, first_of, left_behind, performed_or_stopped}
 use Rattle.roff_laws.proofs.SpringLaws.{springing-step}
 use Rattle.roff_rewriting.specs.WordsApart.{EndsOpenWord, HasGoneOn, InputLeft, IsNext, LinesGoOnWithAnotherWord, RunEnded, StandsThere, Waits, WaitsInFront, WentOn}

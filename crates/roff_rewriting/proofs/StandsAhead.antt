@@ -17,9 +17,9 @@ use Rattle.roff_run.specs.declared.phase.Phase.TheVariants.{Reading, LastMacro, 
 use Rattle.roff_run.specs.declared.request.Called.{Called}
 use Rattle.roff_run.specs.declared.request.Called.TheVariants.{Request as ARequest, Body as ABody, Nothing as Unknown}
 use Rattle.roff_run.proofs.Readings.{ReadsOn, LimitStops, AheadTaken, ByteTaken, NoteTaken, HalfEnds, InputLeft, LineEnds, PhaseEnds, MessageTold, RunAborts, SourceFails, SourceStops, SprungRead, behind_ahead}
-use Rattle.roff_laws.proofs.MeantEvents.{Grows, Stays, WithByte, WithEnd, WithFree, WithReturn, ahead-called, ahead-interrupted, ahead-same}
+use Rattle.roff_run.proofs.GrowingAhead.{Grows, Stays, WithByte, WithEnd, WithFree, WithReturn, ahead-called, ahead-interrupted, ahead-same}
 use Rattle.roff_laws.proofs.PerformedOrStopped.{PerformedOrStopped, Performed, Sprang, EndsOver, StoppedAt}
-use Rattle.roff_laws.proofs.ReadEvents.{Means-end_taking, Means-escape_ended, Means-taking}
+use Rattle.roff_run.proofs.ReadEvents.{Means-end_taking, Means-escape_ended, Means-taking}
 
 -- items end with an item, and these behind it
 pub record EndWith (item : Ahead PageEvent) (behind items : List (Ahead PageEvent)) : Type 0 where

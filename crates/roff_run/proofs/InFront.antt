@@ -1,11 +1,11 @@
 -- The step that takes the item in front, or looks at it, by what the call of the unread input shows of it, and what
 -- the calls take of their source.
-use Rattle.std.proofs.Common.{◌≡◌, ℕ, ◌+◌, Bool, true, false, List, [], ◌∷◌, ◌++◌, Option, Some, None, refl, sym, subst, ap, append_assoc}
+use Rattle.std.proofs.Common.{◌≡◌, ℕ, ◌+◌, Bool, true, false, List, [], ◌∷◌, ◌++◌, Option, Some, None, refl, sym, subst, ap}
 use Rattle.std.specs.Prelude.{nat_lt, ◌&&◌, is_none, if◌then◌else◌}
 use Rattle.roff_num.specs.declared.limits.Limits.{Limits}
 use Rattle.roff_escape.specs.Waiting.{is_ended_by}
 use Rattle.roff_input.specs.Input.{Ahead, ByteAhead, FreeAhead, EndAhead, ReturnAhead, DoAhead, cost, item_taken}
-use Rattle.roff_source.specs.Tape.{Tape, Item, Answer, Gives, Ends, OneByte, OneNote, Ending, Ended, Failed, Stopped, front, behind_front, items_then, only, Took}
+use Rattle.roff_source.specs.Tape.{Tape, Item, Answer, Gives, Ends, OneByte, OneNote, Ending, Ended, Failed, Stopped, front, behind_front, items_then, only}
 use Rattle.roff_input.specs.declared.looked.Looked.{Looked}
 use Rattle.roff_input.specs.declared.looked.Looked.TheVariants.{Nothing, Byte, Closed}
 use Rattle.roff_input.specs.Looking.{answer_behind, is_closed, is_nothing, looked_then}
@@ -331,17 +331,6 @@ items_asked true (Gives item) = item ∷ []
 items_asked true (Ends ending) = []
 items_asked false a = []
 
--- a call took these items of its source, which before it might give some tape
-pub Took-asked : (gave gives : Tape → Type 0) (some : Tape) → gave some → (asked : Bool) (a : Answer) → Asked gave gives asked a
-    → Took gave gives (items_asked asked a)
-Took-asked gave gives some may_be true (Gives item) answers = record { before = answers.before; some = answers.some; some_given = answers.some_given }
-Took-asked gave gives some may_be true (Ends ending) answers = record {
-  before = λ t may. subst gave (sym (answers.final ending refl t may)) (answers.before t may);
-  some = answers.some;
-  some_given = answers.some_given;
-}
-Took-asked gave gives some may_be false a stays = record { before = stays.before; some = some; some_given = stays.after some may_be }
-
 -- over each tape that the source may still give, the call's tape was this
 pub Given-asked : (gave gives : Tape → Type 0) (asked : Bool) (a : Answer) → Asked gave gives asked a
     → (t : Tape) → gives t → Given a asked (items_then (items_asked asked a) t) t
@@ -349,13 +338,3 @@ Given-asked gave gives true (Gives item) answers t may = WasAsked (items_then (i
 Given-asked gave gives true (Ends ending) answers t may =
     subst (λ (t : Tape). Given (Ends ending) true t t) (sym (answers.final ending refl t may)) (WasAsked (only ending) refl)
 Given-asked gave gives false a stays t may = WasNot t
-
--- items, and then others
-pub Took-append : (first old new : Tape → Type 0) (taken more : List Item) → Took first old taken → Took old new more → Took first new (taken ++ more)
-Took-append first old new taken more took then_took = record {
-  before = λ t may.
-      subst first (ap (λ (items : List Item). record { items = items; ending = t.ending }) (sym (append_assoc taken more t.items)))
-      (took.before (items_then more t) (then_took.before t may));
-  some = then_took.some;
-  some_given = then_took.some_given;
-}

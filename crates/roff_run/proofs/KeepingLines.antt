@@ -46,11 +46,11 @@ use Rattle.roff_run.proofs.KeepingText.{Keeps, KeepsBy, Keeps-if, free_ahead-cal
 
 -- an input that differs from another in its arguments and texts alone
 pub record Alike (j i : PageInput) : Type 0 where
-  charge : j.charge ≡ i.charge
-  newlines : j.newlines ≡ i.newlines
-  line : j.line ≡ i.line
-  ahead : j.ahead ≡ i.ahead
-  escapes : j.escapes ≡ i.escapes
+  pub charge : j.charge ≡ i.charge
+  pub newlines : j.newlines ≡ i.newlines
+  pub line : j.line ≡ i.line
+  pub ahead : j.ahead ≡ i.ahead
+  pub escapes : j.escapes ≡ i.escapes
 
 pub Alike-same : (i : PageInput) → Alike i i
 Alike-same i = record { charge = refl; newlines = refl; line = refl; ahead = refl; escapes = refl }
@@ -89,11 +89,11 @@ Alike-calling_on : (call : ℕ → Call) (id : Option ℕ) (i : PageInput) → A
 Alike-calling_on call None i = Alike-same i
 Alike-calling_on call (Some id) i = record { charge = refl; newlines = refl; line = refl; ahead = refl; escapes = refl }
 
-Alike-string_begun : (name : Option ShortName) (i : PageInput) → Alike (string_begun name i) i
+pub Alike-string_begun : (name : Option ShortName) (i : PageInput) → Alike (string_begun name i) i
 Alike-string_begun None i = record { charge = refl; newlines = refl; line = refl; ahead = refl; escapes = refl }
 Alike-string_begun (Some name) i = record { charge = refl; newlines = refl; line = refl; ahead = refl; escapes = refl }
 
-Alike-string_grown : (name : Option ShortName) (unit : CopyUnit) (i : PageInput) → Alike (string_grown name unit i) i
+pub Alike-string_grown : (name : Option ShortName) (unit : CopyUnit) (i : PageInput) → Alike (string_grown name unit i) i
 Alike-string_grown None unit i = Alike-same i
 Alike-string_grown (Some name) unit i = Alike-calling_on (λ id. PushOpen id (unit_bytes unit)) (newest i.open_texts) i
 
@@ -105,7 +105,7 @@ Alike-if : (c : Bool) (i j n : PageInput) → Alike i n → Alike j n → Alike 
 Alike-if true i j n first second = first
 Alike-if false i j n first second = second
 
-Alike-string_emptied : (name : Option ShortName) (appends : Bool) (i : PageInput) → Alike (string_emptied name appends i) i
+pub Alike-string_emptied : (name : Option ShortName) (appends : Bool) (i : PageInput) → Alike (string_emptied name appends i) i
 Alike-string_emptied None appends i = Alike-same i
 Alike-string_emptied (Some name) appends i =
     Alike-if _ i _ i (Alike-same i) (record { charge = refl; newlines = refl; line = refl; ahead = refl; escapes = refl })
@@ -119,7 +119,7 @@ Alike-definition_dropped None i = Alike-same i
 Alike-definition_dropped (Some name) i = Alike-calling_on (λ id. DropOpen id) (newest i.open_texts) i
 
 -- and so does a unit of a call
-Alike-holding_call : (unit : CopyUnit) (i : PageInput) → Alike (holding_call unit i) i
+pub Alike-holding_call : (unit : CopyUnit) (i : PageInput) → Alike (holding_call unit i) i
 Alike-holding_call unit i =
     Alike-if (nat_le 9 (length i.arguments.whole)) i (holding unit i) i (Alike-same i)
     (record { charge = refl; newlines = refl; line = refl; ahead = refl; escapes = refl })

@@ -1,4 +1,5 @@
--- What is half read and ends before something that can't be read springs no macro, but a condition that decided: it is a size.
+-- What is half read and ends before something that can't be read springs no macro, and leads to no condition where none was read, but
+-- for a condition that decided: it is a size.
 use Rattle.std.proofs.Common.{◌≡◌, ℕ, Bool, true, false, List, [], ◌∷◌, ◌++◌, Option, Some, None, refl}
 use Rattle.std.specs.Prelude.{◌+◌, ◌&&◌, drop, if◌then◌else◌, ◌==◌}
 use Rattle.roff_num.specs.declared.short_name.ShortName.{ShortName}
@@ -14,6 +15,7 @@ use Rattle.roff_run.specs.Reading.{escape_ended}
 use Rattle.roff_run.specs.Reading.Beginnings.{going_on_told}
 use Rattle.roff_run.specs.Reading.DefinedLines.{definition_unit}
 use Rattle.roff_run.specs.Reading.Found.{found_in, place_in, read_in}
+use Rattle.roff_run.proofs.MeantEvents.{NoCondition}
 use Rattle.roff_run.specs.Reading.Items.{PageInput, Taking}
 use Rattle.roff_run.specs.Reading.Strings.{name_read, string_name_behind, string_name_or_text}
 use Rattle.roff_run.specs.Reading.Units.{holding, settling}
@@ -32,9 +34,9 @@ abbrev pub NoneSprings : List PageEvent → Type 0
 NoneSprings [] = Unit {0}
 NoneSprings (e ∷ es) = (may_spring e ≡ false) × NoneSprings es
 
--- what is done with an item means none that may
-abbrev pub Quiet : Taking → Type 0
-Quiet t = NoneSprings t.effect.events
+-- what is done with an item means none that may, and leads to no condition where none was read
+abbrev pub Quiet : LineState → Taking → Type 0
+Quiet old t = NoneSprings t.effect.events × (NoCondition old → NoCondition t.reading)
 
 -- where a line begins an interrupted one may go on
 quiet-told : (left : Option TextLine) → NoneSprings (going_on_told left ++ [])
@@ -42,13 +44,14 @@ quiet-told None = tt
 quiet-told (Some line) = (refl, tt)
 
 -- behind a string's name
-quiet-string_behind : (i : PageInput) (appends : Bool) (name : Option (Option ShortName)) → Quiet (string_name_behind i appends name)
-quiet-string_behind i appends None = tt
-quiet-string_behind i appends (Some name) = tt
+quiet-string_behind : (old : LineState) (i : PageInput) (appends : Bool) (name : Option (Option ShortName)) → Quiet old (string_name_behind i appends name)
+quiet-string_behind old i appends None = (tt, λ over. tt)
+quiet-string_behind old i appends (Some name) = (tt, λ over. tt)
 
-quiet-string_name : (i : PageInput) (appends : Bool) (name : Option (Option ShortName)) → Quiet (string_name_or_text (settling i) appends (Kept 115) name)
-quiet-string_name i appends None = quiet-string_behind (holding (Kept 115) (settling i)) appends (name_read (holding (Kept 115) (settling i)))
-quiet-string_name i appends (Some name) = tt
+quiet-string_name : (old : LineState) (i : PageInput) (appends : Bool) (name : Option (Option ShortName))
+    → Quiet old (string_name_or_text (settling i) appends (Kept 115) name)
+quiet-string_name old i appends None = quiet-string_behind old (holding (Kept 115) (settling i)) appends (name_read (holding (Kept 115) (settling i)))
+quiet-string_name old i appends (Some name) = (tt, λ over. tt)
 
 -- an escape doesn't end a definition
 abbrev GoesOnBehind : DefinitionLine → Type 0
@@ -72,57 +75,59 @@ goes_on-line_from : (mark : List ℕ) (matched : Option ℕ) → GoesOnBehind (l
 goes_on-line_from mark None = tt
 goes_on-line_from mark (Some matched) = goes_on-line_with (drop matched mark) matched
 
-quiet-definition : (k : Known) (i : PageInput) (name : Option ShortName) (appends : Bool) (end : Option ShortName) (front : List ℕ) (line : DefinitionLine)
-    → GoesOnBehind line → Quiet (definition_unit k i name appends end front (Kept 115) line)
-quiet-definition k i name appends end front (MayBeLast matched) goes = tt
-quiet-definition k i name appends end front (IsLast b) goes = absurd goes
-quiet-definition k i name appends end front IsText goes = tt
+quiet-definition : (old : LineState) (k : Known) (i : PageInput) (name : Option ShortName) (appends : Bool) (end : Option ShortName) (front : List ℕ) (line : DefinitionLine)
+    → GoesOnBehind line → Quiet old (definition_unit k i name appends end front (Kept 115) line)
+quiet-definition old k i name appends end front (MayBeLast matched) goes = (tt, λ over. tt)
+quiet-definition old k i name appends end front (IsLast b) goes = absurd goes
+quiet-definition old k i name appends end front IsText goes = (tt, λ over. tt)
 
 -- a size's escape, and nothing
-quiet-escape : (k : Known) (i : PageInput) (reading : LineState) → Quiet (found_in k i reading (Escape 115))
-quiet-escape k i LineStart = quiet-told k.interrupted
-quiet-escape k i Branch = quiet-told k.interrupted
-quiet-escape k i Braced = quiet-told k.interrupted
-quiet-escape k i (InText line) = tt
-quiet-escape k i (Control breaks) = tt
-quiet-escape k i (Name breaks first) = tt
-quiet-escape k i (Collecting (InArguments breaks request)) = tt
-quiet-escape k i (Deciding keeps) = tt
-quiet-escape k i (Collecting (StringName appends)) = quiet-string_name i appends (name_read (settling i))
-quiet-escape k i (Collecting (StringText name appends is_front)) = tt
-quiet-escape k i (Skipping opened closed behind) = tt
-quiet-escape k i Dropped = tt
-quiet-escape k i (Collecting (Telling aborts is_front)) = tt
-quiet-escape k i (Told aborts) = tt
-quiet-escape k i Exiting = tt
-quiet-escape k i (Collecting (Calling name)) = tt
-quiet-escape k i (Collecting (Defining name appends end matched)) = quiet-definition k i name appends end (front_of (end_mark end) matched) (line_from (end_mark end) matched (Kept 115)) (goes_on-line_from (end_mark end) matched)
-quiet-escape k i TitleFront = tt
-quiet-escape k i (InTitle delimiter) = tt
+quiet-escape : (k : Known) (i : PageInput) (reading : LineState) → Quiet reading (found_in k i reading (Escape 115))
+quiet-escape k i LineStart = (quiet-told k.interrupted, λ over. tt)
+quiet-escape k i Branch = (quiet-told k.interrupted, λ over. tt)
+quiet-escape k i Braced = (quiet-told k.interrupted, λ over. tt)
+quiet-escape k i (InText line) = (tt, λ over. tt)
+quiet-escape k i (Control breaks) = (tt, λ over. tt)
+quiet-escape k i (Name breaks first) = (tt, λ over. tt)
+quiet-escape k i (Collecting (InArguments breaks request)) = (tt, λ over. tt)
+quiet-escape k i (Deciding keeps) = (tt, λ over. over)
+quiet-escape k i (Collecting (StringName appends)) = quiet-string_name (Collecting (StringName appends)) i appends (name_read (settling i))
+quiet-escape k i (Collecting (StringText name appends is_front)) = (tt, λ over. tt)
+quiet-escape k i (Skipping opened closed behind) = (tt, λ over. tt)
+quiet-escape k i Dropped = (tt, λ over. tt)
+quiet-escape k i (Collecting (Telling aborts is_front)) = (tt, λ over. tt)
+quiet-escape k i (Told aborts) = (tt, λ over. tt)
+quiet-escape k i Exiting = (tt, λ over. tt)
+quiet-escape k i (Collecting (Calling name)) = (tt, λ over. tt)
+quiet-escape k i (Collecting (Defining name appends end matched)) =
+    quiet-definition (Collecting (Defining name appends end matched)) k i name appends end (front_of (end_mark end) matched)
+    (line_from (end_mark end) matched (Kept 115)) (goes_on-line_from (end_mark end) matched)
+quiet-escape k i TitleFront = (tt, λ over. tt)
+quiet-escape k i (InTitle delimiter) = (tt, λ over. tt)
 
-quiet-nothing : (k : Known) (i : PageInput) (reading : LineState) → Quiet (found_in k i reading GoesOn)
-quiet-nothing k i LineStart = tt
-quiet-nothing k i Branch = tt
-quiet-nothing k i Braced = tt
-quiet-nothing k i (InText line) = tt
-quiet-nothing k i (Control breaks) = tt
-quiet-nothing k i (Name breaks first) = tt
-quiet-nothing k i (Collecting (InArguments breaks request)) = tt
-quiet-nothing k i (Deciding keeps) = tt
-quiet-nothing k i (Collecting (StringName appends)) = tt
-quiet-nothing k i (Collecting (StringText name appends is_front)) = tt
-quiet-nothing k i (Skipping opened closed behind) = tt
-quiet-nothing k i Dropped = tt
-quiet-nothing k i (Collecting (Telling aborts is_front)) = tt
-quiet-nothing k i (Told aborts) = tt
-quiet-nothing k i Exiting = tt
-quiet-nothing k i (Collecting (Calling name)) = tt
-quiet-nothing k i (Collecting (Defining name appends end matched)) = tt
-quiet-nothing k i TitleFront = tt
-quiet-nothing k i (InTitle delimiter) = tt
+quiet-nothing : (k : Known) (i : PageInput) (reading : LineState) → Quiet reading (found_in k i reading GoesOn)
+quiet-nothing k i LineStart = (tt, λ over. tt)
+quiet-nothing k i Branch = (tt, λ over. tt)
+quiet-nothing k i Braced = (tt, λ over. tt)
+quiet-nothing k i (InText line) = (tt, λ over. tt)
+quiet-nothing k i (Control breaks) = (tt, λ over. tt)
+quiet-nothing k i (Name breaks first) = (tt, λ over. tt)
+quiet-nothing k i (Collecting (InArguments breaks request)) = (tt, λ over. tt)
+quiet-nothing k i (Deciding keeps) = (tt, λ over. over)
+quiet-nothing k i (Collecting (StringName appends)) = (tt, λ over. tt)
+quiet-nothing k i (Collecting (StringText name appends is_front)) = (tt, λ over. tt)
+quiet-nothing k i (Skipping opened closed behind) = (tt, λ over. tt)
+quiet-nothing k i Dropped = (tt, λ over. tt)
+quiet-nothing k i (Collecting (Telling aborts is_front)) = (tt, λ over. tt)
+quiet-nothing k i (Told aborts) = (tt, λ over. tt)
+quiet-nothing k i Exiting = (tt, λ over. tt)
+quiet-nothing k i (Collecting (Calling name)) = (tt, λ over. tt)
+quiet-nothing k i (Collecting (Defining name appends end matched)) = (tt, λ over. tt)
+quiet-nothing k i TitleFront = (tt, λ over. tt)
+quiet-nothing k i (InTitle delimiter) = (tt, λ over. tt)
 
 -- a size ends
-quiet-size : (k : Known) (i : PageInput) (reading : LineState) (rest : List OpenEscape) → Quiet (read_in k reading i (escape_given rest 115))
+quiet-size : (k : Known) (i : PageInput) (reading : LineState) (rest : List OpenEscape) → Quiet reading (read_in k reading i (escape_given rest 115))
 quiet-size k i reading [] = quiet-escape k (record i { escapes = [] }) reading
 quiet-size k i reading (Width d width is_deep ∷ rest) = quiet-nothing k (record i { escapes = (escape_given (Width d width is_deep ∷ rest) 115).1 }) reading
 quiet-size k i reading (Backslash ∷ rest) = quiet-escape k (record i { escapes = Backslash ∷ rest }) reading
@@ -143,7 +148,7 @@ IsUndecided (Condition part text ∷ rest) = is_decided part ≡ false
 IsUndecided (_) = Unit {0}
 
 quiet-unseen_half : (k : Known) (i : PageInput) (reading : LineState) (half : List OpenEscape) → is_ended_by half None ≡ true → IsUndecided half
-    → Quiet (read_in k reading i (reading_ended (place_in k reading) half))
+    → Quiet reading (read_in k reading i (reading_ended (place_in k reading) half))
 quiet-unseen_half k i reading [] ends undecided = absurd (cc)
 quiet-unseen_half k i reading (Backslash ∷ rest) ends undecided = absurd (not_alone (takes_backslash_alone rest) ends)
 quiet-unseen_half k i reading (Comment ∷ rest) ends undecided = absurd (cc)
@@ -158,5 +163,5 @@ quiet-unseen_half k i reading (Condition (Decided decision freed) text ∷ rest)
 
 -- what ends before something that can't be read springs nothing
 pub quiet-unseen : (k : Known) (reading : LineState) (i : PageInput) → is_ended_by i.escapes None ≡ true → IsUndecided i.escapes
-    → NoneSprings (escape_ended k reading i).effect.events
+    → Quiet reading (escape_ended k reading i)
 quiet-unseen k reading i ends undecided = quiet-unseen_half k i reading i.escapes ends undecided

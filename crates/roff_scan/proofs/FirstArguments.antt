@@ -1,27 +1,20 @@
 -- Bytes of a front that are held in the first argument of a line, of which none ends it.
-use Rattle.std.proofs.Common.{◌≡◌, ℕ, ◌+◌, ◌≤◌, ◌==◌, Bool, true, false, Option, List, [], ◌∷◌, ◌++◌, length, take, drop, inl, inr, refl, sym, ap, subst, ◌∙◌, arith}
+use Rattle.std.proofs.Common.{◌≡◌, ℕ, ◌+◌, ◌≤◌, ◌==◌, Bool, true, false, Option, List, [], ◌∷◌, ◌++◌, length, take, drop, inl, inr, refl, sym, ap, subst, ◌∙◌}
 use Rattle.std.specs.List.{AllByRecursion}
 use Rattle.std.proofs.Math.Seq.{take-add}
 use Rattle.std.proofs.lemmas.Bool.{and_parts}
 use Rattle.std.proofs.lemmas.List.{take-append-drop, take-take}
-use Rattle.roff_input.specs.Arguments.{Arguments, held, is_behind_quote, with_byte_at}
+use Rattle.roff_input.specs.Arguments.{Arguments, is_behind_quote}
 use Rattle.roff_input.specs.declared.place.Place.{Place}
-use Rattle.roff_input.specs.declared.place.Place.TheVariants.{Between, InPlain, InQuotes, BehindQuote}
+use Rattle.roff_input.specs.declared.place.Place.TheVariants.{Between}
 use Rattle.roff_arguments.specs.ArgumentTexts.Kept.{StopsAt}
-use Rattle.roff_source.specs.Bytes.{blank, quote}
+use Rattle.roff_source.specs.Bytes.{blank}
 use Rattle.roff_input.specs.Input.{is_none_ahead}
 use Rattle.roff_input.specs.Looking.{is_nothing}
 use Rattle.roff_input.specs.Unread.{Unread, asks_to_take}
 use Rattle.roff_input.specs.declared.looked.Looked.TheVariants.{Nothing}
 use Rattle.roff_scan.specs.Unread.FirstArguments.{MayStand, Unended, first_argument, first_room, is_inside}
 use Rattle.roff_scan.proofs.Fronts.{nothing_looked}
-
--- where neither a blank nor a quote adds a byte, no argument is being read
-pub between-held : (place : Place) (a : Arguments) → held (with_byte_at place a blank) ≡ held a + 0 → held (with_byte_at place a quote) ≡ held a + 0 → place ≡ Between
-between-held Between a no_blank no_quote = refl
-between-held InPlain a no_blank no_quote = absurd (omega (arith, no_quote))
-between-held InQuotes a no_blank no_quote = absurd (omega (arith, no_blank))
-between-held BehindQuote a no_blank no_quote = absurd (omega (arith, no_quote))
 
 -- bytes of an argument don't end it
 unended-inside : (none_begun : Bool) (bytes : List ℕ) → AllByRecursion (λ b. is_inside b ≡ true) bytes → Unended none_begun bytes

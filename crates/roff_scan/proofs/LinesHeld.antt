@@ -1,18 +1,17 @@
 -- A line that is taken up to its newline, and the newline behind it.
-use Rattle.std.proofs.Common.{◌≡◌, ◌==◌, ℕ, suc, zero, ◌+◌, ◌-◌, ◌≤◌, Bool, true, false, List, [], ◌∷◌, ◌++◌, append_assoc, count_by, drop, length, map, Option, min, take, refl, sym, ap, subst, ◌∙◌, arith}
+use Rattle.std.proofs.Common.{◌≡◌, ◌==◌, ℕ, suc, zero, ◌+◌, ◌-◌, ◌≤◌, true, List, [], ◌∷◌, ◌++◌, append_assoc, count_by, drop, length, map, Option, take, refl, sym, ap, subst, ◌∙◌, arith}
 use Rattle.std.specs.List.{AllByRecursion}
 use Rattle.std.specs.Prelude.{cond}
 use Rattle.std.proofs.lemmas.List.Sums.{sum_by-cons}
 use Rattle.std.proofs.Math.Seq.{take-add}
 use Rattle.std.proofs.lemmas.Bool.{and_parts, eqb-true}
-use Rattle.std.proofs.lemmas.List.{drop-take, length-append, length-drop, length-take-le, take-take}
-use Rattle.roff_input.specs.Input.{Ahead, ByteAhead, Input, bytes_taken, counting, is_none_ahead, item_taken, lines_taken, pushed}
+use Rattle.std.proofs.lemmas.List.{drop-take, length-drop, length-take-le, take-take}
+use Rattle.roff_input.specs.Input.{counting, is_none_ahead, pushed}
 use Rattle.roff_input.specs.declared.looked.Looked.TheVariants.{Nothing}
-use Rattle.roff_input.specs.Shown.{ShowsByte}
 use Rattle.roff_input.specs.Unread.{IsWithin, Unread, asks_to_take}
 use Rattle.roff_source.specs.Bytes.{is_argument_byte, newline}
-use Rattle.roff_source.specs.Tape.{Gives, OneByte, Tape, Took, items_then}
-use Rattle.roff_scan.specs.Unread.Calls.{IsFront, NoNewline, OfSource, OfTexts, PassesFront, PassesSource, PassesTexts, Takes, front_bytes, next_bytes}
+use Rattle.roff_source.specs.Tape.{OneByte, Tape, Took}
+use Rattle.roff_scan.specs.Unread.Calls.{IsFront, NoNewline, PassesFront, PassesSource, front_bytes, next_bytes}
 use Rattle.roff_scan.specs.Unread.Lines.{HoldsLine, StandsNewline, begins_with_newline, ended_by, is_ended, line_behind, line_room, with_held}
 use Rattle.roff_scan.specs.declared.unread.lines.BehindHeld.{BehindHeld}
 use Rattle.roff_scan.specs.declared.run_kind.RunKind.TheVariants.{Arguments as ArgumentsRun}
@@ -23,7 +22,6 @@ use Rattle.roff_input.specs.Arguments.{Arguments, HeldFewer, bytes_held}
 use Rattle.roff_input.specs.Looking.{is_nothing}
 use Rattle.roff_scan.proofs.Fronts.{nothing_looked, passes_lines, source}
 use Rattle.roff_scan.proofs.Passing.{counted}
-use Rattle.roff_scan.proofs.PassingAhead.{IsWithin-behind, behind_bytes, bytes_taken-is}
 
 -- no newline is counted among bytes that have none
 none_counted : (bytes : List ℕ) → NoNewline bytes → count_by (λ b. b == newline) bytes ≡ 0

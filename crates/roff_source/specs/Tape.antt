@@ -40,11 +40,6 @@ front t = elim t.items [ [] ↦ Ends t.ending | item ∷ items ↦ Gives item ]
 abbrev pub behind_front : Tape → Tape
 behind_front t = elim t.items [ [] ↦ t | item ∷ items ↦ record t { items = items } ]
 
--- the answer is an item
-abbrev pub IsItem : Answer → Type 0
-IsItem (Gives item) = Unit {0}
-IsItem (Ends ending) = ⊥
-
 -- a tape that ends so at once
 abbrev pub only : Ending → Tape
 only ending = record { items = []; ending = ending }

@@ -1,14 +1,11 @@
 -- What a text is once bytes are put behind it.
-use Rattle.std.proofs.Common.{◌≡◌, ◌≢◌, ℕ, zero, suc, ◌+◌, ◌-◌, ◌*◌, ◌<◌, ◌≤◌, List, [], ◌∷◌, ◌++◌, length, take, drop, set, get_or, inl, inr, refl, sym, ap, subst, ◌∙◌, arith, length-append, length-set}
-use Rattle.std.specs.Prelude.{◌==◌, if◌then◌else◌, min, sum}
+use Rattle.std.proofs.Common.{◌≡◌, ◌≢◌, ℕ, zero, suc, ◌+◌, ◌-◌, ◌*◌, ◌<◌, ◌≤◌, List, [], ◌∷◌, ◌++◌, length, take, drop, get_or, inl, inr, refl, sym, ap, subst, ◌∙◌, arith, length-append}
+use Rattle.std.specs.Prelude.{◌==◌, if◌then◌else◌}
 use Rattle.std.proofs.lemmas.Bool.{cases_eq, eq-eqb}
 use Rattle.std.proofs.lemmas.Bool.Decides.{nat_tests}
-use Rattle.std.proofs.lemmas.List.{append_assoc, append-nil, get_or-set_other, get_or-set_same, nil_from_length, take_all}
-use Rattle.arrayvec.specs.ArrayVec.{ArrayVec as Bytes}
+use Rattle.std.proofs.lemmas.List.{append-nil, take_all}
 use Rattle.roff_store.specs.declared.strand.Strand.{Strand}
-use Rattle.roff_store.specs.declared.chunks.Chunks.TheInside.{Inside}
-use Rattle.roff_store.specs.Chunks.Kept.{kept_by, IsSound}
-use Rattle.roff_store.specs.Chains.{Chunks, bytes_of, chain_bytes, content, has, link, others, share, shares_in, times_in, IsChain, IsExtended, IsShared, IsText, LeavesOthers}
+use Rattle.roff_store.specs.Chains.{Chunks, bytes_of, chain_bytes, content, has, link, others, share, times_in, IsChain, IsExtended, IsShared, IsText, LeavesOthers}
 use Rattle.roff_store.proofs.Leaving.{strand-left, text-left}
 use Rattle.roff_store.proofs.Filling.{IsFilled, IsGrown, IsLinked, bytes-grown, bytes-linked, comes_to, filled-grown, filled-linked, last_comes, last_there, length-filled, times-grown, times-last, times-linked}
 

@@ -1,26 +1,23 @@
 -- A store of texts once leases change.
-use Rattle.std.proofs.Common.{◌≡◌, ◌≢◌, ℕ, zero, suc, ◌+◌, ◌-◌, ◌<◌, ◌≤◌, true, false, cond, List, [], ◌∷◌, ◌++◌, length, map, get_or, sum_by, All, Some, None, is_some, IsSome, IsTrue, ◌↔◌, refl, sym, ap, subst, ◌∙◌, arith, Vec, Global, Option}
-use Rattle.std.specs.Prelude.{set, slice_index, take, drop, count_by, AllPairs, vec_len, vec_capacity, nat_le, ◌==◌}
+use Rattle.std.proofs.Common.{◌≡◌, ◌≢◌, ℕ, zero, suc, ◌+◌, ◌-◌, ◌<◌, ◌≤◌, cond, List, [], ◌∷◌, ◌++◌, length, map, get_or, sum_by, All, Some, None, is_some, IsSome, IsTrue, ◌↔◌, refl, sym, ap, subst, ◌∙◌, arith, Vec, Global, Option}
+use Rattle.std.specs.Prelude.{set, drop, count_by, AllPairs, vec_len, vec_capacity, nat_le}
 use Rattle.std.specs.Vec.{with_item}
-use Rattle.std.proofs.lemmas.List.{get_or-map, get_or_default, get_or-set_same, get_or-set_other, get_or_append_left, get_or_past, get_or_push, length-append, length-map, length-set, map-append, map-set}
+use Rattle.std.proofs.lemmas.List.{get_or-map, get_or_default, get_or-set_same, get_or-set_other, length-map, length-set, map-set}
 use Rattle.std.proofs.lemmas.List.Elements.{All-append}
 use Rattle.std.proofs.lemmas.List.Quantifiers.{all_pairs_push}
-use Rattle.std.proofs.lemmas.List.Sums.{sum_by-append, sum_by-cons, sum_by-set}
+use Rattle.std.proofs.lemmas.List.Sums.{sum_by-cons, sum_by-set}
 use Rattle.std.proofs.lemmas.Bool.Decides.{nat_tests}
 use Rattle.roff_store.specs.declared.strand.Strand.{Strand}
-use Rattle.roff_store.specs.declared.text_store.Meaning.{Meaning}
-use Rattle.roff_store.specs.declared.text_store.Meaning.TheVariants.{Body as BodyIn, Request as RequestOf}
 use Rattle.roff_store.specs.declared.text_store.TextStore.TheInside.{Inside}
-use Rattle.roff_store.specs.Chains.{Chunks, bytes_of, has, others, share, shares_in, AreSameChunks, IsShared, IsStrand, IsText}
-use Rattle.roff_store.specs.Named.{entry_of}
-use Rattle.roff_store.specs.Texts.{Texts, body_if_any, IsFree, body_of, has_body, is_body, kept, lease_bytes, lease_of, live, next_byte, rest_of}
-use Rattle.roff_store.specs.TextCalls.{Lease, Release, Take, after, bytes_given, with_lease as with_lease_in}
+use Rattle.roff_store.specs.Chains.{Chunks, bytes_of, has, others, share, shares_in, AreSameChunks, IsStrand}
+use Rattle.roff_store.specs.Texts.{Texts, kept, lease_of, live, rest_of}
+use Rattle.roff_store.specs.TextCalls.{Release, Take, after, bytes_given}
 use Rattle.roff_store.specs.TextStore.Kept.{kept_by, strands_in, IsSound}
-use Rattle.roff_store.specs.TextStore.Strands.{Lie, entries_in, in_texts, lease_in, of_lease, strands_of}
-use Rattle.roff_store.proofs.Hands.{with_lease, without_name, entry-in, entry-none, name-is-body, name-out, lease-out, lease-is-strand, lease-in, lease-behind}
-use Rattle.roff_store.proofs.Leaving.{chunks-few, is-left, length-bytes_of, strand-same}
-use Rattle.roff_store.proofs.Lying.{bytes-leases, chunks-in, give-same, released, shared}
-use Rattle.roff_store.proofs.Opening.{All-one, used-by}
+use Rattle.roff_store.specs.TextStore.Strands.{Lie, entries_in, lease_in, of_lease}
+use Rattle.roff_store.proofs.Hands.{with_lease, lease-out, lease-is-strand, lease-in}
+use Rattle.roff_store.proofs.Leaving.{is-left, length-bytes_of}
+use Rattle.roff_store.proofs.Lying.{bytes-leases, give-same, released, shared}
+use Rattle.roff_store.proofs.Opening.{All-one}
 
 -- a place where something is lies inside
 inside-some : {X : Type 0} (xs : List (Option X)) (i : ℕ) → IsSome (get_or xs i None) → i < length xs

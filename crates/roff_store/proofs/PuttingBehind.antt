@@ -1,27 +1,21 @@
 -- A store of texts once bytes are put behind a body.
-use Rattle.std.proofs.Common.{◌≡◌, ℕ, ◌+◌, ◌-◌, ◌*◌, ◌<◌, ◌≤◌, true, false, List, [], ◌∷◌, ◌++◌, length, sum_by, All, Option, Some, None, Ok, Err, Result, is_some, nat_lt, refl, sym, ap, subst, ◌∙◌, arith, length-append}
-use Rattle.std.specs.Prelude.{◌==◌, if◌then◌else◌}
-use Rattle.std.proofs.lemmas.Bool.Decides.{nat_tests}
-use Rattle.std.proofs.lemmas.List.{length-map}
-use Rattle.std.proofs.lemmas.List.Sums.{sum_by-append}
+use Rattle.std.proofs.Common.{◌≡◌, ℕ, ◌+◌, ◌-◌, ◌*◌, ◌<◌, ◌≤◌, true, List, [], ◌∷◌, ◌++◌, length, sum_by, Some, Err, Result, refl, sym, ap, subst, ◌∙◌, arith, length-append}
 use Rattle.roff_num.specs.declared.limit.Limit.{Limit}
-use Rattle.roff_num.specs.declared.limit.Limit.TheVariants.{Names, Store}
+use Rattle.roff_num.specs.declared.limit.Limit.TheVariants.{Store}
 use Rattle.roff_store.specs.declared.strand.Strand.{Strand}
 use Rattle.roff_store.specs.declared.text_store.Meaning.{Meaning}
-use Rattle.roff_store.specs.declared.text_store.Meaning.TheVariants.{Body as BodyIn, Request as RequestOf}
+use Rattle.roff_store.specs.declared.text_store.Meaning.TheVariants.{Body as BodyIn}
 use Rattle.roff_store.specs.declared.text_store.TextStore.TheInside.{Inside}
-use Rattle.roff_store.specs.Chains.{Chunks, bytes_of, has, others, share, shares_in, AreSameChunks, IsExtended, IsShared, IsStrand, IsText}
-use Rattle.roff_store.specs.Named.{Named, Table, EachOnce, admitted, entry_of, has_room, put_into, with_entry}
-use Rattle.roff_store.specs.Texts.{Entry, Body, Request, Texts, body_if_any, body_of, bytes_of as bytes_in_entry, used}
-use Rattle.roff_store.specs.TextCalls.{Append, Set, after, answered, made, unless_refused, within_bytes}
+use Rattle.roff_store.specs.Chains.{Chunks, bytes_of, others, shares_in, IsExtended, IsShared, IsText}
+use Rattle.roff_store.specs.Named.{Table, admitted, entry_of, has_room, put_into}
+use Rattle.roff_store.specs.Texts.{Body, Texts, body_if_any, body_of}
+use Rattle.roff_store.specs.TextCalls.{Append, answered}
 use Rattle.roff_store.specs.TextStore.Kept.{kept_by, strands_in, IsSound}
-use Rattle.roff_store.specs.TextStore.Strands.{AreApart, IsBody, Lie, entries_in, entry_in, in_texts, strands_of}
-use Rattle.roff_store.proofs.Entries.{length-with_entry, length-without_entry}
-use Rattle.roff_store.proofs.HandSums.{none-map, sum-with}
-use Rattle.roff_store.proofs.Hands.{without_name, entries-with, entries-without, entry-in, entry-none, moved, put, name-apart-in, name-apart-out, name-in, name-is-body, name-out, once-with}
+use Rattle.roff_store.specs.TextStore.Strands.{Lie, in_texts, strands_of}
+use Rattle.roff_store.proofs.Entries.{length-without_entry}
+use Rattle.roff_store.proofs.Hands.{without_name, entry-in}
 use Rattle.roff_store.proofs.Leaving.{length-bytes_of}
-use Rattle.roff_store.proofs.Lying.{GiveTheSame, bytes-leases, bytes-names, chunks-in, give-same, grown, released}
-use Rattle.roff_store.proofs.Opening.{All-one, IsChanged, IsSound-changed, has-none, ends-none, text-none, used-by, within-sound}
+use Rattle.roff_store.proofs.Lying.{bytes-leases, chunks-in, grown}
 use Rattle.roff_store.proofs.Setting.{IsInHand, IsSet, out, apart-out, used-out, text-out, shared-out, store-refused, name-set}
 
 -- bytes are put behind a body

@@ -1,5 +1,5 @@
 -- A store of texts once a name stands for something else.
-use Rattle.std.proofs.Common.{◌≡◌, ℕ, ◌+◌, ◌-◌, ◌*◌, ◌<◌, ◌≤◌, true, false, List, [], ◌∷◌, ◌++◌, length, sum_by, All, Option, Some, None, Ok, Err, Result, is_some, nat_lt, refl, sym, ap, subst, ◌∙◌, arith, length-append}
+use Rattle.std.proofs.Common.{◌≡◌, ℕ, ◌+◌, ◌-◌, ◌*◌, ◌<◌, ◌≤◌, true, false, List, [], ◌∷◌, ◌++◌, length, sum_by, All, Option, Some, None, Ok, Err, Result, is_some, nat_lt, refl, sym, ap, subst, ◌∙◌, arith}
 use Rattle.std.specs.Prelude.{◌==◌, if◌then◌else◌}
 use Rattle.std.proofs.lemmas.Bool.Decides.{nat_tests}
 use Rattle.std.proofs.lemmas.List.{length-map}
@@ -13,7 +13,7 @@ use Rattle.roff_store.specs.declared.text_store.TextStore.TheInside.{Inside}
 use Rattle.roff_store.specs.Chains.{Chunks, bytes_of, has, others, share, shares_in, AreSameChunks, IsExtended, IsShared, IsStrand, IsText}
 use Rattle.roff_store.specs.Named.{Named, Table, EachOnce, admitted, entry_of, has_room, put_into, with_entry}
 use Rattle.roff_store.specs.Texts.{Entry, Body, Request, Texts, body_if_any, body_of, bytes_of as bytes_in_entry, used}
-use Rattle.roff_store.specs.TextCalls.{Append, Set, after, answered, made, unless_refused, within_bytes}
+use Rattle.roff_store.specs.TextCalls.{Set, after, answered, made, unless_refused, within_bytes}
 use Rattle.roff_store.specs.TextStore.Kept.{kept_by, strands_in, IsSound}
 use Rattle.roff_store.specs.TextStore.Strands.{AreApart, IsBody, Lie, entries_in, entry_in, in_texts, strands_of}
 use Rattle.roff_store.proofs.Entries.{length-with_entry, length-without_entry}

@@ -29,11 +29,6 @@ within_answer t answer within =
     let no : nat_lt t.cap_bytes (used t) ≡ false = grind (arith, nat_tests) in
     ap (λ (b : Bool). if b then Err Store else answer) no
 
-few_answer : (t : Texts) → length t.names.entries ≤ t.names.cap → names_answer t ≡ Ok tt
-few_answer t few =
-    let no : nat_lt t.names.cap (length t.names.entries) ≡ false = grind (arith, nat_tests) in
-    ap answer_by no
-
 -- a name that finds no room would be one too many
 room-counts : (name : List ℕ) (entry : Entry) (names : Table Entry) → length names.entries ≤ names.cap
     → nat_lt names.cap (length (with_entry name entry names.entries)) ≡ not (has_room name names)

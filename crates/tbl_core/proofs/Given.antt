@@ -6,11 +6,10 @@ use Rattle.roff_source.specs.Tape.{Item, OneByte, OneNote, Tape}
 use Rattle.tbl_layout.specs.declared.limits.TblLimits.{TblLimits}
 use Rattle.tbl_layout.specs.declared.message.Told.{Told}
 use Rattle.tbl_layout.specs.Parts.{IsFront}
-use Rattle.tbl_layout.proofs.Slices.{front-few}
 use Rattle.tbl_core.specs.declared.place.Count.{Count}
 use Rattle.tbl_core.specs.declared.place.Position.{Position}
 use Rattle.tbl_core.specs.NotesLeft.{noted, notes_left}
-use Rattle.tbl_core.specs.Source.{IsAlive, IsSourced, MayGiveSome, NotAsked, WasAsked}
+use Rattle.tbl_core.specs.Source.{IsAlive, IsSourced, NotAsked, WasAsked}
 use Rattle.tbl_core.specs.Tables.{TablesState, behind_given, pending_of, standing_of}
 use Rattle.tbl_core.specs.Yields.{At}
 use Rattle.tbl_core.proofs.Pending.{Bytes}
@@ -92,15 +91,6 @@ sourced_given gives old new idle giving n is sourced =
       idles = λ idle. no_items n old.at.pending (sourced.idles idle);
       quiet = λ gives. noted-drop n old.at.pending (sourced.quiet gives);
     })
-
--- where a byte is pending the inner source was asked
-pub alive_pending : (gives : Tape → Type 0) (at : At) (front : List ℕ) → IsAlive gives at → IsFront (map OneByte front) at.pending
-    → 1 ≤ length front → MayGiveSome gives
-alive_pending gives at front (NotAsked is) first some =
-    let none = ap (λ (a : At). length a.pending) is in
-    let few = front-few (map OneByte front) at.pending first in
-    absurd (omega (arith, none, few, length-map front OneByte, some))
-alive_pending gives at front (WasAsked tape given) first some = record { some = tape; some_given = given }
 
 -- a part of a front is one
 fewer-front : {A : Type 0} (t : Bool) (k : ℕ) (front all : List A) → nat_le k (length front) ≡ t → IsFront front all → IsFront (take k front) all

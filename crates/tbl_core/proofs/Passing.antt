@@ -75,11 +75,6 @@ module _ (line whole : List ℕ) (front : Front) (count : ℕ) where
       ∙ ap (λ (bytes : List ℕ). take count line ++ before_table front bytes) (sym (drop_all count line past))
       ∙ so_far
 
--- behind a byte of the line
-pub within-more : (line : List ℕ) (count : ℕ) → count < length line → IsWithinLine (drop count line)
-    → IsWithinLine (drop (count + 1) line)
-within-more line count inside within = (subst IsWithinLine (drop_more line count 0 inside) within).1
-
 -- the front behind bytes that stay outside
 unless_newline : (t : Bool) → t ≡ false → (if t then Nothing else Other) ≡ Other
 unless_newline true is = cc

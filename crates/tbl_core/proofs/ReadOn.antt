@@ -14,7 +14,7 @@ use Rattle.tbl_core.specs.declared.place.Front.TheVariants.{Nothing, Other}
 use Rattle.tbl_core.specs.declared.place.Position.{Position}
 use Rattle.tbl_core.specs.declared.place.Position.TheVariants.{Inside as AtInside}
 use Rattle.tbl_core.specs.Lines.{counted, is_of_name, line_counted, next_line}
-use Rattle.tbl_core.specs.Machine.{Now, Place, Inside, Standing, Reads, Step, goes_on_inside, limit_inside, stops, take, take_at, told_so_far}
+use Rattle.tbl_core.specs.Machine.{Now, Inside, Standing, Reads, Step, goes_on_inside, limit_inside, stops, take, take_at, told_so_far}
 use Rattle.tbl_core.specs.NotesLeft.{bytes_left, most_behind, noted, notes_left}
 use Rattle.tbl_core.specs.Passing.{IsWithinLine, is_of_line}
 use Rattle.tbl_core.specs.ReadOn.{HasRoom, ReadsLine, line_read}
@@ -44,16 +44,6 @@ none_met true a c d line columns text = cc
 none_met false a true d line columns text = cc
 none_met false a false true line columns text = cc
 none_met false a false false line columns text = refl
-
--- a part of what there is room for
-pub HasRoom-fewer : (l : TblLimits) (taken : ℕ) (r : Reading) (n few : ℕ) → 1 ≤ few → few ≤ n → HasRoom l taken r n → HasRoom l taken r few
-HasRoom-fewer l taken r n few some le room = record {
-  some = some;
-  bytes = omega (arith, le, room.bytes);
-  phase = room.phase;
-  columns = room.columns;
-  text = omega (arith, le, room.text);
-}
 
 module _ (l : TblLimits) (line_length : ℕ) where
   no_limit : (b taken : ℕ) (r : Reading) (n : ℕ) → HasRoom l taken r n → (b == newline) ≡ false → limit_inside l b Other r ≡ None

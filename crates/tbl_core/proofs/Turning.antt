@@ -4,13 +4,13 @@ use Rattle.std.specs.Prelude.{unwrap_or}
 use Rattle.std.specs.Option.{MatchOption}
 use Rattle.roff_num.specs.declared.limit.Limit.{Limit}
 use Rattle.roff_source.specs.declared.source.Taken.{Taken}
-use Rattle.roff_source.specs.Tape.{Item, OneByte, OneNote, Ending, Stopped, Tape, Answers, Gives, Ends, answer_of}
+use Rattle.roff_source.specs.Tape.{Item, OneByte, Ending, Stopped, Tape, Answers, Gives, Ends, answer_of}
 use Rattle.tbl_layout.specs.declared.limits.TblLimits.{TblLimits}
 use Rattle.tbl_core.specs.Machine.{Now, Standing, Reads, Over, Step}
 use Rattle.tbl_core.specs.Source.{IsAlive, NotAsked, WasAsked}
 use Rattle.tbl_core.specs.Tables.{TablesState, IsGiven, byte_step, ending_step, handed, stopped_by}
 use Rattle.tbl_core.specs.Yields.{At, Continues, MayGive, at_ending, at_start, behind_step}
-use Rattle.tbl_core.proofs.Giving.{answers_behind, byte_taken, ending_given, ending_taken, limit_given, note_taken, pending_given}
+use Rattle.tbl_core.proofs.Giving.{answers_behind, byte_taken, ending_given, ending_taken, limit_given, pending_given}
 use Rattle.tbl_core.proofs.Quiet.{ReadsAt, quiet_ending}
 
 -- what may be given by the fields of a state
@@ -40,14 +40,6 @@ pub byte_goes_on : (old new : TablesState) (b : ℕ) (inner behind : Tape → Ty
 byte_goes_on old new b inner behind given none reads answers out is limits line_length =
     rw (limits, line_length) (byte_silent old.limits old.line_length b old.at.pending old.at.standing inner behind none reads answers
     (record { pending = handed given ++ new.at.pending; standing = new.at.standing }) out is)
-
--- a message, which isn't passed on
-pub note_silent : (l : TblLimits) (line_length : ℕ) (message : List ℕ) (pending : List Item) (s : Standing) (old new : Tape → Type 0)
-    → pending ≡ [] → stopped_by s ≡ None → Answers old new (Gives (OneNote message))
-    → Continues (MayGive l line_length (record { pending = pending; standing = s }) old) (MayGive l line_length (record { pending = pending; standing = s }) new)
-note_silent l line_length message [] (Reads now) old new none reads answers = note_taken l line_length old new message now answers
-note_silent l line_length message [] (Over limit) old new none reads answers = cc
-note_silent l line_length message (item ∷ items) s old new none reads answers = cc
 
 -- the first of what is given behind turns that gave nothing
 pub first_given : (start inner : Tape → Type 0) (some : Tape) → inner some → (l : TblLimits) (line_length : ℕ) (item : Item) (at : At)

@@ -1,12 +1,12 @@
 -- What is still to give of a table, behind the pieces that follow.
-use Rattle.std.proofs.Common.{◌≡◌, ℕ, zero, suc, ◌+◌, ◌-◌, ◌<◌, ◌≤◌, true, List, [], ◌∷◌, ◌++◌, length, take, drop, refl, sym, ap, subst, ◌∙◌, arith, append_assoc, ◌==◌}
+use Rattle.std.proofs.Common.{◌≡◌, ℕ, ◌+◌, ◌-◌, ◌≤◌, true, List, [], ◌∷◌, ◌++◌, length, take, drop, refl, sym, ap, subst, ◌∙◌, arith, append_assoc, ◌==◌}
 use Rattle.std.specs.List.{slice_range}
-use Rattle.std.proofs.lemmas.List.{append-nil, drop-append-le, drop_all}
+use Rattle.std.proofs.lemmas.List.{append-nil}
 use Rattle.roff_source.specs.Bytes.{backslash, newline}
 use Rattle.tbl_layout.specs.Format.{has_some}
 use Rattle.tbl_layout.specs.FormatRows.{KeptFormat}
 use Rattle.tbl_table.specs.Joined.{RiseWithin, unjoined}
-use Rattle.tbl_table.specs.Output.{CanGive, CanLine, IsLast, KeptGiving, coming, following, lines_from}
+use Rattle.tbl_table.specs.Output.{CanGive, CanLine, IsLast, KeptGiving, coming, lines_from}
 use Rattle.tbl_layout.specs.PieceQueue.{KeptPieces, bytes_left}
 use Rattle.tbl_layout.specs.Picture.{before_lines, behind_lines, first_format, line_of, next_of, picture}
 use Rattle.tbl_layout.specs.Pieces.{AreWithin, bytes_of_all, some_piece, texts_of}
@@ -66,34 +66,6 @@ IsLast-behind (first ∷ pieces) piece rest = tt
 RiseWithin-first : (len from : ℕ) (joints : List JointAt) → RiseWithin len from joints → from ≤ len
 RiseWithin-first len from [] rise = rise
 RiseWithin-first len from (j ∷ joints) rise = omega (arith, rise.0, RiseWithin-first len j.place joints rise.1)
-
--- bytes in front of others that are dropped
-pub drop-front : (front behind rest bytes : List ℕ) (n : ℕ) → n ≤ length front → behind ≡ drop n front → bytes ≡ front ++ rest
-    → behind ++ rest ≡ drop n bytes
-drop-front front behind rest bytes n few is all =
-    ap (λ (xs : List ℕ). xs ++ rest) is ∙ sym (drop-append-le n front rest few) ∙ ap (drop n) (sym all)
-
--- where a byte is to give, a piece is left
-some-piece : (t : KeptText) (r : KeptRows) (k : KeptFormat) (pieces : List Piece) (offset room : ℕ) (rest : Rest) (frame : List ℕ) (end : ℕ)
-    → IsLast pieces rest
-    → 0 < length (coming t r k (record { pieces = record { pieces = pieces; offset = offset; room = room }; rest = rest; frame = frame; frame_end = end }))
-    → has_some pieces ≡ true
-some-piece t r k [] offset room rest frame end last some =
-    let none : List ℕ = [] in
-    let left : drop offset none ≡ none = drop_all offset none (omega arith) in
-    let follows : following t r k (drop end frame) rest ≡ none = ap (following t r k (drop end frame)) last in
-    let len = ap (λ (xs : List ℕ). length (xs ++ following t r k (drop end frame) rest)) left ∙ ap (λ (xs : List ℕ). length xs) follows in
-    absurd (omega (arith, some, len))
-some-piece t r k (piece ∷ pieces) offset room rest frame end last some = refl
-
-pub piece-left : (t : KeptText) (r : KeptRows) (k : KeptFormat) (g : KeptGiving) → CanGive t r k g → 0 < length (coming t r k g)
-    → has_some g.pieces.pieces ≡ true
-piece-left t r k g can some = some-piece t r k g.pieces.pieces g.pieces.offset g.pieces.room g.rest g.frame g.frame_end can.last some
-
--- a front that isn't empty has a length
-some-front : (n : ℕ) (xs : List ℕ) (b : ℕ) (rest : List ℕ) → take n xs ≡ b ∷ rest → 0 < n
-some-front zero xs b rest is = absurd (cc)
-some-front (suc n) xs b rest is = omega arith
 
 -- these pieces are left, and this follows them
 abbrev pub giving_of : List Piece → ℕ → Rest → List ℕ → ℕ → KeptGiving

@@ -200,10 +200,6 @@ last-of (b ∷ line) t n some = refl
 pub last-some : (r : Reading) (n : ℕ) → 0 < length r.line → last_read n r ≡ closed (line_read n r.line r.table)
 last-some r n some = last-of r.line r.table n some
 
-pub last-none : (r : Reading) (n : ℕ) → r.line ≡ [] → last_read n r ≡ closed r.table
-last-none r n none =
-    ap (λ (line : List ℕ). elim line [ [] ↦ closed r.table | b ∷ bytes ↦ closed (line_read n (b ∷ bytes) r.table) ]) none
-
 -- the block of a first line alone
 pub head-whole : (text : KeptText) → text.settled ≡ [] → text.pending ≡ None → block_of text ≡ text.line
 head-whole text empty none =

@@ -1,5 +1,5 @@
 -- What a buffer of arguments keeps.
-use Rattle.std.specs.Prelude.{◌≡◌, ℕ, ◌+◌, ◌<◌, ◌≤◌, ◌^◌, true, List, length, reverse, take, drop, vec_capacity, Option, Bool, false, not, get_or, ◌||◌, ◌==◌}
+use Rattle.std.specs.Prelude.{◌≡◌, ℕ, ◌+◌, ◌<◌, ◌≤◌, ◌^◌, true, List, length, reverse, take, drop, vec_capacity, Option, false, get_or}
 use Rattle.std.specs.List.{AllByRecursion}
 use Rattle.roff_input.specs.Arguments.{Arguments, HeldFewer, bytes_held, kept, only_kept, AreFewer}
 use Rattle.roff_source.specs.Bytes.{is_argument_byte}

@@ -1,5 +1,5 @@
 -- How a byte is read above what is read, and what does that which was found there.
-use Rattle.std.specs.Prelude.{Bool, true, false, pos, if◌then◌else◌}
+use Rattle.std.specs.Prelude.{pos, if◌then◌else◌}
 use Rattle.roff_escape.specs.OpenEscapes.{Reads}
 use Rattle.roff_escape.specs.declared.open_escape.Found.{Found}
 use Rattle.roff_escape.specs.declared.open_escape.Surroundings.{Surroundings}
@@ -16,16 +16,6 @@ use Rattle.roff_run.specs.Registers.{Known}
 use Rattle.roff_run.specs.declared.line_state.LineState.{LineState}
 use Rattle.roff_run.specs.declared.line_state.LineState.TheVariants.{LineStart, Branch, Braced, Text as InText, Control, Name, Deciding, Skipping, Dropped, Told, Exiting, TitleFront, Title as InTitle, Collecting}
 use Rattle.roff_run.specs.declared.purpose.Purpose.TheVariants.{Defining}
-
--- whether a byte may be read by what is half read
-abbrev pub has_place : LineState → Bool
-has_place (Control breaks) = false
-has_place (Name breaks first) = false
-has_place (Skipping opened closed behind) = false
-has_place Dropped = false
-has_place (Told aborts) = false
-has_place Exiting = false
-has_place (_) = true
 
 -- how a byte is read above what is read
 abbrev pub place_in : Known → LineState → Surroundings

@@ -1,5 +1,5 @@
 use Rattle.std.proofs.Common.{◌≡◌, rules, true}
-use Rattle.std.specs.Prelude.{Ok, Err}
+use Rattle.std.specs.Prelude.{Err}
 use Rattle.roff_command.specs.PagesAsked.{are_digits}
 use Rattle.roff_command.proofs.PageLists.{page-parsed}
 use Rattle.roff_command.proofs.pages.read_number.Goals as goal

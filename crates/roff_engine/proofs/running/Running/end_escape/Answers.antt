@@ -3,7 +3,7 @@ use Rattle.roff_run.specs.Run.{escape_ends}
 use Rattle.roff_run.specs.Reading.{escape_ended}
 use Rattle.roff_run.specs.Registers.{Known}
 use Rattle.roff_formatter.proofs.EventsLeft.{few-none}
-use Rattle.roff_run.proofs.WaitingEvents.{AreFewBehind-escape_ended}
+use Rattle.roff_run.proofs.ReadEvents.{AreFewBehind-escape_ended}
 use Rattle.roff_engine.proofs.Acting.{taking_acts, halted_acts}
 use Rattle.roff_engine.proofs.Ending.{few-escape_ended, line-escape_ended}
 use Rattle.roff_engine.proofs.running.Running.end_escape.Goals as goal

@@ -4,7 +4,7 @@ use Rattle.roff_run.specs.Reading.Ends.{end_taking}
 use Rattle.roff_run.specs.Registers.{Known}
 use Rattle.roff_run.proofs.Keeping.{Keeps-end_taking}
 use Rattle.roff_formatter.proofs.EventsLeft.{few-none}
-use Rattle.roff_run.proofs.WaitingEvents.{AreFewBehind-end_taking}
+use Rattle.roff_run.proofs.ReadEvents.{AreFewBehind-end_taking}
 use Rattle.roff_engine.proofs.Acting.{taking_acts, halted_acts}
 use Rattle.roff_engine.proofs.running.Running.end_line.Goals as goal
 

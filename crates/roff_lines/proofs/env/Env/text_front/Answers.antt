@@ -1,5 +1,5 @@
 use Rattle.std.proofs.Common.{◌+◌, ℕ, List, take, drop, arith}
-use Rattle.roff_lines.specs.Env.Tells.{TellsFront, TellsOf}
+use Rattle.roff_lines.specs.Env.Tells.{TellsOf}
 use Rattle.roff_lines.proofs.Tells.{TellsFront-append}
 use Rattle.roff_lines.proofs.TextFront.{EndsGlyphs-behind, TellsOf-append, most-front, quiet-front, stands-front}
 use Rattle.roff_lines.proofs.TextRuns.{TellsFront-blank, TellsFront-same}

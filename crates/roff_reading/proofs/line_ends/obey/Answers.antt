@@ -4,7 +4,7 @@ use Rattle.roff_reader.specs.Reader.State.{ReaderState}
 use Rattle.roff_run.specs.Reading.Arguments.{reading_behind}
 use Rattle.roff_run.specs.declared.request.Row.{Row}
 use Rattle.roff_reading.proofs.RequestsObeyed.{TakesAs-acted, TakesAs-not_acted, kept_of}
-use Rattle.roff_reading.proofs.obeying.obey.Goals as goal
+use Rattle.roff_reading.proofs.line_ends.obey.Goals as goal
 
 pub returns-in_err-step : goal.returns-in_err-step
 returns-in_err-step c =

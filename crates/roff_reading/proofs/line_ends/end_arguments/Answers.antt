@@ -6,7 +6,7 @@ use Rattle.roff_run.specs.declared.request.LineReading.{LineReading}
 use Rattle.roff_run.specs.declared.request.LineReading.TheVariants.{ByLines}
 use Rattle.roff_reader.proofs.BegunDefinitions.{arguments_ended-obeyed}
 use Rattle.roff_reader.proofs.TakesAs.{TakesAs-as}
-use Rattle.roff_reading.proofs.arguments.end_arguments.Goals as goal
+use Rattle.roff_reading.proofs.line_ends.end_arguments.Goals as goal
 
 pub returns-in-ByLines : goal.returns-in-ByLines
 returns-in-ByLines c =

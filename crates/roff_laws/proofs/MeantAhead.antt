@@ -1,0 +1,103 @@
+-- Events that an item may mean are so as a run closes, and where they are put back.
+use Rattle.std.proofs.Common.{◌++◌, Bool, false, List, [], ◌∷◌, map, Option, Some, None}
+use Rattle.roff_input.specs.Input.{Ahead, ByteAhead, FreeAhead, EndAhead, ReturnAhead, DoAhead}
+use Rattle.roff_input.specs.Input.Calls.{called_text}
+use Rattle.roff_input.specs.Input.Names.{body_named}
+use Rattle.roff_num.specs.ShortNames.{name_bytes}
+use Rattle.roff_num.specs.declared.short_name.ShortName.{ShortName}
+use Rattle.roff_layout.specs.declared.layout_event.LayoutEvent.{LayoutEvent}
+use Rattle.roff_layout.specs.declared.layout_event.LayoutEvent.TheVariants.{ListPages, Begin, Close, Space, Need, Eject, EjectTo, EjectOn, EjectLast, Length, Offset, Next, Number, NoSpace, Plant, Uproot, MoveTrap, RemoveTrap, DiversionTrap, NoDiversionTrap, Divert, EndDivert}
+use Rattle.roff_run.specs.Reading.Calls.{called_last, last_called}
+use Rattle.roff_run.specs.Reading.Items.{PageInput}
+use Rattle.roff_run.specs.PageEvents.{PageEvent}
+use Rattle.roff_run.specs.Requests.{called_by}
+use Rattle.roff_run.specs.Titles.{put_back}
+use Rattle.roff_run.specs.declared.event.PageEvent.TheVariants.{Text, Page, Interrupt, Environment, Back, InputTrap as SetsTrap, Title}
+use Rattle.roff_run.specs.declared.request.Called.{Called}
+use Rattle.roff_run.specs.declared.request.Called.TheVariants.{Request as ARequest, Body as ABody, Nothing as Unknown}
+use Rattle.roff_run.proofs.GrowingAhead.{Grows, Stays, WithByte, WithEnd, WithFree, WithReturn, ahead-called}
+use Rattle.roff_run.proofs.MeantEvents.{AllMeant, AreMeant, IsMeant, MayBe}
+
+-- what is meant at any time is so as a run closes
+meant-closing : (closing : Bool) (e : LayoutEvent) → IsMeant false e → IsMeant closing e
+meant-closing closing (Space k) meant = meant
+meant-closing closing (Need k) meant = meant
+meant-closing closing (Eject asked) meant = meant
+meant-closing closing (EjectTo asked number) meant = meant
+meant-closing closing (EjectOn asked) meant = meant
+meant-closing closing EjectLast meant = absurd (cc)
+meant-closing closing (Length k) meant = meant
+meant-closing closing (Offset k) meant = meant
+meant-closing closing (Next n) meant = meant
+meant-closing closing (Number n) meant = meant
+meant-closing closing (NoSpace on) meant = meant
+meant-closing closing (Plant trap) meant = meant
+meant-closing closing (Uproot place) meant = meant
+meant-closing closing (MoveTrap name place) meant = meant
+meant-closing closing (RemoveTrap name) meant = meant
+meant-closing closing (ListPages first last) meant = absurd meant
+meant-closing closing Begin meant = absurd meant
+meant-closing closing Close meant = absurd meant
+meant-closing closing (DiversionTrap trap) meant = absurd meant
+meant-closing closing NoDiversionTrap meant = absurd meant
+meant-closing closing (Divert name appends) meant = absurd meant
+meant-closing closing EndDivert meant = absurd meant
+
+may-closing : (closing : Bool) (e : PageEvent) → MayBe false e → MayBe closing e
+may-closing closing (Page e) may = meant-closing closing e may
+may-closing closing (Text e) may = tt
+may-closing closing (Interrupt untold) may = tt
+may-closing closing (Environment number) may = tt
+may-closing closing Back may = tt
+may-closing closing (SetsTrap trap) may = tt
+may-closing closing (Title which) may = tt
+
+pub all-meant : (closing : Bool) (events : List PageEvent) → AreMeant events → AllMeant closing events
+all-meant closing [] meant = tt
+all-meant closing (e ∷ events) meant = (may-closing closing e meant.0, all-meant closing events meant.1)
+
+-- and so are those that were put back
+abbrev pub AllMeantAhead : Bool → List (Ahead PageEvent) → Type 0
+AllMeantAhead closing [] = Unit {0}
+AllMeantAhead closing (ByteAhead b ∷ items) = AllMeantAhead closing items
+AllMeantAhead closing (FreeAhead b ∷ items) = AllMeantAhead closing items
+AllMeantAhead closing (EndAhead ∷ items) = AllMeantAhead closing items
+AllMeantAhead closing (ReturnAhead back ∷ items) = AllMeantAhead closing items
+AllMeantAhead closing (DoAhead e ∷ items) = MayBe closing e × AllMeantAhead closing items
+
+pub meant-grown : (closing : Bool) (items more : List (Ahead PageEvent)) → Grows items more → AllMeantAhead closing items
+    → AllMeantAhead closing more
+meant-grown closing items _ Stays meant = meant
+meant-grown closing items _ (WithByte b more grows) meant = meant-grown closing items more grows meant
+meant-grown closing items _ (WithFree b more grows) meant = meant-grown closing items more grows meant
+meant-grown closing items _ (WithEnd more grows) meant = meant-grown closing items more grows meant
+meant-grown closing items _ (WithReturn back more grows) meant = meant-grown closing items more grows meant
+
+-- events are put back
+may-back : (closing : Bool) (e : PageEvent) → MayBe closing e → MayBe closing (put_back e)
+may-back closing (Page e) may = may
+may-back closing (Text e) may = tt
+may-back closing (Interrupt untold) may = tt
+may-back closing (Environment number) may = tt
+may-back closing Back may = tt
+may-back closing (SetsTrap trap) may = tt
+may-back closing (Title which) may = tt
+
+pub meant-back : (closing : Bool) (events : List PageEvent) → AllMeant closing events → AllMeant closing (map put_back events)
+meant-back closing [] meant = tt
+meant-back closing (e ∷ events) meant = (may-back closing e meant.0, meant-back closing events meant.1)
+
+pub ahead-back : (closing : Bool) (events : List PageEvent) (items : List (Ahead PageEvent)) → AllMeant closing events → AllMeantAhead closing items
+    → AllMeantAhead closing (map DoAhead events ++ items)
+ahead-back closing [] items meant behind = behind
+ahead-back closing (e ∷ events) items meant behind = (meant.0, ahead-back closing events items meant.1 behind)
+
+-- the body of the last macro
+ahead-called_last : (called : Called) (i : PageInput) → Grows i.ahead (called_last called i).ahead
+ahead-called_last (ABody name) i = ahead-called (called_text (body_named (name_bytes name) i)) 0 i.ahead
+ahead-called_last (ARequest request) i = Stays
+ahead-called_last Unknown i = Stays
+
+pub ahead-last_called : (name : Option ShortName) (i : PageInput) → Grows i.ahead (last_called name i).ahead
+ahead-last_called None i = Stays
+ahead-last_called (Some name) i = ahead-called_last (called_by name i.names) i
