@@ -39,6 +39,7 @@ STAGES = {
         "roff_reader",
         "roff_reading",
         "roff_fronts",
+        "roff_registers",
         "roff_requests",
         "roff_meaning",
         "roff_names",

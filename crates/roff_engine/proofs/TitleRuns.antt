@@ -45,7 +45,7 @@ use Rattle.roff_run.specs.declared.line_state.LineState.{LineState}
 use Rattle.roff_run.specs.declared.line_state.LineState.TheVariants.{Title as InTitle}
 use Rattle.roff_run.specs.declared.phase.Phase.{Phase}
 use Rattle.roff_composer.proofs.TitleTexts.{bytes_added_again, bytes_added_length, none_added}
-use Rattle.roff_requests.specs.Registers.Fronts.{IsPlain, is_plain, kept_byte}
+use Rattle.roff_registers.specs.Registers.Fronts.{IsPlain, is_plain, kept_byte}
 use Rattle.roff_fronts.proofs.PrintedRuns.{counted-behind, turns-counted}
 use Rattle.roff_reader.proofs.TakesAs.{few_names_in}
 use Rattle.roff_reader.specs.Reader.State.{ReaderState}

@@ -2,13 +2,13 @@
 
 ghost use Rattle.roff_composer.specs.Composer.Standing.{StandFor};
 ghost use Rattle.roff_num.specs.declared.limits.Limits.{Limits};
-ghost use Rattle.roff_requests.specs.Registers.Coded.{AreOf};
+ghost use Rattle.roff_registers.specs.Registers.Coded.{AreOf};
 ghost use Rattle.roff_run.specs.Environments.{PageHistory};
 ghost use Rattle.roff_run.specs.Registers.{AllRegisters};
 ghost use Rattle.roff_run.specs.Run.{known_at};
 
 use roff_composer::Composer;
-use roff_requests::Facts;
+use roff_registers::Facts;
 use roff_run::PageEvent;
 use roff_scan::Unread;
 

@@ -24,9 +24,8 @@ use roff_layout::{LayoutEvent, Param};
 use roff_meaning::{Meaning, RequestEvents};
 use roff_names::remove_names_given;
 use roff_num::{Limit, Num};
-use roff_requests::{
-    Changes, Given, Numbers, RequestFacts, Response, RunRegisters, page_name, response,
-};
+use roff_registers::{RunRegisters, page_name};
+use roff_requests::{Changes, Given, Numbers, RequestFacts, Response, response};
 use roff_run::{PageEvent, Request, Step, breaks_by, broken};
 use roff_scan::Unread;
 

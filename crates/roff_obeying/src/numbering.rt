@@ -21,7 +21,8 @@ use roff_composer::Composer;
 use roff_meaning::Meaning;
 use roff_names::facts;
 use roff_num::{Limit, Name, Num};
-use roff_requests::{Numbers, RunRegisters, is_page, numbers_given, register_named};
+use roff_registers::{RunRegisters, is_page};
+use roff_requests::{Numbers, numbers_given, register_named};
 use roff_run::{LineEvents, Message, PageEvent, Step};
 use roff_scan::Unread;
 

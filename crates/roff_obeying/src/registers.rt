@@ -14,7 +14,8 @@ ghost use Rattle.roff_run.specs.Run.{known_at};
 use roff_composer::Composer;
 use roff_names::facts;
 use roff_num::Num;
-use roff_requests::{RunRegisters, register_named};
+use roff_registers::RunRegisters;
+use roff_requests::register_named;
 use roff_run::{PageEvent, name_given};
 use roff_scan::{ArgumentList, Unread};
 

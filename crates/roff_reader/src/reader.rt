@@ -35,7 +35,7 @@ pub use calls::CALL_ARGUMENTS;
 use roff_layout::Param;
 use roff_meaning::{Meaning, RequestEvents};
 use roff_num::{Limit, Num};
-use roff_requests::RunRegisters;
+use roff_registers::RunRegisters;
 use roff_run::{Due, LineEvents, LineState, Message, PageEvent, Step};
 use roff_scan::Unread;
 use std::alloc::{AllocError, Global};

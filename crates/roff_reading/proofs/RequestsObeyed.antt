@@ -19,10 +19,10 @@ use Rattle.roff_run.specs.Reading.Arguments.{calling_all, line_ended, reading_be
 use Rattle.roff_run.specs.Reading.Items.{PageInput}
 use Rattle.roff_run.specs.Registers.{AllRegisters, Change, changed_by, changed_by_all, is_page, is_read_only}
 use Rattle.roff_run.specs.Registers.Capped.{Capped, is_past_cap}
-use Rattle.roff_requests.specs.Registers.Coded.{change_of}
+use Rattle.roff_registers.specs.Registers.Coded.{change_of}
 use Rattle.roff_requests.specs.Request.Coded.{calls_of, changes_of}
-use Rattle.roff_requests.specs.declared.registers.Change.{Change as CodedChange}
-use Rattle.roff_requests.specs.declared.registers.Change.TheVariants.{SetTo, FormatAs, ReadLast, CharacterIs}
+use Rattle.roff_registers.specs.declared.registers.Change.{Change as CodedChange}
+use Rattle.roff_registers.specs.declared.registers.Change.TheVariants.{SetTo, FormatAs, ReadLast, CharacterIs}
 use Rattle.roff_requests.specs.declared.requests.effects.Changes.{Changes}
 use Rattle.roff_requests.specs.declared.requests.effects.Changes.TheVariants.{Nothing, One, RemoveGiven, RemoveNamesGiven, Rename as RenameGiven}
 use Rattle.roff_run.specs.TitleTexts.{TitleText, title_length}

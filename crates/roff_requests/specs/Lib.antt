@@ -1,2 +1,1 @@
 pub mod Request
-pub mod Registers

@@ -2,7 +2,7 @@
 use Rattle.std.specs.Prelude.{◌≡◌, ℕ, List}
 use Rattle.roff_num.specs.declared.direction.Direction.{Direction}
 use Rattle.roff_reader.specs.Reader.State.{ReaderState}
-use Rattle.roff_requests.specs.Registers.Stepping.{StepsQuietly}
+use Rattle.roff_registers.specs.Registers.Stepping.{StepsQuietly}
 
 -- the register of this name was stepped, and nothing is said of it
 pub record StepsReader (direction : Direction) (name : List ℕ) (old new : ReaderState) : Type 0 where

@@ -4,7 +4,7 @@ use Rattle.std.specs.List.{AllByRecursion}
 use Rattle.roff_source.specs.Tape.{Tape}
 use Rattle.roff_input.specs.Unread.{IsWithin, Stays}
 use Rattle.roff_scan.specs.Unread.Calls.{PassesFront}
-use Rattle.roff_requests.specs.Registers.Fronts.{IsPlain, kept_byte}
+use Rattle.roff_registers.specs.Registers.Fronts.{IsPlain, kept_byte}
 use Rattle.roff_reader.specs.Reader.State.{ReaderState}
 use Rattle.roff_run.specs.Reading.Items.{PageUnread}
 use Rattle.roff_run.specs.Registers.{TitleGets}

@@ -23,7 +23,7 @@ use Rattle.roff_pages.specs.Pages.Stands.{StandsAs}
 use Rattle.roff_pages.specs.Pages.Counted.{counted}
 use Rattle.roff_layout.specs.Queries.{is_diverting, place_now}
 use Rattle.roff_run.specs.Registers.{Known, Change, Remove, page_name, value_in_force}
-use Rattle.roff_requests.specs.Registers.Coded.{change_of}
+use Rattle.roff_registers.specs.Registers.Coded.{change_of}
 use Rattle.roff_store.specs.TextCalls.{Call, Rename}
 use Rattle.roff_run.specs.Requests.{Response, Around, Ignored, Obeyed, nothing}
 use Rattle.roff_run.specs.Requests.Effects.{bad_number, happens}

@@ -5,10 +5,10 @@ ghost use Rattle.std.specs.Option.{option_copied};
 ghost use Rattle.roff_requests.specs.Request.Coded.{response_of};
 ghost use Rattle.roff_run.specs.Requests.Adjustment.{adjust, centre, mode_named, mode_wanted};
 
-use crate::number::value_in;
 use crate::requests::Response;
 use roff_layout::{AdjustMode, Event, Param};
 use roff_num::Scale;
+use roff_registers::value_in;
 use roff_run::PageEvent;
 
 /// `ad`: adjusting on, in the mode of the argument or the one in force.

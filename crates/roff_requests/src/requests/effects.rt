@@ -15,11 +15,10 @@ ghost use Rattle.roff_run.specs.declared.event.PageEvent.TheVariants.{Page};
 ghost use Rattle.roff_run.specs.Requests.Effects.{Obeyed, Ignored, bad_format, bad_number, happens};
 ghost use Rattle.roff_run.specs.Requests.Effects.{left_out, no_such_environment, nothing, setting};
 
-use crate::number::LINE;
-use crate::registers::Change;
 use roff_composer::Composer;
 use roff_layout::{Event, LayoutEvent, Param, Settings};
 use roff_num::{Name, Num};
+use roff_registers::{Change, LINE};
 use roff_run::{Message, PageEvent};
 
 /// What a request may ask of the run.

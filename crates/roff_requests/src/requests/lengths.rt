@@ -7,10 +7,10 @@ ghost use Rattle.roff_requests.specs.Request.Coded.{response_of};
 ghost use Rattle.roff_run.specs.Requests.Lengths.{indent, length_set, length_wanted, line_length};
 ghost use Rattle.roff_run.specs.Requests.Lengths.{temporary_indent, title_length};
 
-use crate::number::{COLUMN, rounded_to_columns, value_beside};
 use crate::requests::Response;
 use roff_layout::{Param, Settings};
 use roff_num::{NumFault, Scale};
+use roff_registers::{COLUMN, rounded_to_columns, value_beside};
 
 /// `ll`: the line length.
 pub(super) fn line_length(settings: Settings, argument: Option<&[u8]>) -> Response

@@ -6,9 +6,9 @@ ghost use Rattle.roff_requests.specs.Request.Coded.{response_of};
 ghost use Rattle.roff_run.specs.Requests.Naming.{end_macro, rename};
 ghost use Rattle.roff_num.specs.ShortNames.{name_at, name_or_none};
 
-use crate::registers::Change;
 use crate::requests::{Changes, Response, register_named};
 use roff_num::ShortName;
+use roff_registers::Change;
 use roff_run::name_given;
 
 /// `rn`: what a name stands for goes to another one.

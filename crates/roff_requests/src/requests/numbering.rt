@@ -11,10 +11,9 @@ ghost use Rattle.roff_run.specs.declared.request.Request.TheVariants.{NumberRegi
 ghost use Rattle.roff_run.specs.Requests.Numbering.{assign_format, format_as, increment_given};
 ghost use Rattle.roff_run.specs.Requests.Numbering.{name_given, set_register, set_to};
 
-use crate::number::{value_beside, value_in};
-use crate::registers::{Change, is_page};
 use crate::requests::{Changes, Given, RequestFacts, Response};
 use roff_num::{Format, Name, Num, NumFault, Scale, read_format};
+use roff_registers::{Change, is_page, value_beside, value_in};
 use roff_run::name_given;
 
 /// A register's value and increment.

@@ -12,10 +12,10 @@ ghost use Rattle.roff_run.specs.Requests.Paging.{page_ejected};
 ghost use Rattle.roff_run.specs.Requests.Paging.{page_length, page_number, page_offset};
 
 use super::lengths::length_wanted;
-use crate::number::{LINE, height_beside, lines_in, value_beside};
 use crate::requests::{PageFacts, Response};
 use roff_layout::LayoutEvent;
 use roff_num::{Num, NumFault, Scale};
+use roff_registers::{LINE, height_beside, lines_in, value_beside};
 use roff_run::{Message, PageEvent};
 
 /// The page length where none is given, in lines: 11 inches.

@@ -7,10 +7,10 @@ ghost use Rattle.roff_run.specs.Requests.Spacing.{line_spacing, need, space_down
 ghost use Rattle.roff_run.specs.Requests.Spacing.{spaceless};
 ghost use Rattle.roff_run.specs.Registers.{Known};
 
-use crate::number::{LINE, height_in, lines_in, rounded_to_lines, value_in};
 use crate::requests::{PageFacts, Response};
 use roff_layout::{LayoutEvent, Param, Settings};
 use roff_num::Scale;
+use roff_registers::{LINE, height_in, lines_in, rounded_to_lines, value_in};
 use roff_run::{Message, PageEvent};
 
 /// `sp`: so many blank lines, one where no height is given.

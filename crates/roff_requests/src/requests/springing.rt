@@ -5,10 +5,10 @@ ghost use Rattle.std.specs.Option.{option_copied};
 ghost use Rattle.roff_requests.specs.Request.Coded.{response_of};
 ghost use Rattle.roff_run.specs.Requests.Springing.{input_trap, trap_of};
 
-use crate::number::value_in;
 use crate::requests::Response;
 use crate::requests::naming::name_in;
 use roff_num::{Scale, ShortName};
+use roff_registers::value_in;
 use roff_run::{InputTrap, PageEvent};
 
 /// `it`: a macro springs behind so many text lines; without both there is no trap any more.

@@ -6,9 +6,9 @@ ghost use Rattle.roff_run.specs.Registers.{Known};
 ghost use Rattle.roff_requests.specs.Request.Coded.{response_of};
 ghost use Rattle.roff_run.specs.Requests.Switching.{switch, switching_by, switching_to};
 
-use crate::number::value_in;
 use crate::requests::Response;
 use roff_num::Scale;
+use roff_registers::value_in;
 use roff_run::{EnvironmentNumber, PageEvent};
 
 /// `ev`: another environment, or back to the one that was left last where no number is given.

@@ -6,10 +6,10 @@ ghost use Rattle.roff_arguments.specs.ArgumentList.{listed};
 ghost use Rattle.roff_requests.specs.Request.Coded.{stops_response};
 ghost use Rattle.roff_run.specs.Requests.Tabs.{stop_place, tab_stops};
 
-use crate::number::{COLUMN, rounded_to_columns, value_beside, value_in};
 use roff_arguments::ArgumentList;
 use roff_meaning::Stops;
 use roff_num::{NumFault, Scale};
+use roff_registers::{COLUMN, rounded_to_columns, value_beside, value_in};
 
 /// Of more stops than this the others are ignored.
 const MOST_STOPS: usize = 32;

@@ -5,8 +5,8 @@ ghost use Rattle.std.specs.Option.{option_copied};
 ghost use Rattle.roff_requests.specs.Request.Coded.{response_of};
 ghost use Rattle.roff_run.specs.Requests.Titles.{first_byte, page_character, place_title};
 
-use crate::registers::Change;
 use crate::requests::{Changes, Response};
+use roff_registers::Change;
 use roff_run::{PageEvent, WhichTitle};
 
 /// `pc`: the first byte of its argument stands for the page number; without one none does.

@@ -12,11 +12,11 @@ ghost use Rattle.roff_run.specs.Requests.Traps.{change_trap, in_lines, moved, mo
 ghost use Rattle.roff_run.specs.Requests.Traps.{place_given};
 ghost use Rattle.roff_run.specs.Requests.Traps.{plant_trap, planted};
 
-use crate::number::{LINE, height_in, rounded_to_lines};
 use crate::requests::naming::name_in;
 use crate::requests::{PageFacts, Response};
 use roff_layout::{LayoutEvent, Trap};
 use roff_num::{NumFault, ShortName};
+use roff_registers::{LINE, height_in, rounded_to_lines};
 
 /// `wh`: a macro springs at a place on each page. Without a name the first trap that was planted at
 /// that place goes, and without a place it is ignored.

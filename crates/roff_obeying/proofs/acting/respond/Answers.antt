@@ -1,7 +1,7 @@
 use Rattle.std.proofs.Common.{◌∙◌, List, [], ◌∷◌, Ok, ap, refl, subst}
 use Rattle.std.specs.Prelude.{ℕ, pos, take}
 use Rattle.std.specs.Option.{option_to_list}
-use Rattle.roff_requests.specs.declared.registers.Change.TheVariants.{SetTo}
+use Rattle.roff_registers.specs.declared.registers.Change.TheVariants.{SetTo}
 use Rattle.roff_requests.specs.declared.requests.effects.Changes.TheVariants.{One}
 use Rattle.roff_run.specs.Registers.{page_name}
 use Rattle.roff_run.specs.Requests.{Effect}

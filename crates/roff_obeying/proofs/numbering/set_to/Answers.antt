@@ -1,5 +1,5 @@
 use Rattle.std.proofs.Common.{[], ◌∷◌, refl}
-use Rattle.roff_requests.specs.declared.registers.Change.TheVariants.{SetTo}
+use Rattle.roff_registers.specs.declared.registers.Change.TheVariants.{SetTo}
 use Rattle.roff_requests.specs.declared.requests.effects.Changes.TheVariants.{One}
 use Rattle.roff_run.specs.declared.message.Message.TheVariants.{BadNumber}
 use Rattle.roff_obeying.specs.Acting.{kept}

@@ -1,7 +1,7 @@
 use Rattle.std.proofs.Common.{◌≡◌, Some, Ok, Err, refl, sym, ap, rules, subst, ◌∙◌}
 use Rattle.roff_num.specs.declared.limits.Limits.{Limits}
 use Rattle.roff_composer.specs.Composer.Standing.{StandFor}
-use Rattle.roff_requests.specs.Registers.Coded.{AreOf}
+use Rattle.roff_registers.specs.Registers.Coded.{AreOf}
 use Rattle.roff_run.specs.Environments.{PageHistory}
 use Rattle.roff_run.specs.Requests.Effects.{page_numbered}
 use Rattle.roff_run.specs.Run.{known_at}

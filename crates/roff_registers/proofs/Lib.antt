@@ -1,0 +1,5 @@
+pub mod RegisterTables
+pub mod Heights
+pub mod LoneDigits
+pub mod PageSteps
+pub mod TitleFronts
