@@ -273,6 +273,9 @@ LONG.update({
 TRAPS = [b"%c%c" % (first, second) for first in b"abcdefgh" for second in b"stuvwxyz"]
 ON_EACH_LINE = b"".join(b".wh %d %s\n" % (line + 1, name) for line, name in enumerate(TRAPS))
 ON_ONE_LINE = ON_EACH_LINE + b"".join(b".ch %s 5\n" % name for name in TRAPS)
+# A macro of a hundred blank lines, and many traps far apart from each other.
+BLANK_LINES = b".de B\n%s..\n" % (b"\n" * 100)
+FAR_TRAPS = b".nr a 0 7\n" + b".wh \\n+a X\n" * 9_999 + b".wh 3 Y\n"
 # Macros at the top of each page and near its end.
 HEADER_AND_FOOTER = b".pl 9\n.de H\n'sp\n'tl 'left'- % -'right'\n'sp\n..\n.de F\n'bp\n..\n.wh 0 H\n.wh -2 F\n"
 LONG.update({
@@ -295,6 +298,11 @@ LONG.update({
         b".pl 66\n.de as\n'tl 'a''b'\n..\n" + b"".join(b".wh %d as\n" % line for line in range(1, 65)), b".tl 'c''d'\n", b"", MEGABYTE // 4),
     "traps_on_each_line": (b".pl 66\n.nf\n" + ON_EACH_LINE, b"a line\n", b"", 5 * MEGABYTE),
     "traps_on_one_line": (b".pl 66\n.nf\n" + ON_ONE_LINE, b"a line\n", b"", 5 * MEGABYTE),
+    "traps_on_each_blank_line": (b".pl 66\n" + ON_EACH_LINE + BLANK_LINES, b".B\n", b"", 60_000),
+    "traps_that_lie_nowhere": (b".pl 1\n" + ON_EACH_LINE + BLANK_LINES, b".B\n", b"", 60_000),
+    "traps_in_order": (b".nr a 0 7\n", b".wh \\n+a X\n", b"a\n", 12 * 10_000),
+    "traps_in_no_order": (b".nr a 0\n", b".nr a \\na+30011%65521\n.wh \\na X\n", b"a\n", 33 * 10_000),
+    "traps_moved_among_thousands": (FAR_TRAPS, b".ch Y 4\n.ch Y 70000\n", b"a\n", 300_000),
     "traps_planted_and_removed": (b"", b".wh 5 X\n.wh 5\n", b"a\n", 5 * MEGABYTE),
     "traps_planted_again": (ON_EACH_LINE, b".wh 64 X\n", b"a\n", 5 * MEGABYTE),
     "traps_moved": (ON_EACH_LINE, b".ch hz 9\n.ch hz 64\n", b"a\n", 5 * MEGABYTE),
@@ -316,6 +324,9 @@ LONG.update({
 # for each few bytes. Their time is bounded for each byte that is read, those of strings and macros too, and not by the
 # document's length.
 LESS_TO_READ = dict.fromkeys(("strings_of_strings", "macros_of_macros"), ("--bytes=20000000",))
+# Documents for which more traps are allowed.
+MORE_TRAPS = dict.fromkeys(("traps_in_order", "traps_in_no_order", "traps_moved_among_thousands", "traps_of_fifty_thousand_lines"),
+                           ("--traps=50000",))
 # The limits that stop long documents; the others are read to their ends.
 STOPPED_BY = {
     "text_of_a_motion": "stack",
@@ -514,6 +525,7 @@ FAR = {
     "need_of_the_longest_page": (b".pl 2147483647u\na\n.br\n.ne 2147483647u\nb\n", None, b"a\n\n", 2 + 2 * LONGEST),
     "traps_farthest": (
         b".pl 2147483647u\n.wh 2147483647u X\n.wh -2147483648u X\n.sp 2147483647u\na\n", None, b"\n\n\n", LONGEST + 1 + LONGEST),
+    "traps_of_fifty_thousand_lines": (b".nr a 0 1\n" + 50_000 * b".wh \\n+a X\n" + b"a\n", None, b"a\n\n\n", 1 + 66),
     "indent_farthest": (b".in 2147483647u\na b\n", None, b" " * 9, 2 * (FARTHEST + 2) + 64),
     "temporary_indent_farthest": (b".ti 2147483647u\na b\n", None, b" " * 9, FARTHEST + 2 + 2 + 64),
     "centre_farthest": (b".ll 2147483647u\n.ce\na\n", None, b" " * 9, (FARTHEST - 1) // 2 + 2 + 65),
@@ -760,7 +772,7 @@ def formatted(folder, name, document, options=(), command="nroff"):
 
 def check_long(folder, name):
     """A long document, and one of a quarter of its length."""
-    parts, options = LONG[name], ROOM + LESS_TO_READ.get(name, ())
+    parts, options = LONG[name], ROOM + LESS_TO_READ.get(name, ()) + MORE_TRAPS.get(name, ())
     return check_beside_a_quarter(folder, name, parts, options, STOPPED_BY.get(name), BEGINS.get(name, b""))
 
 
@@ -802,7 +814,7 @@ def check_far(folder, name):
     """A document of whose output only the beginning is kept."""
     document, stop, beginning, length = FAR[name]
     (folder / "document").write_bytes(document)
-    run = Run(folder, ROOM, beginning_and_length)
+    run = Run(folder, ROOM + MORE_TRAPS.get(name, ()), beginning_and_length)
     wrong = too_much(run, run.kilobytes)
     if run.stopped_at() != stop:
         wrong.append("stopped by %s, and not by %s" % (run.stopped_at(), stop))

@@ -3,9 +3,10 @@
 
     tests/refused.py [COMMAND ..]
 
-COMMAND is nroff, tbl or both; all three are tried if none is named, and help and a mistake in the options beside them. A run whose
-allocation is refused has to write nothing, to tell "roff: out of memory" and to end with status 1, or to do without it, and then to
-be as it is otherwise (the library reserves room for the words, and grows it if there is none). One whose read or write fails
+COMMAND is nroff, tbl or both; all three are tried if none is named, and help, the version, mistakes in the options and many words beside
+them. A run whose allocation is refused has to write nothing, to tell "roff: out of memory" and nothing else, and to end with status 1,
+wherever that was: as the words are read, in their parser, or as the run starts. Or it does without it, and is as it is otherwise, to the
+byte (the library reserves room for the words, and grows it if there is none). One whose read or write fails
 has to end with status 2, and to have written and told a beginning of what it writes and tells otherwise, with that failure told
 behind it; or with status 1, where what it tells is why it doesn't start. Nothing may be lost in front of a call that fails. The calls are
 those of the C library, which a library of our own stands in front of: it is made by the C compiler `cc`. The exit status is 1 if
@@ -62,7 +63,7 @@ def run(library, words, **asked):
 
 
 def is_refused(usual, got):
-    """Whether a run was refused an allocation as it should."""
+    """Whether a run was refused an allocation as it should: it tells that, and not why else it might not start, nor nothing."""
     return got == (b"", MEMORY, 1) or got == usual
 
 
@@ -87,14 +88,15 @@ def differences(library, words, counts):
         got = run(library, words, FAILED=str(count))
         if not is_cut(usual, got):
             yield "read or write %d" % count, got
-    print("%s: %d allocations, of which %d may fail, and %d reads and writes" % (" ".join(words), allocations, passed, calls))
+    print("%.60s: %d allocations, of which %d may fail, and %d reads and writes" % (" ".join(words), allocations, passed, calls))
 
 
 def main():
     if not PROGRAM.exists():
         sys.exit("tests/refused.py: %s is missing; ./roff --version builds it" % PROGRAM)
     commands = [[word] for word in sys.argv[1:] or ("nroff", "tbl", "both")]
-    others = [["--help"], ["nroff", "--bytes", "x"], ["nroff", "-ra5", "-rx"], ["nroff", "-ra5", "-rb7", "none"]]
+    others = [["--help"], ["--version"], ["help", "tbl"], ["nroff", "--bytes", "x"], ["nroff", "-o", "x"], ["nroff", "-ra5", "-rx"]]
+    others += [["nroff", "-ra5", "-rb7", "none"], ["nroff", *["-"] * 40, "-ra5"]]
     failures = 0
     with tempfile.TemporaryDirectory() as folder:
         library = os.path.join(folder, "calls.so")

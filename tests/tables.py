@@ -141,6 +141,8 @@ class Table:
         surplus = None
         for count, field in enumerate(fields):
             if count < self.keys:
+                if field in (b"_", b"="):
+                    raise Bad(numbers[at])
                 for place, byte in enumerate(field, at):
                     if byte in b"\\\t":
                         raise Bad(numbers[place])
@@ -322,6 +324,8 @@ def data_line(chance, columns, separator):
         return separator.join(chance.choice(plain) for _ in range(count))
     if kind < 0.96:
         return separator.join(chance.choice([b"a", b"bb\\\nc", b"\\\n", b""]) for _ in range(columns))
+    if kind < 0.97:
+        return separator.join(chance.choice([b"a", b"_", b"=", b"_ ", b"==", b"\\\n_"]) for _ in range(columns + 1))
     return b"".join(chance.choices(PIECES, k=chance.randint(0, 6)))
 
 

@@ -1,10 +1,11 @@
 -- The code's ring of environments, behind each call.
-use Rattle.std.proofs.Common.{◌≡◌, ◌∙◌, ℕ, Bool, List, ◌∷◌, Option, refl, sym, ap, subst}
+use Rattle.std.proofs.Common.{◌≡◌, ◌∙◌, Bool, List, ◌∷◌, Option, refl, sym, ap, subst}
 use Rattle.roff_lines.specs.Env.Stands.{StandsBehind}
 use Rattle.roff_lines.specs.Env.Kept.{Kept as KeptLines}
 use Rattle.roff_layout.specs.declared.event.Event.TheVariants.{Count, Interrupt as IsInterrupted}
 use Rattle.roff_run.specs.declared.environment_number.EnvironmentNumber.{EnvironmentNumber}
 use Rattle.roff_run.specs.declared.event.InputTrap.{InputTrap}
+use Rattle.roff_run.specs.declared.line_state.TextLine.{TextLine}
 use Rattle.roff_run.specs.Environments.{Environments, counted_down, gone_back, is_same, switched_to, turned_to, turned_unless, with_event, with_interruption}
 use Rattle.roff_composer.specs.Environments.Kept.{KeptNumbers}
 use Rattle.roff_composer.specs.Environments.Standing.{Becomes, StandBy}
@@ -69,14 +70,14 @@ Becomes-gone_back number old new kept opened cap there = record {
 }
 
 -- the line of the one in force is interrupted
-pub Becomes-interrupted : (untold : ℕ) (old new : EnvironmentsOf) (lines : KeptLines) → StandsBehind old.in_force.lines IsInterrupted lines
-    → new ≡ record old { in_force = record old.in_force { lines = lines; untold = untold } } → Becomes (with_interruption untold) old new
-Becomes-interrupted untold old new lines behind is = record {
+pub Becomes-interrupted : (line : TextLine) (old new : EnvironmentsOf) (lines : KeptLines) → StandsBehind old.in_force.lines IsInterrupted lines
+    → new ≡ record old { in_force = record old.in_force { lines = lines; interrupted = line } } → Becomes (with_interruption line) old new
+Becomes-interrupted line old new lines behind is = record {
   becomes = λ l es stands.
-      subst (λ (coded : EnvironmentsOf). StandBy l (with_interruption untold es) coded) (sym is)
+      subst (λ (coded : EnvironmentsOf). StandBy l (with_interruption line es) coded) (sym is)
       (record {
         number = stands.number;
-        in_force = record { lines = behind l.line es.in_force.text stands.in_force.lines; untold = refl; input_trap = stands.in_force.input_trap };
+        in_force = record { lines = behind l.line es.in_force.text stands.in_force.lines; interrupted = refl; input_trap = stands.in_force.input_trap };
         next = stands.next;
         last = stands.last;
         left = stands.left;
@@ -95,7 +96,7 @@ Becomes-counted old new lines trap behind counted is = record {
         number = stands.number;
         in_force = record {
           lines = behind l.line es.in_force.text stands.in_force.lines;
-          untold = stands.in_force.untold;
+          interrupted = stands.in_force.interrupted;
           input_trap = counted ∙ ap counted_down stands.in_force.input_trap;
         };
         next = stands.next;

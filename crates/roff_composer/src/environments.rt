@@ -20,13 +20,13 @@ use std::alloc::{AllocError, Global};
 use std::marker::Model;
 use std::mem;
 
-/// An environment, what isn't told yet of its interrupted line, and its input-line trap.
+/// An environment, what stands on its interrupted line, and its input-line trap.
 #[derive(Drop)]
 pub struct Environment {
     /// Its settings, its pending line and its open word.
     pub lines: Env,
-    /// The leading blanks of its interrupted line.
-    pub untold: u32,
+    /// What stands on the line that was interrupted last.
+    pub interrupted: TextLine,
     /// The macro that springs behind some text lines, if one does.
     pub input_trap: Option<InputTrap>,
 }
@@ -76,7 +76,7 @@ impl Environment {
     {
         Ok(Environment {
             lines: Env::new(alloc, line_cap)?,
-            untold: 0,
+            interrupted: TextLine::new(),
             input_trap: None,
         })
     }
@@ -181,20 +181,15 @@ impl Environments {
         if !self.in_force.lines.is_interrupted() {
             return None;
         }
-        Some(TextLine {
-            has_glyph: self.in_force.lines.has_glyph(),
-            has_other: true,
-            has_brace: false,
-            leading: self.in_force.untold,
-        })
+        Some(self.in_force.interrupted)
     }
 
-    /// Interrupts the line of the one in force, of which so many leading blanks aren't told yet.
-    pub fn interrupt(&mut self, untold: u32)
-        ensures { Becomes (with_interruption untold) self.old self.new }
+    /// Interrupts the line of the one in force, on which this stands.
+    pub fn interrupt(&mut self, line: TextLine)
+        ensures { Becomes (with_interruption line) self.old self.new }
     {
         self.in_force.lines.interrupt();
-        self.in_force.untold = untold;
+        self.in_force.interrupted = line;
     }
 
     /// The one in force has this input-line trap from now on, or none.

@@ -3,7 +3,10 @@ use Rattle.std.proofs.Common.{◌≡◌, ◌≤◌, ◌-◌, ◌==◌, if◌then
 use Rattle.roff_num.specs.declared.limit.Limit.{Limit}
 use Rattle.roff_input.specs.Arguments.{no_arguments}
 use Rattle.roff_input.specs.Input.{leaving, outermost_back}
-use Rattle.roff_run.specs.Reading.Returns.{gone_back_to, line_of}
+use Rattle.roff_run.specs.Reading.Returns.{going_back, gone_back_to, line_of}
+use Rattle.roff_run.specs.PageEvents.{PageEvent}
+use Rattle.roff_formatter.specs.declared.formatter.Formatter.{Formatter}
+use Rattle.roff_formatter.specs.Formatter.Performing.{PerformsEvents, acting, behind_events}
 use Rattle.roff_run.specs.TurnsToCome.{begun}
 use Rattle.roff_run.specs.declared.phase.Phase.{Phase}
 use Rattle.roff_run.specs.declared.phase.Phase.TheVariants.{Reading, LastMacro, Closing}
@@ -29,7 +32,7 @@ use Rattle.roff_sinks.specs.Sinks.{Sunk, Writes, Fails}
 use Rattle.roff_interpreter.proofs.Fronts.{few-nothing, few-over}
 use Rattle.roff_engine.proofs.Acting.{IsLeftOf-looked_then}
 use Rattle.roff_interpreter.proofs.Calls.{Leaves}
-use Rattle.roff_engine.proofs.Items.{lost, one_more}
+use Rattle.roff_engine.proofs.Items.{back_performed, lost, one_more}
 use Rattle.roff_engine.proofs.TurnsLeft.{line_turns-by, lines_left_in-few}
 use Rattle.roff_input.specs.Looking.{closing, is_closed, looked_then}
 use Rattle.roff_input.specs.declared.looked.Looked.{Looked}
@@ -212,27 +215,32 @@ resting-back back = by (back == 0) (back == 1) (back == 2)
     by false false true = (refl, (λ left few. omega (arith, few)), refl)
     by false false false = (refl, (λ left few. omega arith), refl)
 
--- the code behind the end of all input
-abbrev pub behind_left : Coded → Coded
-behind_left old = record old {
-  interpreter = record old.interpreter { reader = record old.interpreter.reader { reading = gone_back_to (outermost_back 0 old.unread.input.ahead) } };
+-- the code behind the end of all input, with this formatter
+abbrev pub behind_left : Formatter → Coded → Coded
+behind_left f old = record old {
+  interpreter = record old.interpreter {
+    formatter = f;
+    reader = record old.interpreter.reader { reading = gone_back_to (outermost_back 0 old.unread.input.ahead) };
+  };
   unread = record old.unread { input = leaving old.unread.input; looked = closing old.unread.looked };
 }
 
 -- the input is left: the run goes on in what its ends lead back to, with a closed source
-left_due : (old : Coded) (now : Seen) → due old.interpreter.reader.reading ≡ Some LeavesInput → ((s : State) → left_in old.phase s ≡ input_left s)
-    → DoesDue old (behind_left old) now now (Ok tt)
-left_due old now is leaves = record {
+left_due : (old : Coded) (f : Formatter) (now : Seen) → due old.interpreter.reader.reading ≡ Some LeavesInput → ((s : State) → left_in old.phase s ≡ input_left s)
+    → ((told : Sunk) → PerformsEvents (going_back (gone_back_to (outermost_back 0 old.unread.input.ahead))) old.interpreter.formatter f told told (Ok None))
+    → DoesDue old (behind_left f old) now now (Ok tt)
+left_due old f now is leaves performs = record {
   limits = refl;
   idle = λ none. (let wrong : None ≡ Some LeavesInput = sym none ∙ is in absurd (cc));
   does_due = λ t tape start at.
       let from : State = state_at tape old at.history at.messages in
-      let there : State = state_at tape (behind_left old) at.history at.messages in
       let back : LineState = gone_back_to (outermost_back 0 old.unread.input.ahead) in
+      let es : List PageEvent = going_back back ++ [] in
+      let there : State = acting (state_at tape (behind_left f old) at.history at.messages) es at.history in
       let within : first_passed old.unread.limits (counts_in old.interpreter.reader.registers.all (leaving old.unread.input)) ≡ None =
       first_passed-no_more old.unread.limits old.interpreter.reader.registers.all (leaving old.unread.input) old.unread.input (NoMore-leaving old.unread.input) at.ready.within in
       let allowed : first_passed old.limits (counts_in old.interpreter.reader.registers.all (leaving old.unread.input)) ≡ None = rw (← at.limits) within in
-      let at_tape : Tape → Bool → State = λ t closed. going t (leaving old.unread.input) back old.interpreter.reader.registers.all at.history at.messages old.phase closed [] in
+      let at_tape : Tape → Bool → State = λ t closed. going t (leaving old.unread.input) back old.interpreter.reader.registers.all at.history at.messages old.phase closed es in
       let same : input_left from ≡ there =
       ap (λ (t : Tape). at_tape t true) (sym (looked-closing old.unread.looked tape))
       ∙ ap (λ (closed : Bool). at_tape (looked_then (closing old.unread.looked) tape) closed) (sym (closed-closing old.unread.looked)) in
@@ -240,16 +248,17 @@ left_due old now is leaves = record {
       ap (λ (what : Option Due). reading_by old.limits what from) is
       ∙ ap (λ (s : State). made old.limits from s) (leaves from)
       ∙ ap (λ (r : Option Limit). unless_refused old.limits r from (input_left from)) allowed ∙ same in
-      record {
-        history = at.history;
+      let came = back_performed back old.interpreter.formatter f old.limits t start now.failures now.out now.err
+      (state_at tape (behind_left f old) at.history at.messages) at.history (performs now.out) at.stands (record {
+        comes = Leads-to old.limits (initial old.limits t.start t.tape) from there at.reaches.comes goes;
+        text = at.reaches.text;
+        messages = at.reaches.messages;
+        faults = at.reaches.faults;
+      }) in record {
+        history = behind_events old.interpreter.reader.registers.all (going_back back) at.history;
         messages = at.messages;
-        reaches = record {
-          comes = Leads-to old.limits (initial old.limits t.start t.tape) from there at.reaches.comes goes;
-          text = at.reaches.text;
-          messages = at.reaches.messages;
-          faults = at.reaches.faults;
-        };
-        stands = at.stands;
+        reaches = came.reaches;
+        stands = came.stands;
         ready = record { cap = at.ready.cap; line = at.ready.line; within = within };
         limits = at.limits;
         few = few-nothing back (leaving old.unread.input) refl;
@@ -257,7 +266,7 @@ left_due old now is leaves = record {
   none_due = (resting-back (outermost_back 0 old.unread.input.ahead)).2;
   turns = (let line = due-line old.interpreter.reader.reading LeavesInput (lines_left_in old.interpreter.formatter.composer) is in
       let resting = resting-back (outermost_back 0 old.unread.input.ahead) in
-      let few = resting.1 (lines_left_in old.interpreter.formatter.composer) (lines_left_in-few old.interpreter.formatter.composer) in
+      let few = resting.1 (lines_left_in f.composer) (lines_left_in-few f.composer) in
       omega (arith, line, resting.0, few));
 }
 
@@ -301,6 +310,10 @@ pub leaves_due : (old new : Coded) (now : Seen) → due old.interpreter.reader.r
 leaves_due old new now is leaves = by old.phase refl leaves
   where
     by : (phase : Phase) → old.phase ≡ phase → LeavesIn phase old new → DoesDue old new now now (Ok tt)
-    by Reading in_phase leaves = subst (λ (run : Coded). DoesDue old run now now (Ok tt)) (sym leaves) (left_due old now is (λ s. ap (λ (p : Phase). left_in p s) in_phase))
-    by LastMacro in_phase leaves = subst (λ (run : Coded). DoesDue old run now now (Ok tt)) (sym leaves) (left_due old now is (λ s. ap (λ (p : Phase). left_in p s) in_phase))
+    by Reading in_phase leaves =
+        subst (λ (run : Coded). DoesDue old run now now (Ok tt)) (sym leaves.is)
+        (left_due old new.interpreter.formatter now is (λ s. ap (λ (p : Phase). left_in p s) in_phase) leaves.performs)
+    by LastMacro in_phase leaves =
+        subst (λ (run : Coded). DoesDue old run now now (Ok tt)) (sym leaves.is)
+        (left_due old new.interpreter.formatter now is (λ s. ap (λ (p : Phase). left_in p s) in_phase) leaves.performs)
     by Closing in_phase leaves = subst (λ (run : Coded). DoesDue old run now now (Ok tt)) (sym leaves) (closing_due old now is in_phase)

@@ -14,9 +14,15 @@ use Rattle.roff_run.specs.declared.status.Status.TheVariants.{Device, Limit as L
 use Rattle.roff_run.specs.Messages.{message_line}
 use Rattle.roff_reader.specs.Reader.Taken.{IsReady}
 use Rattle.roff_run.specs.Reading.Items.{PageUnread}
-use Rattle.roff_run.specs.Reading.Returns.{behind_return}
+use Rattle.roff_run.specs.Reading.Returns.{going_back}
+use Rattle.roff_run.specs.PageEvents.{PageEvent, PageHistory}
+use Rattle.roff_run.specs.declared.line_state.LineState.{LineState}
+use Rattle.roff_run.proofs.GoingBack.{going_back-by}
+use Rattle.roff_composer.specs.Composer.Standing.{StandFor}
+use Rattle.roff_formatter.specs.declared.formatter.Formatter.{Formatter}
+use Rattle.roff_formatter.specs.Formatter.Performing.{AllPerformed, Flows, PerformsEvents, acting, behind_events}
 use Rattle.roff_run.specs.Registers.Capped.{Capped}
-use Rattle.roff_run.specs.Run.{State, ending_as, ending_with, initial, made, output, reported, step, stopped_by, unless_refused}
+use Rattle.roff_run.specs.Run.{State, ending_as, ending_with, going_back_to, initial, made, output, reported, step, stopped_by, unless_refused}
 use Rattle.roff_run.specs.Run.Counts.{counts_in, first_passed}
 use Rattle.roff_engine.specs.declared.running.Running.{Running as Coded}
 use Rattle.roff_interpreter.specs.Outcome.{Beginning, Seen, IsLeftOf, Reaches, MessagesFail, OutcomeOf, seen}
@@ -44,11 +50,19 @@ Reaches-failures l t start old failures out err s more reached = record {
 abbrev pub moved : Coded → PageUnread → Coded
 moved run left = record run { unread = left }
 
--- the same where the end of a body was taken, with the number of what it leads back to
-abbrev pub returned : ℕ → Coded → PageUnread → Coded
-returned back run left = record (moved run left) {
-  interpreter = record run.interpreter { reader = record run.interpreter.reader { reading = behind_return back run.interpreter.reader.reading } };
+-- the same where this is gone back to, with this formatter
+abbrev pub returned : LineState → Formatter → Coded → PageUnread → Coded
+returned reading f run left = record (moved run left) {
+  interpreter = record run.interpreter { formatter = f; reader = record run.interpreter.reader { reading = reading } };
 }
+
+-- what going back to something means was performed, and nothing came before it
+pub back_performed : (reading : LineState) (f g : Formatter) (l : Limits) (t : Beginning) (start : Seen) (failures : ℕ) (out err : Sunk) (s : State) (h : PageHistory)
+    → PerformsEvents (going_back reading) f g out out (Ok None) → StandFor l h f.composer
+    → Reaches l t start (seen failures out err) (acting s (going_back reading ++ []) h)
+    → AllPerformed l t start (seen failures out err) s (behind_events s.registers (going_back reading) h) [] g.composer
+back_performed reading f g l t start failures out err s h performs stands reaches =
+    performs.performs l t start failures err s h [] stands (going_back-by (λ (es : List PageEvent). Flows s.registers es h) tt (refl, tt) reading) reaches
 
 -- behind a call that raises no count, no count is above its limit
 pub ready_behind : {gave gives : Tape → Type 0} {taken : List Item} (r : Capped) (u left : PageUnread) → Leaves gave gives u left taken
@@ -121,21 +135,23 @@ module _ {gave gives : Tape → Type 0} {old : Coded} {left : PageUnread} {taken
         few = few;
       }
 
-  -- the end of a body is only taken, and what it leads back to goes on behind it
-  pub return_passed : (back : ℕ) → step old.limits from ≡ made old.limits from (record behind { reading = behind_return back behind.reading })
-      → FewFor [] (behind_return back behind.reading) left.input.escapes left.input.ahead → IsAt t tape start (seen failures out err) (returned back old left)
-  return_passed back goes few =
-      let done : State = record behind { reading = behind_return back behind.reading } in
-      let there : step old.limits from ≡ done = goes ∙ ap (λ r. unless_refused old.limits r from done) allowed in record {
-        history = at.history;
+  -- the end of a body is taken, and what it leads back to goes on behind it
+  pub return_passed : (reading : LineState) (f : Formatter) → ((told : Sunk) → PerformsEvents (going_back reading) old.interpreter.formatter f told told (Ok None))
+      → step old.limits from ≡ made old.limits from (going_back_to reading behind)
+      → FewFor [] reading left.input.escapes left.input.ahead → IsAt t tape start (seen failures out err) (returned reading f old left)
+  return_passed reading f performs goes few =
+      let done : State = going_back_to reading behind in
+      let there : step old.limits from ≡ done = goes ∙ ap (λ r. unless_refused old.limits r from done) allowed in
+      let came = back_performed reading old.interpreter.formatter f old.limits t start failures out err done at.history (performs out) at.stands (record {
+        comes = Leads-to old.limits (initial old.limits t.start t.tape) from done reached.comes there;
+        text = reached.text;
+        messages = reached.messages;
+        faults = reached.faults;
+      }) in record {
+        history = behind_events old.interpreter.reader.registers.all (going_back reading) at.history;
         messages = at.messages;
-        reaches = record {
-          comes = Leads-to old.limits (initial old.limits t.start t.tape) from done reached.comes there;
-          text = reached.text;
-          messages = reached.messages;
-          faults = reached.faults;
-        };
-        stands = at.stands;
+        reaches = came.reaches;
+        stands = came.stands;
         ready = ready_behind old.interpreter.reader.registers old.unread left leaves at.ready;
         limits = leaves.limits ∙ at.limits;
         few = few;

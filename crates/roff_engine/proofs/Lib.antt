@@ -4,6 +4,7 @@ pub mod PuttingBack
 pub mod GoingOn
 pub mod Ending
 pub mod Items
+pub mod Returning
 pub mod Turns
 pub mod Waiting
 pub mod WaitedBytes

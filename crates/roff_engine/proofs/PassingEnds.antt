@@ -1,5 +1,5 @@
 -- A run that goes past the end of a text ahead, or of a call.
-use Rattle.std.proofs.Common.{◌≡◌, ℕ, suc, zero, ◌+◌, ◌<◌, ◌≤◌, Bool, true, false, List, [], ◌∷◌, Option, Some, None, refl, sym, ap, subst, ◌∙◌, arith}
+use Rattle.std.proofs.Common.{◌++◌, ◌≡◌, ℕ, suc, zero, ◌+◌, ◌<◌, ◌≤◌, Bool, true, false, List, [], ◌∷◌, Option, Some, None, refl, sym, ap, subst, ◌∙◌, arith}
 use Rattle.std.specs.Prelude.{if◌then◌else◌, nat_lt}
 use Rattle.std.proofs.lemmas.Bool.{le-ltb}
 use Rattle.roff_num.specs.declared.limit.Limit.{Limit}
@@ -20,6 +20,7 @@ use Rattle.roff_scan.specs.Unread.Calls.{PassesEnd, PassesReturn, Takes}
 use Rattle.roff_run.specs.Reading.Items.{PageUnread}
 use Rattle.roff_run.specs.Reading.Returns.{behind_return}
 use Rattle.roff_run.proofs.Behind.{begun-behind_return}
+use Rattle.roff_run.proofs.GoingBack.{going_back-start}
 use Rattle.roff_run.specs.Reading.Ends.{due}
 use Rattle.roff_run.specs.Reading.Items.{PageInput}
 use Rattle.roff_run.specs.Registers.{AllRegisters}
@@ -66,7 +67,10 @@ end_of_text = record {
 
 end_of_call : IsEnd (ReturnAhead 0) (λ reading. behind_return 0 reading)
 end_of_call = record {
-  taken = λ l s behind. refl;
+  taken = λ l s behind.
+      let there : State = record s { input = item_taken (ReturnAhead 0) behind s.input; reading = behind_return 0 s.reading } in
+      ap (λ (es : List PageEvent). if nat_lt l.bytes (s.input.charge + 1) then stopped_by l Bytes s else made l s (record there { to_do = es ++ s.to_do }))
+      (going_back-start s.reading);
   begun_behind = λ reading. omega (arith, begun-behind_return 0 reading);
   few = λ behind few. few;
   fewer = λ most i behind front allowed. omega (arith, allowed, ap free_ahead front);

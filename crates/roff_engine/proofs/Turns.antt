@@ -36,6 +36,8 @@ use Rattle.roff_interpreter.specs.Room.{FewFor, SeesOn}
 use Rattle.roff_interpreter.proofs.Fronts.{few-ends, few-interrupted, few-taken}
 use Rattle.roff_run.proofs.ReadEvents.{Means-taking}
 use Rattle.roff_run.specs.Reading.Returns.{behind_return}
+use Rattle.roff_formatter.specs.declared.formatter.Formatter.{Formatter}
+use Rattle.roff_engine.specs.Running.Leaving.{GoesBack}
 use Rattle.roff_interpreter.proofs.Calls.{EndsThere, EndsThere-takes, FewBehind, Leaves, Leaves-takes, few-taking, none-taking}
 use Rattle.roff_engine.proofs.Items.{end_passed, moved, return_passed, returned, note_told, refused, source_failed, source_stopped, took}
 use Rattle.roff_run.proofs.InFront.{Given-asked, IsEnding, in_front, items_asked, over_unread, over_unread-ending, shown_step}
@@ -229,15 +231,20 @@ module _ {gave gives : Tape → Type 0} {left : PageUnread} (old : Coded) (faile
       ))
 
   -- the end of a body
-  pub front_return : SeesOn old.unread.input → (back : ℕ) → Takes gave gives old.unread left (ShowsReturn back)
-      → FrontTurn gave gives noted notes old (returned back old left) (seen failed out err) (seen failures out err) (Ok tt)
-  front_return sees back call =
-      turned (leaves_front old call) _ noted notes (returned back old left) (seen failed out err) (seen failures out err) (Ok tt) refl (λ t tape start may at goes. (
-        return_passed (leaves_front old call) failed failures out err more t tape start may at back (goes ∙ shown_front old call at.limits tape may at.history at.messages)
-            (few_front old call (behind_return back old.interpreter.reader.reading) at.few.few sees),
-        (let behind = turns_of_run-fewer old (returned back old left) (omega (arith, falls_front old call tt, begun-behind_return back old.interpreter.reader.reading)) refl in
+  pub front_return : SeesOn old.unread.input → (back : ℕ) (new : Coded) → Takes gave gives old.unread left (ShowsReturn back)
+      → GoesBack (behind_return back old.interpreter.reader.reading) (moved old left) new
+      → FrontTurn gave gives noted notes old new (seen failed out err) (seen failures out err) (Ok tt)
+  front_return sees back new call goes_back =
+      let reading : LineState = behind_return back old.interpreter.reader.reading in
+      let f : Formatter = new.interpreter.formatter in
+      subst (λ (run : Coded). FrontTurn gave gives noted notes old run (seen failed out err) (seen failures out err) (Ok tt)) (sym goes_back.is)
+      (turned (leaves_front old call) _ noted notes (returned reading f old left) (seen failed out err) (seen failures out err) (Ok tt) refl (λ t tape start may at goes. (
+        return_passed (leaves_front old call) failed failures out err more t tape start may at reading f goes_back.performs
+            (goes ∙ shown_front old call at.limits tape may at.history at.messages)
+            (few_front old call reading at.few.few sees),
+        (let behind = turns_of_run-fewer old (returned reading f old left) (omega (arith, falls_front old call tt, begun-behind_return back old.interpreter.reader.reading)) refl in
             omega (arith, less, behind)),
-      ))
+      )))
 
   -- a message of the source's
   pub front_note : SeesOn old.unread.input → (note : List ℕ) (told : Sunk) (r : Result (Unit {0}) Status) → Takes gave gives old.unread left (ShowsNote note) → notes < noted

@@ -11,7 +11,7 @@ use Rattle.roff_run.specs.TurnsToCome.{most_left}
 use Rattle.roff_run.proofs.LinesLeft.{left_behind, left-few}
 use Rattle.roff_composer.specs.Composer.Standing.{StandFor}
 use Rattle.roff_composer.specs.declared.composer.Composer.{Composer as ComposerOf}
-use Rattle.roff_run.specs.Environments.{PageHistory, interrupted_line, line_left, environments, text_of}
+use Rattle.roff_run.specs.Environments.{PageHistory, interrupted_line, environments, text_of}
 use Rattle.roff_layout.specs.Events.{is_interrupted}
 use Rattle.roff_run.specs.Events.Lines.{closing_events}
 use Rattle.roff_run.specs.Reading.Ends.{due, is_unfinished}
@@ -36,7 +36,7 @@ pub lines_left-stands : (l : Limits) (h : PageHistory) (es : ComposerOf) → Sta
 lines_left-stands l h es stood =
     let as_one : Bool → ℕ = λ b. if b then 1 else 0 in
     ap as_one stood.environments.in_force.lines.is_interrupted
-    ∙ left-by (is_interrupted (text_of h)) (line_left (text_of h) (environments h).in_force.untold)
+    ∙ left-by (is_interrupted (text_of h)) (environments h).in_force.interrupted
 
 -- where a line begins nothing is due, and its end takes as many turns as lines are left; within one it takes two
 pub line_turns-by : (reading : LineState)

@@ -248,7 +248,7 @@ impl Running {
             Item::Byte(byte) => self.take(byte, line, out, err),
             Item::End => Ok(()),
             Item::Return(back) => {
-                self.interpreter.reader.end_call(back);
+                self.go_back(back);
                 Ok(())
             }
             Item::Do(event) => self.perform(event, line, out, err),

@@ -60,7 +60,7 @@ pub lines_behind : (e : Event) (es : ComposerOf) (lines : Env) → ((trap : Opti
 lines_behind e es lines stays behind l h stood =
     let now = stood.environments in record {
       number = now.number;
-      in_force = record { lines = behind l.line (text_of h) now.in_force.lines; untold = now.in_force.untold; input_trap = now.in_force.input_trap ∙ sym (stays (environments h).in_force.input_trap) };
+      in_force = record { lines = behind l.line (text_of h) now.in_force.lines; interrupted = now.in_force.interrupted; input_trap = now.in_force.input_trap ∙ sym (stays (environments h).in_force.input_trap) };
       next = now.next;
       last = now.last;
       left = now.left;

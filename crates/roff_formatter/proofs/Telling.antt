@@ -35,7 +35,7 @@ stand-with_text : (l : Limits) (text : History) (es : Environments) (coded : Env
     → StandBy l (with_text text es) (with_lines coded lines)
 stand-with_text l text es coded lines stood stands = record {
   number = stood.number;
-  in_force = record { lines = stands; untold = stood.in_force.untold; input_trap = stood.in_force.input_trap };
+  in_force = record { lines = stands; interrupted = stood.in_force.interrupted; input_trap = stood.in_force.input_trap };
   next = stood.next;
   last = stood.last;
   left = stood.left;

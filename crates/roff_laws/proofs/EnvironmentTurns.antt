@@ -1,11 +1,12 @@
 -- Switches between environments, and what happened in each.
-use Rattle.std.proofs.Common.{◌≡◌, ◌∙◌, ℕ, Bool, true, false, List, [], ◌∷◌, Option, refl, ap}
+use Rattle.std.proofs.Common.{◌≡◌, ◌∙◌, Bool, true, false, List, [], ◌∷◌, Option, refl, ap}
 use Rattle.std.specs.Prelude.{if◌then◌else◌}
 use Rattle.roff_layout.specs.declared.event.Event.{Event}
 use Rattle.roff_layout.specs.declared.event.Event.TheVariants.{Interrupt as IsInterrupted}
 use Rattle.roff_run.specs.Environments.{PageHistory, InEnvironment, Environments, environments, gone_back, happened, is_same, number_behind, switched_to, turned, turned_to, turned_unless}
 use Rattle.roff_run.specs.declared.environment_number.EnvironmentNumber.{EnvironmentNumber}
 use Rattle.roff_run.specs.declared.event.InputTrap.{InputTrap}
+use Rattle.roff_run.specs.declared.line_state.TextLine.{TextLine}
 use Rattle.roff_run.specs.declared.environment_number.EnvironmentNumber.TheVariants.{Zero, One, Two}
 use Rattle.roff_laws.specs.EnvironmentLaws.{environment_of, text_in}
 use Rattle.roff_run.specs.declared.event.PageEvent.TheVariants.{Text, Page, Interrupt, Environment, Back, InputTrap as SetsTrap, Title}
@@ -94,11 +95,11 @@ event-chosen true e a b = refl
 event-chosen false e a b = refl
 
 -- and so does an interruption
-interruption-chosen : (is_there : Bool) (untold : ℕ) (a b : InEnvironment)
-    → (if is_there then (record a { text = IsInterrupted ∷ a.text; untold = untold }) else b).text
+interruption-chosen : (is_there : Bool) (line : TextLine) (a b : InEnvironment)
+    → (if is_there then (record a { text = IsInterrupted ∷ a.text; interrupted = line }) else b).text
     ≡ (if is_there then IsInterrupted ∷ (if is_there then a else b).text else (if is_there then a else b).text)
-interruption-chosen true untold a b = refl
-interruption-chosen false untold a b = refl
+interruption-chosen true line a b = refl
+interruption-chosen false line a b = refl
 
 -- and its input-line trap leaves the text
 trap-chosen : (is_there : Bool) (trap : Option InputTrap) (a b : InEnvironment)

@@ -1,5 +1,5 @@
--- What leaving the input changes: what stands ahead, what is read, and that nothing more is taken. As a run closes it changes what
--- is read alone.
+-- What leaving the input changes: what stands ahead, what is read, and what going back to that means, and that nothing more is taken. As
+-- a run closes it changes what is read alone.
 use Rattle.std.proofs.Common.{◌≡◌, refl}
 use Rattle.roff_run.specs.Run.{State, left_in}
 use Rattle.roff_run.specs.declared.phase.Phase.{Phase}
@@ -11,7 +11,6 @@ pub record IsLeft (s t : State) : Type 0 where
   pub newlines : t.input.newlines ≡ s.input.newlines
   pub line : t.input.line ≡ s.input.line
   pub tape : t.tape ≡ s.tape
-  pub to_do : t.to_do ≡ s.to_do
   pub registers : t.registers ≡ s.registers
   pub history : t.history ≡ s.history
   pub phase : t.phase ≡ s.phase
@@ -24,7 +23,6 @@ IsLeft-left_in Reading s = record {
   newlines = refl;
   line = refl;
   tape = refl;
-  to_do = refl;
   registers = refl;
   history = refl;
   phase = refl;
@@ -36,7 +34,6 @@ IsLeft-left_in LastMacro s = record {
   newlines = refl;
   line = refl;
   tape = refl;
-  to_do = refl;
   registers = refl;
   history = refl;
   phase = refl;
@@ -48,7 +45,6 @@ IsLeft-left_in Closing s = record {
   newlines = refl;
   line = refl;
   tape = refl;
-  to_do = refl;
   registers = refl;
   history = refl;
   phase = refl;

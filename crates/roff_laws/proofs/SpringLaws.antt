@@ -18,7 +18,7 @@ use Rattle.roff_run.specs.Layouts.{layout_of}
 use Rattle.roff_run.specs.Run.Counts.{refusal}
 use Rattle.roff_run.specs.Springs.{next, springs}
 use Rattle.roff_run.specs.Titles.{told}
-use Rattle.roff_run.specs.Run.{State, after, ahead_taken, done_if, in_front_taken, made, performed, performing, read_waiting, sprung_at, sprung_read, step, step_with, stopped_by, unless_refused}
+use Rattle.roff_run.specs.Run.{State, after, ahead_taken, done_if, in_front_taken, made, performed, performing, read_waiting, going_back_to, sprung_at, sprung_read, step, step_with, stopped_by, unless_refused}
 use Rattle.roff_run.specs.declared.environment_number.EnvironmentNumber.{EnvironmentNumber}
 use Rattle.roff_run.specs.declared.environment_number.EnvironmentNumber.TheVariants.{Zero, One, Two}
 use Rattle.roff_run.specs.PageEvents.{PageEvent, PastEvent}
@@ -119,8 +119,8 @@ lines_go_on_as_they_were l s reading behind on may starts none_half ahead within
     ∙ ap (λ (half : List OpenEscape). read_waiting l (waiting_above LineStart s.input.arguments.place half) s) none_half
     ∙ ap (λ (items : List (Ahead PageEvent)). in_front_taken l items s) ahead
     ∙ ap (λ (c : Bool). if c then stopped_by l Bytes s else done) (le-ltb l.bytes (s.input.charge + 1) (omega (arith, within)))
-    ∙ ap (λ (r : LineState). made l s (record taken { reading = behind_return (back_of reading) r })) starts
-    ∙ ap (λ (r : LineState). made l s (record taken { reading = r })) (gone_back reading may)
+    ∙ ap (λ (r : LineState). made l s (going_back_to (behind_return (back_of reading) r) taken)) starts
+    ∙ ap (λ (r : LineState). made l s (going_back_to r taken)) (gone_back reading may)
 
 -- the trap of the environment in force
 pub the_last_line_springs : TheLastLineSprings

@@ -9,7 +9,7 @@ use Rattle.roff_num.specs.ShortNames.{name_bytes}
 use Rattle.roff_num.specs.declared.limits.Limits.{Limits}
 use Rattle.roff_num.specs.declared.num.Num.{Num}
 use Rattle.roff_source.specs.Tape.{Tape, Item, Ended, Ends, Gives, front}
-use Rattle.roff_input.specs.Input.{Ahead, ByteAhead, FreeAhead, EndAhead, ReturnAhead, DoAhead, counting, item_taken}
+use Rattle.roff_input.specs.Input.{Ahead, ByteAhead, FreeAhead, EndAhead, ReturnAhead, DoAhead, counting, item_taken, leaving, outermost_back}
 use Rattle.roff_input.specs.Input.Calls.{called_text}
 use Rattle.roff_input.specs.Input.Names.{body_named}
 use Rattle.roff_layout.specs.Happenings.{Happening, Does, Places, Titles}
@@ -25,21 +25,23 @@ use Rattle.roff_run.specs.Titles.{put_back, title_told, told}
 use Rattle.roff_run.specs.Reading.{escape_ended, taking}
 use Rattle.roff_run.specs.Reading.Ends.{end_taking}
 use Rattle.roff_run.specs.Reading.Items.{Taking}
-use Rattle.roff_run.specs.Reading.Returns.{back_of}
+use Rattle.roff_run.specs.Reading.Returns.{back_of, behind_return, gone_back_to}
 use Rattle.roff_run.specs.Requests.{called_by}
 use Rattle.roff_run.specs.Requests.Effects.{page_numbered}
 use Rattle.roff_run.specs.Requests.Numbering.{number_of_page}
-use Rattle.roff_run.specs.Run.{State, ahead_taken, known, left_in, moved, paged_state, phase_ended, sprung_read, taken_as}
+use Rattle.roff_run.specs.Run.{State, ahead_taken, known, left_in, moved, paged_state, phase_ended, going_back_to, sprung_read, taken_as}
 use Rattle.roff_run.specs.Springs.{left_if, left_of, next}
 use Rattle.roff_layout.specs.Springs.{goes_on}
 use Rattle.roff_run.specs.Reading.Calls.{last_called}
 use Rattle.roff_run.specs.Starts.{history_given, with_given}
 use Rattle.roff_run.specs.PageEvents.{PageEvent}
+use Rattle.roff_run.specs.declared.line_state.LineState.{LineState}
 use Rattle.roff_run.specs.declared.event.PageEvent.TheVariants.{Text, Page, Interrupt, Environment, Back, InputTrap as SetsTrap, Title}
 use Rattle.roff_run.specs.declared.phase.Phase.{Phase}
 use Rattle.roff_run.specs.declared.phase.Phase.TheVariants.{Reading, LastMacro, Closing}
 use Rattle.roff_run.specs.declared.request.Called.{Called}
 use Rattle.roff_run.specs.declared.start.Start.{Start}
+use Rattle.roff_run.proofs.GoingBack.{going_back-by}
 use Rattle.roff_run.proofs.GivenPages.{keeps-given}
 use Rattle.roff_run.specs.declared.request.Called.TheVariants.{Request as ARequest, Body as ABody, Nothing as Unknown}
 use Rattle.roff_run.proofs.Readings.{ReadsOn, LimitStops, AheadTaken, ByteTaken, HasEnded, NoteTaken, HalfEnds, InputLeft, LineEnds, PhaseEnds, MessageTold, RunAborts, SourceFails, SourceStops, SprungRead}
@@ -233,6 +235,13 @@ meant-taken closing t s means is = record {
   ahead = meant-grown closing s.input.ahead t.input.ahead means.1 is.ahead;
 }
 
+-- what is gone back to
+meant-returned : (closing : Bool) (reading : LineState) (s : State) → HasMeant closing s → HasMeant closing (going_back_to reading s)
+meant-returned closing reading s is = record {
+  to_do = going_back-by (λ (es : List PageEvent). AllMeant closing (es ++ s.to_do)) is.to_do (tt, is.to_do) reading;
+  ahead = is.ahead;
+}
+
 -- with an item ahead of the source
 meant-ahead_taken : (closing : Bool) (item : Ahead PageEvent) (behind : List (Ahead PageEvent)) (s : State) → AllMeantAhead closing (item ∷ behind)
     → HasMeant closing s → HasMeant closing (ahead_taken item (record s { input = item_taken item behind s.input }))
@@ -245,7 +254,9 @@ meant-ahead_taken closing (FreeAhead b) behind s ahead is =
     meant-taken closing (taking (known taken) s.reading taken.input b) taken (Means-taking (known taken) s.reading taken.input b)
     (record { to_do = is.to_do; ahead = ahead })
 meant-ahead_taken closing EndAhead behind s ahead is = record { to_do = is.to_do; ahead = ahead }
-meant-ahead_taken closing (ReturnAhead back) behind s ahead is = record { to_do = is.to_do; ahead = ahead }
+meant-ahead_taken closing (ReturnAhead back) behind s ahead is =
+    meant-returned closing (behind_return back s.reading) (record s { input = item_taken (ReturnAhead back) behind s.input })
+    (record { to_do = is.to_do; ahead = ahead })
 meant-ahead_taken closing (DoAhead e) behind s ahead is = record {
   to_do = (ahead.0, tt);
   ahead = meant-grown closing behind _ (ahead-same (ahead-interrupted s.reading (item_taken (DoAhead e) behind s.input))) ahead.1;
@@ -268,8 +279,12 @@ meant-sprung_read closing Unknown s is = record { to_do = is.to_do; ahead = is.a
 
 -- the input is left
 meant-left_in : (closing : Bool) (phase : Phase) (s : State) → HasMeant closing s → HasMeant closing (left_in phase s)
-meant-left_in closing Reading s is = record { to_do = is.to_do; ahead = tt }
-meant-left_in closing LastMacro s is = record { to_do = is.to_do; ahead = tt }
+meant-left_in closing Reading s is =
+    meant-returned closing (gone_back_to (outermost_back 0 s.input.ahead)) (record s { input = leaving s.input; is_closed = true })
+    (record { to_do = is.to_do; ahead = tt })
+meant-left_in closing LastMacro s is =
+    meant-returned closing (gone_back_to (outermost_back 0 s.input.ahead)) (record s { input = leaving s.input; is_closed = true })
+    (record { to_do = is.to_do; ahead = tt })
 meant-left_in closing Closing s is = record { to_do = is.to_do; ahead = is.ahead }
 
 -- a phase ended, at a line's beginning, with nothing ahead

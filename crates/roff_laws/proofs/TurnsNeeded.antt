@@ -92,7 +92,8 @@ behind_left l s leaves =
     let back : ℕ = outermost_back 0 s.input.ahead in
     let turns : turns_of (endings_of s.input.escapes) s.reading ≡ turns_of (endings_of s.input.escapes) Exiting = ap (turns_of (endings_of s.input.escapes)) leaves in
     let none = begun-behind_return back LineStart in
-    omega (arith, turns, none, unended-few (gone_back_to back))
+    let few = left-few (input_left s).to_do s.history in
+    omega (arith, turns, none, few, unended-few (gone_back_to back))
 
 -- the input is left
 InputLeft-fewer : (l : Limits) (phase : Phase) (s : State) → s.reading ≡ Exiting → turns_needed l (left_in phase s) + 1 ≤ turns_needed l s

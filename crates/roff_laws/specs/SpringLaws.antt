@@ -12,7 +12,7 @@ use Rattle.roff_run.specs.ItemsTaken.{TakesItems}
 use Rattle.roff_run.specs.Layouts.{layout_of}
 use Rattle.roff_run.specs.Reading.Returns.{back_of, in_sprung}
 use Rattle.roff_run.specs.Requests.{called_by}
-use Rattle.roff_run.specs.Run.{State, after, made, step}
+use Rattle.roff_run.specs.Run.{State, after, made, going_back_to, step}
 use Rattle.roff_run.specs.Run.Counts.{refusal}
 use Rattle.roff_run.specs.Springs.{left_of, next, springs}
 use Rattle.roff_run.specs.declared.environment_number.EnvironmentNumber.{EnvironmentNumber}
@@ -92,12 +92,13 @@ MayBeInterrupted Braced = Unit {0}
 MayBeInterrupted (InText line) = (line.leading ≤ 1) × (line.has_glyph ≡ true → line.leading ≡ 0)
 MayBeInterrupted (_) = ⊥
 
--- behind the end of a macro that sprang where this was read, it is read on as it was
+-- behind the end of a macro that sprang where this was read, it is read on as it was: a text line is the one that goes on, and not one
+-- that the macro's text interrupted
 abbrev pub LinesGoOnAsTheyWere : Type 0
 LinesGoOnAsTheyWere =
     (l : Limits) (s : State) (reading : LineState) (behind : List (Ahead PageEvent)) → TakesItems s → MayBeInterrupted reading
     → s.reading ≡ LineStart → s.input.escapes ≡ [] → s.input.ahead ≡ ReturnAhead (back_of reading) ∷ behind → s.input.charge < l.bytes
-    → step l s ≡ made l s (record s { input = item_taken (ReturnAhead (back_of reading)) behind s.input; reading = reading })
+    → step l s ≡ made l s (going_back_to reading (record s { input = item_taken (ReturnAhead (back_of reading)) behind s.input }))
 
 -- a text line is the last that the trap of its environment waits for, and springs its macro; behind it there is no trap
 abbrev pub TheLastLineSprings : Type 0

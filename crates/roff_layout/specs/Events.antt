@@ -14,7 +14,7 @@ History = List Event
 abbrev pub settings_after : History → Settings
 settings_after [] = initial_settings
 settings_after (Set p ∷ h) = settings_with p (settings_after h)
-settings_after (Count ∷ h) = counted (settings_after h)
+settings_after (LineEnd ∷ h) = counted (settings_after h)
 settings_after (_ ∷ h) = settings_after h
 
 -- the tab stops in force
@@ -23,11 +23,10 @@ stops_after [] = None
 stops_after (Set p ∷ h) = stops_with p (stops_after h)
 stops_after (_ ∷ h) = stops_after h
 
--- Whether an interrupted line of the input is to go on: its text was left open, no text line goes on with it yet, and it
--- hasn't ended.
+-- Whether an interrupted line of the input is to go on: its text was left open, and no text line goes on with it yet. The end of
+-- another line, put back behind the text of a macro, ends the word and not that line.
 abbrev pub is_interrupted : History → Bool
 is_interrupted [] = false
 is_interrupted (Interrupt ∷ h) = true
 is_interrupted (Resume ∷ h) = false
-is_interrupted (LineEnd ∷ h) = false
 is_interrupted (_ ∷ h) = is_interrupted h

@@ -39,7 +39,7 @@ settings_with (_) s = s
 abbrev pub fills : Settings → Bool
 fills s = s.filling && s.centring == 0
 
--- what is in force behind a text line of the input: one line less is to be centred
+-- what is in force behind the end of a line of the input: one line less is to be centred
 abbrev pub counted : Settings → Settings
 counted s = record s { centring = s.centring - 1 }
 

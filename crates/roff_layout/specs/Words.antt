@@ -26,13 +26,13 @@ open_glyphs (_ ∷ h) = open_glyphs h
 abbrev pub has_open_word : History → Bool
 has_open_word h = not (is_empty (open_glyphs h))
 
--- the glyphs since the last line end of the input, the newest first
-abbrev pub line_glyphs : History → List Glyph
-line_glyphs [] = []
-line_glyphs (Print g ∷ h) = g ∷ line_glyphs h
-line_glyphs (Tab ∷ h) = Blanks (tab_width h) ∷ line_glyphs h
-line_glyphs (LineEnd ∷ h) = []
-line_glyphs (_ ∷ h) = line_glyphs h
+-- the glyphs of the last word, open or ended, since the last line end of the input, the newest first
+abbrev pub last_word_glyphs : History → List Glyph
+last_word_glyphs [] = []
+last_word_glyphs (Print g ∷ h) = g ∷ (if has_open_word h then last_word_glyphs h else [])
+last_word_glyphs (Tab ∷ h) = Blanks (tab_width h) ∷ (if has_open_word h then last_word_glyphs h else [])
+last_word_glyphs (LineEnd ∷ h) = []
+last_word_glyphs (_ ∷ h) = last_word_glyphs h
 
 -- a glyph that may stand behind the end of a sentence
 abbrev pub is_closer : Glyph → Bool
@@ -44,29 +44,23 @@ abbrev pub is_sentence_mark : Glyph → Bool
 is_sentence_mark (Printed b) = list_any (λ c. b == c) (codes ".?!")
 is_sentence_mark (Blanks n) = false
 
--- whether a sentence ends behind these glyphs (the newest first): closers don't count
+-- whether a sentence ends behind these glyphs of a word (the newest first): closers don't count
 abbrev pub ends_sentence : List Glyph → Bool
 ends_sentence [] = false
 ends_sentence (g ∷ gs) = if is_closer g then ends_sentence gs else is_sentence_mark g
 
--- the same behind these printed bytes, the oldest first: closers leave that as it was before them
+-- The same behind these printed bytes, the oldest first: closers leave that as it was before them. Behind a blank, with which
+-- a word ends, none does.
 abbrev pub ends_sentence_behind : List ℕ → Bool → Bool
 ends_sentence_behind [] before = before
 ends_sentence_behind (b ∷ bytes) before =
     ends_sentence_behind bytes (if is_closer (Printed b) then before else is_sentence_mark (Printed b))
 
--- the same behind words of printed bytes, with blanks between them, which leave that as it was too
-abbrev pub ends_sentence_behind_words : List ℕ → Bool → Bool
-ends_sentence_behind_words [] before = before
-ends_sentence_behind_words (b ∷ text) before =
-    ends_sentence_behind_words text
-    (if b == 32 then before else if is_closer (Printed b) then before else is_sentence_mark (Printed b))
-
 -- the blanks of a filled line's end: two behind a sentence, else one
 abbrev pub line_end_gap : List Glyph → ℕ
 line_end_gap glyphs = if ends_sentence glyphs then 2 else 1
 
--- the gap of a word that begins behind so many blanks, and these glyphs on the line: directly behind the end of another word,
+-- the gap of a word that begins behind so many blanks, and these glyphs of the last word: directly behind the end of another word,
 -- as text stands that was put between two words of a line, the gap of a line's end
 abbrev pub begun_gap : ℕ → List Glyph → ℕ
 begun_gap n glyphs = if n == 0 then line_end_gap glyphs else n
@@ -77,14 +71,14 @@ begun_gap n glyphs = if n == 0 then line_end_gap glyphs else n
 -- An open word keeps the gap it began with.
 abbrev pub blanks : History → ℕ
 blanks [] = 0
-blanks (Print g ∷ h) = if has_open_word h then blanks h else begun_gap (blanks h) (line_glyphs h)
-blanks (Tab ∷ h) = if has_open_word h then blanks h else begun_gap (blanks h) (line_glyphs h)
+blanks (Print g ∷ h) = if has_open_word h then blanks h else begun_gap (blanks h) (last_word_glyphs h)
+blanks (Tab ∷ h) = if has_open_word h then blanks h else begun_gap (blanks h) (last_word_glyphs h)
 blanks (WordEnd ∷ h) = if has_open_word h then 0 else blanks h
 blanks (Gap n ∷ h) =
     if has_open_word h || (not (has_line_glyph h) && not (blanks h == 0)) then blanks h else blanks h + n
 blanks (LineEnd ∷ h) =
     if has_open_word h || (fills (settings_after h) && not (has_line_glyph h)) then blanks h
-    else if fills (settings_after h) then line_end_gap (line_glyphs h) else 0
+    else if fills (settings_after h) then line_end_gap (last_word_glyphs h) else 0
 blanks (Break ∷ h) = if has_open_word h then blanks h else 0
 blanks (_ ∷ h) = blanks h
 

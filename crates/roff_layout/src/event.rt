@@ -17,10 +17,10 @@ pub enum Event {
     WordEnd,
     /// So many blanks stand between words.
     Gap(u32),
-    /// A line of the input ends.
+    /// A line of the input ends: one line less is to be centred.
     LineEnd,
-    /// A text line of the input was read: one line less is to be centred. The line's end comes
-    /// before it.
+    /// A text line of the input was read, which counts for the input-line trap. The line's end
+    /// comes before it.
     Count,
     /// The pending line is to be finished.
     Break,

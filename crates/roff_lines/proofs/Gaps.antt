@@ -7,7 +7,7 @@ use Rattle.roff_layout.specs.declared.glyph.Glyph.{Glyph}
 use Rattle.roff_layout.specs.declared.event.Event.TheVariants.{Print, Tab, WordEnd, Gap, LineEnd, Count, Break, Interrupt, Resume, Set}
 use Rattle.roff_layout.specs.Events.{History}
 use Rattle.roff_layout.specs.Places.{has_line_glyph}
-use Rattle.roff_layout.specs.Words.{has_open_word, line_glyphs, begun_gap, blanks}
+use Rattle.roff_layout.specs.Words.{has_open_word, last_word_glyphs, begun_gap, blanks}
 use Rattle.roff_lines.specs.Env.Kept.{Kept, begun_blanks}
 use Rattle.roff_lines.specs.Env.Stands.{Stands, StandsBehind}
 use Rattle.roff_lines.proofs.LastLine.{last_width-none}
@@ -55,9 +55,9 @@ either-some false m n one other = other
 blanks-open : (h : History) → has_open_word h ≡ true → 0 < blanks h
 blanks-open [] is_open = absurd (true≢false (sym is_open))
 blanks-open (Print g ∷ h) is_open =
-    either-some (has_open_word h) (blanks h) (begun_gap (blanks h) (line_glyphs h)) (blanks-open h) (begun_gap-some (blanks h) (line_glyphs h))
+    either-some (has_open_word h) (blanks h) (begun_gap (blanks h) (last_word_glyphs h)) (blanks-open h) (begun_gap-some (blanks h) (last_word_glyphs h))
 blanks-open (Tab ∷ h) is_open =
-    either-some (has_open_word h) (blanks h) (begun_gap (blanks h) (line_glyphs h)) (blanks-open h) (begun_gap-some (blanks h) (line_glyphs h))
+    either-some (has_open_word h) (blanks h) (begun_gap (blanks h) (last_word_glyphs h)) (blanks-open h) (begun_gap-some (blanks h) (last_word_glyphs h))
 blanks-open (WordEnd ∷ h) is_open = absurd (true≢false (sym is_open))
 blanks-open (Gap n ∷ h) is_open = rw is_open (blanks-open h is_open)
 blanks-open (LineEnd ∷ h) is_open = rw is_open (blanks-open h is_open)

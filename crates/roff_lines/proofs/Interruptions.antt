@@ -13,7 +13,7 @@ use Rattle.roff_layout.specs.Events.{History, settings_after, stops_after}
 use Rattle.roff_layout.specs.TabStops.{stops_with}
 use Rattle.roff_layout.specs.Places.{has_line_glyph, moved, input_place}
 use Rattle.roff_layout.specs.Fitting.{Word, fits, last_line}
-use Rattle.roff_layout.specs.Words.{is_empty, has_open_word, open_glyphs, line_glyphs, blanks, paragraph, words, temporary_indent, open_word}
+use Rattle.roff_layout.specs.Words.{is_empty, has_open_word, open_glyphs, last_word_glyphs, blanks, paragraph, words, temporary_indent, open_word}
 use Rattle.roff_layout.specs.Lines.{Finished, empty_line, line_laid_out, finished}
 use Rattle.roff_layout.specs.Paragraphs.{finished_lines}
 use Rattle.roff_layout.specs.Telling.{glyphs_told}
@@ -42,7 +42,7 @@ record Alike (h i : History) : Type 0 where
   pub has_glyph : has_line_glyph h ≡ has_line_glyph i
   pub place : input_place h ≡ input_place i
   pub word : open_glyphs h ≡ open_glyphs i
-  pub on_line : line_glyphs h ≡ line_glyphs i
+  pub on_line : last_word_glyphs h ≡ last_word_glyphs i
   pub blanks : blanks h ≡ blanks i
   pub paragraph : paragraph h ≡ paragraph i
   pub lines : finished_lines h ≡ finished_lines i
@@ -54,8 +54,8 @@ module _ (h i : History) (s : Alike h i) where
   settings-with Tab = s.settings
   settings-with WordEnd = s.settings
   settings-with (Gap n) = s.settings
-  settings-with LineEnd = s.settings
-  settings-with Count = ap counted s.settings
+  settings-with LineEnd = ap counted s.settings
+  settings-with Count = s.settings
   settings-with Break = s.settings
   settings-with Interrupt = s.settings
   settings-with Resume = s.settings
@@ -113,10 +113,10 @@ module _ (h i : History) (s : Alike h i) where
   open-with Resume = s.word
   open-with (Set p) = s.word
 
-  -- the glyphs on the line
-  on_line-with : (e : Event) → line_glyphs (e ∷ h) ≡ line_glyphs (e ∷ i)
-  on_line-with (Print g) = ap (λ gs. g ∷ gs) s.on_line
-  on_line-with Tab = rw (s.stops, s.place, s.on_line) refl
+  -- the glyphs of the last word on the line
+  on_line-with : (e : Event) → last_word_glyphs (e ∷ h) ≡ last_word_glyphs (e ∷ i)
+  on_line-with (Print g) = rw (s.word, s.on_line) refl
+  on_line-with Tab = rw (s.stops, s.place, s.word, s.on_line) refl
   on_line-with WordEnd = s.on_line
   on_line-with (Gap n) = s.on_line
   on_line-with LineEnd = refl

@@ -4,7 +4,7 @@ use Rattle.std.specs.Prelude.{if◌then◌else◌}
 use Rattle.std.proofs.lemmas.Bool.{cond_both, cases_Bool, true≢false}
 use Rattle.roff_layout.specs.declared.event.Event.TheVariants.{LineEnd}
 use Rattle.roff_layout.specs.Events.{History, settings_after}
-use Rattle.roff_layout.specs.Settings.{fills}
+use Rattle.roff_layout.specs.Settings.{fills, counted}
 use Rattle.roff_layout.specs.Places.{has_line_glyph}
 use Rattle.roff_layout.specs.Words.{is_empty, blanks, words}
 use Rattle.roff_layout.specs.Lines.{Finished, empty_line, finished, laid_out, line_laid_out, pending_line}
@@ -80,13 +80,13 @@ module _ (line_cap : ℕ) (h : History) (k : Kept) (s : Stands line_cap h k) whe
   -- where words aren't measured, nothing is pending behind it, whatever text was handed out last
   Stands-unfilled : fills k.settings ≡ false → (text : List ℕ) (width : ℕ) → width ≡ last_width (LineEnd ∷ h)
       → Stands line_cap (LineEnd ∷ h) (record k {
+        settings = counted k.settings;
         line = [];
         has_line = false;
         blanks = if k.is_open then k.blanks else 0;
         has_glyph = false;
         ends_sentence = false;
         place = 0;
-        is_interrupted = false;
         finished = text;
         last_width = width;
       })
@@ -94,7 +94,7 @@ module _ (line_cap : ℕ) (h : History) (k : Kept) (s : Stands line_cap h k) whe
     small = s.small;
     within = omega (arith, pending_length-line_end h, s.within);
     cap = s.cap;
-    settings = s.settings;
+    settings = ap counted s.settings;
     temporary_indent = s.temporary_indent;
     stops = s.stops;
     has_line = rw (← s.settings, f) refl;
@@ -106,23 +106,23 @@ module _ (line_cap : ℕ) (h : History) (k : Kept) (s : Stands line_cap h k) whe
     has_glyph = refl;
     ends_sentence = refl;
     place = refl;
-    is_interrupted = refl;
+    is_interrupted = s.is_interrupted;
     last_width = last;
   }
 
   -- where they are measured, the pending line stays
   Stands-filled : fills k.settings ≡ true → Stands line_cap (LineEnd ∷ h) (record k {
+    settings = counted k.settings;
     blanks = if not k.is_open && k.has_glyph then (if k.ends_sentence then 2 else 1) else k.blanks;
     has_glyph = false;
     ends_sentence = false;
     place = 0;
-    is_interrupted = false;
   })
   Stands-filled f = record {
     small = s.small;
     within = omega (arith, pending_length-line_end h, s.within);
     cap = s.cap;
-    settings = s.settings;
+    settings = ap counted s.settings;
     temporary_indent = s.temporary_indent;
     stops = s.stops;
     has_line = rw (← s.settings, f) s.has_line;
@@ -134,7 +134,7 @@ module _ (line_cap : ℕ) (h : History) (k : Kept) (s : Stands line_cap h k) whe
     has_glyph = refl;
     ends_sentence = refl;
     place = refl;
-    is_interrupted = refl;
+    is_interrupted = s.is_interrupted;
     last_width = last_width-kept (rw f refl);
   }
 
@@ -150,7 +150,7 @@ module _ (line_cap : ℕ) (h : History) (k : Kept) (s : Stands line_cap h k) whe
   -- what is kept behind a line's end stands for the history with it
   pub Stands-line_end : Stands line_cap (LineEnd ∷ h) (with_input_line_ended k)
   Stands-line_end =
-      let Goal : Kept → Type 0 = Stands line_cap (LineEnd ∷ h) in
+      let Goal : Kept → Type 0 = λ n. Stands line_cap (LineEnd ∷ h) (record n { settings = counted k.settings }) in
       cond_both (fills k.settings) _ _ Goal Stands-filled
       (λ f. cond_both (k.has_line || k.settings.filling) _ _ Goal
       (λ some. Stands-unfilled f (if k.has_line then k.line else k.finished)

@@ -1,6 +1,6 @@
 -- A glyph, where an environment stands for its history.
 use Rattle.std.proofs.Common.{◌≡◌, ℕ, ◌+◌, ◌<◌, ◌≤◌, ◌^◌, min, Bool, true, false, [], ◌∷◌, ◌++◌, length, refl, sym, ap, ◌∙◌, arith}
-use Rattle.std.specs.Prelude.{reverse, if◌then◌else◌, not}
+use Rattle.std.specs.Prelude.{reverse, if◌then◌else◌, not, ◌&&◌, List}
 use Rattle.std.specs.List.{flat_map}
 use Rattle.std.proofs.lemmas.Grind.{flat_map-append}
 use Rattle.std.proofs.lemmas.List.{append-nil, length-append, reverse-append}
@@ -10,9 +10,9 @@ use Rattle.roff_layout.specs.declared.event.Event.TheVariants.{Print}
 use Rattle.roff_layout.specs.Events.{History}
 use Rattle.roff_layout.specs.Places.{moved}
 use Rattle.roff_layout.specs.Fitting.{word_text, line_text}
-use Rattle.roff_layout.specs.Words.{is_empty, is_closer, is_sentence_mark, blanks, open_glyphs, open_word, words}
+use Rattle.roff_layout.specs.Words.{is_empty, is_closer, is_sentence_mark, ends_sentence, blanks, has_open_word, last_word_glyphs, open_glyphs, open_word, words}
 use Rattle.roff_layout.specs.Lines.{pending_line, pending_length}
-use Rattle.roff_lines.specs.Env.Kept.{Kept, begun_blanks, length_with, with_glyph}
+use Rattle.roff_lines.specs.Env.Kept.{Kept, begun_blanks, ends_in_word, length_with, with_glyph}
 use Rattle.roff_lines.specs.Env.Stands.{Stands}
 use Rattle.roff_lines.proofs.Gaps.{begun_blanks-stands}
 
@@ -27,6 +27,11 @@ counted_few : (gap : Bool) (line blanks word more cap : ℕ)
     → line + (if gap then blanks else 0) + (word + more) ≤ cap → line + (if gap then min blanks (2 ^ 33) else 0) + word + more ≤ cap
 counted_few true line blanks word more cap within = omega arith
 counted_few false line blanks word more cap within = omega arith
+
+-- a sentence ends with an open word as with its glyphs, and with none where no word is open
+ends-open : (is_open : Bool) (glyphs : List Glyph) → (is_open && ends_sentence glyphs) ≡ ends_sentence (if is_open then glyphs else [])
+ends-open true glyphs = refl
+ends-open false glyphs = refl
 
 module _ (line_cap : ℕ) (h : History) (k : Kept) (s : Stands line_cap h k) (g : Glyph) where
   -- the open word has the glyph at its end
@@ -68,6 +73,12 @@ module _ (line_cap : ℕ) (h : History) (k : Kept) (s : Stands line_cap h k) (g 
       (omega (arith, length-print, within)) in
       omega (arith, s.cap, counted, room)
 
+  -- a sentence ends in front of it in its word where the definition says so
+  ends_in_word-stands : ends_in_word k ≡ ends_sentence (if has_open_word h then last_word_glyphs h else [])
+  ends_in_word-stands =
+      ap (λ o. o && k.ends_sentence) s.is_open ∙ ap (λ e. has_open_word h && e) s.ends_sentence
+      ∙ ends-open (has_open_word h) (last_word_glyphs h)
+
   -- what is kept behind it stands for the history with it
   pub Stands-print : length_with g k ≤ k.cap → Stands line_cap (Print g ∷ h) (with_glyph g k)
   Stands-print room = record {
@@ -84,7 +95,7 @@ module _ (line_cap : ℕ) (h : History) (k : Kept) (s : Stands line_cap h k) (g 
     is_open = refl;
     blanks = begun_blanks-stands line_cap h k s g;
     has_glyph = refl;
-    ends_sentence = ap (λ e. if is_closer g then e else is_sentence_mark g) s.ends_sentence;
+    ends_sentence = ap (λ e. if is_closer g then e else is_sentence_mark g) ends_in_word-stands;
     place = ap (moved (glyph_width g)) s.place;
     is_interrupted = s.is_interrupted;
     last_width = s.last_width;

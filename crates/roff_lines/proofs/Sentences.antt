@@ -1,8 +1,8 @@
 -- Ends of sentences behind printed bytes.
 use Rattle.std.proofs.Common.{◌≡◌, ℕ, Bool, List, [], ◌∷◌, ◌++◌, refl}
-use Rattle.std.specs.Prelude.{if◌then◌else◌, ◌==◌}
+use Rattle.std.specs.Prelude.{if◌then◌else◌}
 use Rattle.roff_layout.specs.declared.glyph.Glyph.TheVariants.{Printed}
-use Rattle.roff_layout.specs.Words.{is_closer, is_sentence_mark, ends_sentence_behind, ends_sentence_behind_words}
+use Rattle.roff_layout.specs.Words.{is_closer, is_sentence_mark, ends_sentence_behind}
 
 -- a byte more
 pub ends_sentence_behind_push : (bytes : List ℕ) (b : ℕ) (before : Bool) →
@@ -11,12 +11,3 @@ pub ends_sentence_behind_push : (bytes : List ℕ) (b : ℕ) (before : Bool) →
 ends_sentence_behind_push [] b before = refl
 ends_sentence_behind_push (c ∷ bytes) b before =
     ends_sentence_behind_push bytes b (if is_closer (Printed c) then before else is_sentence_mark (Printed c))
-
--- a byte more behind words
-pub ends_sentence_behind_words_push : (text : List ℕ) (b : ℕ) (before : Bool) →
-    ends_sentence_behind_words (text ++ b ∷ []) before
-    ≡ (if b == 32 then ends_sentence_behind_words text before
-    else if is_closer (Printed b) then ends_sentence_behind_words text before else is_sentence_mark (Printed b))
-ends_sentence_behind_words_push [] b before = refl
-ends_sentence_behind_words_push (c ∷ text) b before =
-    ends_sentence_behind_words_push text b (if c == 32 then before else if is_closer (Printed c) then before else is_sentence_mark (Printed c))

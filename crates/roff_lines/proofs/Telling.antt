@@ -6,7 +6,7 @@ use Rattle.roff_layout.specs.declared.glyph.Glyph.{Glyph}
 use Rattle.roff_layout.specs.declared.event.Event.TheVariants.{Print, WordEnd}
 use Rattle.roff_layout.specs.Events.{History, settings_after}
 use Rattle.roff_layout.specs.Fitting.{Word}
-use Rattle.roff_layout.specs.Words.{is_empty, open_glyphs, has_open_word, line_glyphs, begun_gap, blanks, open_word, words, temporary_indent, indent_by}
+use Rattle.roff_layout.specs.Words.{is_empty, open_glyphs, has_open_word, last_word_glyphs, begun_gap, blanks, open_word, words, temporary_indent, indent_by}
 use Rattle.roff_layout.specs.Telling.{glyphs_told}
 use Rattle.roff_lines.proofs.PendingLine.{is_empty-true}
 
@@ -22,7 +22,7 @@ settings_after-told (g ∷ gs) h = settings_after-told gs h
 
 -- the word has the gap that it begins with
 pub blanks-told : (gs : List Glyph) (h : History) → is_empty gs ≡ false → has_open_word h ≡ false
-    → blanks (map Print gs ++ h) ≡ begun_gap (blanks h) (line_glyphs h)
+    → blanks (map Print gs ++ h) ≡ begun_gap (blanks h) (last_word_glyphs h)
 blanks-told [] h some closed = absurd (true≢false some)
 blanks-told (g ∷ []) h some closed = rw closed refl
 blanks-told (g ∷ f ∷ gs) h some closed = blanks-told (f ∷ gs) h refl closed
@@ -41,7 +41,7 @@ temporary_indent-told (g ∷ gs) h = temporary_indent-told gs h
 abbrev pub told_word : List Glyph → History → Word
 told_word glyphs h = record {
   glyphs = glyphs;
-  gap = begun_gap (blanks h) (line_glyphs h);
+  gap = begun_gap (blanks h) (last_word_glyphs h);
   under = settings_after h;
   indent = indent_by (temporary_indent h) (settings_after h);
 }

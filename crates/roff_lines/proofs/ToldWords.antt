@@ -6,11 +6,11 @@ use Rattle.std.proofs.lemmas.List.Elements.{All-nil, All-cons, All-head, All-tai
 use Rattle.roff_layout.specs.declared.glyph.Glyph.{Glyph}
 use Rattle.roff_layout.specs.declared.settings.Settings.{Settings}
 use Rattle.roff_layout.specs.declared.event.Event.{Event}
-use Rattle.roff_layout.specs.declared.event.Event.TheVariants.{Print, WordEnd, Gap, LineEnd, Count, Break, Set}
+use Rattle.roff_layout.specs.declared.event.Event.TheVariants.{Print, WordEnd, Gap, LineEnd, Break, Set}
 use Rattle.roff_layout.specs.Events.{History, settings_after}
 use Rattle.roff_layout.specs.Settings.{fills, counted}
 use Rattle.roff_layout.specs.Fitting.{Word, begins_line}
-use Rattle.roff_layout.specs.Words.{is_empty, open_glyphs, has_open_word, line_glyphs, begun_gap, blanks, open_word, words, temporary_indent, indent_by}
+use Rattle.roff_layout.specs.Words.{is_empty, open_glyphs, has_open_word, last_word_glyphs, begun_gap, blanks, open_word, words, temporary_indent, indent_by}
 use Rattle.roff_layout.specs.Places.{has_line_glyph}
 use Rattle.roff_layout.specs.Lines.{pending_line}
 use Rattle.roff_layout.specs.Telling.{glyphs_told, words_told, IsOfText, IsWordUnder, IsClear}
@@ -76,15 +76,15 @@ module _ (h : History) (clear : IsClear h) where
       let others = All-tail (IsWordUnder (settings_after h)) w ws each in
       let before = Gap w.gap ∷ words_told ws h in
       let blanks_before : blanks before ≡ w.gap = blanks-gap w.gap (words_told ws h) (open_glyphs-words ws) (blanks-words ws others) in
-      let gap : begun_gap (blanks before) (line_glyphs before) ≡ w.gap =
-      ap (λ n. begun_gap n (line_glyphs before)) blanks_before ∙ begun_gap-same w.gap (line_glyphs before) here.gap in
+      let gap : begun_gap (blanks before) (last_word_glyphs before) ≡ w.gap =
+      ap (λ n. begun_gap n (last_word_glyphs before)) blanks_before ∙ begun_gap-same w.gap (last_word_glyphs before) here.gap in
       let under : settings_after before ≡ w.under = settings_after-words ws ∙ sym here.under in
       let word : ℕ → Settings → ℕ → Word = λ n s i. record { glyphs = w.glyphs; gap = n; under = s; indent = i } in
       let by_none : indent_by (temporary_indent before) (settings_after before) ≡ w.indent =
       ap (λ t. indent_by t (settings_after before)) (temporary_indent-words none ws)
       ∙ ap (λ s. s.indent) (settings_after-words ws) ∙ sym here.indent in
       words-word w.glyphs before here.some (open_glyphs-words ws)
-      ∙ ap (λ i. word (begun_gap (blanks before) (line_glyphs before)) (settings_after before) i ∷ words before) by_none
+      ∙ ap (λ i. word (begun_gap (blanks before) (last_word_glyphs before)) (settings_after before) i ∷ words before) by_none
       ∙ ap (λ n. word n (settings_after before) w.indent ∷ words before) gap
       ∙ ap (λ s. word w.gap s w.indent ∷ words before) under
       ∙ ap (λ vs. w ∷ vs) (words-words none ws others)
@@ -111,8 +111,8 @@ module _ (h : History) (measured : fills (settings_after h) ≡ true) where
   pub settings_after-text : (text : List Event) → All IsOfText text → settings_after (text ++ h) ≡ settings_after h
   settings_after-text [] each = refl
   settings_after-text (Set p ∷ text) each = absurd (All-head IsOfText (Set p) text each)
-  settings_after-text (Count ∷ text) each =
-      ap counted (settings_after-text text (All-tail IsOfText Count text each)) ∙ counted-measured (settings_after h) measured
+  settings_after-text (LineEnd ∷ text) each =
+      ap counted (settings_after-text text (All-tail IsOfText LineEnd text each)) ∙ counted-measured (settings_after h) measured
   settings_after-text (e ∷ text) each = settings_after-text text (All-tail IsOfText e text each)
 
   -- where words are measured it breaks nothing

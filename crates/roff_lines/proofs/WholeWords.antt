@@ -12,13 +12,12 @@ use Rattle.roff_layout.specs.Glyphs.{gap_blank, text_width, gaps_in}
 use Rattle.roff_layout.specs.declared.event.Event.TheVariants.{Gap}
 use Rattle.roff_layout.specs.Places.{has_line_glyph, moved}
 use Rattle.roff_layout.specs.Fitting.{gap_text, may_be_wide}
-use Rattle.roff_layout.specs.Words.{has_open_word, is_closer, is_sentence_mark, ends_sentence_behind, ends_sentence_behind_words}
+use Rattle.roff_layout.specs.Words.{has_open_word, is_closer, is_sentence_mark, ends_sentence_behind}
 use Rattle.roff_lines.specs.Env.Kept.{Kept, begun_blanks, glyph_room, with_glyphs, with_words, with_word_ended, word_fits, word_finishes}
 use Rattle.roff_lines.specs.Env.Stands.{StandsBehind}
 use Rattle.roff_lines.specs.Env.Tells.{HasRoom, IsOneCharacter, NoWord, OneMore, Tells, TellsFront, WholeWords}
 use Rattle.roff_lines.proofs.FirstLineOf.{text_width-gap_text}
 use Rattle.roff_lines.proofs.Gaps.{begun-same}
-use Rattle.roff_lines.proofs.GlyphsInFront.{eqb-above}
 use Rattle.roff_lines.proofs.LastLine.{last_width-none}
 use Rattle.roff_lines.proofs.PendingLine.{length-gap_text}
 use Rattle.roff_lines.proofs.Tells.{Tells-append}
@@ -89,20 +88,12 @@ above-word : (word : List ℕ) → AllByRecursion IsOneCharacter word → AllByR
 above-word [] all = tt
 above-word (b ∷ word) all = (all.0.0, above-word word all.1)
 
--- sentences end behind one word as behind its glyphs
-ends-word : (word : List ℕ) (before : Bool) → AllByRecursion IsOneCharacter word
-    → ends_sentence_behind_words word before ≡ ends_sentence_behind word before
-ends-word [] before all = refl
-ends-word (b ∷ word) before all =
-    let no_blank : (b == 32) ≡ false = eqb-above b 32 (omega arith) all.0.0 in
-    rw no_blank (ends-word word (if is_closer (Printed b) then before else is_sentence_mark (Printed b)) all.1)
-
--- and behind some words and others
+-- sentences end behind some bytes and others
 ends-append : (text others : List ℕ) (before : Bool)
-    → ends_sentence_behind_words (text ++ others) before ≡ ends_sentence_behind_words others (ends_sentence_behind_words text before)
+    → ends_sentence_behind (text ++ others) before ≡ ends_sentence_behind others (ends_sentence_behind text before)
 ends-append [] others before = refl
 ends-append (b ∷ text) others before =
-    ends-append text others (if b == 32 then before else if is_closer (Printed b) then before else is_sentence_mark (Printed b))
+    ends-append text others (if is_closer (Printed b) then before else is_sentence_mark (Printed b))
 
 -- what may be so wide may be less wide
 or_less : (always : Bool) (wide less most : ℕ) → (always || nat_le wide most) ≡ true → less ≤ wide → (always || nat_le less most) ≡ true
@@ -174,7 +165,7 @@ module _ (k : Kept) (word : List ℕ) (line : k.has_line ≡ true) (closed : k.i
   ended-word : with_gap 1 (with_word_ended (with_glyphs word k)) ≡ with_words word k
   ended-word =
       let place : moved 1 (moved (text_width word) k.place) ≡ moved (text_width word + 1) k.place = moved-moved (text_width word) 1 k.place in
-      rw (line, fits-word, gap-word, none, place, ← ends-word word k.ends_sentence all) refl
+      rw (line, fits-word, gap-word, none, place, closed) refl
 
   Tells-word : Tells (word ++ 32 ∷ []) k (with_words word k)
   Tells-word =
@@ -191,7 +182,6 @@ module _ (k : Kept) (word : List ℕ) (line : k.has_line ≡ true) (closed : k.i
 with_words-more : (text word : List ℕ) (k : Kept) → with_words word (with_words text k) ≡ with_words (text ++ 32 ∷ word) k
 with_words-more text word k =
     let gap = gap_text k.blanks in
-    let before = ends_sentence_behind_words text k.ends_sentence in
     let whole = with_words (text ++ 32 ∷ word) k in
     let width : text_width (text ++ 32 ∷ word) ≡ text_width text + 1 + text_width word =
     omega (arith, sum_by-append byte_width text (32 ∷ word), sum_by-cons byte_width 32 word) in
@@ -200,7 +190,7 @@ with_words-more text word k =
     let place : moved (text_width word + 1) (moved (text_width text + 1) k.place) ≡ moved (text_width (text ++ 32 ∷ word) + 1) k.place =
     moved-moved (text_width text + 1) (text_width word + 1) k.place ∙ ap (λ n. moved n k.place) (omega (arith, width)) in
     ap (λ xs. record (with_words word (with_words text k)) { line = xs }) line
-    ∙ ap (λ e. record (with_words word (with_words text k)) { line = whole.line; ends_sentence = e }) (sym (ends-append text (32 ∷ word) k.ends_sentence))
+    ∙ ap (λ e. record (with_words word (with_words text k)) { line = whole.line; ends_sentence = e }) (sym (ends-append text (32 ∷ word) false))
     ∙ ap (λ p. record whole { place = p }) place
 
 -- these words are told, and stand in the pending line with a blank between two of them

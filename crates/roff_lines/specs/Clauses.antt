@@ -1,7 +1,7 @@
 -- The words of this crate's clauses, for one import line in each source file.
 pub use Rattle.roff_layout.specs.declared.settings.Settings.{Settings}
 pub use Rattle.roff_layout.specs.declared.glyph.Glyph.{Glyph}
-pub use Rattle.roff_layout.specs.declared.glyph.Glyph.TheVariants.{Printed}
+pub use Rattle.roff_layout.specs.declared.glyph.Glyph.TheVariants.{Blanks, Printed}
 pub use Rattle.roff_layout.specs.declared.settings.Param.TheVariants.{Filling, Adjusting, Mode, LineLength, Indent, TemporaryIndent, Centring, Spacing, NoStops, Stop}
 pub use Rattle.roff_layout.specs.declared.settings.AdjustMode.TheVariants.{Right, Centre}
 pub use Rattle.roff_num.specs.Widths.{byte_width}
@@ -15,7 +15,7 @@ pub use Rattle.roff_layout.specs.TabStops.{TabStops, stops_with, way_to_stop, wa
 pub use Rattle.roff_lines.specs.NearestStop.{IsStop, LeadsToNearest}
 pub use Rattle.roff_layout.specs.Places.{most_place, moved, has_line_glyph, input_place, tab_width}
 pub use Rattle.roff_layout.specs.Fitting.{Word, gap_text, may_be_wide}
-pub use Rattle.roff_layout.specs.Words.{is_empty, has_open_word, is_closer, is_sentence_mark, ends_sentence_behind, ends_sentence_behind_words, line_glyphs, words, temporary_indent, indent_by}
+pub use Rattle.roff_layout.specs.Words.{is_empty, has_open_word, is_closer, is_sentence_mark, ends_sentence_behind, last_word_glyphs, words, temporary_indent, indent_by}
 pub use Rattle.roff_layout.specs.Telling.{glyphs_told, words_told, bytes_told, text_line, finished_by_byte, QuietlyTold, IsOfText, IsWordUnder, IsClear}
 pub use Rattle.roff_layout.specs.Lines.{Finished, pending_length, laid_out, empty_line, finished}
 pub use Rattle.roff_layout.specs.Columns.{finished_of, added_columns, printed, line_bytes, device_line, written_by_break, StandsInColumns}

@@ -140,12 +140,10 @@ impl Env {
         self.is_interrupted
     }
 
-    /// Counts a text line of the input, behind its end: one line less is to be centred.
+    /// Counts a text line of the input, behind its end: that changes nothing here.
     pub fn count(&mut self)
         ensures { StandsBehind self.old Count self.new }
-    {
-        self.settings = counted(self.settings);
-    }
+    {}
 
     /// Interrupts the line of the input: the next text line goes on in the same word.
     pub fn interrupt(&mut self)
@@ -173,7 +171,7 @@ impl Env {
     }
 }
 
-/// What is in force behind a text line of the input.
+/// What is in force behind a line of the input.
 fn counted(settings: Settings) -> Settings
     ensures { result ≡ counted settings }
 {

@@ -3,7 +3,6 @@
 ghost use Rattle.std.specs.Prelude.{◌≡◌, ◌<◌, if◌then◌else◌, true};
 ghost use Rattle.roff_lines.specs.Clauses.{text_byte, is_closer};
 ghost use Rattle.roff_lines.specs.Clauses.{is_sentence_mark, ends_sentence_behind};
-ghost use Rattle.roff_lines.specs.Clauses.{ends_sentence_behind_words};
 
 use roff_layout::{Glyph, UNPADDABLE};
 
@@ -41,7 +40,8 @@ pub(crate) fn ends_sentence_behind_glyph(glyph: Glyph, before: bool) -> bool
     }
 }
 
-/// Whether a sentence ends behind these printed bytes: closers leave that as it was before them.
+/// Whether a sentence ends behind these printed bytes: closers leave that as it was before them,
+/// and behind a blank none does.
 #[tactic(auto, using(crate::proofs::Sentences::ends_sentence_behind_push))]
 pub(crate) fn ends_sentence_behind(bytes: &[u8], before: bool) -> bool
     ensures { result ≡ ends_sentence_behind bytes.now before }
@@ -54,26 +54,6 @@ pub(crate) fn ends_sentence_behind(bytes: &[u8], before: bool) -> bool
         let glyph = Glyph::Printed(*last);
         if !is_closer(glyph) {
             return ends_sentence_behind_glyph(glyph, before);
-        }
-        front = others;
-    }
-    before
-}
-
-/// Whether a sentence ends behind these words of printed bytes, with blanks between them: closers
-/// and blanks leave that as it was before them.
-#[tactic(auto, using(crate::proofs::Sentences::ends_sentence_behind_words_push))]
-pub(crate) fn ends_sentence_behind_words(text: &[u8], before: bool) -> bool
-    ensures { result ≡ ends_sentence_behind_words text.now before }
-{
-    let mut front = text;
-    while let Some((last, others)) = front.split_last() {
-        if is_above_marks(*last) {
-            return false;
-        }
-        let printed = Glyph::Printed(*last);
-        if *last != b' ' && !is_closer(printed) {
-            return ends_sentence_behind_glyph(printed, before);
         }
         front = others;
     }

@@ -2,7 +2,7 @@
 
 ghost use Rattle.std.specs.Prelude.{◌≡◌, ◌↔◌, ℕ, ◌<◌, List, [], ◌∷◌, ◌++◌, length, map, All, Some};
 ghost use Rattle.std.specs.Prelude.{None, IfSome, true, false, codes};
-ghost use Rattle.roff_lines.specs.Clauses.{Printed, Glyph, LeaveTheSame, uninterrupted};
+ghost use Rattle.roff_lines.specs.Clauses.{Blanks, Printed, Glyph, LeaveTheSame, uninterrupted};
 ghost use Rattle.roff_lines.specs.Clauses.{LeadsToNearest, IsStop, TabStops, stops_after};
 ghost use Rattle.roff_lines.specs.Clauses.{way_to_stop, tab_width, StandsInColumns};
 ghost use Rattle.roff_lines.specs.Clauses.{written_by_break, lines_written, text_line, line_bytes};
@@ -86,6 +86,15 @@ pub fn line_rows()
     ensures centred { lines_written (Break ∷ text_line (codes "cc") (text_line (codes "bb")
         (Break ∷ WordEnd ∷ bytes_told (codes "aa") (Set (Centring 1) ∷ Set (LineLength 8) ∷ []))))
         ≡ codes "cc" ∷ codes "   bb" ∷ codes "   aa" ∷ [] }
+    // it is used up by the end of its line, so what stands between that and the count isn't centred
+    ensures centred_ends { lines_written (Break ∷ WordEnd ∷ bytes_told (codes "foot")
+        (LineEnd ∷ WordEnd ∷ bytes_told (codes "a") (Set (Centring 1) ∷ Set (LineLength 9) ∷ [])))
+        ≡ codes "foot" ∷ codes "    a" ∷ [] }
+    // the count behind it uses none up that was set between
+    ensures centred_between { lines_written (text_line (codes "b") (Count ∷ Set (Centring 1)
+        ∷ LineEnd ∷ WordEnd ∷ bytes_told (codes "a")
+        (Set (Filling false) ∷ Set (LineLength 9) ∷ [])))
+        ≡ codes "    b" ∷ codes "a" ∷ [] }
     // a centred line is neither measured nor adjusted, and never starts before its indent
     ensures centred_wide { lines_written (text_line (codes "aa bb") (Set (Centring 1)
         ∷ Set (Mode Right) ∷ Set (Indent 1) ∷ Set (LineLength 3) ∷ []))
@@ -107,10 +116,35 @@ pub fn line_rows()
         (Resume ∷ Interrupt ∷ bytes_told (codes "ab") [])) ≡ codes "abcd" ∷ [] }
     ensures is_interrupted { is_interrupted (Break ∷ Interrupt ∷ bytes_told (codes "ab") [])
         ≡ true }
+    // and the end of another line doesn't end it
+    ensures line_ends { is_interrupted (LineEnd ∷ Interrupt ∷ bytes_told (codes "ab") []) ≡ true }
     // `.ls 3`: two blank lines behind each line, an empty one too
     ensures spaced { map line_bytes (finished_lines (text_line (codes "a")
         (LineEnd ∷ Set (Spacing 3) ∷ Set (Filling false) ∷ [])))
         ≡ (97 ∷ 10 ∷ 10 ∷ 10 ∷ []) ∷ (10 ∷ 10 ∷ 10 ∷ []) ∷ [] }
+{}
+
+/// The blanks behind a line of the input, on worked rows: its last word says whether a sentence ends
+/// with it. A gap or a break in front of closers parts them from the word before.
+pub fn sentence_rows()
+    ensures gap { lines_written (Break ∷ text_line (codes "bar") (text_line (codes "foo. )") []))
+        ≡ codes "foo. ) bar" ∷ [] }
+    ensures brackets { lines_written (Break ∷ text_line (codes "bar")
+        (text_line (codes "a [ opt ... ]") [])) ≡ codes "a [ opt ... ] bar" ∷ [] }
+    ensures blank_at_the_end { lines_written (Break ∷ text_line (codes "bar")
+        (text_line (codes "foo. ") [])) ≡ codes "foo.  bar" ∷ [] }
+    // the word goes on over an interruption
+    ensures interrupted { lines_written (Break ∷ text_line (codes "bar") (text_line (codes ")")
+        (Resume ∷ Interrupt ∷ bytes_told (codes "foo.") []))) ≡ codes "foo.)  bar" ∷ [] }
+    ensures gap_and_interrupted { lines_written (Break ∷ text_line (codes "bar")
+        (text_line (codes ")") (Resume ∷ Interrupt ∷ bytes_told (codes "foo. ") [])))
+        ≡ codes "foo. ) bar" ∷ [] }
+    ensures break_between { lines_written (Break ∷ text_line (codes "bar") (text_line (codes ")")
+        (Resume ∷ Break ∷ WordEnd ∷ Interrupt ∷ bytes_told (codes "foo.") [])))
+        ≡ codes ") bar" ∷ codes "foo." ∷ [] }
+    // a glyph without width is another glyph
+    ensures other_glyph { lines_written (Break ∷ text_line (codes "bar") (text_line (codes ")")
+        (Print (Blanks 0) ∷ bytes_told (codes "foo.") []))) ≡ codes "foo.) bar" ∷ [] }
 {}
 
 /// The gap of a word that begins directly behind the end of another one, as text does that is put
@@ -120,6 +154,8 @@ pub fn begun_gap_rows()
         (WordEnd ∷ bytes_told (codes "five") [])) ≡ codes "five foot" ∷ [] }
     ensures sentence { lines_written (Break ∷ WordEnd ∷ bytes_told (codes "foot")
         (WordEnd ∷ bytes_told (codes "five.)") [])) ≡ codes "five.)  foot" ∷ [] }
+    ensures closer_apart { lines_written (Break ∷ WordEnd ∷ bytes_told (codes "foot")
+        (WordEnd ∷ bytes_told (codes "five. )") [])) ≡ codes "five. ) foot" ∷ [] }
     ensures tab { lines_written (Break ∷ WordEnd ∷ Print (Printed 98) ∷ Tab
         ∷ WordEnd ∷ bytes_told (codes "a") []) ≡ codes "a        b" ∷ [] }
     // the first word of a line and of a paragraph has none

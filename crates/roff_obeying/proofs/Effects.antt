@@ -1,5 +1,5 @@
 -- Effects to which the code comes.
-use Rattle.std.proofs.Common.{◌≡◌, ◌∙◌, ◌&&◌, Bool, true, false, List, [], ◌∷◌, None, ap, refl}
+use Rattle.std.proofs.Common.{◌≡◌, ◌∙◌, ◌&&◌, Bool, true, false, List, [], ◌∷◌, None, ap, refl, slice_get}
 use Rattle.std.specs.Prelude.{ℕ}
 use Rattle.roff_requests.specs.Request.Coded.{calls_of, changes_of, register_named}
 use Rattle.roff_requests.specs.declared.requests.effects.Changes.{Changes}
@@ -57,3 +57,9 @@ set_register-unnamed k (name ∷ []) is = refl
 set_register-unnamed k ([] ∷ value ∷ others) is = refl
 set_register-unnamed k ((c ∷ []) ∷ value ∷ others) is = cc
 set_register-unnamed k ((c ∷ d ∷ rest) ∷ value ∷ others) is = cc
+
+-- nor is one without a value
+pub set_register-without : (k : Known) (as_given : List (List ℕ)) → slice_get as_given 1 ≡ None → set_register k as_given ≡ Ignored []
+set_register-without k [] is = refl
+set_register-without k (name ∷ []) is = refl
+set_register-without k (name ∷ value ∷ others) is = cc

@@ -1,5 +1,6 @@
 pub mod NextStop
 pub mod FirstTraps
+pub mod KnownStops
 pub mod WholePages
 pub mod Standing
 pub mod PageBoxes

@@ -1,4 +1,5 @@
 pub mod FirstTraps
+pub mod KnownStops
 pub mod Counted
 pub mod Kept
 pub mod Stands

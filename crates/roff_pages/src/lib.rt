@@ -11,6 +11,7 @@ mod open_diversion;
 mod pages;
 pub mod rows;
 mod sought;
+mod stops;
 mod traps;
 
 pub use pages::Pages;

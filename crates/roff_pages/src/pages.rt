@@ -12,6 +12,7 @@ mod spacing;
 mod turning;
 
 use crate::open_diversion::OpenDiversion;
+use crate::stops::Stops;
 use arrayvec::ArrayVec;
 use roff_layout::Trap;
 use roff_num::{Limits, Num};
@@ -46,6 +47,8 @@ pub struct Pages {
     place: u64,
     /// The next trap beyond the place, or the page's end.
     stop: u64,
+    /// What is known of it and of others.
+    stops: Stops,
     /// How many lines may be placed before the stop, the limit on the output, whether the page is
     /// written, or no-space mode has to be looked at.
     free: u64,
@@ -106,6 +109,11 @@ impl Pages {
             most_traps: limits.traps,
             place: 0,
             stop: 66,
+            stops: Stops {
+                trap: 0,
+                beyond: Vec::with_capacity(alloc, limits.traps as usize)?,
+                top: None,
+            },
             free: 0,
             is_listed: false,
             no_space: false,

@@ -9,4 +9,6 @@ pub(crate) enum Sought {
     Given(i32),
     /// Those of this name.
     Named(ShortName),
+    /// Those that lie at this place of a page of this length.
+    Lying(u32, u64),
 }

@@ -1,6 +1,7 @@
 //! The traps of a page: where they lie, and which are met (manual, section 7.5).
 
-ghost use Rattle.std.specs.Prelude.{◌≡◌, ◌≤◌, ◌<◌, length, vec_capacity, OnOk, IfErr};
+ghost use Rattle.std.specs.Prelude.{◌≡◌, ◌≤◌, ◌<◌, length, vec_capacity, OnOk, IfOk, IfErr};
+ghost use Rattle.std.specs.Prelude.{true, ◌++◌, ◌∷◌, []};
 ghost use Rattle.roff_num.specs.declared.limit.Limit.TheVariants.{Traps};
 ghost use Rattle.std.specs.Prelude.{ℕ, ◌+◌, Some};
 ghost use Rattle.roff_layout.specs.Stops.{place_of, next_stop, nearer_stop, stop_at, trap_stop};
@@ -9,14 +10,15 @@ ghost use Rattle.roff_pages.specs.Pages.Counted.{counted};
 ghost use Rattle.roff_layout.specs.Turning.{is_named, same_name};
 ghost use Rattle.roff_layout.specs.Turning.{moved_to, with_first, with_trap, without_first};
 ghost use Rattle.roff_layout.specs.Springs.{diversion_trap_passed, first_met, is_on_top, is_passed};
-ghost use Rattle.roff_pages.specs.Pages.FirstTraps.{first_index, is_sought};
+ghost use Rattle.roff_pages.specs.Pages.FirstTraps.{first_index, is_at, is_sought};
+ghost use Rattle.roff_pages.specs.Pages.KnownStops.{name_at};
 
 use crate::sought::Sought;
 use roff_layout::Trap;
 use roff_num::{Limit, ShortName};
 
 /// Where a place as it was given lies on a page of this length, in lines, if it lies there.
-fn place_of(length: u32, place: i32) -> Option<u64>
+pub(crate) fn place_of(length: u32, place: i32) -> Option<u64>
     ensures { result ≡ place_of length place }
 {
     if place >= 0 {
@@ -28,7 +30,7 @@ fn place_of(length: u32, place: i32) -> Option<u64>
 }
 
 /// The nearer of two stops beyond a place, of which the first may lie nowhere.
-fn nearer_stop(place: u64, trap: Option<u64>, stop: u64) -> u64
+pub(crate) fn nearer_stop(place: u64, trap: Option<u64>, stop: u64) -> u64
     ensures { result ≡ nearer_stop place trap stop }
 {
     match trap {
@@ -77,6 +79,17 @@ pub(crate) fn first_passed(length: u32, from: u64, to: u64, traps: &[Trap]) -> O
         }
     }
     None
+}
+
+/// The name of the trap of this place in turn, if it is there.
+pub(crate) fn name_at(traps: &[Trap], index: usize) -> Option<ShortName>
+    ensures { result ≡ name_at index traps.now }
+{
+    if index < traps.len() {
+        Some(traps[index].name)
+    } else {
+        None
+    }
 }
 
 /// How far a diversion's trap is beyond a height, if it lies beyond it. Heights are counted as open
@@ -130,11 +143,13 @@ fn passed_beyond(height: u64, lines: u64, trap: Trap) -> Option<ShortName>
 }
 
 /// Plants a trap among others: in the place in turn of the first with the same place as given, or
-/// as the last one, if there are fewer than may be.
-pub(crate) fn plant_among(traps: &mut Vec<Trap>, trap: Trap, most: u32) -> Result<(), Limit>
+/// as the last one, if there are fewer than may be. Answers whether it is the last one.
+pub(crate) fn plant_among(traps: &mut Vec<Trap>, trap: Trap, most: u32) -> Result<bool, Limit>
     requires room { most ≤ vec_capacity traps.old }
     requires few { length traps.old.items ≤ most }
     ensures traps { OnOk result (traps.new.items ≡ with_trap trap traps.old.items) }
+    ensures last { IfOk result (λ last. last ≡ true
+        → traps.new.items ≡ traps.old.items ++ trap ∷ []) }
     ensures within { OnOk result (length (with_trap trap traps.old.items) ≤ most) }
     ensures limit { IfErr result (λ l. l ≡ Traps) }
     ensures same { IfErr result (λ l. traps.new ≡ traps.old) }
@@ -144,13 +159,13 @@ pub(crate) fn plant_among(traps: &mut Vec<Trap>, trap: Trap, most: u32) -> Resul
     let index = index_of(traps.as_slice(), Sought::Given(trap.place));
     if index < traps.len() {
         traps[index] = trap;
-        return Ok(());
+        return Ok(false);
     }
     if traps.len() >= most as usize {
         return Err(Limit::Traps);
     }
     traps.push(trap).unwrap();
-    Ok(())
+    Ok(true)
 }
 
 /// Removes the first trap that is sought.
@@ -184,7 +199,7 @@ pub(crate) fn move_named(traps: &mut Vec<Trap>, name: ShortName, place: i32)
 }
 
 /// The place in turn of the first trap that is sought, or how many there are.
-fn index_of(traps: &[Trap], sought: Sought) -> usize
+pub(crate) fn index_of(traps: &[Trap], sought: Sought) -> usize
     ensures index { result ≡ first_index (is_sought sought) traps.now }
     ensures within { result ≤ length traps.now }
 {
@@ -207,6 +222,17 @@ fn is_sought(trap: Trap, sought: Sought) -> bool
     match sought {
         Sought::Given(place) => trap.place == place,
         Sought::Named(name) => is_same(trap.name, name),
+        Sought::Lying(length, place) => is_at(place, place_of(length, trap.place)),
+    }
+}
+
+/// Whether a place on a page, if it is there, is this one.
+fn is_at(place: u64, lying: Option<u64>) -> bool
+    ensures { result ≡ is_at place lying }
+{
+    match lying {
+        Some(n) => n == place,
+        None => false,
     }
 }
 

@@ -8,7 +8,7 @@ use Rattle.roff_num.specs.declared.limits.Limits.{Limits}
 use Rattle.roff_layout.specs.Events.{History, settings_after}
 use Rattle.roff_layout.specs.Fitting.{Word}
 use Rattle.roff_layout.specs.Lines.{Finished}
-use Rattle.roff_layout.specs.Words.{begun_gap, blanks, ends_sentence, has_open_word, is_empty, line_end_gap, line_glyphs, open_glyphs, open_word, words}
+use Rattle.roff_layout.specs.Words.{begun_gap, blanks, ends_sentence, has_open_word, is_empty, line_end_gap, last_word_glyphs, open_glyphs, open_word, words}
 use Rattle.roff_layout.specs.declared.event.Event.{Event}
 use Rattle.roff_layout.specs.declared.event.Event.TheVariants.{Print, Tab, WordEnd, Gap, LineEnd, Count, Break, Interrupt as Interrupted, Resume, Set}
 use Rattle.roff_layout.specs.declared.glyph.Glyph.{Glyph}
@@ -204,15 +204,15 @@ gap-some false other before more is apart = absurd (cc)
 blanks-some : (h : History) → has_open_word h ≡ true → 0 < blanks h
 blanks-some [] is = absurd (cc)
 blanks-some (Print g ∷ h) is =
-    begun-some (has_open_word h) (blanks h) (begun_gap (blanks h) (line_glyphs h)) (blanks-some h) (begun_gap-some (blanks h) (line_glyphs h))
+    begun-some (has_open_word h) (blanks h) (begun_gap (blanks h) (last_word_glyphs h)) (blanks-some h) (begun_gap-some (blanks h) (last_word_glyphs h))
 blanks-some (Tab ∷ h) is =
-    begun-some (has_open_word h) (blanks h) (begun_gap (blanks h) (line_glyphs h)) (blanks-some h) (begun_gap-some (blanks h) (line_glyphs h))
+    begun-some (has_open_word h) (blanks h) (begun_gap (blanks h) (last_word_glyphs h)) (blanks-some h) (begun_gap-some (blanks h) (last_word_glyphs h))
 blanks-some (WordEnd ∷ h) is = absurd (cc)
 blanks-some (Gap n ∷ h) is =
     gap-some (has_open_word h) (not (has_line_glyph h) && not (blanks h == 0)) (blanks h) (blanks h + n) is (blanks-some h is)
 blanks-some (LineEnd ∷ h) is =
     gap-some (has_open_word h) (fills (settings_after h) && not (has_line_glyph h)) (blanks h)
-    (if fills (settings_after h) then line_end_gap (line_glyphs h) else 0) is (blanks-some h is)
+    (if fills (settings_after h) then line_end_gap (last_word_glyphs h) else 0) is (blanks-some h is)
 blanks-some (Count ∷ h) is = blanks-some h is
 blanks-some (Break ∷ h) is = same-some (has_open_word h) (blanks h) 0 is (blanks-some h is)
 blanks-some (Interrupted ∷ h) is = blanks-some h is
@@ -224,7 +224,7 @@ words_stand_apart = blanks-some
 
 pub open_words_go_on : OpenWordsGoOn
 open_words_go_on h g is =
-    (reverse-cons g (open_glyphs h), ap (λ (c : Bool). if c then blanks h else begun_gap (blanks h) (line_glyphs h)) is, refl)
+    (reverse-cons g (open_glyphs h), ap (λ (c : Bool). if c then blanks h else begun_gap (blanks h) (last_word_glyphs h)) is, refl)
 
 -- where nothing comes before a gap, a line's end or a break no word is open
 none_before : (h : PageHistory) (e : PageEvent) (own : Option PageEvent)

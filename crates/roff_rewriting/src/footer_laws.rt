@@ -78,6 +78,24 @@ pub fn footer_rows()
     ensures joined_at_a_line_end { formatted
         (codes ".pl 3\n.nf\n.de F\nfoot\\\\\n..\n.wh 1v F\na\nb\n")
         ≡ gives (codes "a\nfootb\n\n") [] Done }
+    ensures at_the_end_of_a_centred_line { formatted
+        (codes ".pl 5\n.ll 9n\n.de T\nfoot\n.br\n..\n.wh 1v T\n.ce\na\nb\nc\nd\n")
+        ≡ gives (codes "    a\nfoot\nb c d\n\n\n") [] Done }
+    ensures that_centres { formatted
+        (codes ".pl 5\n.ll 9n\n.de T\n.ce\n..\n.wh 1v T\n.nf\na\nb\nc\n")
+        ≡ gives (codes "a\n    b\nc\n\n\n") [] Done }
+    ensures interrupted_in_front_of_a_blank_line { formatted
+        (codes ".pl 4\n.ll 4n\n.de T\nt\\c\n..\n.wh 1v T\ncc dd\n\ne\n")
+        ≡ gives (codes "cc\ndd t\ne\n\n") [] Done }
+    ensures interrupted_in_front_of_blanks { formatted
+        (codes ".pl 6\n.ll 4n\n.de T\nt\\c\n..\n.wh 1v T\ncc dd\n e\n")
+        ≡ gives (codes "cc\ndd t\ne\n\n\n\n") [] Done }
+    ensures interrupted_in_front_of_a_glyph { formatted
+        (codes ".pl 4\n.ll 9n\n.de H\nh\\c\n..\n.wh 0 H\na\n\nb\n")
+        ≡ gives (codes "ha\n\nb\n\n") [] Done }
+    ensures interrupted_and_left { formatted
+        (codes ".pl 2\n'nf\n.de H\nh\\c\n.ex\n..\n.wh 0 H\nabc\n")
+        ≡ gives (codes "h\n\n") [] Done }
     ensures in_an_interrupted_word { formatted
         (codes ".pl 3\n.nf\n.de F\nfoot\n..\n.wh 1v F\nab\\c\n'sp\ncd\n")
         ≡ gives (codes "\nabfoot\ncd\n") [] Done }

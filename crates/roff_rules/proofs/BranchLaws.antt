@@ -19,7 +19,7 @@ use Rattle.roff_run.specs.Reading.Branches.{branch_of, reads_else, branch_taking
 use Rattle.roff_run.specs.Reading.Returns.{behind_return}
 use Rattle.roff_run.specs.Reading.Items.{PageInput, Taking, going_on}
 use Rattle.roff_run.specs.Reading.Waiting.{waiting_above}
-use Rattle.roff_run.specs.Run.{State, ahead_taken, in_front_taken, made, read_waiting, step, stopped_by, after, byte_taken, known, taken_as}
+use Rattle.roff_run.specs.Run.{State, ahead_taken, in_front_taken, made, read_waiting, going_back_to, step, stopped_by, after, byte_taken, known, taken_as}
 use Rattle.roff_run.specs.PageEvents.{PageEvent}
 use Rattle.roff_run.specs.declared.line_state.LineState.{LineState}
 use Rattle.roff_run.specs.declared.line_state.LineState.TheVariants.{LineStart, Control, Name}
@@ -291,7 +291,7 @@ step-return l s rest begins ahead charged =
     ∙ ap (λ (half : List OpenEscape). read_waiting l (waiting_above LineStart s.input.arguments.place half) s) begins.escapes
     ∙ ap (λ (items : List (Ahead PageEvent)). in_front_taken l items s) ahead
     ∙ ap (λ (c : Bool). if c then stopped_by l Bytes s else done) (le-ltb l.bytes (s.input.charge + 1) (omega (arith, charged)))
-    ∙ ap (λ (r : LineState). made l s (record there { reading = behind_return 0 r })) begins.reading
+    ∙ ap (λ (r : LineState). made l s (going_back_to (behind_return 0 r) there)) begins.reading
     ∙ ap (λ (r : LineState). made l s (record there { reading = r })) (sym begins.reading)
 
 pub results_end_with_their_body : ResultsEndWithTheirBody

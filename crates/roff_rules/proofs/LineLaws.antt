@@ -10,13 +10,13 @@ use Rattle.roff_layout.specs.Lines.{Finished, empty_line, line_laid_out, pending
 use Rattle.roff_layout.specs.Places.{has_line_glyph}
 use Rattle.roff_layout.specs.Settings.{fills}
 use Rattle.roff_layout.specs.Telling.{bytes_told, glyphs_told, text_line}
-use Rattle.roff_layout.specs.Words.{blanks, ends_sentence, has_open_word, indent_by, is_closer, is_empty, is_sentence_mark, line_end_gap, line_glyphs, open_glyphs, open_word, words}
+use Rattle.roff_layout.specs.Words.{blanks, ends_sentence, has_open_word, indent_by, is_closer, is_empty, is_sentence_mark, line_end_gap, last_word_glyphs, open_glyphs, open_word, words}
 use Rattle.roff_layout.specs.declared.glyph.Glyph.{Glyph}
 use Rattle.roff_layout.specs.declared.glyph.Glyph.TheVariants.{Printed}
 use Rattle.roff_layout.specs.declared.settings.Param.TheVariants.{Centring, TemporaryIndent}
 use Rattle.roff_layout.specs.declared.settings.Settings.{Settings}
 use Rattle.roff_rules.proofs.AskedHalves.{differs}
-use Rattle.roff_rules.specs.LineLaws.{CentredLinesStandInTheMiddle, LinesAreSpaced, NoOtherGlyphEndsASentence, OtherLinesHaveTheIndentInForce, SentencesAreTwoBlanksApart, SentencesEndAtTheirMarks, SoManyLinesAreCentred, TemporaryIndentsAreForOneLine, lines_told}
+use Rattle.roff_rules.specs.LineLaws.{CentredLinesStandInTheMiddle, ClosersApartEndNoSentence, LinesAreSpaced, NoOtherGlyphEndsASentence, OtherLinesHaveTheIndentInForce, SentencesAreTwoBlanksApart, SentencesEndAtTheirMarks, SoManyLinesAreCentred, TemporaryIndentsAreForOneLine, lines_told}
 
 -- a gap of one blank or two isn't none
 gap-begun : (ends : Bool) (rest : ℕ) → let n : ℕ = if ends then 2 else 1 in (if n == 0 then rest else n) ≡ n
@@ -24,7 +24,7 @@ gap-begun true rest = refl
 gap-begun false rest = refl
 
 -- the blanks behind the end of such a line
-blanks-line_end : (h : History) → fills (settings_after h) ≡ true → has_line_glyph h ≡ true → has_open_word h ≡ false → blanks (LineEnd ∷ h) ≡ line_end_gap (line_glyphs h)
+blanks-line_end : (h : History) → fills (settings_after h) ≡ true → has_line_glyph h ≡ true → has_open_word h ≡ false → blanks (LineEnd ∷ h) ≡ line_end_gap (last_word_glyphs h)
 blanks-line_end h measured glyph closed = rw (closed, measured, glyph) refl
 
 -- no word is open behind it
@@ -35,10 +35,10 @@ none_open (g ∷ gs) closed = absurd (cc)
 pub sentences_are_two_blanks_apart : SentencesAreTwoBlanksApart
 sentences_are_two_blanks_apart h glyphs measured glyph closed some =
     let behind : History = Count ∷ LineEnd ∷ h in
-    let rest : ℕ = line_end_gap (line_glyphs behind) in
+    let rest : ℕ = line_end_gap (last_word_glyphs behind) in
     ap (λ (w : Word). w.gap) (open_word-word glyphs behind some (none_open (open_glyphs h) closed))
     ∙ ap (λ (n : ℕ). if n == 0 then rest else n) (blanks-line_end h measured glyph closed)
-    ∙ gap-begun (ends_sentence (line_glyphs h)) rest
+    ∙ gap-begun (ends_sentence (last_word_glyphs h)) rest
 
 -- a byte that is printed is a glyph
 told-glyph : (p : Glyph → Bool) (b : ℕ) (bytes : List ℕ) (h : History) → p (Printed b) ≡ true → p (Printed 32) ≡ false
@@ -46,15 +46,24 @@ told-glyph : (p : Glyph → Bool) (b : ℕ) (bytes : List ℕ) (h : History) →
 told-glyph p b bytes h is isnt =
     ap (λ (c : Bool). bytes_told bytes (if c then Gap 1 ∷ WordEnd ∷ h else Print (Printed b) ∷ h)) (differs (λ (c : ℕ). p (Printed c)) b 32 is isnt)
 
--- closers leave it as it was that a sentence ends
-closers-behind : (closers : List ℕ) (h : History) → All (λ b. is_closer (Printed b) ≡ true) closers → ends_sentence (line_glyphs h) ≡ true
-    → ends_sentence (line_glyphs (bytes_told closers h)) ≡ true
-closers-behind [] h are ends = ends
-closers-behind (b ∷ closers) h are ends =
+-- whether a sentence ends with the open word, of which no glyph is there where none is open
+abbrev ends_if : Bool → History → Bool
+ends_if is_open h = ends_sentence (if is_open then last_word_glyphs h else [])
+
+-- a closer leaves that as it was
+closer-behind : (b : ℕ) (h : History) → is_closer (Printed b) ≡ true
+    → ends_sentence (last_word_glyphs (Print (Printed b) ∷ h)) ≡ ends_if (has_open_word h) h
+closer-behind b h is = ap (λ (c : Bool). if c then ends_if (has_open_word h) h else is_sentence_mark (Printed b)) is
+
+-- and so do more of them
+closers-behind : (closers : List ℕ) (h : History) → All (λ b. is_closer (Printed b) ≡ true) closers → has_open_word h ≡ true
+    → ends_sentence (last_word_glyphs (bytes_told closers h)) ≡ ends_sentence (last_word_glyphs h)
+closers-behind [] h are is_open = refl
+closers-behind (b ∷ closers) h are is_open =
     let is : is_closer (Printed b) ≡ true = All-head (λ c. is_closer (Printed c) ≡ true) b closers are in
-    ap (λ (g : History). ends_sentence (line_glyphs g)) (told-glyph is_closer b closers h is refl)
-    ∙ closers-behind closers (Print (Printed b) ∷ h) (All-tail (λ c. is_closer (Printed c) ≡ true) b closers are)
-    (ap (λ (c : Bool). if c then ends_sentence (line_glyphs h) else is_sentence_mark (Printed b)) is ∙ ends)
+    ap (λ (g : History). ends_sentence (last_word_glyphs g)) (told-glyph is_closer b closers h is refl)
+    ∙ closers-behind closers (Print (Printed b) ∷ h) (All-tail (λ c. is_closer (Printed c) ≡ true) b closers are) refl
+    ∙ closer-behind b h is ∙ ap (λ (c : Bool). ends_if c h) is_open
 
 -- a mark is no closer
 no_closer : (b : ℕ) → is_sentence_mark (Printed b) ≡ true → is_closer (Printed b) ≡ false
@@ -68,13 +77,19 @@ no_closer b is =
 
 pub sentences_end_at_their_marks : SentencesEndAtTheirMarks
 sentences_end_at_their_marks h mark closers is are =
-    ap (λ (g : History). ends_sentence (line_glyphs g)) (told-glyph is_sentence_mark mark closers h is refl)
-    ∙ closers-behind closers (Print (Printed mark) ∷ h) are
-    (ap (λ (c : Bool). if c then ends_sentence (line_glyphs h) else is_sentence_mark (Printed mark)) (no_closer mark is) ∙ is)
+    ap (λ (g : History). ends_sentence (last_word_glyphs g)) (told-glyph is_sentence_mark mark closers h is refl)
+    ∙ closers-behind closers (Print (Printed mark) ∷ h) are refl
+    ∙ ap (λ (c : Bool). if c then ends_if (has_open_word h) h else is_sentence_mark (Printed mark)) (no_closer mark is) ∙ is
+
+pub closers_apart_end_no_sentence : ClosersApartEndNoSentence
+closers_apart_end_no_sentence h closer closers closed is are =
+    ap (λ (g : History). ends_sentence (last_word_glyphs g)) (told-glyph is_closer closer closers h is refl)
+    ∙ closers-behind closers (Print (Printed closer) ∷ h) are refl
+    ∙ closer-behind closer h is ∙ ap (λ (c : Bool). ends_if c h) closed
 
 pub no_other_glyph_ends_a_sentence : NoOtherGlyphEndsASentence
 no_other_glyph_ends_a_sentence h glyph no_mark closer =
-    ap (λ (c : Bool). if c then ends_sentence (line_glyphs h) else is_sentence_mark glyph) closer ∙ no_mark
+    ap (λ (c : Bool). if c then ends_if (has_open_word h) h else is_sentence_mark glyph) closer ∙ no_mark
 
 -- while lines are centred no words are measured
 unmeasured : (filling centring : Bool) → centring ≡ false → (filling && centring) ≡ false

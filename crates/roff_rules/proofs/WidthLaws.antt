@@ -9,7 +9,7 @@ use Rattle.std.proofs.lemmas.List.Elements.{All-head, All-tail}
 use Rattle.std.proofs.lemmas.List.Sums.{sum_by-cons}
 use Rattle.roff_layout.specs.Glyphs.{glyph_text, glyph_blank}
 use Rattle.roff_layout.specs.Places.{tab_width}
-use Rattle.roff_layout.specs.Words.{begun_gap, blanks, has_open_word, is_empty, line_glyphs, open_glyphs, words}
+use Rattle.roff_layout.specs.Words.{begun_gap, blanks, has_open_word, is_empty, last_word_glyphs, open_glyphs, words}
 use Rattle.roff_layout.specs.declared.glyph.Glyph.{Glyph}
 use Rattle.roff_layout.specs.declared.glyph.Glyph.TheVariants.{Blanks}
 use Rattle.roff_num.specs.declared.limit.Limit.TheVariants.{Line}
@@ -349,7 +349,7 @@ length-Blanks n glyphs =
 
 pub motions_are_as_long_as_their_columns : MotionsAreAsLongAsTheirColumns
 motions_are_as_long_as_their_columns h n =
-    omega (arith, gap-counts (has_open_word h) (is_empty (words h)) (blanks h) (begun_gap (blanks h) (line_glyphs h)), length-Blanks n (open_glyphs h))
+    omega (arith, gap-counts (has_open_word h) (is_empty (words h)) (blanks h) (begun_gap (blanks h) (last_word_glyphs h)), length-Blanks n (open_glyphs h))
 
 pub motions_count_in_the_line : MotionsCountInTheLine
 motions_count_in_the_line l h n =

@@ -15,7 +15,7 @@ use Rattle.roff_run.specs.Reading.Returns.{gone_back_to}
 use Rattle.roff_run.specs.Registers.{is_read_only, settable}
 use Rattle.roff_run.specs.Requests.{called_by}
 use Rattle.roff_run.specs.Events.Lines.{closing_events}
-use Rattle.roff_run.specs.Run.{State, ending_as, known, made, step, with_registers}
+use Rattle.roff_run.specs.Run.{State, ending_as, known, made, going_back_to, step, with_registers}
 use Rattle.roff_run.specs.declared.line_state.LineState.TheVariants.{Exiting, LineStart}
 use Rattle.roff_run.specs.declared.phase.Phase.{Phase}
 use Rattle.roff_run.specs.declared.phase.Phase.TheVariants.{Reading, LastMacro, Closing}
@@ -70,7 +70,7 @@ ThenTheRunIsDone = (l : Limits) (s : State) → IsReadThrough Closing s → step
 abbrev pub ExClosesTheInput : Type 0
 ExClosesTheInput =
     (l : Limits) (s : State) → s.ended ≡ None → s.to_do ≡ [] → s.sprung ≡ None → s.reading ≡ Exiting → s.phase ≢ Closing
-    → step l s ≡ made l s (record s { input = leaving s.input; reading = gone_back_to (outermost_back 0 s.input.ahead); is_closed = true })
+    → step l s ≡ made l s (going_back_to (gone_back_to (outermost_back 0 s.input.ahead)) (record s { input = leaving s.input; is_closed = true }))
 
 -- as the run closes nothing is dropped: its line ends, and does nothing
 abbrev pub ExIsIgnoredAsTheRunCloses : Type 0

@@ -9,7 +9,7 @@ use Rattle.roff_layout.specs.Lines.{Finished, finished, free_columns, pending_li
 use Rattle.roff_layout.specs.Places.{has_line_glyph}
 use Rattle.roff_layout.specs.Settings.{fills}
 use Rattle.roff_layout.specs.Telling.{bytes_told, glyphs_told, text_line}
-use Rattle.roff_layout.specs.Words.{ends_sentence, has_open_word, is_closer, is_empty, is_sentence_mark, line_glyphs, open_word, temporary_indent, words}
+use Rattle.roff_layout.specs.Words.{ends_sentence, has_open_word, is_closer, is_empty, is_sentence_mark, last_word_glyphs, open_word, temporary_indent, words}
 use Rattle.roff_layout.specs.declared.event.Event.{Event}
 use Rattle.roff_layout.specs.declared.glyph.Glyph.{Glyph}
 use Rattle.roff_layout.specs.declared.glyph.Glyph.TheVariants.{Printed}
@@ -22,19 +22,25 @@ abbrev pub SentencesAreTwoBlanksApart : Type 0
 SentencesAreTwoBlanksApart =
     (h : History) (glyphs : List Glyph) → fills (settings_after h) ≡ true → has_line_glyph h ≡ true → has_open_word h ≡ false →
     is_empty glyphs ≡ false →
-    (open_word (glyphs_told glyphs (Count ∷ LineEnd ∷ h))).gap ≡ (if ends_sentence (line_glyphs h) then 2 else 1)
+    (open_word (glyphs_told glyphs (Count ∷ LineEnd ∷ h))).gap ≡ (if ends_sentence (last_word_glyphs h) then 2 else 1)
 
 -- a sentence ends behind a mark and any closers behind it
 abbrev pub SentencesEndAtTheirMarks : Type 0
 SentencesEndAtTheirMarks =
     (h : History) (mark : ℕ) (closers : List ℕ) → is_sentence_mark (Printed mark) ≡ true →
-    All (λ b. is_closer (Printed b) ≡ true) closers → ends_sentence (line_glyphs (bytes_told (mark ∷ closers) h)) ≡ true
+    All (λ b. is_closer (Printed b) ≡ true) closers → ends_sentence (last_word_glyphs (bytes_told (mark ∷ closers) h)) ≡ true
+
+-- none ends behind closers alone, which a gap or a break parts from the word before them
+abbrev pub ClosersApartEndNoSentence : Type 0
+ClosersApartEndNoSentence =
+    (h : History) (closer : ℕ) (closers : List ℕ) → has_open_word h ≡ false → is_closer (Printed closer) ≡ true →
+    All (λ b. is_closer (Printed b) ≡ true) closers → ends_sentence (last_word_glyphs (bytes_told (closer ∷ closers) h)) ≡ false
 
 -- and none behind another glyph
 abbrev pub NoOtherGlyphEndsASentence : Type 0
 NoOtherGlyphEndsASentence =
     (h : History) (glyph : Glyph) → is_sentence_mark glyph ≡ false → is_closer glyph ≡ false →
-    ends_sentence (line_glyphs (Print glyph ∷ h)) ≡ false
+    ends_sentence (last_word_glyphs (Print glyph ∷ h)) ≡ false
 
 -- a line of the input that is centred is a line by itself, with half of the columns that it leaves free in front, behind its indent
 abbrev pub CentredLinesStandInTheMiddle : Type 0

@@ -4,7 +4,7 @@ use Rattle.std.specs.Prelude.{◌≡◌, ℕ, ◌+◌, ◌*◌, Bool, true, fals
 use Rattle.roff_layout.specs.Events.{History}
 use Rattle.roff_layout.specs.Lines.{pending_length}
 use Rattle.roff_layout.specs.Places.{tab_width}
-use Rattle.roff_layout.specs.Words.{begun_gap, blanks, has_open_word, is_empty, line_glyphs, words}
+use Rattle.roff_layout.specs.Words.{begun_gap, blanks, has_open_word, is_empty, last_word_glyphs, words}
 use Rattle.roff_layout.specs.declared.event.Event.TheVariants.{Print, Tab}
 use Rattle.roff_layout.specs.declared.glyph.Glyph.TheVariants.{Blanks}
 use Rattle.roff_num.specs.declared.limit.Limit.TheVariants.{Line}
@@ -113,7 +113,7 @@ MeasuredTextsOfTheSourceReadAsDigits =
 
 -- the gap before a word that begins here: none within a word, nor where the line begins
 abbrev pub gap_begun : History → ℕ
-gap_begun h = if has_open_word h || is_empty (words h) then 0 else begun_gap (blanks h) (line_glyphs h)
+gap_begun h = if has_open_word h || is_empty (words h) then 0 else begun_gap (blanks h) (last_word_glyphs h)
 
 -- a motion is a glyph of so many blanks: the pending line is so much longer behind it, and longer by the gap before it
 -- where it begins a word

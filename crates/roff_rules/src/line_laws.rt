@@ -2,6 +2,7 @@
 //! and spacing, as contracts of functions that do nothing.
 
 ghost use Rattle.roff_rules.specs.LineLaws.{CentredLinesStandInTheMiddle, LinesAreSpaced};
+ghost use Rattle.roff_rules.specs.LineLaws.{ClosersApartEndNoSentence};
 ghost use Rattle.roff_rules.specs.LineLaws.{NoOtherGlyphEndsASentence, SpacingsAreInForce};
 ghost use Rattle.roff_rules.specs.LineLaws.{OtherLinesHaveTheIndentInForce, SoManyLinesAreCentred};
 ghost use Rattle.roff_rules.specs.LineLaws.{SentencesAreTwoBlanksApart, SentencesEndAtTheirMarks};
@@ -9,10 +10,11 @@ ghost use Rattle.roff_rules.specs.LineLaws.{TemporaryIndentsAreForOneLine};
 
 /// The first word of a line of the input has two blanks in front where a sentence ended with the
 /// line before it, and else one. A sentence ends behind a full stop, a question mark or an
-/// exclamation mark, and closing quotes and brackets behind it, and nowhere else.
+/// exclamation mark, and closing quotes and brackets behind it in its word, and nowhere else.
 pub fn sentences()
     ensures gap { SentencesAreTwoBlanksApart }
     ensures marks { SentencesEndAtTheirMarks }
+    ensures apart { ClosersApartEndNoSentence }
     ensures others { NoOtherGlyphEndsASentence }
 {}
 

@@ -16,7 +16,7 @@ use Rattle.roff_run.specs.Reading.Units.{interrupted}
 use Rattle.roff_run.specs.Reading.Returns.{behind_return}
 use Rattle.roff_run.specs.Reading.Items.{PageInput}
 use Rattle.roff_run.specs.Requests.{PageEvent}
-use Rattle.roff_run.specs.Run.{front_seen, State, made, byte_taken, ending_input, ending_with, ending_as, stopped_by, in_front_taken, answered, ahead_taken, escape_ends, awaited, awaited_of_source}
+use Rattle.roff_run.specs.Run.{front_seen, State, made, byte_taken, ending_input, ending_with, ending_as, stopped_by, in_front_taken, answered, ahead_taken, escape_ends, awaited, awaited_of_source, going_back_to}
 use Rattle.roff_run.specs.declared.message.Message.TheVariants.{ReadFailed}
 use Rattle.roff_run.specs.declared.status.Status.TheVariants.{Device, Limit as Limited}
 
@@ -30,7 +30,7 @@ ending_step l (Stopped limit) from = ending_as (Limited limit) from
 abbrev pub shown_step : Limits → Shown PageEvent → State → State → State
 shown_step l (ShowsByte b) from behind = made l from (byte_taken b behind)
 shown_step l ShowsEnd from behind = made l from behind
-shown_step l (ShowsReturn back) from behind = made l from (record behind { reading = behind_return back behind.reading })
+shown_step l (ShowsReturn back) from behind = made l from (going_back_to (behind_return back behind.reading) behind)
 shown_step l (ShowsDo e) from behind = made l from (record behind { input = interrupted behind.reading behind.input; to_do = e ∷ [] })
 shown_step l (ShowsNote message) from behind = record behind { messages = behind.messages ++ message }
 shown_step l (ShowsEnding ending) from behind = ending_step l ending from

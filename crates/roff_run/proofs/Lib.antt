@@ -1,6 +1,7 @@
 pub mod Leads
 pub mod Readings
 pub mod Behind
+pub mod GoingBack
 pub mod MarkEnds
 pub mod Collected
 pub mod KeepingText

@@ -5,7 +5,7 @@ use Rattle.std.specs.Prelude.{◌||◌, if◌then◌else◌}
 use Rattle.roff_layout.specs.Events.{is_interrupted}
 use Rattle.roff_layout.specs.declared.event.Event.{Event}
 use Rattle.roff_layout.specs.declared.event.Event.TheVariants.{Print, Tab, WordEnd, Gap, LineEnd, Count, Break, Interrupt as Interrupted, Resume, Set}
-use Rattle.roff_run.specs.Environments.{environments, interrupted_line, line_left, text_of}
+use Rattle.roff_run.specs.Environments.{environments, interrupted_line, text_of}
 use Rattle.roff_run.specs.Reading.Ends.{interrupted_end, is_left}
 use Rattle.roff_run.specs.Reading.TextLines.{blank_line, text_line_end}
 use Rattle.roff_run.specs.PageEvents.{PageEvent, PageHistory, Title}
@@ -35,7 +35,7 @@ left_by-few (Text Interrupted) lines few = omega arith
 left_by-few (Text Resume) lines few = omega arith
 left_by-few (Text (Set param)) lines few = few
 left_by-few (Page e) lines few = few
-left_by-few (Interrupt untold) lines few = omega arith
+left_by-few (Interrupt line) lines few = omega arith
 left_by-few (Environment number) lines few = omega arith
 left_by-few Back lines few = omega arith
 left_by-few (SetsTrap trap) lines few = few
@@ -62,7 +62,7 @@ left_by-fewer (Text Interrupted) few many fewer = omega arith
 left_by-fewer (Text Resume) few many fewer = omega arith
 left_by-fewer (Text (Set param)) few many fewer = fewer
 left_by-fewer (Page e) few many fewer = fewer
-left_by-fewer (Interrupt untold) few many fewer = omega arith
+left_by-fewer (Interrupt line) few many fewer = omega arith
 left_by-fewer (Environment number) few many fewer = omega arith
 left_by-fewer Back few many fewer = omega arith
 left_by-fewer (SetsTrap trap) few many fewer = fewer
@@ -79,8 +79,8 @@ same_lines : (h : PageHistory) (e : Event) → is_interrupted (e ∷ text_of h) 
 same_lines h e same = by_test (is_interrupted (e ∷ text_of h)) (is_interrupted (text_of h)) same
   where
     by_test : (now before : Bool) → now ≡ before
-        → lines_left (if now then Some (line_left (e ∷ text_of h) (environments h).in_force.untold) else None)
-        ≤ lines_left (if before then Some (line_left (text_of h) (environments h).in_force.untold) else None)
+        → lines_left (if now then Some (environments h).in_force.interrupted else None)
+        ≤ lines_left (if before then Some (environments h).in_force.interrupted else None)
     by_test true true is = omega arith
     by_test true false is = absurd (cc)
     by_test false before is = omega arith
@@ -91,14 +91,14 @@ lines_left-event rs (Text (Print glyph)) h = same_lines h (Print glyph) refl
 lines_left-event rs (Text Tab) h = same_lines h Tab refl
 lines_left-event rs (Text WordEnd) h = same_lines h WordEnd refl
 lines_left-event rs (Text (Gap columns)) h = same_lines h (Gap columns) refl
-lines_left-event rs (Text LineEnd) h = omega arith
+lines_left-event rs (Text LineEnd) h = same_lines h LineEnd refl
 lines_left-event rs (Text Count) h = same_lines h Count refl
 lines_left-event rs (Text Break) h = same_lines h Break refl
 lines_left-event rs (Text Interrupted) h = lines_left-few (interrupted_line (Text Interrupted ∷ h))
 lines_left-event rs (Text Resume) h = omega arith
 lines_left-event rs (Text (Set param)) h = same_lines h (Set param) refl
 lines_left-event rs (Page e) h = omega arith
-lines_left-event rs (Interrupt untold) h = lines_left-few (interrupted_line (Interrupt untold ∷ h))
+lines_left-event rs (Interrupt line) h = lines_left-few (interrupted_line (Interrupt line ∷ h))
 lines_left-event rs (Environment number) h = lines_left-few (interrupted_line (Environment number ∷ h))
 lines_left-event rs Back h = lines_left-few (interrupted_line (Back ∷ h))
 lines_left-event rs (SetsTrap trap) h = omega arith

@@ -4,7 +4,6 @@
 -- They stand in a ring: the one in force, the next behind it, and the last, with 0 behind 2.
 use Rattle.std.specs.Prelude.{ℕ, ◌-◌, Bool, true, false, List, [], ◌∷◌, nat_lt, Option, Some, None, if◌then◌else◌, ◌==◌}
 use Rattle.roff_layout.specs.Events.{History, is_interrupted}
-use Rattle.roff_layout.specs.Places.{has_line_glyph}
 use Rattle.roff_layout.specs.declared.event.Event.{Event}
 use Rattle.roff_layout.specs.declared.event.Event.TheVariants.{Count, Interrupt as IsInterrupted}
 pub use Rattle.roff_run.specs.declared.environment_number.EnvironmentNumber.{EnvironmentNumber}
@@ -15,11 +14,10 @@ pub use Rattle.roff_run.specs.declared.event.InputTrap.{InputTrap}
 use Rattle.roff_num.specs.declared.short_name.ShortName.{ShortName}
 use Rattle.roff_run.specs.declared.line_state.TextLine.{TextLine}
 
--- what happened in one environment, how many leading blanks of its interrupted line aren't told yet, and its input-line trap, if
--- it has one
+-- what happened in one environment, what stands on its interrupted line, and its input-line trap, if it has one
 pub record InEnvironment : Type 0 where
   pub text : History
-  pub untold : ℕ
+  pub interrupted : TextLine
   pub input_trap : Option InputTrap
 
 -- the number of the one in force, what happened in each of the three, and the numbers of those that were left for others and
@@ -54,7 +52,11 @@ environment_numbered n =
 
 -- an environment in which nothing happened
 abbrev pub fresh_environment : InEnvironment
-fresh_environment = record { text = []; untold = 0; input_trap = None }
+fresh_environment = record {
+  text = [];
+  interrupted = record { has_glyph = false; has_other = false; has_brace = false; leading = 0 };
+  input_trap = None;
+}
 
 -- at first environment 0 is in force
 abbrev pub first_environments : Environments
@@ -89,10 +91,10 @@ happened e here = record here { text = e ∷ here.text; input_trap = trap_behind
 abbrev pub with_event : Event → Environments → Environments
 with_event e es = record es { in_force = happened e es.in_force }
 
--- its line is interrupted, and so many leading blanks of it aren't told yet
-abbrev pub with_interruption : ℕ → Environments → Environments
-with_interruption untold es =
-    record es { in_force = record es.in_force { text = IsInterrupted ∷ es.in_force.text; untold = untold } }
+-- its line is interrupted, on which this stands
+abbrev pub with_interruption : TextLine → Environments → Environments
+with_interruption line es =
+    record es { in_force = record es.in_force { text = IsInterrupted ∷ es.in_force.text; interrupted = line } }
 
 -- `it`: its input-line trap is this one from now on, or it has none
 abbrev pub with_input_trap : Option InputTrap → Environments → Environments
@@ -124,7 +126,7 @@ gone_back (number ∷ left) es = turned_to number (record es { left = left })
 abbrev pub environments : PageHistory → Environments
 environments [] = first_environments
 environments (Text e ∷ h) = with_event e (environments h)
-environments (Interrupt untold ∷ h) = with_interruption untold (environments h)
+environments (Interrupt line ∷ h) = with_interruption line (environments h)
 environments (Environment number ∷ h) = switched_to number (environments h)
 environments (Back ∷ h) = gone_back (environments h).left (environments h)
 environments (SetsTrap trap ∷ h) = with_input_trap trap (environments h)
@@ -135,13 +137,9 @@ environments (Title t ∷ h) = environments h
 abbrev pub text_of : PageHistory → History
 text_of h = (environments h).in_force.text
 
--- the line that an interruption left, with so many leading blanks untold, behind a history
-abbrev pub line_left : History → ℕ → TextLine
-line_left h untold = record { has_glyph = has_line_glyph h; has_other = true; has_brace = false; leading = untold }
-
 -- the interrupted line of an environment, if one is to go on there
 abbrev pub line_to_go_on : InEnvironment → Option TextLine
-line_to_go_on e = if is_interrupted e.text then Some (line_left e.text e.untold) else None
+line_to_go_on e = if is_interrupted e.text then Some e.interrupted else None
 
 -- that of the environment in force
 abbrev pub interrupted_line : PageHistory → Option TextLine

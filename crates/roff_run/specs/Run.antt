@@ -24,7 +24,7 @@ use Rattle.roff_run.specs.Reading.Calls.{last_called}
 use Rattle.roff_run.specs.Reading.Ends.{end_taking, due, is_unfinished}
 use Rattle.roff_run.specs.Reading.Items.{Taking, going_on, meaning_events}
 use Rattle.roff_run.specs.Reading.Messages.{message_text_read}
-use Rattle.roff_run.specs.Reading.Returns.{back_of, behind_return, gone_back_to, in_sprung}
+use Rattle.roff_run.specs.Reading.Returns.{back_of, behind_return, going_back, gone_back_to, in_sprung}
 use Rattle.roff_run.specs.Reading.Waiting.{waiting_in}
 use Rattle.roff_run.specs.Registers.{AllRegisters}
 use Rattle.roff_run.specs.Events.Lines.{closing_events}
@@ -37,6 +37,7 @@ use Rattle.roff_run.specs.declared.request.Called.TheVariants.{Body as ABody}
 use Rattle.roff_run.specs.declared.message.Message.TheVariants.{ReadFailed}
 use Rattle.roff_run.specs.declared.line_state.Due.{Due}
 use Rattle.roff_run.specs.declared.line_state.Due.TheVariants.{Leaves, Tells as TellsText}
+use Rattle.roff_run.specs.declared.line_state.LineState.{LineState}
 use Rattle.roff_run.specs.declared.line_state.LineState.TheVariants.{LineStart}
 use Rattle.roff_run.specs.declared.status.Status.TheVariants.{Aborted, Done, Device, Limit as Limited}
 use Rattle.roff_run.specs.declared.phase.Phase.{Phase}
@@ -142,13 +143,14 @@ message_told s = record s {
 abbrev pub aborted : State → State
 aborted s = record s { ended = Some Aborted; last_message = told_line true (message_text_read s.input) }
 
+-- what ends of bodies lead back to is read on
+abbrev pub going_back_to : LineState → State → State
+going_back_to reading s = record s { reading = reading; to_do = going_back reading ++ s.to_do }
+
 -- what stands ahead of the source is dropped, and nothing more is taken of it: what is read is what all ends of bodies lead back to
 abbrev pub input_left : State → State
-input_left s = record s {
-  input = leaving s.input;
-  reading = gone_back_to (outermost_back 0 s.input.ahead);
-  is_closed = true;
-}
+input_left s =
+    going_back_to (gone_back_to (outermost_back 0 s.input.ahead)) (record s { input = leaving s.input; is_closed = true })
 
 -- `ex` was read: the input is left, but as the run closes nothing is, and a line begins
 abbrev pub left_in : Phase → State → State
@@ -161,7 +163,7 @@ abbrev pub ahead_taken : Ahead PageEvent → State → State
 ahead_taken (ByteAhead b) s = byte_taken b s
 ahead_taken (FreeAhead b) s = byte_taken b s
 ahead_taken EndAhead s = s
-ahead_taken (ReturnAhead back) s = record s { reading = behind_return back s.reading }
+ahead_taken (ReturnAhead back) s = going_back_to (behind_return back s.reading) s
 ahead_taken (DoAhead e) s = record s { input = interrupted s.reading s.input; to_do = e ∷ [] }
 
 -- an item ahead of the source is taken, at its cost

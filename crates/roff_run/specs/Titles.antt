@@ -19,7 +19,7 @@ title_told rs which = record { text = title_of rs which; format = rs.page_format
 -- an event as it happens
 abbrev pub told : AllRegisters → PageEvent → PastEvent
 told rs (Text e) = Text e
-told rs (Interrupt untold) = Interrupt untold
+told rs (Interrupt line) = Interrupt line
 told rs (Environment number) = Environment number
 told rs Back = Back
 told rs (InputTrap trap) = InputTrap trap
@@ -29,7 +29,7 @@ told rs (Title which) = Title (title_told rs which)
 -- an event as it is put back: a title is one that is kept
 abbrev pub put_back : PageEvent → PageEvent
 put_back (Text e) = Text e
-put_back (Interrupt untold) = Interrupt untold
+put_back (Interrupt line) = Interrupt line
 put_back (Environment number) = Environment number
 put_back Back = Back
 put_back (InputTrap trap) = InputTrap trap

@@ -5,6 +5,7 @@ ghost use Rattle.roff_run.specs.Events.Lines.{line_events, print_event};
 ghost use Rattle.roff_run.specs.Reading.TextLines.{leading_glyph};
 
 use crate::environment_number::EnvironmentNumber;
+use crate::line_state::TextLine;
 use crate::title::WhichTitle;
 use roff_layout::{Event, Glyph, LayoutEvent};
 use roff_num::{Num, ShortName};
@@ -24,8 +25,8 @@ pub struct InputTrap {
 pub enum PageEvent<T = WhichTitle> {
     /// Something happens to the text.
     Text(Event),
-    /// The line of the input is interrupted; so many leading blanks of it aren't told yet.
-    Interrupt(u32),
+    /// The line of the input is interrupted, on which this stands so far.
+    Interrupt(TextLine),
     /// The environment is left for this one.
     Environment(EnvironmentNumber),
     /// The environment that was left last is gone back to.
@@ -61,8 +62,8 @@ pub enum LineEvents {
     Number(Num),
     /// A gap of one blank behind the open word.
     Gap,
-    /// The line is interrupted; so many leading blanks of it aren't told yet.
-    Interrupt(u32),
+    /// The line is interrupted, on which this stands so far.
+    Interrupt(TextLine),
     /// A tab behind so many leading blanks.
     Tab(u32),
     /// So many leading blanks alone.
@@ -129,7 +130,7 @@ impl LineEvents {
                 ],
                 index,
             ),
-            LineEvents::Interrupt(untold) => nth(&[PageEvent::Interrupt(untold)], index),
+            LineEvents::Interrupt(line) => nth(&[PageEvent::Interrupt(line)], index),
             LineEvents::Tab(leading) => {
                 nth_behind(leading, &[PageEvent::Text(Event::Tab)], index)
             }

@@ -3,3 +3,5 @@ pub mod InMemory
 pub mod Named
 pub mod RunOver
 mod Starting
+mod Refusing
+mod Told

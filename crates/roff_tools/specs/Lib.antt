@@ -1,6 +1,7 @@
 pub use Rattle.roff_source.specs.Tape
 pub use Rattle.roff_interpreter.specs.Outcome
 pub mod StartFault
+pub mod Told
 pub mod Exit
 pub mod Both
 pub mod Jobs

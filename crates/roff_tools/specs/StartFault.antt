@@ -1,5 +1,5 @@
--- What a fault of the start names.
-use Rattle.std.specs.Prelude.{◌≡◌, ℕ, List, ◌∷◌, ◌++◌, Result, Ok, Err, string_bytes}
+-- What a fault of the start names, and what is told of it.
+use Rattle.std.specs.Prelude.{◌≡◌, ℕ, List, [], ◌∷◌, ◌++◌, Result, Ok, Err, codes, string_bytes}
 use Rattle.roff_num.specs.declared.num.Num.{Num}
 use Rattle.roff_devices.specs.Inputs.Part.{AreNamed}
 use Rattle.roff_devices.specs.declared.inputs.Part.{Part}
@@ -54,3 +54,23 @@ abbrev pub NamesBad : Result (List (Num × Num)) (List ℕ) → Result (List (�
 NamesBad (Err text) registers of_files fault = NamesPages text fault
 NamesBad (Ok pages) (Err text) of_files fault = NamesRegister text fault
 NamesBad (Ok pages) (Ok registers) of_files fault = of_files fault
+
+-- the words of the command line cannot be had: one of them is no text, or memory ran out
+abbrev pub NamesWords : StartFault → Type 0
+NamesWords (CannotOpen s) = ⊥
+NamesWords (BadPages s) = ⊥
+NamesWords (BadRegister s) = ⊥
+NamesWords NotText = Unit {0}
+NamesWords OutOfMemory = Unit {0}
+
+-- what is told of a fault
+abbrev pub fault_text : StartFault → List ℕ
+fault_text (CannotOpen s) = codes "cannot open " ++ string_bytes s
+fault_text (BadPages s) = codes "bad page list: " ++ string_bytes s
+fault_text (BadRegister s) = codes "bad register: " ++ string_bytes s
+fault_text NotText = codes "an argument is not UTF-8 text"
+fault_text OutOfMemory = codes "out of memory"
+
+-- its line
+abbrev pub fault_line : StartFault → List ℕ
+fault_line fault = codes "roff: " ++ fault_text fault ++ 10 ∷ []

@@ -1,26 +1,38 @@
 //! Why a run could not start.
 
 use std::alloc::{AllocError, AllocFailed};
-use thiserror::Error;
 
 /// Why a run could not start.
-#[derive(Debug, Drop, Error)]
+#[derive(Debug, Drop)]
 pub enum StartFault {
     /// The file of this name, one of those on the command line, cannot be opened.
-    #[error("cannot open {0}")]
     CannotOpen(String),
     /// This text, on the command line, is no list of pages, or has too many ranges.
-    #[error("bad page list: {0}")]
     BadPages(String),
     /// This text, on the command line, asks for no number register, or for one too many.
-    #[error("bad register: {0}")]
     BadRegister(String),
     /// A word of the command line is not UTF-8 text.
-    #[error("an argument is not UTF-8 text")]
     NotText,
     /// There is no memory for what is reserved before the run.
-    #[error("out of memory")]
     OutOfMemory,
+}
+
+impl StartFault {
+    ghost use Rattle.std.specs.Prelude.{◌≡◌, ◌++◌};
+    ghost use Rattle.roff_tools.specs.StartFault.{fault_text};
+
+    /// What is told of it: words, and the text of the command line that they speak of.
+    pub(crate) fn told(&self) -> (&str, &str)
+        ensures { result.0.now ++ result.1.now ≡ fault_text self.now }
+    {
+        match self {
+            StartFault::CannotOpen(name) => ("cannot open ", name.as_str()),
+            StartFault::BadPages(text) => ("bad page list: ", text.as_str()),
+            StartFault::BadRegister(text) => ("bad register: ", text.as_str()),
+            StartFault::NotText => ("an argument is not UTF-8 text", ""),
+            StartFault::OutOfMemory => ("out of memory", ""),
+        }
+    }
 }
 
 impl From<AllocError> for StartFault {

@@ -6,7 +6,7 @@ mod fault;
 mod in_memory;
 mod job;
 mod program;
-mod text_sink;
+mod telling;
 mod words;
 
 pub use fault::StartFault;

@@ -1,26 +1,25 @@
 //! The program: it reads its words, opens its files, runs the job and tells how it went.
 
-ghost use Rattle.std.specs.Prelude.{◌≡◌, ◌≢◌, ◌⊎◌, Some, true, is_ok, IfOk, IfErr, OnErr, map};
+ghost use Rattle.std.specs.Prelude.{◌≡◌, ◌⊎◌, Some, true, is_ok, IfOk, IfErr, OnErr, map};
 ghost use Rattle.std.specs.Prelude.{string_bytes};
 ghost use Rattle.roff_tools.specs.Clauses.{AreMistaken, AreNamed, AskForHelp, IsFinished};
 ghost use Rattle.roff_tools.specs.Clauses.{IsFlushed, IsNamed, IsPrepared, NamesBad, NamesFile};
 ghost use Rattle.roff_tools.specs.Clauses.{NamesFirstRefused, NamesPages, NamesRegister, Performs};
-ghost use Rattle.roff_tools.specs.Clauses.{PerformsAsked, PerformsIfAsked, Starts};
+ghost use Rattle.roff_tools.specs.Clauses.{NamesStart, NamesWords, PerformsAsked, PerformsIfAsked};
+ghost use Rattle.roff_tools.specs.Clauses.{Shows, Starts, TellsFault, TellsNoMemory, TellsSome};
 ghost use Rattle.roff_tools.specs.Clauses.{exit_flushed, exit_number, exit_status};
-ghost use Rattle.roff_tools.specs.Clauses.{fault_of, given_to, job_of, kind_of, roff_app};
+ghost use Rattle.roff_tools.specs.Clauses.{fault_of, given_to, job_of, roff_app};
 ghost use Rattle.roff_tools.specs.Clauses.{start_read, subcommand_of, takes, told, told_pages};
 
 use crate::exit::Exit;
 use crate::fault::StartFault;
-use crate::text_sink::TextSink;
+use crate::telling::{report, show};
 use crate::words::Words;
 use crate::{BlockWrite, ByteSink, Job, ReadSource, SinkFault, Start, WriteSink, run};
-use clap::error::ErrorKind;
 use roff_command::{Asked, Pages, Registers, Request, STANDARD_INPUT, parse_words, prepare_words};
 use roff_devices::{Buffered, Inputs, Part, Readers};
 use std::alloc::Global;
 use std::convert::AsStr;
-use std::fmt::Write as _;
 use std::process::ExitCode;
 
 /// How the program ended, and the writers that it was given.
@@ -42,8 +41,9 @@ where
     O: BlockWrite + Drop,
     E: BlockWrite + Drop,
     // What the words ask for was done, with the output through a buffer that was flushed at the
-    // end, however the run ended; and that is what the exit status tells.
-    ensures { IsFinished (R.says rt.now) (R.opens rt.now) (R.stands rt.now)
+    // end, however the run ended; and that is what the exit status tells. Where nothing was done,
+    // why is told.
+    ensures { IsFinished (R.says rt.now) (R.opens rt.now) (R.refuses rt.now) (R.stands rt.now)
         R.File.gives R.Standard.gives (O.sunk stdout) (E.sunk stderr)
         (exit_status result.exit) (O.sunk result.stdout) (E.sunk result.stderr) }
 {
@@ -79,7 +79,7 @@ where
     R: Words + Readers + AllocGlobal,
     O: BlockWrite + Drop,
     E: ByteSink,
-    ensures { IsFlushed (R.says rt.now) (R.opens rt.now) (R.stands rt.now)
+    ensures { IsFlushed (R.says rt.now) (R.opens rt.now) (R.refuses rt.now) (R.stands rt.now)
         R.File.gives R.Standard.gives (given_to O.sunk stdout) (E.sunk err.old)
         result.0 (O.sunk result.1) (E.sunk err.new) }
 {
@@ -95,7 +95,7 @@ where
     R: Words + Readers + AllocGlobal,
     O: ByteSink,
     E: ByteSink,
-    ensures { Starts (R.says rt.now) (R.opens rt.now) (R.stands rt.now)
+    ensures { Starts (R.says rt.now) (R.opens rt.now) (R.refuses rt.now) (R.stands rt.now)
         R.File.gives R.Standard.gives result
         (O.sunk out.old) (O.sunk out.new) (E.sunk err.old) (E.sunk err.new) }
 {
@@ -107,18 +107,12 @@ where
 
 /// The words of the command line, in the form that the parser reads.
 fn words_of<R: Words + AllocGlobal>(rt: &R) -> Result<Vec<String>, StartFault>
-    ensures { IfOk result (λ words. IsPrepared (R.says rt.now) (map string_bytes words.items)) }
+    ensures words { IfOk result
+        (λ words. IsPrepared (R.says rt.now) (map string_bytes words.items)) }
+    ensures fault { IfErr result NamesWords }
 {
     let words = rt.words(rt.alloc())?;
     Ok(prepare_words(rt.alloc(), words.as_slice())?)
-}
-
-/// Writes a fault's message. Where the write fails, there is no one to tell.
-fn report<E: ByteSink>(fault: &StartFault, err: &mut E) -> Exit
-    ensures { result ≡ Exit.NotStarted }
-{
-    let _ = writeln!(TextSink { sink: err }, "roff: {fault}");
-    Exit::NotStarted
 }
 
 /// How the program ends, once its output is flushed: a flush that fails is a failed write.
@@ -138,17 +132,20 @@ where
     S: AsStr,
     O: ByteSink,
     E: ByteSink,
-    // Where the words are in order a command runs as they ask, or can't start.
-    ensures performs { takes roff_app (map S.text words.now) ≡ true → (result ≡ Exit.NotStarted) ⊎
-        PerformsAsked (R.opens rt.now) (R.stands rt.now) R.File.gives R.Standard.gives
+    // Where the words are in order a command runs as they ask, or can't start, and why is told.
+    ensures performs { takes roff_app (map S.text words.now) ≡ true
+        → ((result ≡ Exit.NotStarted)
+        × TellsFault (NamesStart (R.opens rt.now) (R.refuses rt.now) (R.stands rt.now)
+        (subcommand_of roff_app (map S.text words.now))) (E.sunk err.old) (E.sunk err.new))
+        ⊎ PerformsAsked (R.opens rt.now) (R.stands rt.now) R.File.gives R.Standard.gives
         (subcommand_of roff_app (map S.text words.now)) result
         (O.sunk out.old) (O.sunk out.new) (E.sunk err.old) (E.sunk err.new) }
     // Help and the version go to the output alone, and nothing of a mistake does.
     ensures asked { AskForHelp (fault_of roff_app (map S.text words.now))
-        → (result ≡ Exit.NotStarted)
-        ⊎ (((result ≡ Exit.Done) ⊎ (result ≡ Exit.DeviceFailed)) × (err.new ≡ err.old)) }
+        → ((result ≡ Exit.NotStarted) × TellsNoMemory (E.sunk err.old) (E.sunk err.new))
+        ⊎ (Shows result (O.sunk out.old) (O.sunk out.new) × (err.new ≡ err.old)) }
     ensures mistaken { AreMistaken (fault_of roff_app (map S.text words.now))
-        → result ≡ Exit.NotStarted }
+        → (result ≡ Exit.NotStarted) × TellsSome (E.sunk err.old) (E.sunk err.new) }
     ensures unwritten { result ≡ Exit.NotStarted → out.new ≡ out.old }
 {
     match parse_words(rt.alloc(), words) {
@@ -156,29 +153,7 @@ where
             Ok(exit) => exit,
             Err(fault) => report(&fault, err),
         },
-        Err(shown) => show(&shown, out, err),
-    }
-}
-
-/// Writes what a parse of the words has to say in place of a request.
-fn show<O: ByteSink, E: ByteSink>(shown: &clap::Error, out: &mut O, err: &mut E) -> Exit
-    ensures mistake { (kind_of shown.now ≢ ErrorKind.DisplayHelp)
-        → (kind_of shown.now ≢ ErrorKind.DisplayVersion)
-        → (result ≡ Exit.NotStarted) × (out.new ≡ out.old) }
-    ensures asked { (kind_of shown.now ≡ ErrorKind.DisplayHelp)
-        ⊎ (kind_of shown.now ≡ ErrorKind.DisplayVersion)
-        → ((result ≡ Exit.Done) ⊎ (result ≡ Exit.DeviceFailed)) × (err.new ≡ err.old) }
-{
-    if shown.kind() == ErrorKind::OutOfMemory {
-        return report(&StartFault::OutOfMemory, err);
-    }
-    if shown.use_stderr() {
-        let _ = write!(TextSink { sink: err }, "{shown}");
-        return Exit::NotStarted;
-    }
-    match write!(TextSink { sink: out }, "{shown}") {
-        Ok(()) => Exit::Done,
-        Err(_) => Exit::DeviceFailed,
+        Err(shown) => show(rt.alloc(), &shown, out, err),
     }
 }
 

@@ -1,6 +1,7 @@
 //! The words of a command line.
 
-ghost use Rattle.std.specs.Prelude.{◌≡◌, ⊤, ℕ, List, IfOk, map, string_bytes};
+ghost use Rattle.std.specs.Prelude.{◌≡◌, ⊤, ℕ, List, IfErr, IfOk, map, string_bytes};
+ghost use Rattle.roff_tools.specs.StartFault.{NamesWords};
 
 use crate::fault::StartFault;
 use std::alloc::Global;
@@ -18,7 +19,8 @@ pub trait Words {
     ///
     /// [`StartFault`] if there is no memory for them, or if one isn't UTF-8 text.
     fn words(&self, alloc: Global) -> Result<Vec<String>, StartFault>
-        ensures { IfOk result (λ words. says self.now (map string_bytes words.items)) };
+        ensures words { IfOk result (λ words. says self.now (map string_bytes words.items)) }
+        ensures fault { IfErr result NamesWords };
 }
 
 // Of the system nothing is known.

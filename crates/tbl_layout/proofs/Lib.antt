@@ -12,3 +12,4 @@ pub mod FormatBlocks
 pub mod FormatReading
 pub mod PiecesWithin
 pub mod PiecesLeft
+pub mod Unbuilt

@@ -1,6 +1,6 @@
 -- The data of a table: lines, of which each is a row of fields (Lesk, "Tbl": Data).
 use Rattle.std.specs.Prelude.{ℕ, suc, ◌-◌, Bool, true, false, not, ◌&&◌, ◌||◌, List, [], ◌∷◌, take, drop, Option, None, Some, bytes_eq, codes, if◌then◌else◌, ◌==◌}
-use Rattle.std.specs.List.{list_all, position}
+use Rattle.std.specs.List.{list_all}
 use Rattle.roff_source.specs.Bytes.{tab, blank, dot, backslash, is_digit}
 use Rattle.tbl_layout.specs.declared.data.Judged.{Judged}
 use Rattle.tbl_layout.specs.declared.data.Judged.TheVariants.{Refused, Row}
@@ -38,6 +38,28 @@ is_not_built separator b = not (b == separator) && (b == backslash || b == tab)
 -- whether a line is a rule: `_` or `=` alone
 abbrev pub is_rule : List ℕ → Bool
 is_rule line = bytes_eq line (codes "_") || bytes_eq line (codes "=")
+
+-- whether a field ends in front of a text: with the line, or at a separator
+abbrev pub ends_field : ℕ → List ℕ → Bool
+ends_field separator [] = true
+ends_field separator (b ∷ text) = b == separator
+
+-- whether a byte behind another one, and before a text, is a field that is a rule: `_` or `=` alone
+abbrev pub is_rule_field : ℕ → ℕ → ℕ → List ℕ → Bool
+is_rule_field separator before b text =
+    not (b == separator) && (b == 95 || b == 61) && before == separator && ends_field separator text
+
+-- from a place on, where what isn't laid out stands first: a backslash or a tab in a field, or a field that is a rule, to be
+-- drawn one day
+abbrev pub unbuilt_from : ℕ → ℕ → ℕ → List ℕ → Option ℕ
+unbuilt_from separator before from [] = None
+unbuilt_from separator before from (b ∷ text) =
+    if is_not_built separator b || is_rule_field separator before b text then Some from
+    else unbuilt_from separator b (suc from) text
+
+-- the same in fields: the first one begins as if a separator stood in front of it
+abbrev pub unbuilt : ℕ → List ℕ → Option ℕ
+unbuilt separator line = unbuilt_from separator separator 0 line
 
 -- whether a line is a command: it begins with a dot, and no digit follows
 abbrev pub is_command : List ℕ → Bool
@@ -89,7 +111,7 @@ judged_by None None surplus = Row surplus
 abbrev pub judged : ℕ → ℕ → List ℕ → Judged
 judged separator columns line =
     if is_rule line || is_command line then Refused 0
-    else judged_by (position (is_not_built separator) (in_front_of (surplus separator columns line) line))
+    else judged_by (unbuilt separator (in_front_of (surplus separator columns line) line))
     (opening_at separator line) (surplus separator columns line)
 
 -- the fields of a line that are kept: one for each column at the most

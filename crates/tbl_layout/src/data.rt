@@ -2,11 +2,12 @@
 
 ghost use Rattle.std.specs.Prelude.{◌≡◌, ◌+◌, ◌-◌, ◌≤◌, ◌<◌, ◌++◌, length, slice_range};
 ghost use Rattle.std.specs.Prelude.{vec_capacity, IfSome, drop, not, ◌==◌, vec_len};
-ghost use Rattle.std.specs.List.{list_all, position, prefix_len};
+ghost use Rattle.std.specs.List.{list_all, prefix_len};
 ghost use Rattle.roff_source.specs.Bytes.{blank};
-ghost use Rattle.tbl_layout.specs.Data.{blanks_end_from, in_front_of, is_brace, is_command};
-ghost use Rattle.tbl_layout.specs.Data.{is_not_built, is_opening, is_rule, judged, judged_by};
-ghost use Rattle.tbl_layout.specs.Data.{kept_fields, last_field_at, opening_at, separator_from};
+ghost use Rattle.tbl_layout.specs.Data.{blanks_end_from, ends_field, in_front_of, is_brace};
+ghost use Rattle.tbl_layout.specs.Data.{is_command, is_not_built, is_opening, is_rule};
+ghost use Rattle.tbl_layout.specs.Data.{is_rule_field, judged, judged_by, kept_fields};
+ghost use Rattle.tbl_layout.specs.Data.{last_field_at, opening_at, separator_from, unbuilt};
 ghost use Rattle.tbl_layout.specs.Pieces.{field_of, fields_from};
 
 use crate::picture::glyphs_len;
@@ -106,11 +107,49 @@ fn separator_at(separator: u8, count: usize, line: &[u8]) -> Option<usize>
     None
 }
 
-/// Where the first byte of these stands that isn't laid out: a backslash or a tab in a field.
+/// Where what isn't laid out stands first in these fields: a backslash, a tab, or a field that is a
+/// rule.
 fn unbuilt_at(separator: u8, fields: &[u8]) -> Option<usize>
-    ensures { result ≡ position (is_not_built separator) fields.now }
+    ensures { result ≡ unbuilt separator fields.now }
 {
-    fields.iter().position(|byte| !(*byte == separator) && (*byte == b'\\' || *byte == b'\t'))
+    let mut before = separator;
+    for at in 0..fields.len() {
+        let byte = fields[at];
+        if is_not_built(separator, byte)
+            || is_rule_field(separator, before, byte, &fields[at + 1..])
+        {
+            return Some(at);
+        }
+        before = byte;
+    }
+    None
+}
+
+/// Whether a byte of a field isn't laid out: a backslash or a tab.
+fn is_not_built(separator: u8, byte: u8) -> bool
+    ensures { result ≡ is_not_built separator byte }
+{
+    byte != separator && (byte == b'\\' || byte == b'\t')
+}
+
+/// Whether a byte behind another one, and before a text, is a field that is a rule.
+fn is_rule_field(separator: u8, before: u8, byte: u8, text: &[u8]) -> bool
+    ensures { result ≡ is_rule_field separator before byte text.now }
+{
+    byte != separator
+        && (byte == b'_' || byte == b'=')
+        && before == separator
+        && ends_field(separator, text)
+}
+
+/// Whether a field ends in front of a text: with the line, or at a separator.
+fn ends_field(separator: u8, text: &[u8]) -> bool
+    ensures { result ≡ ends_field separator text.now }
+{
+    match text.split_first() {
+        Some((byte, _)) => *byte == separator,
+        None => true,
+    }
 }
 
 /// Where `T{` stands, if it is the last field of a line, with blanks around it or without.

@@ -1,8 +1,7 @@
 -- Where what makes a line of the data what it is stands in it.
-use Rattle.std.proofs.Common.{◌≡◌, ℕ, zero, suc, cond, ◌+◌, ◌-◌, ◌<◌, ◌≤◌, Bool, true, false, ◌&&◌, ◌||◌, nat_lt, List, [], ◌∷◌, ◌++◌, length, take, drop, Option, None, Some, refl, ap, arith, length-drop, if◌then◌else◌, ◌==◌}
-use Rattle.std.specs.List.{position, position_or_len}
+use Rattle.std.proofs.Common.{◌≡◌, ℕ, zero, suc, ◌+◌, ◌-◌, ◌<◌, ◌≤◌, Bool, true, false, ◌&&◌, ◌||◌, nat_lt, List, [], ◌∷◌, ◌++◌, length, take, drop, Option, None, Some, refl, ap, arith, length-drop, if◌then◌else◌, ◌==◌}
 use Rattle.std.proofs.lemmas.Bool.Decides.{nat_tests}
-use Rattle.tbl_layout.specs.Data.{in_front_of, is_command, is_not_built, is_opening, is_rule, judged, judged_by, opening_at, separator_from, surplus}
+use Rattle.tbl_layout.specs.Data.{in_front_of, is_command, is_not_built, is_opening, is_rule, is_rule_field, judged, judged_by, opening_at, separator_from, surplus, unbuilt, unbuilt_from}
 use Rattle.tbl_table.specs.Joined.{line_at}
 use Rattle.tbl_layout.specs.declared.data.Judged.{Judged}
 use Rattle.tbl_layout.specs.declared.data.Judged.TheVariants.{Refused, Row}
@@ -34,13 +33,14 @@ separator-before separator count from (b ∷ line) =
     (before-more (suc from + length line) (from + length (b ∷ line)) (separator_from separator next (suc from) line) (omega arith)
     (separator-before separator next (suc from) line))
 
--- the first byte that isn't laid out
-position-if : (t : Bool) (at len : ℕ) → nat_lt at len ≡ t → IsBefore len (cond t (Some at) None)
-position-if true at len is = grind (arith, nat_tests)
-position-if false at len is = tt
-
-position-before : (p : ℕ → Bool) (xs : List ℕ) → IsBefore (length xs) (position p xs)
-position-before p xs = position-if (nat_lt (position_or_len p xs) (length xs)) (position_or_len p xs) (length xs) refl
+-- what isn't laid out
+unbuilt-before : (separator behind from : ℕ) (line : List ℕ) → IsBefore (from + length line) (unbuilt_from separator behind from line)
+unbuilt-before separator behind from [] = tt
+unbuilt-before separator behind from (b ∷ line) =
+    separator-if (is_not_built separator b || is_rule_field separator behind b line) from (from + length (b ∷ line))
+    (unbuilt_from separator b (suc from) line) (omega arith)
+    (before-more (suc from + length line) (from + length (b ∷ line)) (unbuilt_from separator b (suc from) line) (omega arith)
+    (unbuilt-before separator b (suc from) line))
 
 front-few : (n : ℕ) (line : List ℕ) → length (take n line) ≤ length line
 front-few zero [] = omega arith
@@ -85,10 +85,10 @@ pub judged-before : (separator columns : ℕ) (line : List ℕ) → IsJudgedBefo
 judged-before separator columns line =
     let place = surplus separator columns line in
     let front = in_front_of place line in
-    let unbuilt = position (is_not_built separator) front in
-    judged-if (is_rule line || is_command line) line (judged_by unbuilt (opening_at separator line) place) refl
-    (by-places (length line) unbuilt (opening_at separator line) place
-    (before-more (length front) (length line) unbuilt (front-before place line) (position-before (is_not_built separator) front))
+    let first = unbuilt separator front in
+    judged-if (is_rule line || is_command line) line (judged_by first (opening_at separator line) place) refl
+    (by-places (length line) first (opening_at separator line) place
+    (before-more (0 + length front) (length line) first (omega (arith, front-before place line)) (unbuilt-before separator separator 0 front))
     (opening-before separator line)
     (before-more (0 + length line) (length line) place (omega arith) (separator-before separator (columns - 1) 0 line)))
 

@@ -14,6 +14,8 @@ pub fn pictures()
         ≡ Some (codes ".nr TF \\n(.u\n.nf\n\\&a b\n\\& xyz\n.if \\n(TF .fi\n") }
     ensures joined { picture_after (codes "l l." ∷ codes "a\\" ∷ codes "b\t c " ∷ codes "\\" ∷ [])
         ≡ Some (codes ".nr TF \\n(.u\n.nf\n\\&ab    c\n\\&\n.if \\n(TF .fi\n") }
+    ensures nearly_rules { picture_after (codes "l l." ∷ codes "_ \t__" ∷ [])
+        ≡ Some (codes ".nr TF \\n(.u\n.nf\n\\&_    __\n.if \\n(TF .fi\n") }
 {}
 
 /// Tables that are reported.
@@ -25,5 +27,11 @@ pub fn reports()
         ≡ told_at 2 BadFormat ∷ [] }
     ensures surplus { notes_after (codes "l." ∷ codes "a\\" ∷ codes "\tb" ∷ [])
         ≡ told_at 3 TooManyFields ∷ [] }
+    ensures field_rule { notes_after (codes "l l." ∷ codes "a\t_" ∷ [])
+        ≡ told_at 2 BadFormat ∷ [] }
+    ensures joined_rule { notes_after (codes "l l." ∷ codes "a\t\\" ∷ codes "=" ∷ [])
+        ≡ told_at 3 BadFormat ∷ [] }
+    ensures surplus_rule { notes_after (codes "l." ∷ codes "a\t_" ∷ [])
+        ≡ told_at 2 TooManyFields ∷ [] }
     ensures not_ended { notes_after (codes "l" ∷ []) ≡ told_at 2 BadFormat ∷ [] }
 {}

@@ -9,7 +9,7 @@ use Rattle.roff_composer.specs.declared.environments.Environments.{Environments 
 -- one of the code's stands for one of the definition's, its pending line within so many bytes
 pub record StandsAs (cap : ℕ) (e : InEnvironment) (coded : EnvironmentOf) : Type 0 where
   pub lines : Stands cap e.text coded.lines
-  pub untold : coded.untold ≡ e.untold
+  pub interrupted : coded.interrupted ≡ e.interrupted
   pub input_trap : coded.input_trap ≡ e.input_trap
 
 -- the three of the code stand for those of the definition, within these limits

@@ -2,6 +2,7 @@
 
 ghost use Rattle.std.specs.Prelude.{◌≡◌, ℕ, Some};
 ghost use Rattle.roff_engine.specs.Clauses.{LineStart, Sunk, seen, due, Leaves, Tells};
+ghost use Rattle.roff_run.specs.Reading.Returns.{behind_return};
 
 use super::Running;
 use roff_interpreter::report::report_text;
@@ -10,7 +11,7 @@ use roff_sinks::ByteSink;
 
 impl Running {
     ghost use Rattle.roff_engine.specs.Running.Turning.{DoesDue};
-    ghost use Rattle.roff_engine.specs.Running.Leaving.{DropsAhead, LeavesInput};
+    ghost use Rattle.roff_engine.specs.Running.Leaving.{DropsAhead, GoesBack, LeavesInput};
 
     /// Does what is due before anything more is taken. An `Err` is the status of a run that ended.
     #[inline(always)]
@@ -61,7 +62,26 @@ impl Running {
         ensures { DropsAhead self.old self.new }
     {
         let back = self.unread.leave();
+        self.go_back(back);
+    }
+
+    /// The end of a body, with the number of what it leads back to: that is read on, and a text
+    /// line is the one that goes on.
+    pub(super) fn go_back(&mut self, back: u8)
+        ensures { GoesBack (behind_return back self.old.interpreter.reader.reading)
+            self.old self.new }
+    {
         self.interpreter.reader.end_call(back);
+        self.resume();
+    }
+
+    /// What is gone back to goes on, if it is a text line.
+    fn resume(&mut self)
+        ensures { GoesBack self.old.interpreter.reader.reading self.old self.new }
+    {
+        if self.interpreter.reader.reading().is_text() {
+            self.interpreter.formatter.resume();
+        }
     }
 
     /// Tells a message, which may end the run.

@@ -1,7 +1,7 @@
 //! Events by their kinds.
 
 ghost use Rattle.std.specs.Prelude.{[], ◌∷◌, Ok, None};
-ghost use Rattle.roff_layout.specs.declared.event.Event.TheVariants.{Set};
+ghost use Rattle.roff_layout.specs.declared.event.Event.TheVariants.{Resume, Set};
 ghost use Rattle.roff_run.specs.Events.Steps.{events_of};
 ghost use Rattle.roff_formatter.specs.Clauses.{PerformsEvents, PerformsOne};
 ghost use Rattle.roff_formatter.specs.Clauses.{Back, Environment, Interrupt, SetsTrap, Sunk, Text};
@@ -10,7 +10,7 @@ use super::Formatter;
 use crate::halt::Halt;
 use crate::sprung::Sprung;
 use roff_layout::{Event, Glyph, Param};
-use roff_run::{EnvironmentNumber, InputTrap, Step};
+use roff_run::{EnvironmentNumber, InputTrap, Step, TextLine};
 use roff_sinks::ByteSink;
 
 impl Formatter {
@@ -108,13 +108,20 @@ impl Formatter {
         self.composer.environments.switch_back();
     }
 
-    /// The line of the environment in force is interrupted, of which so many leading blanks aren't
-    /// told yet.
-    pub fn interrupt(&mut self, untold: u32)
+    /// The line of the environment in force is interrupted, on which this stands.
+    pub fn interrupt(&mut self, line: TextLine)
         ensures { (told : Sunk) →
-            PerformsEvents (Interrupt untold ∷ []) self.old self.new told told (Ok None) }
+            PerformsEvents (Interrupt line ∷ []) self.old self.new told told (Ok None) }
     {
-        self.composer.environments.interrupt(untold);
+        self.composer.environments.interrupt(line);
+    }
+
+    /// A text line goes on in the environment in force, whichever was interrupted there.
+    pub fn resume(&mut self)
+        ensures { (told : Sunk) →
+            PerformsEvents (Text Resume ∷ []) self.old self.new told told (Ok None) }
+    {
+        self.composer.environments.in_force.lines.resume();
     }
 
     /// The environment in force has this input-line trap from now on, or none.

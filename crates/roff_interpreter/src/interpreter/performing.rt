@@ -165,8 +165,8 @@ impl Interpreter {
     {
         match event {
             PageEvent::Text(event) => self.formatter.perform_text(event, out),
-            PageEvent::Interrupt(untold) => {
-                self.formatter.interrupt(untold);
+            PageEvent::Interrupt(line) => {
+                self.formatter.interrupt(line);
                 Ok(None)
             }
             PageEvent::Environment(number) => self.formatter.switch_to(number),

@@ -4,11 +4,11 @@ use Rattle.roff_lines.specs.declared.env.Env.TheInside.{Inside}
 use Rattle.roff_layout.specs.declared.settings.Settings.{Settings}
 use Rattle.roff_layout.specs.declared.glyph.Glyph.{Glyph}
 use Rattle.roff_layout.specs.Glyphs.{glyph_text, glyph_width, text_width}
-use Rattle.roff_layout.specs.Settings.{fills}
+use Rattle.roff_layout.specs.Settings.{fills, counted}
 use Rattle.roff_layout.specs.TabStops.{TabStops}
 use Rattle.roff_layout.specs.Places.{most_place, moved}
 use Rattle.roff_layout.specs.Fitting.{gap_text, may_be_wide}
-use Rattle.roff_layout.specs.Words.{is_closer, is_sentence_mark, ends_sentence_behind, ends_sentence_behind_words, indent_by}
+use Rattle.roff_layout.specs.Words.{is_closer, is_sentence_mark, ends_sentence_behind, indent_by}
 use Rattle.roff_layout.specs.Lines.{Finished, laid_out, empty_line}
 use Rattle.roff_layout.specs.LastLine.{line_width}
 
@@ -76,6 +76,10 @@ pub record IsSound (a : Inside) : Type 0 where
 abbrev pub begun_blanks : Kept → ℕ
 begun_blanks k = if k.blanks == 0 then (if k.ends_sentence then 2 else 1) else k.blanks
 
+-- whether a sentence ends with the glyphs of the open word: behind none where none is open
+abbrev pub ends_in_word : Kept → Bool
+ends_in_word k = k.is_open && k.ends_sentence
+
 -- how many bytes of glyphs the limit on the pending line lets through
 abbrev pub glyph_room : Kept → ℕ
 glyph_room k = k.cap - (length k.line + length k.word + (if k.has_line then begun_blanks k else 0))
@@ -92,7 +96,7 @@ with_glyph g k = record k {
   is_open = true;
   blanks = begun_blanks k;
   has_glyph = true;
-  ends_sentence = if is_closer g then k.ends_sentence else is_sentence_mark g;
+  ends_sentence = if is_closer g then ends_in_word k else is_sentence_mark g;
   place = moved (glyph_width g) k.place;
 }
 
@@ -103,7 +107,7 @@ with_glyphs bytes k = record k {
   is_open = true;
   blanks = begun_blanks k;
   has_glyph = true;
-  ends_sentence = ends_sentence_behind bytes k.ends_sentence;
+  ends_sentence = ends_sentence_behind bytes (ends_in_word k);
   place = moved (text_width bytes) k.place;
 }
 
@@ -115,7 +119,7 @@ with_words text k = record k {
   is_open = false;
   blanks = 1;
   has_glyph = true;
-  ends_sentence = ends_sentence_behind_words text k.ends_sentence;
+  ends_sentence = ends_sentence_behind text false;
   place = moved (text_width text + 1) k.place;
 }
 
@@ -170,14 +174,18 @@ with_line_finished k = record k {
 abbrev pub finished_by_break : Kept → Option Finished
 finished_by_break k = if k.has_line then Some (laid_out k.settings false k.indent k.line) else None
 
--- behind the end of a line of the input
-abbrev pub with_input_line_ended : Kept → Kept
-with_input_line_ended k =
-    let n : Kept = record k { has_glyph = false; ends_sentence = false; place = 0; is_interrupted = false } in
+-- behind the end of a line of the input, before it counts
+abbrev pub with_line_ended : Kept → Kept
+with_line_ended k =
+    let n : Kept = record k { has_glyph = false; ends_sentence = false; place = 0 } in
     if fills k.settings
     then record n { blanks = if not k.is_open && k.has_glyph then (if k.ends_sentence then 2 else 1) else k.blanks }
     else if k.has_line || k.settings.filling then with_line_finished n
     else record (with_line_finished n) { finished = []; last_width = 0 }
+
+-- behind it: one line less is to be centred
+abbrev pub with_input_line_ended : Kept → Kept
+with_input_line_ended k = record (with_line_ended k) { settings = counted k.settings }
 
 -- the line that the end of a line of the input finishes
 abbrev pub finished_by_line_end : Kept → Option Finished

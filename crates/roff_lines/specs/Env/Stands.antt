@@ -4,7 +4,7 @@ use Rattle.roff_layout.specs.declared.event.Event.{Event}
 use Rattle.roff_layout.specs.Events.{History, settings_after, stops_after, is_interrupted}
 use Rattle.roff_layout.specs.Places.{has_line_glyph, input_place}
 use Rattle.roff_layout.specs.Fitting.{word_text, line_text, line_indent}
-use Rattle.roff_layout.specs.Words.{is_empty, has_open_word, line_glyphs, ends_sentence, blanks, open_word, words, temporary_indent}
+use Rattle.roff_layout.specs.Words.{is_empty, has_open_word, last_word_glyphs, ends_sentence, blanks, open_word, words, temporary_indent}
 use Rattle.roff_layout.specs.Lines.{Finished, pending_line, pending_length, finished}
 use Rattle.roff_lines.specs.Env.Kept.{Kept}
 use Rattle.roff_layout.specs.LastLine.{last_width}
@@ -30,7 +30,7 @@ pub record Stands (line_cap : ℕ) (h : History) (k : Kept) : Type 0 where
   pub blanks : k.blanks ≡ min (blanks h) (2 ^ 33)
   -- what the line of the input has so far
   pub has_glyph : k.has_glyph ≡ has_line_glyph h
-  pub ends_sentence : k.ends_sentence ≡ ends_sentence (line_glyphs h)
+  pub ends_sentence : k.ends_sentence ≡ ends_sentence (last_word_glyphs h)
   pub place : k.place ≡ input_place h
   pub is_interrupted : k.is_interrupted ≡ is_interrupted h
   -- the last line that was finished

@@ -2,7 +2,7 @@
 use Rattle.std.specs.Prelude.{◌≡◌, ℕ, ◌+◌, ◌-◌, ◌<◌, ◌≤◌, false, List, [], ◌++◌, length, take, None, slice_index_or, Some}
 use Rattle.roff_layout.specs.declared.event.Event.TheVariants.{LineEnd, WordEnd}
 use Rattle.roff_layout.specs.Glyphs.{gaps_in}
-use Rattle.roff_layout.specs.Settings.{fills}
+use Rattle.roff_layout.specs.Settings.{fills, counted}
 use Rattle.roff_layout.specs.Words.{indent_by}
 use Rattle.roff_layout.specs.Lines.{Finished, laid_out}
 use Rattle.roff_layout.specs.LastLine.{line_width}
@@ -48,6 +48,7 @@ line_of text k = laid_out k.settings false (indent_by k.temporary_indent k.setti
 -- and what is kept behind it
 abbrev pub with_line_put : List ℕ → Kept → Kept
 with_line_put text k = record k {
+  settings = counted k.settings;
   temporary_indent = None;
   line = [];
   indent = indent_by k.temporary_indent k.settings;
@@ -58,7 +59,6 @@ with_line_put text k = record k {
   has_glyph = false;
   ends_sentence = false;
   place = 0;
-  is_interrupted = false;
   finished = k.word ++ text;
   last_width = line_width (line_of text k);
 }

@@ -5,7 +5,7 @@ ghost use Rattle.std.specs.Borrow.{sem};
 ghost use Rattle.roff_lines.specs.Clauses.{WordEnd, LineEnd, Break, History, finished, finished_of};
 ghost use Rattle.roff_lines.specs.Clauses.{shaped};
 
-use super::Env;
+use super::{Env, counted};
 use crate::shape::Shape;
 use roff_layout::{Event, Line};
 use std::mem;
@@ -13,6 +13,7 @@ use std::mem;
 impl Env {
     ghost use Rattle.roff_lines.specs.Env.Kept.{with_line_finished, finished_by_break};
     ghost use Rattle.roff_lines.specs.Env.Kept.{with_input_line_ended, finished_by_line_end};
+    ghost use Rattle.roff_lines.specs.Env.Kept.{with_line_ended};
     ghost use Rattle.roff_lines.specs.Env.Stands.{Finishes, Stands};
     ghost use Rattle.roff_lines.specs.Env.Rests.{RestsBehind};
 
@@ -70,9 +71,22 @@ impl Env {
     }
 
     /// Finishes the pending line where words aren't measured, and else sets the gap of a line's
-    /// end.
+    /// end. Then one line less is to be centred.
     fn finish_input_line(&mut self) -> Option<Shape>
         ensures kept { self.new ≡ with_input_line_ended self.old }
+        ensures line { option_map (λ s. shaped s self.new.finished) result
+            ≡ finished_by_line_end self.old }
+    {
+        let settings = counted(self.settings);
+        let shape = self.finish_uncounted_line();
+        self.settings = settings;
+        shape
+    }
+
+    /// The same, but for the count.
+    #[inline(always)]
+    fn finish_uncounted_line(&mut self) -> Option<Shape>
+        ensures kept { self.new ≡ with_line_ended self.old }
         ensures line { option_map (λ s. shaped s self.new.finished) result
             ≡ finished_by_line_end self.old }
     {
@@ -81,7 +95,6 @@ impl Env {
         self.has_glyph = false;
         self.ends_sentence = false;
         self.place = 0;
-        self.is_interrupted = false;
         if self.settings.fills() {
             if ends_gap {
                 self.blanks = gap;

@@ -10,7 +10,7 @@ ghost use Rattle.roff_lines.specs.Env.Tells.{EndsGlyphs};
 
 use super::Env;
 use super::words::moved;
-use crate::glyph::{ends_sentence_behind, ends_sentence_behind_words};
+use crate::glyph::ends_sentence_behind;
 use crate::stretch::Stretch;
 use crate::words::{measured_glyphs, whole_words};
 use roff_layout::Settings;
@@ -173,7 +173,7 @@ impl Env {
         self.blanks = 1;
         self.has_glyph = true;
         let (text, _) = bytes.split_at(count);
-        self.ends_sentence = ends_sentence_behind_words(text, self.ends_sentence);
+        self.ends_sentence = ends_sentence_behind(text, false);
         self.place = moved(self.place, count as u64 + 1);
     }
 
@@ -217,12 +217,13 @@ impl Env {
         requires width { text_width (take count bytes.now) ≡ width }
         ensures { self.new ≡ with_glyphs (take count bytes.now) self.old }
     {
+        let before = self.ends_in_word();
         self.begin_gap();
         self.word.extend(bytes, count, width);
         self.is_open = true;
         self.has_glyph = true;
         let (front, _) = bytes.split_at(count);
-        self.ends_sentence = ends_sentence_behind(front, self.ends_sentence);
+        self.ends_sentence = ends_sentence_behind(front, before);
         self.place = moved(self.place, width);
     }
 

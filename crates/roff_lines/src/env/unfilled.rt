@@ -6,7 +6,7 @@ ghost use Rattle.roff_lines.specs.Clauses.{finished_of, gaps_in, shaped};
 ghost use Rattle.roff_lines.specs.Env.Tells.{GoesOn, IsRun};
 ghost use Rattle.roff_lines.specs.Env.Unfilled.{AreWords};
 
-use super::Env;
+use super::{Env, counted};
 use crate::lanes::{gaps_of_step, run_of_step};
 use crate::shape::Shape;
 use roff_layout::Line;
@@ -73,9 +73,9 @@ impl Env {
         self.has_glyph = false;
         self.ends_sentence = false;
         self.place = 0;
-        self.is_interrupted = false;
         let shape = Shape::of(self.settings, false, self.indent, &self.finished);
         self.last_width = shape.width();
+        self.settings = counted(self.settings);
         shape
     }
 }

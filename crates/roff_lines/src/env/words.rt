@@ -23,7 +23,8 @@ const MOST_PLACE: u64 = 2147483647;
 impl Env {
     ghost use Rattle.roff_lines.specs.Env.Kept.{with_word_ended, finished_by_word, word_finishes};
     ghost use Rattle.roff_lines.specs.Env.Kept.{word_fits};
-    ghost use Rattle.roff_lines.specs.Env.Kept.{begun_blanks, length_with, with_glyph};
+    ghost use Rattle.roff_lines.specs.Env.Kept.{begun_blanks, ends_in_word, length_with};
+    ghost use Rattle.roff_lines.specs.Env.Kept.{with_glyph};
     ghost use Rattle.roff_lines.specs.Env.Stands.{Stands, StandsBehind};
 
     /// Adds a glyph to the open word, or opens one with it.
@@ -58,6 +59,7 @@ impl Env {
         requires { length_with glyph self.old ≤ self.old.cap }
         ensures { self.new ≡ with_glyph glyph self.old }
     {
+        let before = self.ends_in_word();
         self.begin_gap();
         match glyph {
             Glyph::Printed(byte) => self.word.push(kept_byte(byte)),
@@ -65,7 +67,7 @@ impl Env {
         }
         self.is_open = true;
         self.has_glyph = true;
-        self.ends_sentence = ends_sentence_behind_glyph(glyph, self.ends_sentence);
+        self.ends_sentence = ends_sentence_behind_glyph(glyph, before);
         self.place = moved(self.place, glyph.width());
     }
 
@@ -134,6 +136,14 @@ impl Env {
         } else {
             1
         }
+    }
+
+    /// Whether a sentence ends with the glyphs of the open word: behind none where none is open.
+    #[inline(always)]
+    pub(super) fn ends_in_word(&self) -> bool
+        ensures { result ≡ ends_in_word self.now }
+    {
+        self.is_open && self.ends_sentence
     }
 
     /// Puts the open word into the pending line, or into a line of its own behind it.

@@ -5,6 +5,7 @@ use Rattle.roff_layout.specs.declared.trap.Trap.{Trap}
 use Rattle.roff_pages.specs.declared.open_diversion.OpenDiversion.{OpenDiversion}
 use Rattle.roff_pages.specs.declared.pages.Pages.TheInside.{Inside}
 use Rattle.roff_layout.specs.Stops.{next_stop}
+use Rattle.roff_pages.specs.Pages.KnownStops.{AreKnown}
 
 -- as in a layout, but for the place on the page and the open diversions, in which boxes are counted; and how many traps there
 -- may be, and open diversions
@@ -60,16 +61,18 @@ kept_by a = record {
   output = a.output;
 }
 
--- Counts are within what is counted, the stop is the next one beyond the place, and there is room for what may be there. Where
--- no diversion is open none is left. Lines that may be placed freely stand on a written page in front of the stop, without
--- no-space mode, and as many whole blocks are within the limit on the output.
+-- Counts are within what is counted, the stop is the next one beyond the place, with what is known of it, and there is room for
+-- what may be there. Where no diversion is open none is left. Lines that may be placed freely stand on a written page in front
+-- of the stop, without no-space mode, and as many whole blocks are within the limit on the output.
 pub record IsSound (a : Inside) : Type 0 where
   pub begun : a.begun ≤ 2 ^ 32
   pub short : a.length < 2 ^ 32
   pub place : a.place ≤ 2 ^ 33
   pub stop : a.stop ≡ next_stop a.length a.place a.traps.items
+  pub known : AreKnown a.length a.stop a.traps.items a.stops
   pub traps : length a.traps.items ≤ a.most_traps
   pub traps_room : a.most_traps ≤ vec_capacity a.traps
+  pub stops_room : a.most_traps ≤ vec_capacity a.stops.beyond
   pub outer : length a.outer.items ≤ a.most_diversions
   pub outer_room : a.most_diversions ≤ vec_capacity a.outer
   pub free : a.free ≤ (a.stop - a.place) - 1

@@ -14,7 +14,7 @@ ghost use Rattle.roff_num.specs.declared.limit.Limit.TheVariants.{Traps};
 
 use super::Pages;
 use crate::sought::Sought;
-use crate::traps::{move_named, next_stop, plant_among, remove_first};
+use crate::traps::{move_named, plant_among, remove_first};
 use roff_layout::Trap;
 use roff_num::{Limit, Num, ShortName};
 
@@ -35,7 +35,7 @@ impl Pages {
         ensures { Happens (Does (Length lines)) self.old self.new }
     {
         self.length = lines;
-        self.stop = next_stop(lines, self.place, self.traps.as_slice());
+        self.stop = self.stops.look(lines, self.place, self.traps.as_slice());
         self.free = 0;
     }
 
@@ -92,8 +92,17 @@ impl Pages {
         ensures full { IfErr result
             (λ l. self.old.most_traps < length (with_trap trap self.old.traps)) }
     {
-        plant_among(&mut self.traps, trap, self.most_traps)?;
-        self.stop = next_stop(self.length, self.place, self.traps.as_slice());
+        let count = self.traps.len();
+        if plant_among(&mut self.traps, trap, self.most_traps)? {
+            self.stop = self
+                .stops
+                .plant(self.length, self.place, self.stop, trap, count);
+            self.free = 0;
+            return Ok(());
+        }
+        self.stop = self
+            .stops
+            .look(self.length, self.place, self.traps.as_slice());
         self.free = 0;
         Ok(())
     }
@@ -103,7 +112,9 @@ impl Pages {
         ensures { Happens (Does (Uproot place)) self.old self.new }
     {
         remove_first(&mut self.traps, Sought::Given(place));
-        self.stop = next_stop(self.length, self.place, self.traps.as_slice());
+        self.stop = self
+            .stops
+            .look(self.length, self.place, self.traps.as_slice());
         self.free = 0;
     }
 
@@ -112,7 +123,9 @@ impl Pages {
         ensures { Happens (Does (MoveTrap name place)) self.old self.new }
     {
         move_named(&mut self.traps, name, place);
-        self.stop = next_stop(self.length, self.place, self.traps.as_slice());
+        self.stop = self
+            .stops
+            .look(self.length, self.place, self.traps.as_slice());
         self.free = 0;
     }
 
@@ -121,7 +134,9 @@ impl Pages {
         ensures { Happens (Does (RemoveTrap name)) self.old self.new }
     {
         remove_first(&mut self.traps, Sought::Named(name));
-        self.stop = next_stop(self.length, self.place, self.traps.as_slice());
+        self.stop = self
+            .stops
+            .look(self.length, self.place, self.traps.as_slice());
         self.free = 0;
     }
 }

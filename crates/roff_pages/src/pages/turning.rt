@@ -9,9 +9,10 @@ ghost use Rattle.roff_layout.specs.Turning.{is_in_ranges, number_behind, one_mor
 ghost use Rattle.roff_layout.specs.Turning.{page_begun, turned, turned_if_full};
 ghost use Rattle.roff_layout.specs.Springs.{first_met, is_on_top, is_passed, springs};
 ghost use Rattle.roff_pages.specs.Pages.Advancing.{sprung_by, way_on, with_lines};
+ghost use Rattle.roff_pages.specs.Pages.KnownStops.{name_at};
 
 use super::{MOST_BEGUN, MOST_COUNTED, Pages};
-use crate::traps::{first_on_top, first_passed, next_stop};
+use crate::traps::{first_passed, name_at};
 use roff_num::{Num, ShortName};
 
 impl Pages {
@@ -93,7 +94,16 @@ impl Pages {
             self.stop = u64::from(self.length);
             return self.turn();
         }
-        self.stop = next_stop(self.length, self.place, self.traps.as_slice());
+        if self.place == self.stop {
+            let trap = self.stops.trap;
+            self.stop = self
+                .stops
+                .pass(self.length, self.place, self.traps.as_slice());
+            return self.sprung_at(trap);
+        }
+        self.stop = self
+            .stops
+            .look(self.length, self.place, self.traps.as_slice());
         self.passed_since(from)
     }
 
@@ -114,6 +124,16 @@ impl Pages {
             return None;
         }
         first_passed(self.length, from, self.place, self.traps.as_slice())
+    }
+
+    /// The name of the trap of this place in turn, if the page isn't over.
+    fn sprung_at(&self, trap: usize) -> Option<ShortName>
+        ensures { result ≡ (if self.now.is_over then None else name_at trap self.now.traps) }
+    {
+        if self.is_over {
+            return None;
+        }
+        name_at(self.traps.as_slice(), trap)
     }
 
     /// Ends the page: the next one begins, but in the closing phase. Answers what springs.
@@ -149,9 +169,10 @@ impl Pages {
         self.next = None;
         self.place = 0;
         self.is_listed = is_in_ranges(self.ranges.as_slice(), number);
-        self.stop = next_stop(self.length, 0, self.traps.as_slice());
+        let top = self.stops.begin(self.length, self.traps.as_slice());
+        self.stop = top.stop.place;
         self.free = 0;
-        first_on_top(self.length, self.traps.as_slice())
+        top.name
     }
 }
 

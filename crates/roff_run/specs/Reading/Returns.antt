@@ -2,7 +2,9 @@
 --
 -- A body that a line called leads back to the beginning of a line; one that sprang in the middle of a text line leads back to that.
 -- The end of a body knows it by a number.
-use Rattle.std.specs.Prelude.{ℕ, ◌+◌, ◌-◌, ◌*◌, ◌/◌, ◌%◌, ◌==◌, Bool, min, if◌then◌else◌}
+use Rattle.std.specs.Prelude.{ℕ, ◌+◌, ◌-◌, ◌*◌, ◌/◌, ◌%◌, ◌==◌, Bool, true, false, List, [], ◌∷◌, min, if◌then◌else◌}
+use Rattle.roff_layout.specs.declared.event.Event.TheVariants.{Resume}
+use Rattle.roff_run.specs.PageEvents.{PageEvent, Text}
 use Rattle.roff_run.specs.declared.line_state.LineState.{LineState}
 use Rattle.roff_run.specs.declared.line_state.LineState.TheVariants.{LineStart, Branch, Braced, Text as InText}
 use Rattle.roff_run.specs.declared.line_state.TextLine.{TextLine}
@@ -48,6 +50,15 @@ behind_return back Branch = gone_back_to back
 behind_return back Braced = gone_back_to back
 behind_return back (InText line) = gone_back_to back
 behind_return back reading = reading
+
+-- whether a text line is read
+abbrev pub is_text : LineState → Bool
+is_text (InText line) = true
+is_text (_) = false
+
+-- what going back to something means: a text line is the one that goes on, whichever was interrupted in the environment in force
+abbrev pub going_back : LineState → List PageEvent
+going_back reading = if is_text reading then Text Resume ∷ [] else []
 
 -- what is read of a body that springs: a line begins, unless a control line is being read
 abbrev pub in_sprung : LineState → LineState

@@ -79,7 +79,7 @@ tab_taking i line =
 
 -- the escape that interrupts the line: the rest of it is dropped, and the next text line goes on (manual, section 4.2)
 abbrev pub interrupt_taking : PageInput → TextLine → Taking
-interrupt_taking i line = meaning_events i Dropped (Interrupt line.leading ∷ [])
+interrupt_taking i line = meaning_events i Dropped (Interrupt (record line { has_other = true }) ∷ [])
 
 -- something of a text line that prints nothing, and makes the line more than blanks
 abbrev pub other_taking : PageInput → TextLine → Taking

@@ -40,7 +40,7 @@ placed_counted (_) L = []
 abbrev pub counts : PageHistory → PastEvent → List (Limit × ℕ)
 counts h (Text e) = (Line, pending_length (e ∷ text_of h)) ∷ written_counted h (happens h (Text e))
 counts h (Page e) = placed_counted e (layout_of h) ++ written_counted h (Some (Does e))
-counts h (Interrupt untold) = []
+counts h (Interrupt line) = []
 counts h (Environment number) = (EnvironmentsLimit, length (environments h).left + 1) ∷ []
 counts h Back = []
 counts h (SetsTrap trap) = []

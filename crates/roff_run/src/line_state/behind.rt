@@ -9,6 +9,7 @@ ghost use Rattle.roff_run.specs.Reading.{undropped_taking};
 ghost use Rattle.roff_run.specs.Reading.ControlLines.{dropped_taking};
 ghost use Rattle.roff_run.specs.Reading.Branches.{skipping_taking};
 ghost use Rattle.roff_run.specs.Reading.Returns.{back_of, behind_return, flag, gone_back_to};
+ghost use Rattle.roff_run.specs.Reading.Returns.{is_text};
 ghost use Rattle.roff_run.specs.Reading.Returns.{leading_back, line_of};
 ghost use Rattle.roff_run.specs.Registers.{Known};
 ghost use Rattle.roff_run.specs.declared.line_state.LineState.TheVariants.{
@@ -102,6 +103,17 @@ impl LineState {
             LineState::Braced => 2,
             LineState::Text(line) => line.number(),
             _ => 0,
+        }
+    }
+
+    /// Whether a text line is read.
+    #[inline(always)]
+    pub fn is_text(self) -> bool
+        ensures { result ≡ is_text self }
+    {
+        match self {
+            LineState::Text(_) => true,
+            _ => false,
         }
     }
 

@@ -165,10 +165,12 @@ impl TextLine {
     fn interrupt(self) -> TextStep
         ensures { (i : PageInput) → step_at i result ≡ interrupt_taking i self }
     {
+        let mut behind = self;
+        behind.has_other = true;
         TextStep {
             reading: LineState::Dropped,
             message: None,
-            events: LineEvents::Interrupt(self.leading),
+            events: LineEvents::Interrupt(behind),
         }
     }
 

@@ -1,4 +1,4 @@
-use Rattle.std.proofs.Common.{◌≡◌, ◌∙◌, ◌&&◌, ℕ, Bool, false, List, [], Option, Some, IfSome, Ok, ap, drop, refl, slice_get, subst, sym}
+use Rattle.std.proofs.Common.{◌≡◌, ◌∙◌, ◌&&◌, ℕ, Bool, false, List, [], Option, Some, None, IfSome, Ok, ap, drop, refl, slice_get, subst, sym}
 use Rattle.roff_requests.specs.Request.Coded.{register_named, set_by}
 use Rattle.roff_requests.proofs.Numbering.{set_register-named}
 use Rattle.roff_run.specs.Registers.{Known, value_in_force}
@@ -8,7 +8,7 @@ use Rattle.roff_run.specs.Requests.Numbering.{increment_given, set_register, set
 use Rattle.roff_run.specs.Run.{known_at}
 use Rattle.roff_run.specs.declared.step.Step.TheVariants.{Nothing}
 use Rattle.roff_obeying.specs.Acting.{DoesEffect, Kept, kept, texts_read}
-use Rattle.roff_obeying.proofs.Effects.{and_false, quiet-effect, set_register-unnamed}
+use Rattle.roff_obeying.proofs.Effects.{and_false, quiet-effect, set_register-unnamed, set_register-without}
 use Rattle.roff_obeying.proofs.numbering.set_register.Goals as goal
 
 pub returns-in-None : goal.returns-in-None
@@ -21,6 +21,17 @@ returns-in-None c = λ breaks. record {
       let unnamed = sym (c.register_named.ensures (texts_read u) given) ∙ c.in-None.is in
       let nothing = quiet-effect [] [] old old u Nothing refl refl refl in
       subst (λ (r : Response). DoesEffect (meant_by (breaks && false) r) old old u u (Ok Nothing)) (sym (set_register-unnamed k (texts_read u) unnamed)) nothing;
+}
+
+pub returns-in-None-get : goal.returns-in-None-get
+returns-in-None-get c = λ breaks. record {
+  acts = λ l h stands.
+      let u = c.args.unread.now in
+      let old : Kept = kept c.args.registers.now c.args.meaning.now in
+      let k : Known = known_at h old.registers.all u.input in
+      let none : None ≡ slice_get (texts_read u) 1 = rw c.in-None-get.is at (c.get-in-Some.ensures ∙ ap (λ (texts : List (List ℕ)). slice_get texts 1) c.arguments-arguments.ensures) in
+      let nothing = quiet-effect [] [] old old u Nothing refl refl refl in
+      subst (λ (r : Response). DoesEffect (meant_by (breaks && false) r) old old u u (Ok Nothing)) (sym (set_register-without k (texts_read u) (sym none))) nothing;
 }
 
 pub returns-in-Some-get : goal.returns-in-Some-get

@@ -34,6 +34,30 @@ pub returns-clause-joined_at_a_line_end : goal.returns-clause-joined_at_a_line_e
 unfolding folded_onto operand_within value_at
 returns-clause-joined_at_a_line_end c = refl
 
+pub returns-clause-at_the_end_of_a_centred_line : goal.returns-clause-at_the_end_of_a_centred_line
+unfolding folded_onto operand_within value_at
+returns-clause-at_the_end_of_a_centred_line c = refl
+
+pub returns-clause-that_centres : goal.returns-clause-that_centres
+unfolding folded_onto operand_within value_at
+returns-clause-that_centres c = refl
+
+pub returns-clause-interrupted_in_front_of_a_blank_line : goal.returns-clause-interrupted_in_front_of_a_blank_line
+unfolding folded_onto operand_within value_at
+returns-clause-interrupted_in_front_of_a_blank_line c = refl
+
+pub returns-clause-interrupted_in_front_of_blanks : goal.returns-clause-interrupted_in_front_of_blanks
+unfolding folded_onto operand_within value_at
+returns-clause-interrupted_in_front_of_blanks c = refl
+
+pub returns-clause-interrupted_in_front_of_a_glyph : goal.returns-clause-interrupted_in_front_of_a_glyph
+unfolding folded_onto operand_within value_at
+returns-clause-interrupted_in_front_of_a_glyph c = refl
+
+pub returns-clause-interrupted_and_left : goal.returns-clause-interrupted_and_left
+unfolding folded_onto operand_within value_at
+returns-clause-interrupted_and_left c = refl
+
 pub returns-clause-in_an_interrupted_word : goal.returns-clause-in_an_interrupted_word
 unfolding folded_onto operand_within value_at
 returns-clause-in_an_interrupted_word c = refl

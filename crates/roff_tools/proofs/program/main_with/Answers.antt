@@ -11,4 +11,9 @@ returns-in-Ok g c =
 
 pub returns-in-Err : goal.returns-in-Err
 returns-in-Err g c =
-    inr (c.ended_so-in-Err.ensures.exit ∙ ap exit_number c.report-exit.ensures, ap g.O.BlockWrite.sunk (c.ended_so-in-Err.ensures.stdout ∙ c.in-Err.ensures.refused))
+    let told = rw c.new-err.ensures at c.report-exit.ensures.told in
+    inr record {
+      ends = c.ended_so-in-Err.ensures.exit ∙ ap exit_number c.report-exit.ensures.exit;
+      unwritten = ap g.O.BlockWrite.sunk (c.ended_so-in-Err.ensures.stdout ∙ c.in-Err.ensures.refused);
+      tells = rw c.ended_so-in-Err.ensures.stderr told;
+    }

@@ -3,4 +3,4 @@ use Rattle.roff_composer.proofs.EnvironmentRing.{Becomes-interrupted}
 use Rattle.roff_composer.proofs.environments.Environments.interrupt.Goals as goal
 
 pub returns : goal.returns
-returns c = Becomes-interrupted c.args.untold c.args.self.now _ c.interrupt.new.self c.interrupt.ensures refl
+returns c = Becomes-interrupted c.args.line c.args.self.now _ c.interrupt.new.self c.interrupt.ensures refl

@@ -15,7 +15,7 @@ returns-in-End g c =
 pub returns-in-Return : goal.returns-in-Return
 returns-in-Return g c =
     let shown = c.in-Return.ensures in
-    rw c.end_call.ensures (front_return c.args.self.now _ _ _ _ _ _ shown.failures shown.notes c.requires c.in-Return.back shown.takes)
+    front_return c.args.self.now _ _ _ _ _ _ shown.failures shown.notes c.requires c.in-Return.back c.go_back.new.self shown.takes c.go_back.ensures
 
 pub returns-in-Do : goal.returns-in-Do
 returns-in-Do g c =

@@ -17,7 +17,7 @@ pub returns-in-Title : goal.returns-in-Title
 returns-in-Title g c = rw c.in-Title.is c.place_title.ensures
 
 pub returns-in-Interrupt : goal.returns-in-Interrupt
-returns-in-Interrupt g c = rw c.in-Interrupt.is (event_alone (Interrupt c.in-Interrupt.untold) _ _ _ _ _ (λ h. refl)
+returns-in-Interrupt g c = rw c.in-Interrupt.is (event_alone (Interrupt c.in-Interrupt.line) _ _ _ _ _ (λ h. refl)
     (c.interrupt.ensures (g.O.ByteSink.sunk c.args.out.now)) (search rules))
 
 pub returns-in-Back : goal.returns-in-Back
