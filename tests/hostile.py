@@ -11,7 +11,8 @@ may take a few seconds of processor time and a few megabytes of memory, 20 where
 be. A long document may take no more than its share beside one of a quarter of its length, is stopped by the limit that is
 named for it, or by none, and some must begin as they are said to. Documents whose lines or spaces go far are formatted
 once: of their output, which is up to 200 megabytes, the beginning and the length are compared, and the line on which a
-limit stops them. GNU time measures both time and memory. It takes about five minutes. The exit status is 1 if something
+limit stops them. Short documents that tell hundreds of megabytes are stopped by a limit on messages, and at once where that
+is small. GNU time measures both time and memory. It takes about five minutes. The exit status is 1 if something
 is wrong.
 """
 import pathlib
@@ -544,6 +545,23 @@ FAR = {
         b".pl 2147483647u\n.ls 2147483647\n" + 1000 * b"a\n.br\n", ("output", 10), b"a\n\n\n", 3 * (LONGEST + 1)),
 }
 
+# Short documents that tell much: the command, the document, and what each message ends in. Ten macros, each of which calls the
+# next one ten times, and one below them that tells.
+MACROS_THAT_TELL = b"".join(b".de %c\n%s..\n" % (c, b".%c\n" % (c + 1) * 10) for c in TEN)
+TELLING = {
+    "escapes_left_out_by_macros": ("nroff", MACROS_THAT_TELL + b".de k\n" + 50 * rb"\z" + b"\n..\n.a\n", b"left out: \\z\n"),
+    "texts_told_by_macros": ("nroff", MACROS_THAT_TELL + b".de k\n.tm " + 250 * b"x" + b"\n..\n.a\n", 250 * b"x" + b"\n"),
+    "texts_told_by_macros_beside_a_table": (
+        "both", MACROS_THAT_TELL + b".de k\n.tm " + 250 * b"x" + b"\n..\n.TS\ntab(:);\nl.\na:b\n.TE\n.a\n", 250 * b"x" + b"\n"),
+    "escapes_left_out_by_macros_behind_tables": (
+        "both", MACROS_THAT_TELL + b".de k\n" + 50 * rb"\z" + b"\n..\n" + 9 * b".TS\ntab(:);\nl.\na:b:c\n.TE\n" + b".a\n", b"left out: \\z\n"),
+}
+TELLING_BYTES = 2_000
+# What they are stopped by: a limit that is reached at once, and one far behind, of the seconds that a run may take.
+FEW_MESSAGES = 100_000
+MANY_MESSAGES = 10 * MEGABYTE
+FEW_SECONDS = 0.5
+
 # What nests, and how deep.
 NESTING = 20_000
 NESTED = {
@@ -823,6 +841,25 @@ def check_far(folder, name):
     return ["%s: %s" % (name, what) for what in wrong]
 
 
+def check_telling(folder, name):
+    """A short document whose messages a limit stops: at once, and far behind."""
+    command, document, ending = TELLING[name]
+    (folder / "document").write_bytes(document)
+    wrong = ["%d bytes" % len(document)] if len(document) > TELLING_BYTES else []
+    for most in (FEW_MESSAGES, MANY_MESSAGES):
+        run = Run(folder, ("--messages=%d" % most,), command=command)
+        wrong += too_much(run, run.kilobytes, MOST_KILOBYTES if command == "nroff" else MOST_KILOBYTES_OF_TABLES)
+        messages = run.given[2].splitlines(keepends=True)[:-1]
+        told = sum(map(len, messages))
+        if run.stopped_by() != "messages":
+            wrong.append("within %d stopped by %s, with status %d" % (most, run.stopped_by(), run.given[0]))
+        elif told > most or told + len(messages[-1]) <= most or not messages[-1].endswith(ending):
+            wrong.append("within %d there are %d bytes of messages that end in %r" % (most, told, messages[-1]))
+        if most == FEW_MESSAGES and run.seconds > FEW_SECONDS:
+            wrong.append("%.1f seconds within %d" % (run.seconds, most))
+    return ["%s: %s" % (name, what) for what in wrong]
+
+
 def check_far_table(folder, name):
     """A picture that goes far, by both commands."""
     document, limits = FAR_TABLES[name]
@@ -895,6 +932,7 @@ def main():
     checks |= {"bytes": check_bytes} | dict.fromkeys(RANDOM, check_random)
     checks |= dict.fromkeys(TABLES, check_tables) | dict.fromkeys(RANDOM_TABLES, check_random_tables)
     checks |= {"bytes_of_tables": check_bytes_of_tables} | dict.fromkeys(FAR_TABLES, check_far_table)
+    checks |= dict.fromkeys(TELLING, check_telling)
     kinds = sys.argv[1:] or list(checks)
     for kind in set(kinds) - set(checks):
         raise SystemExit("tests/hostile.py: no documents are named %s" % kind)

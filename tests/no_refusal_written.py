@@ -21,7 +21,7 @@ WRITTEN = {
     "AllocFailed": {},
     "OutOfMemory": {
         "roff_tools/src/fault.rt": 3,
-        "roff_tools/src/program.rt": 3,
+        "roff_tools/src/program.rt": 4,
         "roff_tools/src/telling.rt": 1,
         "roff_tools/src/words.rt": 1,
     },

@@ -7,9 +7,11 @@ fail behind each byte:
 NAME is a row or a folder of rows. Each document is run by its command with each of the command's limits from 0 up to the
 first value with which no limit stops it. Within a smaller limit the output must be a beginning of what it is within the
 next one, and so must the messages without the one that tells of the limit; where no limit stops it they must be the row's.
+Within each limit on messages those are whole lines that are no longer than it, and the output a beginning of the row's.
 The same must hold where the source fails behind each of the document's bytes: there a folder, which can be opened but not
 read, follows a file with the bytes before. A document of `tbl` or `both` is also run with an output, and with messages,
-that take so many bytes and no more: they must have the first bytes of the row's, and the status is 2. Rows that have
+that take so many bytes and no more: they must have the first bytes of the row's, and the status is 2. Where output and
+messages go to one pipe, and each fits into the program's buffer, the output comes first. Rows that have
 other options than `-r` are left out, and so are those that don't end with status 0. The exit status is 1 if something
 else comes out.
 """
@@ -22,11 +24,13 @@ import tempfile
 TOP = pathlib.Path(__file__).resolve().parent.parent
 PROGRAM = TOP / "crates" / "roff" / "out" / "roff"
 DATA = TOP / "crates" / "roff_rows" / "data"
-OF_TEXT = ("bytes", "store", "stack", "depth", "names", "line", "environments", "conditions", "traps", "output")
+OF_TEXT = ("bytes", "store", "stack", "depth", "names", "line", "environments", "conditions", "traps", "output", "messages")
 OF_TABLES = ("rows", "columns", "text", "width")
 # The folders of rows about pages.
 OF_PAGES = ("pl", "sp", "wh", "bp", "ne")
-LIMITS = {"nroff": OF_TEXT, "tbl": OF_TABLES + ("bytes", "output"), "both": OF_TEXT + OF_TABLES}
+# How many bytes the program's buffers hold.
+HELD = 8_192
+LIMITS = {"nroff": OF_TEXT, "tbl": OF_TABLES + ("bytes", "output", "messages"), "both": OF_TEXT + OF_TABLES}
 
 
 class Document:
@@ -55,6 +59,15 @@ def within_limit(document, limit, value):
     """Output, messages without that of the limit, and whether the limit stopped the run."""
     run = document.run("--%s=%d" % (limit, value), document.path, capture_output=True)
     return without_last(document, run, 3, b"limit %s (%d) reached\n" % (limit.encode(), value))
+
+
+def within_messages(document, value):
+    """The same of the limit on messages."""
+    output, messages, is_stopped = within_limit(document, "messages", value)
+    are_whole = not messages or messages.endswith(b"\n")
+    if not (are_whole and len(messages) <= value and document.wanted[1].startswith(messages) and document.wanted[0].startswith(output)):
+        raise SystemExit("%s: --messages %d tells %r, and writes %r" % (document.path, value, messages, output))
+    return output, messages, is_stopped
 
 
 def behind_bytes(document, folder, value):
@@ -114,6 +127,15 @@ def sweep_sinks(document, folder):
     return runs
 
 
+def run_together(document):
+    """One run to one pipe."""
+    run = document.run(document.path, stdout=subprocess.PIPE, stderr=subprocess.STDOUT)
+    if max(map(len, document.wanted)) <= HELD and run.stdout != b"".join(document.wanted):
+        print("%s: to one pipe %r" % (document.path.name, run.stdout))
+        return None
+    return 1
+
+
 def limit_files(size):
     resource.setrlimit(resource.RLIMIT_FSIZE, (size, size))
 
@@ -121,8 +143,10 @@ def limit_files(size):
 def sweeps_of(document, folder):
     """How many runs each sweep of a document took."""
     for limit in LIMITS[document.command]:
-        yield sweep(document, "--" + limit, lambda value: within_limit(document, limit, value))
+        within = within_messages if limit == "messages" else lambda document, value: within_limit(document, limit, value)
+        yield sweep(document, "--" + limit, lambda value: within(document, value))
     yield sweep(document, "a source that fails behind", lambda value: behind_bytes(document, folder, value))
+    yield run_together(document)
     if document.command != "nroff" or document.path.parent.name in OF_PAGES:
         yield sweep_sinks(document, folder)
 

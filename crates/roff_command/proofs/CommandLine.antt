@@ -1,6 +1,6 @@
 -- The command line.
 use Rattle.std.proofs.Common.{◌≡◌, ◌∙◌, ◌<◌, ◌+◌, ◌^◌, ℕ, Bool, true, false, not, ◌&&◌, is_some, List, [], ◌∷◌, map, take, get_or, length, nat_lt, ap, refl, sym, subst, Option, Some, None, option_map, lt-ltb, ltb-true}
-use Rattle.std.specs.Prelude.{Box, IsErrAnd, MatchResult, Ok, Err, Result, fold, option_and_then, unwrap_or}
+use Rattle.std.specs.Prelude.{Box, IsErrAnd, MatchResult, Ok, Err, Result, decimal, fold, option_and_then, unwrap_or}
 use Rattle.std.specs.Box.{box_value}
 use Rattle.std.specs.Char.{digit_value}
 use Rattle.std.specs.List.{list_all}
@@ -9,8 +9,9 @@ use Rattle.std.specs.Borrow.{Bor}
 use Rattle.std.proofs.lemmas.List.{map-append, take_more}
 use Rattle.std.proofs.lemmas.List.Sums.{fold-append}
 use Rattle.clap.specs.Walk.{is_empty}
-use Rattle.clap.specs.Words.{ReadsOne, Row, Text, found_of, is_simple, is_simple_and_free, one_of, one_text, rows_of, rule_of, subcommand_name_of, subcommand_rows, subcommand_rows_of}
+use Rattle.clap.specs.Words.{ReadsOne, Row, Rule, Text, found_of, is_simple, is_simple_and_free, one_of, one_text, rows_of, rule_of, subcommand_name_of, subcommand_rows, subcommand_rows_of}
 use Rattle.clap.specs.declared.builder.Arg.{Arg}
+use Rattle.clap.specs.declared.builder.texts.Texts.TheVariants.{One}
 use Rattle.clap.specs.declared.parser.matches.ArgMatches.{ArgMatches}
 use Rattle.clap.specs.declared.parser.matches.ArgMatches.TheViews.{out-ArgMatches, out-SubCommand}
 use Rattle.clap.specs.declared.parser.matches.Found.{Found}
@@ -20,7 +21,7 @@ use Rattle.clap.proofs.SimpleLemmas.{is_false}
 use Rattle.clap.proofs.WalkLemmas.{both, one_text-rows}
 use Rattle.roff_num.specs.declared.limit.Limit.{Limit}
 use Rattle.roff_num.specs.Clauses.{limit_name}
-use Rattle.roff_command.specs.CommandLine.{both_app, nroff_app, number_of, roff_app, set_by, set_if_asked, tbl_app}
+use Rattle.roff_command.specs.CommandLine.{both_app, nroff_app, number_of, number_option, roff_app, set_by, set_if_asked, tbl_app}
 
 -- the words of the command line give its matches
 pub roff_app-is_simple : is_simple roff_app ≡ true
@@ -57,6 +58,27 @@ simple-global a e =
     let equals = both (not a.allow_negative_numbers) no_equals negatives.1 in
     let last = both (not a.require_equals) not_global equals.1 in
     is_false a.global (both (not a.last) (not a.global) last.1).1
+
+-- an option that is given a default, which is the text of a number
+pub given_default-rule : (a b : Arg) (name : Text) (text : Bor Text) (n : ℕ) → text.now ≡ decimal n → b ≡ record a { default_vals = One text }
+    → rule_of a ≡ number_option name None → rule_of b ≡ number_option name (Some n)
+given_default-rule a b name text n is given rule =
+    ap rule_of given ∙ (ap (λ (r : Rule). record r { defaults = text.now ∷ [] }) rule
+    ∙ ap (λ (t : Text). record (number_option name None) { defaults = t ∷ [] }) is)
+
+-- one that is given the default that is shown, or none where none is
+module _ (a : Arg) (name : Text) (shown : Option (Bor Text)) (rule : rule_of a ≡ number_option name None) where
+  pub shown_default-rule : (b : Arg) (text : Bor Text) (default : Option ℕ) → option_map (λ t. t.now) shown ≡ option_map decimal default → shown ≡ Some text
+      → b ≡ record a { default_vals = One text } → rule_of b ≡ number_option name default
+  shown_default-rule b text None are is given = cc
+  shown_default-rule b text (Some n) are is given =
+      let same : Some text.now ≡ Some (decimal n) = ap (option_map (λ t. t.now)) (sym is) ∙ are in
+      let text_is : text.now ≡ decimal n = cc in
+      given_default-rule a b name text n text_is given rule
+
+  pub no_default-rule : (default : Option ℕ) → option_map (λ t. t.now) shown ≡ option_map decimal default → shown ≡ None → rule_of a ≡ number_option name default
+  no_default-rule None are is = rule
+  no_default-rule (Some n) are is = cc
 
 -- a fold over one item more
 pub fold-take-more : {A B X : Type 0} (f : B → A → B) (b : B) (of : X → A) (xs : List X) (i : ℕ) (d : X) → i < length xs

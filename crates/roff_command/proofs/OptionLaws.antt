@@ -3,7 +3,7 @@ use Rattle.std.proofs.Common.{◌≡◌, ◌∙◌, ◌⊎◌, ℕ, List, [], �
 use Rattle.std.specs.Prelude.{fold, unwrap_or}
 use Rattle.clap.specs.Words.{Row}
 use Rattle.roff_num.specs.declared.limit.Limit.{Limit}
-use Rattle.roff_num.specs.declared.limit.Limit.TheVariants.{Bytes, Stack, Depth, Line, Traps, Diversions, Environments, Conditions, Output, Store, Names, Rows, Columns, Text, Width, TblBytes}
+use Rattle.roff_num.specs.declared.limit.Limit.TheVariants.{Bytes, Stack, Depth, Line, Traps, Diversions, Environments, Conditions, Output, Store, Names, Rows, Columns, Text, Width, TblBytes, Messages}
 use Rattle.roff_num.specs.declared.limits.Limits.{Limits}
 use Rattle.roff_num.specs.Clauses.{default_limits, limits_with, value_of}
 use Rattle.tbl_layout.specs.declared.limits.TblLimits.{TblLimits}
@@ -28,6 +28,7 @@ limits_with-same l Columns = refl
 limits_with-same l Text = refl
 limits_with-same l Width = refl
 limits_with-same l TblBytes = refl
+limits_with-same l Messages = refl
 
 tbl_limits_with-same : (l : TblLimits) (limit : Limit) → tbl_limits_with l limit (tbl_value_of l limit) ≡ l
 tbl_limits_with-same l Bytes = refl
@@ -46,6 +47,7 @@ tbl_limits_with-same l Columns = refl
 tbl_limits_with-same l Text = refl
 tbl_limits_with-same l Width = refl
 tbl_limits_with-same l TblBytes = refl
+tbl_limits_with-same l Messages = refl
 
 -- limits of a kind: how one is set, and its value
 module _ {L : Type 0} (set : L → Limit → ℕ → L) (value : L → Limit → ℕ) (same : (l : L) (limit : Limit) → set l limit (value l limit) ≡ l) where
@@ -83,6 +85,7 @@ default_or_same number Columns = inr (λ l. refl)
 default_or_same number Text = inr (λ l. refl)
 default_or_same number Width = inr (λ l. refl)
 default_or_same number TblBytes = inr (λ l. refl)
+default_or_same number Messages = inl refl
 
 tbl_default_or_same : (number : Limit → Option ℕ) (limit : Limit)
     → (tbl_value_of (fold (set_or_same tbl_limits_with tbl_value_of tbl_limits_with-same number) default_tbl_limits tbl_limits) limit
@@ -104,6 +107,7 @@ tbl_default_or_same number Columns = inl refl
 tbl_default_or_same number Text = inl refl
 tbl_default_or_same number Width = inl refl
 tbl_default_or_same number TblBytes = inl refl
+tbl_default_or_same number Messages = inl refl
 
 -- so each option sets its limit
 pub each_option_sets_its_limit : EachOptionSetsItsLimit value_of limits_asked default_limits

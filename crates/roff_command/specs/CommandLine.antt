@@ -1,5 +1,5 @@
 -- The command line: its commands, options and operands, and what its words ask for.
-use Rattle.std.specs.Prelude.{◌≡◌, ◌≢◌, ◌⊎◌, ◌^◌, ◌-◌, ◌&&◌, ℕ, true, List, [], ◌∷◌, length, map, min, fold, bytes_eq, nat_lt, Option, Some, None, if◌then◌else◌, option_and_then, option_map, unwrap_or, codes, decimal, pos}
+use Rattle.std.specs.Prelude.{◌≡◌, ◌≢◌, ◌⊎◌, ◌^◌, ◌-◌, ◌&&◌, ℕ, Bool, false, true, List, [], ◌∷◌, length, map, min, fold, bytes_eq, nat_lt, Option, Some, None, if◌then◌else◌, option_and_then, option_map, unwrap_or, codes, decimal, pos}
 use Rattle.std.specs.Char.{digit_value}
 use Rattle.std.specs.List.{list_all}
 use Rattle.std.specs.Str.Parse.{digits_value, without_leading_plus}
@@ -9,7 +9,7 @@ use Rattle.clap.specs.declared.error.ErrorKind.{ErrorKind}
 use Rattle.clap.specs.declared.error.ErrorKind.TheVariants.{DisplayHelp, DisplayVersion}
 use Rattle.clap.specs.declared.builder.value_parser.ValueParser.TheVariants.{Signed}
 use Rattle.roff_num.specs.declared.limit.Limit.{Limit}
-use Rattle.roff_num.specs.declared.limit.Limit.TheVariants.{Bytes, Store, Stack, Depth, Names, Line, Traps, Output, Diversions, Environments, Conditions, Rows, Columns, Text as TableText, Width, TblBytes}
+use Rattle.roff_num.specs.declared.limit.Limit.TheVariants.{Bytes, Store, Stack, Depth, Names, Line, Traps, Output, Diversions, Environments, Conditions, Rows, Columns, Text as TableText, Width, TblBytes, Messages}
 use Rattle.roff_num.specs.declared.limits.Limits.{Limits}
 use Rattle.roff_num.specs.Clauses.{default_limits, limit_name, limits_with, value_of}
 use Rattle.tbl_layout.specs.declared.limits.TblLimits.{TblLimits}
@@ -25,28 +25,42 @@ use Rattle.roff_command.specs.declared.request.Request.{Request}
 
 -- the limits of the formatter that have an option, in the order of help
 abbrev pub option_limits : List Limit
-option_limits = Bytes ∷ Store ∷ Stack ∷ Depth ∷ Names ∷ Line ∷ Traps ∷ Output ∷ Diversions ∷ Environments ∷ Conditions ∷ []
+option_limits = Bytes ∷ Store ∷ Stack ∷ Depth ∷ Names ∷ Line ∷ Traps ∷ Output ∷ Diversions ∷ Environments ∷ Conditions ∷ Messages ∷ []
 
 -- those of tables beside the formatter, and those of tables alone
 abbrev pub table_limits : List Limit
 table_limits = Rows ∷ Columns ∷ TableText ∷ Width ∷ []
 
 abbrev pub tbl_limits : List Limit
-tbl_limits = Rows ∷ Columns ∷ TableText ∷ Width ∷ TblBytes ∷ Output ∷ []
+tbl_limits = Rows ∷ Columns ∷ TableText ∷ Width ∷ TblBytes ∷ Output ∷ Messages ∷ []
 
--- an option that takes a number from 0 to 1,000,000,000, with its default
-abbrev pub number_option : Text → ℕ → Rule
+-- the value of an option that isn't used, as a text, if it has one
+abbrev pub default_texts : Option ℕ → List Text
+default_texts None = []
+default_texts (Some default) = decimal default ∷ []
+
+-- an option that takes a number from 0 to 1,000,000,000, with its default, if it has one
+abbrev pub number_option : Text → Option ℕ → Rule
 number_option name default = record (new_rule name) {
   long = Some name;
   value_names = 1;
   parser = Some (Signed (pos 0) (pos 1000000000));
-  defaults = decimal default ∷ [];
+  defaults = default_texts default;
 }
 
--- a limit's default
-abbrev pub default_of : LimitOf → Limit → ℕ
-default_of Formatter limit = value_of default_limits limit
-default_of Tables limit = tbl_value_of default_tbl_limits limit
+-- whether a limit bounds something where no option sets it: that on messages doesn't
+abbrev pub is_bound_by_default : Limit → Bool
+is_bound_by_default Messages = false
+is_bound_by_default _ = true
+
+-- what a limit of a part of the program is where no option sets it
+abbrev pub value_by_default : LimitOf → Limit → ℕ
+value_by_default Formatter limit = value_of default_limits limit
+value_by_default Tables limit = tbl_value_of default_tbl_limits limit
+
+-- the default that its option shows: none where that bounds nothing
+abbrev pub default_of : LimitOf → Limit → Option ℕ
+default_of of limit = if is_bound_by_default limit then Some (value_by_default of limit) else None
 
 -- its option has its name and default
 abbrev pub limit_option : LimitOf → Limit → Rule
@@ -83,7 +97,7 @@ with_start app = with_rule (with_rule (with_rule app first_page_option) pages_op
 
 -- the line length, in columns, within which tables are centred
 abbrev pub line_length_option : Rule
-line_length_option = number_option (codes "line-length") 65
+line_length_option = number_option (codes "line-length") (Some 65)
 
 -- the operands: any number of files, and standard input where there is none
 abbrev pub file_operand : Rule

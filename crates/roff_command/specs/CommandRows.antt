@@ -76,11 +76,12 @@ numbered = record {
   diversions = 9;
   environments = 10;
   conditions = 11;
+  messages = 12;
 }
 
 -- the same of the limits of tables
 abbrev pub tables_numbered : TblLimits
-tables_numbered = record { rows = 1; columns = 2; text = 3; width = 4; bytes = 5; output = 6 }
+tables_numbered = record { rows = 1; columns = 2; text = 3; width = 4; bytes = 5; output = 6; messages = 7 }
 
 -- the fault of the words
 abbrev pub fault : List Text → Kinds

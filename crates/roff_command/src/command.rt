@@ -1,6 +1,6 @@
 //! The program's commands, with their options, as the parser takes them.
 
-ghost use Rattle.std.specs.Prelude.{◌≡◌, ℕ, IfOk, decimal, fold, map};
+ghost use Rattle.std.specs.Prelude.{◌≡◌, IfOk, None, fold, map};
 ghost use Rattle.roff_command.specs.Clauses.{app_of, both_app, command_named, file_operand};
 ghost use Rattle.roff_command.specs.Clauses.{first_page_option, limit_option, line_length_option};
 ghost use Rattle.roff_command.specs.Clauses.{nroff_app, number_option, pages_option};
@@ -173,33 +173,26 @@ fn register_argument<'a>(alloc: Global) -> Arg<'a>
 fn limit_argument<'a>(alloc: Global, option: &'static LimitOption) -> Arg<'a>
     ensures { rule_of result ≡ limit_option option.now.of option.now.limit }
 {
-    number_argument(
-        alloc,
-        option.limit.name(),
-        default_text(option.of, option.limit),
-        option.help,
-    )
+    let argument = number_argument(alloc, option.limit.name(), option.help);
+    match default_text(option.of, option.limit) {
+        Some(default) => argument.default_value(default),
+        None => argument,
+    }
 }
 
 fn line_length_argument<'a>(alloc: Global) -> Arg<'a>
     ensures { rule_of result ≡ line_length_option }
 {
-    number_argument(alloc, LINE_LENGTH, "65", texts::LINE_LENGTH)
+    number_argument(alloc, LINE_LENGTH, texts::LINE_LENGTH).default_value("65")
 }
 
-/// An option that takes a number.
-fn number_argument<'a>(
-    alloc: Global,
-    name: &'static str,
-    default: &'static str,
-    help: &'static str,
-) -> Arg<'a>
-    ensures { (n : ℕ) → default.now ≡ decimal n → rule_of result ≡ number_option name.now n }
+/// An option that takes a number, and has no default.
+fn number_argument<'a>(alloc: Global, name: &'static str, help: &'static str) -> Arg<'a>
+    ensures { rule_of result ≡ number_option name.now None }
 {
     Arg::new(alloc, name)
         .long(name)
         .value_name("N")
         .value_parser(value_parser!(u32).range(0..=GREATEST_NUMBER))
-        .default_value(default)
         .help(help)
 }

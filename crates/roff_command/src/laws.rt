@@ -26,22 +26,26 @@ pub fn command_lines()
     ensures greatest { asked (codes "nroff" ∷ codes "--bytes=1000000000"
         ∷ codes "--line" ∷ codes "1000000000" ∷ [])
         ≡ formats (codes "-" ∷ []) (limited 1000000000 1000000000) }
-    ensures all { asked (codes "nroff" ∷ codes "--conditions=11" ∷ codes "--environments=10"
-        ∷ codes "--diversions=9" ∷ codes "--output=8" ∷ codes "--traps=7" ∷ codes "--line=6"
+    ensures all { asked (codes "nroff" ∷ codes "--messages=12" ∷ codes "--conditions=11"
+        ∷ codes "--environments=10" ∷ codes "--diversions=9" ∷ codes "--output=8"
+        ∷ codes "--traps=7" ∷ codes "--line=6"
         ∷ codes "--names=5" ∷ codes "--depth=4" ∷ codes "--stack=3" ∷ codes "--store=2"
         ∷ codes "--bytes=1" ∷ []) ≡ formats (codes "-" ∷ []) numbered }
     ensures operands { asked (codes "nroff" ∷ codes "--" ∷ codes "--line" ∷ codes "-" ∷ [])
         ≡ formats (codes "--line" ∷ codes "-" ∷ []) default_limits }
     ensures tables { asked (codes "tbl" ∷ codes "a" ∷ [])
         ≡ tables (codes "a" ∷ []) default_tbl_limits 65 }
-    ensures all_of_tables { asked (codes "tbl" ∷ codes "--output=6" ∷ codes "--bytes=5"
-        ∷ codes "--width=4" ∷ codes "--text=3" ∷ codes "--columns=2" ∷ codes "--rows=1"
-        ∷ codes "--line-length=7" ∷ [])
+    ensures all_of_tables { asked (codes "tbl" ∷ codes "--messages=7" ∷ codes "--output=6"
+        ∷ codes "--bytes=5" ∷ codes "--width=4" ∷ codes "--text=3" ∷ codes "--columns=2"
+        ∷ codes "--rows=1" ∷ codes "--line-length=7" ∷ [])
         ≡ tables (codes "-" ∷ []) tables_numbered 7 }
     ensures both { asked (codes "both" ∷ codes "--bytes=7" ∷ codes "--line=0"
         ∷ codes "--line-length" ∷ codes "21" ∷ codes "a" ∷ [])
         ≡ formats_tables (codes "a" ∷ []) (limited 7 0)
         (record default_tbl_limits { bytes = 7 }) 21 }
+    ensures messages_of_both { asked (codes "both" ∷ codes "--messages=7" ∷ [])
+        ≡ formats_tables (codes "-" ∷ []) (record default_limits { messages = 7 })
+        default_tbl_limits 65 }
 {}
 
 /// The registers that command lines set.

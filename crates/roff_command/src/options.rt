@@ -1,7 +1,7 @@
 //! The options that set limits.
 
-ghost use Rattle.std.specs.Prelude.{◌≡◌, decimal};
-ghost use Rattle.roff_command.specs.Clauses.{default_of};
+ghost use Rattle.std.specs.Prelude.{◌≡◌, decimal, option_map};
+ghost use Rattle.roff_command.specs.Clauses.{default_of, is_bound_by_default, value_by_default};
 
 use crate::texts;
 use roff_num::{Limit, Limits};
@@ -31,7 +31,7 @@ macro_rules! options {
 }
 
 /// The limits of the formatter.
-pub static FORMATTER_OPTIONS: [LimitOption; 11] = options![Formatter:
+pub static FORMATTER_OPTIONS: [LimitOption; 12] = options![Formatter:
     Bytes BYTES,
     Store STORE,
     Stack STACK,
@@ -43,9 +43,10 @@ pub static FORMATTER_OPTIONS: [LimitOption; 11] = options![Formatter:
     Diversions DIVERSIONS,
     Environments ENVIRONMENTS,
     Conditions CONDITIONS,
+    Messages MESSAGES,
 ];
 
-/// The limits of tables, beside the formatter.
+/// The limits of tables, beside the formatter, which counts the messages of both.
 pub static TABLE_OPTIONS: [LimitOption; 4] = options![Tables:
     Rows ROWS,
     Columns COLUMNS,
@@ -54,18 +55,37 @@ pub static TABLE_OPTIONS: [LimitOption; 4] = options![Tables:
 ];
 
 /// The limits of tables alone.
-pub static TBL_OPTIONS: [LimitOption; 6] = options![Tables:
+pub static TBL_OPTIONS: [LimitOption; 7] = options![Tables:
     Rows ROWS,
     Columns COLUMNS,
     Text TEXT,
     Width WIDTH,
     TblBytes BYTES,
     Output OUTPUT,
+    Messages MESSAGES,
 ];
 
+/// What a limit is where no option sets it, in decimal; none for one that bounds nothing then.
+pub fn default_text(of: LimitOf, limit: Limit) -> Option<&'static str>
+    ensures { option_map (λ text. text.now) result ≡ option_map decimal (default_of of limit) }
+{
+    if is_bound_by_default(limit) {
+        Some(value_text(of, limit))
+    } else {
+        None
+    }
+}
+
+/// Whether a limit bounds something where no option sets it.
+fn is_bound_by_default(limit: Limit) -> bool
+    ensures { result ≡ is_bound_by_default limit }
+{
+    !matches!(limit, Limit::Messages)
+}
+
 /// What a limit is where no option sets it, in decimal.
-pub fn default_text(of: LimitOf, limit: Limit) -> &'static str
-    ensures { result.now ≡ decimal (default_of of limit) }
+fn value_text(of: LimitOf, limit: Limit) -> &'static str
+    ensures { result.now ≡ decimal (value_by_default of limit) }
 {
     match of {
         LimitOf::Formatter => Limits::default_text(limit),

@@ -60,6 +60,9 @@ pub const ENVIRONMENTS: &str = "Most environments not gone back from";
 /// What the option `--conditions` bounds.
 pub const CONDITIONS: &str = "Most conditions that wait for .el";
 
+/// What the option `--messages` bounds, and what holds without it.
+pub const MESSAGES: &str = "Most bytes of messages; without it, no limit";
+
 /// What the option `--rows` bounds.
 pub const ROWS: &str = "Most rows of a table";
 

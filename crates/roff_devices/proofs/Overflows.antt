@@ -27,8 +27,8 @@ kept_and_one room kept kept_then piece left split short is =
 -- a piece that is too long was put where no byte had no room before
 pub Fails-overflow : (room room_then faults faults_then : ℕ) (kept kept_then piece : List ℕ) (left : ℕ)
     → length kept + left ≡ room → left < length piece → room_then ≡ room → kept_then ≡ take room (kept ++ piece) → CountsFault faults faults_then
-    → let old : Sunk = record { contents = Some (room ∷ kept ++ []); failures = faults } in
-    let new : Sunk = record { contents = Some (room_then ∷ kept_then ++ (get_or piece left 0 ∷ [])); failures = faults_then } in
+    → let old : Sunk = record { contents = Some (room ∷ kept ++ []); failures = faults; room = 0 } in
+    let new : Sunk = record { contents = Some (room_then ∷ kept_then ++ (get_or piece left 0 ∷ [])); failures = faults_then; room = 0 } in
     Fails old new piece
 Fails-overflow room room_then faults faults_then kept kept_then piece left split short same is counts =
     let grown = kept_and_one room kept kept_then piece left split short is in record {

@@ -1,5 +1,5 @@
 -- A buffer in front of a writer.
-use Rattle.std.specs.Prelude.{◌≡◌, ℕ, List, drop, Result, OnErr, OnOk}
+use Rattle.std.specs.Prelude.{◌≡◌, ℕ, ◌-◌, List, drop, length, Option, Some, Result, OnErr, OnOk}
 use Rattle.std.specs.Io.KnownBytes.{Keeps, append_known}
 use Rattle.roff_devices.specs.declared.buffered.Buffered.{Buffered}
 use Rattle.roff_sinks.specs.declared.sink.SinkFault.{SinkFault}
@@ -13,9 +13,18 @@ writer_of s = s.writer
 abbrev pub held_by : {W : Type 0} → Buffered W → List ℕ
 held_by s = drop s.next s.held.items
 
+-- how many bytes there is room for
+abbrev pub room_in : {W : Type 0} → Buffered W → ℕ
+room_in s = 8192 - length s.held.items
+
+-- a piece was held back whole, and nothing was written out
+pub record Holds {W : Type 0} (piece : List ℕ) (old new : Buffered W) (result : Option ℕ) : Type 0 where
+  pub whole : result ≡ Some (length piece)
+  pub writer : writer_of new ≡ writer_of old
+
 -- what was written to a writer, and then bytes that are held back
 abbrev pub with_held : Sunk → List ℕ → Sunk
-with_held sunk held = record { contents = append_known sunk.contents held; failures = sunk.failures }
+with_held sunk held = record sunk { contents = append_known sunk.contents held }
 
 -- what it was given: what the writer took, and then what it holds back; the writer's faults are its own
 abbrev pub given_to : {W : Type 0} → (W → Sunk) → Buffered W → Sunk

@@ -40,7 +40,7 @@ faults_of s = s.failures
 
 -- what a sink in memory tells: what it has kept, and how many faults it had
 abbrev pub sunk_of : MemSink → Sunk
-sunk_of s = record { contents = Some (kept_by s); failures = faults_of s }
+sunk_of s = record { contents = Some (kept_by s); failures = faults_of s; room = 0 }
 
 -- a piece that a sink in memory was given: all of it is kept if there is room, and else as much of it as there is
 -- room for, and that is a fault

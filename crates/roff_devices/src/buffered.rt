@@ -66,6 +66,7 @@ impl<W: BlockWrite + Drop> Buffered<W> {
     fn hold(&mut self, piece: &[u8]) -> usize
         requires room { vec_len self.old.held + length piece.now ≤ 8192 }
         ensures count { result ≡ length piece.now }
+        ensures writer { writer_of self.new ≡ writer_of self.old }
         ensures writes { Writes (given_to W.sunk self.old) (given_to W.sunk self.new) piece.now }
     {
         self.held.extend_from_slice(piece).unwrap();
@@ -117,13 +118,22 @@ impl<W: BlockWrite + Drop> Buffered<W> {
 
 impl<W: BlockWrite + Drop> BlockWrite for Buffered<W> {
     ghost use Rattle.std.specs.Io.KnownBytes.{Keeps};
-    ghost use Rattle.roff_devices.specs.Buffered.{given_to, held_by};
-    ghost use Rattle.roff_sinks.specs.Sinks.{CountsFault};
+    ghost use Rattle.roff_devices.specs.Buffered.{Holds, given_to, held_by, room_in};
+    ghost use Rattle.roff_sinks.specs.Sinks.{CountsFault, FailsOnce, Writes};
 
     ghost sunk = { given_to W.sunk };
 
     #[inline(always)]
-    fn write_block(&mut self, piece: &[u8]) -> Option<usize> {
+    fn write_block(&mut self, piece: &[u8]) -> Option<usize>
+        requires some { 0 < length piece.now }
+        ensures count { IfSome result (λ n. (0 < n) × (n ≤ length piece.now)) }
+        ensures some { IfSome result (λ n.
+            Writes (given_to W.sunk self.old) (given_to W.sunk self.new) (take n piece.now)) }
+        ensures none { IfNone result
+            (FailsOnce (given_to W.sunk self.old) (given_to W.sunk self.new)) }
+        ensures holds { length piece.now ≤ room_in self.old
+            → Holds piece.now self.old self.new result }
+    {
         if piece.len() <= HELD - self.held.len() {
             return Some(self.hold(piece));
         }

@@ -1,6 +1,6 @@
 -- What the code does with an item that it took, as a step of the definition.
 use Rattle.std.proofs.Common.{◌≡◌, ℕ, ◌+◌, ◌*◌, ◌-◌, List, [], ◌∷◌, ◌++◌, ◌≤◌, arith, length, Option, Some, None, Result, Ok, Err, OnOk, inl, inr, refl, subst, sym, ap, append-nil, ◌∙◌}
-use Rattle.std.specs.Prelude.{map}
+use Rattle.std.specs.Prelude.{Bool, true, false, if◌then◌else◌, map, nat_lt}
 use Rattle.roff_num.specs.declared.limit.Limit.{Limit}
 use Rattle.roff_num.specs.declared.limits.Limits.{Limits}
 use Rattle.roff_input.specs.Input.{putting_all_back}
@@ -33,7 +33,7 @@ use Rattle.roff_reader.specs.Reader.Taken.{CameTo, IsReady}
 use Rattle.roff_run.specs.Reading.Items.{PageUnread}
 use Rattle.roff_run.specs.Reading.Items.{Taking}
 use Rattle.roff_run.specs.Registers.{Known}
-use Rattle.roff_run.specs.Run.{State, ending_as, known_at, made, step, taken_as, unless_refused, grown}
+use Rattle.roff_run.specs.Run.{State, ending_as, known_at, made, step, stopped_by, taken_as, told_step, unless_refused, unless_untold, grown}
 use Rattle.roff_run.specs.Run.Counts.{first_passed}
 use Rattle.roff_run.specs.PageEvents.{PageEvent}
 use Rattle.roff_run.specs.Titles.{put_back}
@@ -43,7 +43,9 @@ use Rattle.roff_run.specs.declared.status.Status.{Status}
 use Rattle.roff_run.specs.declared.status.Status.TheVariants.{Done}
 use Rattle.roff_run.specs.Environments.{interrupted_line}
 use Rattle.roff_run.specs.TurnsToCome.{begun, lines_left, phases_left, turns_to_come, turns_within}
+use Rattle.roff_interpreter.proofs.Bounded.{arrives, told_reached, told_step-quiet}
 use Rattle.roff_interpreter.proofs.Halting.{rest_over}
+use Rattle.roff_num.specs.declared.limit.Limit.TheVariants.{Messages as OnMessages}
 use Rattle.roff_formatter.proofs.EventsLeft.{few-most}
 use Rattle.roff_interpreter.proofs.Fronts.{few-put_back}
 use Rattle.roff_interpreter.proofs.Room.{ends-within, room_left}
@@ -70,6 +72,19 @@ left-unless_refused : (l : Limits) (o : Option Limit) (left : Tape) (from done :
 left-unless_refused l None left from done before behind = behind
 left-unless_refused l (Some limit) left from done before behind = before
 
+-- and behind a step whose messages may be too many
+left-told : (l : Limits) (many : Bool) (left : Tape) (from done : State) → IsLeftOf left from.tape → IsLeftOf left done.tape
+    → IsLeftOf left (if many then stopped_by l OnMessages from else done).tape
+left-told l true left from done before behind = before
+left-told l false left from done before behind = behind
+
+left-told_step : (l : Limits) (left : Tape) (from : State) → IsLeftOf left from.tape → IsLeftOf left (step l from).tape → IsLeftOf left (told_step l from).tape
+left-told_step l left from before behind =
+    elim from.ended as (λ o. IsLeftOf left (elim o as (λ _. State) [ None ↦ unless_untold l from (step l from) | Some status ↦ from ]).tape) [
+      | None ↦ left-told l (nat_lt l.messages (length (step l from).messages)) left from (step l from) before behind
+      | Some status ↦ before
+    ]
+
 -- one step from a state leads to a taking's, unless a limit refuses it
 module _ (l : Limits) (t : Beginning) (left : Tape) (line_before line : ℕ) (start now : Seen) (from done : State) (opens : step l from ≡ made l from done)
     (left_before : IsLeftOf left from.tape) (quiet_before : from.last_message ≡ []) (line_before_is : from.input.line ≡ line_before)
@@ -91,7 +106,8 @@ module _ (l : Limits) (t : Beginning) (left : Tape) (line_before line : ℕ) (st
     state = acting done (did.next ∷ did.to_do) did.history;
     reaches = did.reaches;
     goes_on = refl;
-    stops = did.stops;
+    stops = told_step-quiet l (acting done (did.next ∷ did.to_do) did.history) (stopped_by l limit (acting done (did.next ∷ did.to_do) did.history))
+        now.err.room refl did.reaches.room did.stops refl;
     rest = left_behind;
     quiet = quiet;
     line_is = line_is;
@@ -107,9 +123,9 @@ module _ (l : Limits) (t : Beginning) (left : Tape) (line_before line : ℕ) (st
   did_halt events h kept rest Over es did =
       let over : State = ending_as Done (acting done did.to_do did.history) in record {
         state = over;
-        reaches = did.reaches;
+        reaches = arrives l t start now over did.reaches;
         ended = refl;
-        rest = rest_over l t left over did.reaches.comes refl left_behind;
+        rest = rest_over l t left over (told_reached l t start now over did.reaches) refl left_behind;
         fault = λ wrong. cc;
       }
   did_halt events h kept rest Messages es did = record {
@@ -121,7 +137,8 @@ module _ (l : Limits) (t : Beginning) (left : Tape) (line_before line : ℕ) (st
     messages = did.messages;
     fault = did.fault;
     output_stays = did.output_stays;
-    rest = subst (λ (s : State). IsLeftOf left s.tape) (sym opens) (left-unless_refused l (first_passed l (grown done)) left from done left_before left_behind);
+    rest = left-told_step l left from left_before
+        (subst (λ (s : State). IsLeftOf left s.tape) (sym opens) (left-unless_refused l (first_passed l (grown done)) left from done left_before left_behind));
   }
 
 -- the state of the definition in which an item was taken, in this phase, with more to perform

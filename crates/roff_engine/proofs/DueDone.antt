@@ -23,16 +23,21 @@ use Rattle.roff_run.specs.declared.line_state.Due.{Due}
 use Rattle.roff_run.specs.declared.line_state.Due.TheVariants.{Leaves as LeavesInput, Tells}
 use Rattle.roff_run.specs.declared.line_state.LineState.{LineState}
 use Rattle.roff_run.specs.declared.line_state.LineState.TheVariants.{LineStart, Branch, Braced, Text as InText}
+use Rattle.roff_run.specs.declared.status.Status.{Status}
 use Rattle.roff_run.specs.declared.status.Status.TheVariants.{Aborted, Device}
 use Rattle.roff_run.proofs.InputCounts.{NoMore-leaving, NoMore-released, first_passed-no_more}
 use Rattle.roff_engine.specs.declared.running.Running.{Running as Coded}
-use Rattle.roff_interpreter.specs.Outcome.{Beginning, Seen, IsLeftOf, IsRest, MessagesFail, seen}
+use Rattle.roff_interpreter.specs.Outcome.{Beginning, Seen, IsLeftOf, IsRest, OutcomeOf, seen}
 use Rattle.roff_engine.specs.Running.Turning.{IsAt, DoesDue, line_turns, lines_left_in, state_at}
 use Rattle.roff_sinks.specs.Sinks.{Sunk, Writes, Fails}
 use Rattle.roff_interpreter.proofs.Fronts.{few-nothing, few-over}
 use Rattle.roff_engine.proofs.Acting.{IsLeftOf-looked_then}
 use Rattle.roff_interpreter.proofs.Calls.{Leaves}
-use Rattle.roff_engine.proofs.Items.{back_performed, lost, one_more}
+use Rattle.roff_engine.proofs.Items.{back_performed, lost, one_last, one_more, untold}
+use Rattle.roff_formatter.specs.declared.halt.Halt.{Halt}
+use Rattle.roff_interpreter.specs.Halting.{Halts, line_told}
+use Rattle.roff_interpreter.specs.Reporting.{IsTold, Tells as TellsAll}
+use Rattle.roff_interpreter.proofs.Bounded.{told_step-quiet}
 use Rattle.roff_engine.proofs.TurnsLeft.{line_turns-by, lines_left_in-few}
 use Rattle.roff_input.specs.Looking.{closing, is_closed, looked_then}
 use Rattle.roff_input.specs.declared.looked.Looked.{Looked}
@@ -75,16 +80,6 @@ abbrev behind_message : Bool → State → State
 behind_message true s = aborted s
 behind_message false s = message_told s
 
--- what is reported there
-reported-message : (aborts : Bool) (tape : Tape) (run : Coded) (h : PageHistory) (ms : List ℕ)
-    → reported (behind_message aborts (state_at tape run h ms)) ≡ ms ++ told_line aborts (message_text_read run.unread.input)
-reported-message true tape run h ms = refl
-reported-message false tape run h ms = append-nil (ms ++ told_line false (message_text_read run.unread.input))
-
-tape-message : (aborts : Bool) (s : State) → (behind_message aborts s).tape ≡ s.tape
-tape-message true s = refl
-tape-message false s = refl
-
 -- where its text is released no count is above its limit
 released_within : (run : Coded) → first_passed run.unread.limits (counts_in run.interpreter.reader.registers.all run.unread.input) ≡ None
     → first_passed run.unread.limits (counts_in run.interpreter.reader.registers.all (record run.unread.input { arguments = no_arguments })) ≡ None
@@ -115,22 +110,21 @@ module _ (old : Coded) (aborts : Bool) (is : due old.interpreter.reader.reading 
         ap (λ (what : Option Due). reading_by old.limits what from) is_due
         ∙ ap (λ (r : Option Limit). unless_refused old.limits r from (message_told from)) allowed
 
-    -- the message sink failed
-    not_told : Fails err told line → MessagesFail old.limits t tape Device start (seen failures out told)
-    not_told part =
-        lost (Leaves-nothing tape old.unread) failures failures out err (omega arith) t tape start refl at told (behind_message aborts from) line (step-of aborts is)
-        (reported-message aborts tape old at.history at.messages)
-        (rw (tape-message aborts from) (IsLeftOf-looked_then old.unread.looked tape)) part
-
-  -- or it was told, and ended the run
-  pub failed_due : Fails err told line → DoesDue old old (seen failures out err) (seen failures out told) (Err Device)
-  failed_due part = record {
-    limits = refl;
-    idle = λ none. something_due none;
-    does_due = λ t tape start at. inr (inr (inl (not_told t tape start at part)));
-    none_due = tt;
-    turns = tt;
-  }
+-- the message sink failed with the one that ends the run
+pub failed_due : (old : Coded) (failures : ℕ) (out err told : Sunk) → due old.interpreter.reader.reading ≡ Some (Tells true)
+    → Fails err told (told_line true (message_text_read old.unread.input)) → DoesDue old old (seen failures out err) (seen failures out told) (Err Device)
+failed_due old failures out err told is part = record {
+  limits = refl;
+  idle = λ none. something_due old true is failures out err told none;
+  does_due = λ t tape start at.
+      let from : State = state_at tape old at.history at.messages in
+      let goes = step-of old true is failures out err told t tape start at true is in
+      inr (inr (inl (lost (Leaves-nothing tape old.unread) failures failures out err (omega arith) t tape start refl at told (aborted from)
+      (told_line true (message_text_read old.unread.input)) (told_step-quiet old.limits from (aborted from) err.room refl at.reaches.room goes refl)
+      refl (IsLeftOf-looked_then old.unread.looked tape) part)));
+  none_due = tt;
+  turns = tt;
+}
 
 -- what is left where a run was aborted
 rest_aborted : (tape : Tape) (s : State) → IsLeftOf tape s.tape → IsRest Aborted tape s
@@ -148,8 +142,8 @@ aborted_due old failures out err told is writes = record {
       inl (record {
         state = aborted from;
         reaches =
-            one_more (Leaves-nothing tape old.unread) failures failures out err (omega arith) t tape start refl at told (aborted from)
-            (told_line true (message_text_read old.unread.input)) (step-of old true is failures out err told t tape start at true is) refl refl writes;
+            one_last (Leaves-nothing tape old.unread) failures failures out err (omega arith) t tape start refl at told (aborted from)
+            (told_line true (message_text_read old.unread.input)) (step-of old true is failures out err told t tape start at true is) refl refl refl writes;
         ended = refl;
         rest = rest_aborted tape (aborted from) (IsLeftOf-looked_then old.unread.looked tape);
         fault = λ wrong. cc;
@@ -167,7 +161,7 @@ behind_told old = record old {
 
 -- one was told, and the run goes on
 pub told_due : (old : Coded) (failures : ℕ) (out err told : Sunk) → due old.interpreter.reader.reading ≡ Some (Tells false)
-    → Writes err told (told_line false (message_text_read old.unread.input))
+    → IsTold err told (told_line false (message_text_read old.unread.input))
     → DoesDue old (behind_told old) (seen failures out err) (seen failures out told) (Ok tt)
 told_due old failures out err told is writes = record {
   limits = refl;
@@ -189,6 +183,26 @@ told_due old failures out err told is writes = record {
   turns = (let line = due-line old.interpreter.reader.reading (Tells false) (lines_left_in old.interpreter.formatter.composer) is in
       let few = lines_left_in-few old.interpreter.formatter.composer in
       omega (arith, line, few));
+}
+
+-- or it wasn't told, which halted the run
+pub untold_due : (old : Coded) (failures : ℕ) (out err mid told : Sunk) (halt : Halt) (status : Status) → due old.interpreter.reader.reading ≡ Some (Tells false)
+    → TellsAll err mid (told_line false (message_text_read old.unread.input)) (Err halt)
+    → ((t : Beginning) (left : Tape) (start : Seen) (failures : ℕ) (out : Sunk)
+    → Halts old.limits t left (line_told halt old.unread.input.line old.unread.input.line) halt start (seen failures out mid)
+    → OutcomeOf old.limits t left status start (seen failures out told))
+    → DoesDue old old (seen failures out err) (seen failures out told) (Err status)
+untold_due old failures out err mid told halt status is tells ends = record {
+  limits = refl;
+  idle = λ none. something_due old false is failures out err told none;
+  does_due = λ t tape start at.
+      let from : State = state_at tape old at.history at.messages in
+      ends t tape start failures out
+      (untold (Leaves-nothing tape old.unread) failures failures out err (omega arith) t tape start refl at mid old.unread.input.line refl (message_told from)
+      (told_line false (message_text_read old.unread.input)) halt (step-of old false is failures out err told t tape start at false is) refl refl
+      (IsLeftOf-looked_then old.unread.looked tape) tells);
+  none_due = tt;
+  turns = tt;
 }
 
 -- what was looked at stays as the source is closed
@@ -254,6 +268,7 @@ left_due old f now is leaves performs = record {
         text = at.reaches.text;
         messages = at.reaches.messages;
         faults = at.reaches.faults;
+        room = at.reaches.room;
       }) in record {
         history = behind_events old.interpreter.reader.registers.all (going_back back) at.history;
         messages = at.messages;
@@ -293,6 +308,7 @@ closing_due old now is closes = record {
           text = at.reaches.text;
           messages = at.reaches.messages;
           faults = at.reaches.faults;
+          room = at.reaches.room;
         };
         stands = at.stands;
         ready = at.ready;

@@ -1,5 +1,5 @@
 -- What the code does where the input ends: what is half read ends, and a line, and the phases.
-use Rattle.std.proofs.Common.{◌≡◌, ◌⊎◌, ℕ, Bool, true, false, List, [], ◌∷◌, length, Option, None, Err, inl, inr, refl, subst, sym, ap, append-nil, ◌∙◌}
+use Rattle.std.proofs.Common.{◌≡◌, ◌⊎◌, ℕ, Bool, true, false, List, [], ◌∷◌, ◌++◌, length, Option, None, Err, inl, inr, refl, subst, sym, ap, append-nil, ◌∙◌}
 use Rattle.std.proofs.Math.Dec.{eqb-suc-zero}
 use Rattle.std.specs.Prelude.{not, pos, ◌==◌}
 use Rattle.roff_num.specs.declared.limit.Limit.{Limit}
@@ -34,7 +34,8 @@ use Rattle.roff_input.specs.Input.Few.{AreFewFrom}
 use Rattle.roff_run.specs.PageEvents.{PageEvent}
 use Rattle.roff_run.proofs.Keeping.{Keeps-escape_ended}
 use Rattle.roff_run.proofs.KeepingText.{StaysFew}
-use Rattle.roff_run.proofs.Leads.{Leads-to}
+use Rattle.roff_run.proofs.Leads.{ToldLeads-to}
+use Rattle.roff_interpreter.proofs.Bounded.{told_reached, told_step-quiet}
 use Rattle.roff_engine.proofs.Acting.{IsLeftOf-looked_then}
 
 -- the line and what stands ahead stay
@@ -114,7 +115,9 @@ closed_acts line old now may_end = record {
       inl (record {
         state = done;
         reaches = record {
-          comes = Leads-to old.limits (initial old.limits t.start t.tape) from done took.reaches.comes there;
+          comes = ToldLeads-to old.limits (initial old.limits t.start t.tape) from done (told_reached old.limits t start now from took.reaches)
+              (told_step-quiet old.limits from done now.err.room took.opens.goes_on took.reaches.room there
+              (sym took.opens.said ∙ ap (λ (last : List ℕ). from.messages ++ last) took.quiet ∙ append-nil from.messages));
           text = rw (← took.opens.wrote) took.reaches.text;
           messages = rw (append-nil, ← took.opens.said) took.reaches.messages;
           faults = took.reaches.faults;

@@ -32,7 +32,7 @@ use Rattle.roff_laws.proofs.RunsStayWithin.{named-keeping, title-keeping}
 use Rattle.roff_run.specs.Registers.{AllRegisters}
 use Rattle.roff_run.specs.TitleTexts.{title_length}
 use Rattle.roff_run.specs.Titles.{keeping, put_back}
-use Rattle.roff_run.specs.Run.{State, initial, made, sprung_at, sprung_read, step, unless_refused}
+use Rattle.roff_run.specs.Run.{State, initial, made, sprung_at, sprung_read, step, unless_refused, stopped_by}
 use Rattle.roff_run.specs.Run.Counts.{counts_in, first_passed}
 use Rattle.roff_run.specs.PageEvents.{PageEvent}
 use Rattle.roff_run.specs.declared.line_state.LineState.{LineState}
@@ -44,6 +44,7 @@ use Rattle.roff_formatter.specs.declared.halt.Halt.TheVariants.{Limit as Limited
 use Rattle.roff_engine.specs.declared.running.Running.{Running as Coded}
 use Rattle.roff_formatter.specs.declared.sprung.Sprung.{Sprung}
 use Rattle.roff_interpreter.specs.Outcome.{Beginning, OutcomeOf, Reaches, Seen}
+use Rattle.roff_interpreter.proofs.Bounded.{told_step-quiet}
 use Rattle.roff_formatter.specs.Formatter.Sprung.{left_behind}
 use Rattle.roff_engine.specs.Running.Springing.{GoesOn, IsBehind, PutsBack}
 use Rattle.roff_interpreter.specs.Halting.{Halts}
@@ -200,6 +201,7 @@ module _ (run : Coded) (name : ShortName) (reader : ReaderState) (unread : PageU
           text = at.reaches.text;
           messages = at.reaches.messages;
           faults = at.reaches.faults;
+          room = at.reaches.room;
         };
         stands = at.stands;
         ready = at.ready;
@@ -232,6 +234,7 @@ module _ (run : Coded) (name : ShortName) (reader : ReaderState) (unread : PageU
           text = at.reaches.text;
           messages = at.reaches.messages;
           faults = at.reaches.faults;
+          room = at.reaches.room;
         };
         stands = at.stands;
         ready = record { cap = at.ready.cap; line = at.ready.line; within = passed };
@@ -253,9 +256,10 @@ module _ (run : Coded) (name : ShortName) (reader : ReaderState) (unread : PageU
         state = from;
         reaches = at.reaches;
         goes_on = refl;
-        stops = step-sprung run.limits tape run at.history at.messages name (ABody body) called
+        stops = told_step-quiet run.limits from (stopped_by run.limits limit from) now.err.room refl at.reaches.room
+            (step-sprung run.limits tape run at.history at.messages name (ABody body) called
             ∙ ap (λ (r : Option Limit). unless_refused run.limits r from done)
-            (subst (λ (l : Limits). first_passed l (counts_in rs i) ≡ Some limit) at.limits passed);
+            (subst (λ (l : Limits). first_passed l (counts_in rs i) ≡ Some limit) at.limits passed)) refl;
         rest = IsLeftOf-looked_then run.unread.looked tape;
         quiet = refl;
         line_is = refl;

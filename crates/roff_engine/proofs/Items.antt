@@ -1,6 +1,5 @@
 -- What a run of the code has come to behind each item of its input, where the definition takes one step.
-use Rattle.std.proofs.Common.{◌≡◌, ℕ, ◌≤◌, List, [], ◌∷◌, ◌++◌, Result, Ok, Err, None, inl, inr, refl, sym, ap, ◌∙◌, arith, append-nil}
-use Rattle.std.specs.Prelude.{IsOkUnless}
+use Rattle.std.proofs.Common.{◌≡◌, ℕ, ◌≤◌, ◌<◌, List, [], ◌∷◌, ◌++◌, length, Result, Ok, Err, None, inl, inr, refl, subst, sym, ap, ◌∙◌, arith, append-nil, length-append}
 use Rattle.roff_num.specs.declared.limit.Limit.{Limit}
 use Rattle.roff_num.specs.declared.limits.Limits.{Limits}
 use Rattle.roff_source.specs.Tape.{Tape, Item, Failed, Stopped, items_then}
@@ -22,19 +21,24 @@ use Rattle.roff_composer.specs.Composer.Standing.{StandFor}
 use Rattle.roff_formatter.specs.declared.formatter.Formatter.{Formatter}
 use Rattle.roff_formatter.specs.Formatter.Performing.{AllPerformed, Flows, PerformsEvents, acting, behind_events}
 use Rattle.roff_run.specs.Registers.Capped.{Capped}
-use Rattle.roff_run.specs.Run.{State, ending_as, ending_with, going_back_to, initial, made, output, reported, step, stopped_by, unless_refused}
+use Rattle.roff_run.specs.Run.{State, ending_as, ending_with, going_back_to, initial, made, output, reported, step, stopped_by, told_step, unless_refused}
 use Rattle.roff_run.specs.Run.Counts.{counts_in, first_passed}
 use Rattle.roff_engine.specs.declared.running.Running.{Running as Coded}
-use Rattle.roff_interpreter.specs.Outcome.{Beginning, Seen, IsLeftOf, Reaches, MessagesFail, OutcomeOf, seen}
+use Rattle.roff_interpreter.specs.Outcome.{Arrives, Beginning, Seen, IsLeftOf, Reaches, MessagesFail, OutcomeOf, seen}
+use Rattle.roff_interpreter.specs.Reporting.{IsTold, Tells}
+use Rattle.roff_interpreter.proofs.Bounded.{told_reached, told_step-quiet}
+use Rattle.roff_formatter.specs.declared.halt.Halt.{Halt}
+use Rattle.roff_formatter.specs.declared.halt.Halt.TheVariants.{Limit as ByLimit, Messages, Output, Over, Refused}
+use Rattle.roff_engine.specs.Running.Telling.{TellsOrHalts}
 use Rattle.roff_engine.specs.Running.Turning.{Continues, IsAt, TookFrom, state_at}
-use Rattle.roff_interpreter.specs.Halting.{LimitStops}
+use Rattle.roff_interpreter.specs.Halting.{Halts, LimitStops, line_told}
 use Rattle.roff_sinks.specs.Sinks.{Sunk, Writes, Fails, Puts}
 use Rattle.roff_engine.proofs.Acting.{IsLeftOf-looked_then}
 use Rattle.roff_sinks.proofs.Appending.{Appends-append}
 use Rattle.roff_interpreter.specs.Room.{FewFor}
 use Rattle.roff_interpreter.proofs.Calls.{EndsThere, Leaves}
 use Rattle.roff_formatter.proofs.Performed.{between, faults_of_err}
-use Rattle.roff_run.proofs.Leads.{Leads-to}
+use Rattle.roff_run.proofs.Leads.{Leads-to, ToldLeads-to, told_step-beyond, told_step-within}
 
 -- the source may have had faults more
 pub Reaches-failures : (l : Limits) (t : Beginning) (start : Seen) (old failures : ℕ) (out err : Sunk) (s : State) → old ≤ failures
@@ -44,6 +48,7 @@ Reaches-failures l t start old failures out err s more reached = record {
   text = reached.text;
   messages = reached.messages;
   faults = record { source = omega (arith, reached.faults.source, more); out = reached.faults.out; err = reached.faults.err };
+  room = reached.room;
 }
 
 -- the run of the code with this unread input
@@ -128,6 +133,7 @@ module _ {gave gives : Tape → Type 0} {old : Coded} {left : PageUnread} {taken
           text = reached.text;
           messages = reached.messages;
           faults = reached.faults;
+          room = reached.room;
         };
         stands = at.stands;
         ready = ready_behind old.interpreter.reader.registers old.unread left leaves at.ready;
@@ -147,6 +153,7 @@ module _ {gave gives : Tape → Type 0} {old : Coded} {left : PageUnread} {taken
         text = reached.text;
         messages = reached.messages;
         faults = reached.faults;
+        room = reached.room;
       }) in record {
         history = behind_events old.interpreter.reader.registers.all (going_back reading) at.history;
         messages = at.messages;
@@ -176,7 +183,7 @@ module _ {gave gives : Tape → Type 0} {old : Coded} {left : PageUnread} {taken
     state = from;
     reaches = reached;
     goes_on = refl;
-    stops = goes;
+    stops = told_step-quiet old.limits from _ err.room refl reached.room goes refl;
     rest = leaves.rest tape may;
     quiet = refl;
     line_is = sym line_is;
@@ -184,23 +191,35 @@ module _ {gave gives : Tape → Type 0} {old : Coded} {left : PageUnread} {taken
 
   -- the message sink is given more
   module _ (new : Sunk) where
-    -- a state one step on that has written no more
+    -- a state one step on that has written no more, and told what there was room for
     pub one_more : (s : State) (piece : List ℕ) → step old.limits from ≡ s → output s ≡ output from → reported s ≡ at.messages ++ piece
-        → Writes err new piece → Reaches old.limits t start (seen failures out new) s
+        → IsTold err new piece → Reaches old.limits t start (seen failures out new) s
     one_more s piece goes wrote said told = record {
       comes = Leads-to old.limits (initial old.limits t.start t.tape) from s reached.comes goes;
+      text = rw wrote reached.text;
+      messages = rw said (Appends-append _ _ _ _ _ (rw append-nil at reached.messages) told.writes.written);
+      faults = faults_of_err start failures out err new told.writes.failures reached.faults;
+      room = omega (arith, told.room, reached.room, ap length said, length-append at.messages piece, ap length (append-nil at.messages));
+    }
+
+    -- the same of the last message of a run, for which there may be no room
+    pub one_last : (s : State) (piece : List ℕ) → step old.limits from ≡ s → output s ≡ output from → s.messages ≡ at.messages → reported s ≡ at.messages ++ piece
+        → Writes err new piece → Arrives old.limits t start (seen failures out new) s
+    one_last s piece goes wrote quiet said told = record {
+      comes = ToldLeads-to old.limits (initial old.limits t.start t.tape) from s (told_reached old.limits t start (seen failures out err) from reached)
+          (told_step-quiet old.limits from s err.room refl reached.room goes quiet);
       text = rw wrote reached.text;
       messages = rw said (Appends-append _ _ _ _ _ (rw append-nil at reached.messages) told.written);
       faults = faults_of_err start failures out err new told.failures reached.faults;
     }
 
     -- the message sink failed in the step
-    pub lost : (s : State) (piece : List ℕ) → step old.limits from ≡ s → reported s ≡ at.messages ++ piece → IsLeftOf tape s.tape → Fails err new piece
+    pub lost : (s : State) (piece : List ℕ) → told_step old.limits from ≡ s → reported s ≡ at.messages ++ piece → IsLeftOf tape s.tape → Fails err new piece
         → MessagesFail old.limits t tape Device start (seen failures out new)
     lost s piece goes said rest part = record {
       is_device = refl;
       state = from;
-      comes = reached.comes;
+      comes = told_reached old.limits t start (seen failures out err) from reached;
       goes_on = refl;
       text = reached.text;
       messages = rw (goes, said, append-nil) (between _ _ _ _ _ (rw append-nil at reached.messages) part.written);
@@ -209,21 +228,43 @@ module _ {gave gives : Tape → Type 0} {old : Coded} {left : PageUnread} {taken
       rest = rw goes rest;
     }
 
-    -- a message of the source's is written, or a beginning of it
-    pub note_told : (note : List ℕ) (r : Result (Unit {0}) Status) → FewFor [] behind.reading left.input.escapes left.input.ahead → step old.limits from ≡ record behind { messages = at.messages ++ note }
-        → Puts err new note r → IsOkUnless r Device → Continues t tape start (seen failures out new) r (moved old left)
-    note_told note (Ok done) few goes puts is = record {
+    -- a message wasn't told, as the message sink failed, or as there was no room for it
+    pub untold : (line : ℕ) → line ≡ old.unread.input.line → (s : State) (piece : List ℕ) (halt : Halt) → step old.limits from ≡ s
+        → s.messages ≡ at.messages ++ piece → s.last_message ≡ [] → IsLeftOf tape s.tape → Tells err new piece (Err halt)
+        → Halts old.limits t tape (line_told halt line line) halt start (seen failures out new)
+    untold line line_is s piece Messages goes said quiet rest part =
+        let all : length s.messages ≤ old.limits.messages =
+        omega (arith, part.fits, reached.room, ap length said, length-append at.messages piece, ap length (append-nil at.messages)) in
+        let told : reported s ≡ at.messages ++ piece = ap (λ (last : List ℕ). s.messages ++ last) quiet ∙ append-nil s.messages ∙ said in
+        lost s piece (told_step-within old.limits from s refl goes all) told rest part.fails
+    untold line line_is s piece (Refused limit) goes said quiet rest none =
+        let beyond : old.limits.messages < length (step old.limits from).messages =
+        omega (arith, none.1.passes, reached.room, ap length (ap (λ (s : State). s.messages) goes), ap length said, length-append at.messages piece, ap length (append-nil at.messages)) in
+        subst (λ (limit : Limit). Halts old.limits t tape line (Refused limit) start (seen failures out new)) (sym none.0) (inl (record {
+          state = from;
+          reaches = subst (λ (told : Sunk). Reaches old.limits t start (seen failures out told) from) (sym none.1.stays) reached;
+          goes_on = refl;
+          stops = told_step-beyond old.limits from refl beyond;
+          rest = leaves.rest tape may;
+          quiet = refl;
+          line_is = sym line_is;
+        }))
+    untold line line_is s piece (ByLimit limit) goes said quiet rest wrong = absurd wrong
+    untold line line_is s piece Output goes said quiet rest wrong = absurd wrong
+    untold line line_is s piece Over goes said quiet rest wrong = absurd wrong
+
+    -- a message of the source's is told
+    pub note_told : (note : List ℕ) → FewFor [] behind.reading left.input.escapes left.input.ahead → step old.limits from ≡ record behind { messages = at.messages ++ note }
+        → IsTold err new note → IsAt t tape start (seen failures out new) (moved old left)
+    note_told note few goes told = record {
       history = at.history;
       messages = at.messages ++ note;
-      reaches = one_more (record behind { messages = at.messages ++ note }) note goes refl (append-nil (at.messages ++ note)) puts.ok;
+      reaches = one_more (record behind { messages = at.messages ++ note }) note goes refl (append-nil (at.messages ++ note)) told;
       stands = at.stands;
       ready = ready_behind old.interpreter.reader.registers old.unread left leaves at.ready;
       limits = leaves.limits ∙ at.limits;
       few = few;
     }
-    note_told note (Err status) few goes puts is =
-        let fails = lost (record behind { messages = at.messages ++ note }) note goes (append-nil (at.messages ++ note)) (IsLeftOf-looked_then left.looked tape) puts.err in
-        inr (inr (inl (rw is fails)))
 
     -- the source failed, and the report was answered so
     pub source_failed : {F : Type 0} (line : ℕ) (report : Result (Unit {0}) F) → EndsThere Failed old.unread left taken → line ≡ left.input.line
@@ -233,7 +274,7 @@ module _ {gave gives : Tape → Type 0} {old : Coded} {left : PageUnread} {taken
         let own : line ≡ old.unread.input.line = line_is ∙ ap (λ (u : PageUnread). u.input.line) ends.same in
         inl (record {
           state = ending_with Device ReadFailed from;
-          reaches = one_more (ending_with Device ReadFailed from) (message_line old.unread.input.line ReadFailed) goes refl refl (rw own at puts.ok);
+          reaches = one_last (ending_with Device ReadFailed from) (message_line old.unread.input.line ReadFailed) goes refl refl refl (rw own at puts.ok);
           ended = refl;
           rest = inl (all_left old.unread.looked taken tape ends.looked ends.taken_is);
           fault = λ is. omega (arith, at.reaches.faults.source, rises);
@@ -241,7 +282,17 @@ module _ {gave gives : Tape → Type 0} {old : Coded} {left : PageUnread} {taken
     source_failed line (Err fault) ends line_is goes rises puts =
         let own : line ≡ old.unread.input.line = line_is ∙ ap (λ (u : PageUnread). u.input.line) ends.same in
         let rest = inl (all_left old.unread.looked taken tape ends.looked ends.taken_is) in
-        inr (inr (inl (lost (ending_with Device ReadFailed from) (message_line old.unread.input.line ReadFailed) goes refl rest (rw own at puts.err))))
+        let told = told_step-quiet old.limits from (ending_with Device ReadFailed from) err.room refl reached.room goes refl in
+        inr (inr (inl (lost (ending_with Device ReadFailed from) (message_line old.unread.input.line ReadFailed) told refl rest (rw own at puts.err))))
+
+  -- a message of the source's is told, or halts the run
+  pub note_continues : (new : Sunk) (line : ℕ) → line ≡ old.unread.input.line → (note : List ℕ) (r : Result (Unit {0}) Status)
+      → FewFor [] behind.reading left.input.escapes left.input.ahead → step old.limits from ≡ record behind { messages = at.messages ++ note }
+      → TellsOrHalts old.limits line note err new r → Continues t tape start (seen failures out new) r (moved old left)
+  note_continues new line line_is note (Ok done) few goes told = note_told new note few goes told
+  note_continues new line line_is note (Err status) few goes halts =
+      halts.ends t tape start failures out
+      (untold halts.mid line line_is (record behind { messages = at.messages ++ note }) note halts.halt goes refl refl (IsLeftOf-looked_then left.looked tape) halts.tells)
 
   -- a limit of the source's own
   pub source_stopped : (limit : Limit) → EndsThere (Stopped limit) old.unread left taken → step old.limits from ≡ ending_as (Limited limit) from
@@ -249,7 +300,9 @@ module _ {gave gives : Tape → Type 0} {old : Coded} {left : PageUnread} {taken
   source_stopped limit ends goes = inl (record {
     state = ending_as (Limited limit) from;
     reaches = record {
-      comes = Leads-to old.limits (initial old.limits t.start t.tape) from (ending_as (Limited limit) from) reached.comes goes;
+      comes = ToldLeads-to old.limits (initial old.limits t.start t.tape) from (ending_as (Limited limit) from)
+          (told_reached old.limits t start (seen failures out err) from reached)
+          (told_step-quiet old.limits from (ending_as (Limited limit) from) err.room refl reached.room goes refl);
       text = reached.text;
       messages = reached.messages;
       faults = reached.faults;

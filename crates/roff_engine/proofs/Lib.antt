@@ -20,6 +20,7 @@ pub mod PassingEnds
 pub mod ComingFurther
 pub mod EndsAtOnce
 pub mod Telling
+pub mod BehindTexts
 pub mod Beginning
 pub mod BytesActed
 pub mod TitleRuns
@@ -31,3 +32,4 @@ pub mod ConditionsAtOnce
 pub mod EventsMeant
 pub mod SteppedRegisters
 pub mod Unfilled
+pub mod Unbounded

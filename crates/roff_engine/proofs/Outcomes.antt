@@ -7,14 +7,14 @@ use Rattle.roff_num.specs.declared.limits.Limits.{Limits}
 use Rattle.roff_interpreter.specs.Outcome.{Seen, AppendsBetween, Completes, IsRest, OutputFails, MessagesFail, StartFails}
 use Rattle.roff_engine.specs.Outcomes.{Gives, EachOutcomeGives}
 use Rattle.roff_run.specs.Results.{last_state, output_of, messages_of}
-use Rattle.roff_run.specs.Run.{State, initial, step, output, reported}
+use Rattle.roff_run.specs.Run.{State, initial, told_step, output, reported}
 use Rattle.roff_sinks.specs.Sinks.{AppendsFront, CountsFault}
 use Rattle.roff_run.specs.declared.status.Status.{Status}
 use Rattle.roff_run.specs.declared.start.Start.{Start}
 use Rattle.roff_source.specs.Tape.{Tape}
 use Rattle.roff_laws.proofs.Beginnings.{IsBeginning-same}
 use Rattle.roff_laws.proofs.Endings.{no_other_state_is_last}
-use Rattle.roff_run.proofs.Leads.{Leads-refl, Leads-step}
+use Rattle.roff_run.proofs.Leads.{ToldLeads-refl, ToldLeads-to}
 use Rattle.roff_laws.proofs.RunsAppend.{each_state_is_a_beginning}
 
 -- a beginning of a text was written
@@ -57,7 +57,7 @@ rises old new counts = omega (arith, counts)
 Gives-OutputFails : (l : Limits) (start : Start) (t left : Tape) (status : Status) (before now : Seen) → OutputFails l (record { start = start; tape = t }) left status before now → Gives l start t left status before now
 Gives-OutputFails l start t left status before now run =
     let s : State = run.state in
-    let whole = each_state_is_a_beginning l start t (step l s) (Leads-step l _ s run.stops.comes) in record {
+    let whole = each_state_is_a_beginning l start t (told_step l s) (ToldLeads-to l _ s _ run.stops.comes refl) in record {
       text = AppendsFront-between _ _ (output s) _ _ run.stops.text whole.text;
       messages = λ well. absurd (well (rises _ _ run.stops.fault));
       all = λ out_well err_well. absurd (out_well (rises _ _ run.stops.fault));
@@ -67,7 +67,7 @@ Gives-OutputFails l start t left status before now run =
 Gives-MessagesFail : (l : Limits) (start : Start) (t left : Tape) (status : Status) (before now : Seen) → MessagesFail l (record { start = start; tape = t }) left status before now → Gives l start t left status before now
 Gives-MessagesFail l start t left status before now run =
     let s : State = run.state in
-    let whole = each_state_is_a_beginning l start t (step l s) (Leads-step l _ s run.comes) in record {
+    let whole = each_state_is_a_beginning l start t (told_step l s) (ToldLeads-to l _ s _ run.comes refl) in record {
       text = AppendsFront-beginning _ _ (output s) _ run.text (each_state_is_a_beginning l start t s run.comes).text;
       messages = λ well. AppendsFront-between _ _ (reported s) _ _ run.messages whole.messages;
       all = λ out_well err_well. absurd (err_well (rises _ _ run.fault));
@@ -77,7 +77,7 @@ Gives-MessagesFail l start t left status before now run =
 Gives-StartFails : (l : Limits) (start : Start) (t left : Tape) (status : Status) (before now : Seen) → StartFails l (record { start = start; tape = t }) left status before now → Gives l start t left status before now
 Gives-StartFails l start t left status before now run =
     let first : State = initial l start t in
-    let whole = each_state_is_a_beginning l start t first (Leads-refl l first) in record {
+    let whole = each_state_is_a_beginning l start t first (ToldLeads-refl l first) in record {
       text = AppendsFront-beginning _ _ [] _ run.text (record { rest = output_of l start t; split = refl });
       messages = λ well. AppendsFront-between _ _ [] _ _ run.messages whole.messages;
       all = λ out_well err_well. absurd (err_well (rises _ _ run.fault));

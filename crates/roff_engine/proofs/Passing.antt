@@ -36,6 +36,7 @@ IsAt-leads whole before behind start now old f u h at leads nothing stands ready
     text = subst (λ (bytes : List ℕ). Appends start.out.contents now.out.contents bytes) (sym nothing) at.reaches.text;
     messages = at.reaches.messages;
     faults = at.reaches.faults;
+    room = at.reaches.room;
   };
   stands = stands;
   ready = ready;

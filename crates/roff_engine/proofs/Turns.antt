@@ -1,6 +1,5 @@
 -- Turns of a run of the code: a call of the unread input, and what is done with what it shows.
 use Rattle.std.proofs.Common.{◌≡◌, inl, ℕ, ◌+◌, ◌<◌, ◌≤◌, List, [], ◌∷◌, Result, Ok, Err, OnOk, refl, sym, ap, subst, ◌∙◌, arith}
-use Rattle.std.specs.Prelude.{IsOkUnless}
 use Rattle.roff_num.specs.declared.limit.Limit.{Limit}
 use Rattle.roff_num.specs.declared.limits.Limits.{Limits}
 use Rattle.roff_input.specs.Input.{DoAhead}
@@ -39,7 +38,8 @@ use Rattle.roff_run.specs.Reading.Returns.{behind_return}
 use Rattle.roff_formatter.specs.declared.formatter.Formatter.{Formatter}
 use Rattle.roff_engine.specs.Running.Leaving.{GoesBack}
 use Rattle.roff_interpreter.proofs.Calls.{EndsThere, EndsThere-takes, FewBehind, Leaves, Leaves-takes, few-taking, none-taking}
-use Rattle.roff_engine.proofs.Items.{end_passed, moved, return_passed, returned, note_told, refused, source_failed, source_stopped, took}
+use Rattle.roff_engine.specs.Running.Telling.{TellsOrHalts}
+use Rattle.roff_engine.proofs.Items.{end_passed, moved, return_passed, returned, note_continues, refused, source_failed, source_stopped, took}
 use Rattle.roff_run.proofs.InFront.{Given-asked, IsEnding, in_front, items_asked, over_unread, over_unread-ending, shown_step}
 use Rattle.roff_run.proofs.Behind.{begun-behind_return}
 use Rattle.roff_run.proofs.TurnsToCome.{IsTaken, turns_to_come-taking, turns_within-byte}
@@ -247,12 +247,12 @@ module _ {gave gives : Tape → Type 0} {left : PageUnread} (old : Coded) (faile
       )))
 
   -- a message of the source's
-  pub front_note : SeesOn old.unread.input → (note : List ℕ) (told : Sunk) (r : Result (Unit {0}) Status) → Takes gave gives old.unread left (ShowsNote note) → notes < noted
-      → Puts err told note r → IsOkUnless r Device → FrontTurn gave gives noted notes old (moved old left) (seen failed out err) (seen failures out told) r
-  front_note sees note told r call fewer puts is =
+  pub front_note : SeesOn old.unread.input → (note : List ℕ) (told : Sunk) (line : ℕ) (r : Result (Unit {0}) Status) → Takes gave gives old.unread left (ShowsNote note) → notes < noted
+      → line ≡ old.unread.input.line → TellsOrHalts old.limits line note err told r → FrontTurn gave gives noted notes old (moved old left) (seen failed out err) (seen failures out told) r
+  front_note sees note told line r call fewer line_is tells =
       let leaves = leaves_front old call in
       turned leaves _ noted notes (moved old left) (seen failed out err) (seen failures out told) r refl (λ t tape start may at goes. (
-        note_told leaves failed failures out err more t tape start may at told note r (few_front old call old.interpreter.reader.reading at.few.few sees) (goes ∙ shown_front old call at.limits tape may at.history at.messages) puts is,
+        note_continues leaves failed failures out err more t tape start may at told line line_is note r (few_front old call old.interpreter.reader.reading at.few.few sees) (goes ∙ shown_front old call at.limits tape may at.history at.messages) tells,
         on_ok r (omega (arith, fewer, leaves.turns)),
       ))
 

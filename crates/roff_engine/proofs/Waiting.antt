@@ -3,7 +3,7 @@ use Rattle.roff_escape.specs.Conditions.{is_decided}
 use Rattle.roff_escape.specs.OpenEscape.{OpenEscape, Backslash, Comment, Name, Size, Delimited, Width, Condition}
 use Rattle.roff_escape.specs.declared.open_escape.ConditionPart.TheVariants.{Choice, Expression, Compared, Decided}
 use Rattle.std.proofs.Common.{◌≡◌, ℕ, ◌<◌, ◌≤◌, Bool, true, false, List, ◌++◌, length, Option, Some, None, Result, Err, refl, sym, ap, subst, ◌∙◌, arith, append_assoc, ◌∷◌, []}
-use Rattle.std.specs.Prelude.{IsOkUnless, if◌then◌else◌}
+use Rattle.std.specs.Prelude.{if◌then◌else◌}
 use Rattle.roff_num.specs.declared.limit.Limit.{Limit}
 use Rattle.roff_num.specs.declared.limits.Limits.{Limits}
 use Rattle.roff_input.specs.declared.place.Place.{Place}
@@ -36,7 +36,8 @@ use Rattle.roff_interpreter.specs.Room.{FewFor, SeesOn, decides_next}
 use Rattle.roff_interpreter.proofs.EndsUnseen.{few-unseen}
 use Rattle.roff_interpreter.proofs.Fronts.{few-appended, few-seen_ended}
 use Rattle.roff_interpreter.proofs.Calls.{EndsThere, EndsThere-looks, Leaves, Leaves-looks, Leaves-deciding}
-use Rattle.roff_engine.proofs.Items.{looked_at, moved, note_told, source_failed, source_stopped}
+use Rattle.roff_engine.specs.Running.Telling.{TellsOrHalts}
+use Rattle.roff_engine.proofs.Items.{looked_at, moved, note_continues, source_failed, source_stopped}
 use Rattle.roff_engine.proofs.Turns.{LeavesFewer, acted, leaves_fewer, on_ok, on_ok-then, turned, turns_of}
 use Rattle.roff_run.proofs.InFront.{Given-asked, IsNoNote, Looks-looking, items_asked, over_unread, over_unread-looking, front_step, seen as seen_step, sighted_step}
 use Rattle.roff_run.proofs.TurnsToCome.{turns_within-escape_ended}
@@ -211,13 +212,13 @@ module _ {gave gives : Tape → Type 0} {left : PageUnread} (old : Coded) (faile
       acts
 
   -- a message of the source's
-  pub waiting_note : (note : List ℕ) (told : Sunk) (r : Result (Unit {0}) Status) → Looks gave gives old.unread left (SeesNote note) → notes < noted
-      → Puts err told note r → IsOkUnless r Device
+  pub waiting_note : (note : List ℕ) (told : Sunk) (line : ℕ) (r : Result (Unit {0}) Status) → Looks gave gives old.unread left (SeesNote note) → notes < noted
+      → line ≡ old.unread.input.line → TellsOrHalts old.limits line note err told r
       → WaitingTurn gave gives noted notes old (moved old left) (seen failed out err) (seen failures out told) r
-  waiting_note note told r call fewer puts is =
+  waiting_note note told line r call fewer line_is tells =
       let leaves = leaves_look old call in
       turned leaves _ noted notes (moved old left) (seen failed out err) (seen failures out told) r refl (λ t tape start may at goes. (
-        note_told leaves failed failures out err more t tape start may at told note r (few_look old call at.few) (goes ∙ sighted_look old call tape may at.history at.messages) puts is,
+        note_continues leaves failed failures out err more t tape start may at told line line_is note r (few_look old call at.few) (goes ∙ sighted_look old call tape may at.history at.messages) tells,
         on_ok r (omega (arith, fewer, leaves.turns)),
       ))
 

@@ -103,8 +103,8 @@ not_refused old new given first fresh begins tape refused =
 -- and it has come to its first turn
 pub started : (old new : Coded) (given : Start) (failures : ℕ) (out err : Sunk) (gives : Tape → Type 0) → old.phase ≡ Reading
     → StandFor old.limits (pages_given given) old.interpreter.formatter.composer → IsFresh old.limits old.interpreter old.unread
-    → Begins (pages_given given) old new given.registers.items → HasCome given gives gives (seen failures out err) (seen failures out err) new
-started old new given failures out err gives first stands fresh begins =
+    → Begins (pages_given given) old new given.registers.items → err.room ≡ old.limits.messages → HasCome given gives gives (seen failures out err) (seen failures out err) new
+started old new given failures out err gives first stands fresh begins room_is =
     let had : HasRoom old = HasRoom-fresh old fresh in
     let room : HasRoom new = begins.some.room had in
     let same : new.limits ≡ old.limits = ap (λ (run : Coded). run.limits) begins.some.sets in
@@ -123,6 +123,7 @@ started old new given failures out err gives first stands fresh begins =
               text = subst (λ (text : List ℕ). Appends out.contents out.contents text) (sym begins.some.quiet) (Appends-nothing out.contents);
               messages = Appends-nothing err.contents;
               faults = record { source = omega arith; out = refl; err = refl };
+              room = omega (arith, room_is, ap (λ (l : Limits). l.messages) same);
             };
             stands = subst (λ (l : Limits). StandFor l h new.interpreter.formatter.composer) (sym same) (begins.stands old.limits stands);
             ready = room.ready;

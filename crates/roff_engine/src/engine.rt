@@ -3,6 +3,7 @@
 ghost use Rattle.std.specs.Prelude.{◌≡◌, IfOk, IsSome};
 ghost use Rattle.roff_engine.specs.Clauses.{StandFor, Limits, Runs, Tape, seen, IsFresh};
 ghost use Rattle.roff_run.specs.Run.{initial};
+ghost use Rattle.roff_sinks.specs.Told.{told_by};
 
 use crate::running::Running;
 use roff_interpreter::Interpreter;
@@ -10,7 +11,7 @@ use roff_names::first_unread;
 use roff_num::Limits;
 use roff_run::{Phase, Start, Status};
 use roff_scan::ByteSource;
-use roff_sinks::ByteSink;
+use roff_sinks::{ByteSink, MessageSink};
 use std::alloc::{AllocError, Global};
 use std::marker::Model;
 
@@ -57,8 +58,9 @@ impl Engine {
         Ok(Engine { start, running })
     }
 
-    /// Formats a source: the text goes to `out`, the messages go to `err`.
-    pub fn format<S: ByteSource, O: ByteSink, E: ByteSink>(
+    /// Formats a source: the text goes to `out`, the messages go to `err`, which is bounded by the
+    /// limit on messages.
+    pub fn format<S: ByteSource, O: ByteSink, E: MessageSink>(
         self,
         source: &mut S,
         out: &mut O,
@@ -70,6 +72,24 @@ impl Engine {
             (seen (S.failures source.old) (O.sunk out.old) (E.sunk err.old))
             (seen (S.failures source.new) (O.sunk out.new) (E.sunk err.new)) }
         // Where a limit refuses what is given to the run, nothing is read.
+        ensures unread { (tape : Tape) → IsSome (initial self.limits self.start tape).ended
+            → source.new ≡ source.old }
+    {
+        err.bound(self.running.limits.messages);
+        self.format_within(source, out, err)
+    }
+
+    /// The same, where the messages go to a sink with room for as many bytes as may be told.
+    fn format_within<S: ByteSource, O: ByteSink, E: MessageSink>(
+        self,
+        source: &mut S,
+        out: &mut O,
+        err: &mut E,
+    ) -> Status
+        requires room { E.room err.old ≡ self.limits.messages }
+        ensures runs { Runs self.limits self.start result (S.gives source.old) (S.gives source.new)
+            (seen (S.failures source.old) (O.sunk out.old) (told_by E.MessageSink err.old))
+            (seen (S.failures source.new) (O.sunk out.new) (told_by E.MessageSink err.new)) }
         ensures unread { (tape : Tape) → IsSome (initial self.limits self.start tape).ended
             → source.new ≡ source.old }
     {

@@ -1,9 +1,10 @@
 //! A run under way: what each item of the input does.
 
-ghost use Rattle.std.specs.Prelude.{◌≡◌, ℕ, [], None, IsOkUnless};
+ghost use Rattle.std.specs.Prelude.{◌≡◌, ℕ, [], None};
 ghost use Rattle.roff_run.specs.Run.{ahead_taken, byte_taken, in_front_taken, item_read};
 ghost use Rattle.roff_input.specs.Input.{DoAhead};
-ghost use Rattle.roff_engine.specs.Clauses.{Puts, seen, due, Device, falls_told, going_on};
+ghost use Rattle.roff_engine.specs.Clauses.{seen, due, falls_told, going_on};
+ghost use Rattle.roff_sinks.specs.Told.{told_by};
 
 mod conditions;
 mod ending;
@@ -22,8 +23,8 @@ use roff_formatter::Halt;
 use roff_interpreter::Interpreter;
 use roff_num::Limits;
 use roff_run::{LineState, PageEvent, Phase, Status};
-use roff_scan::{ByteSource, Item, Note, Unread};
-use roff_sinks::ByteSink;
+use roff_scan::{ByteSource, Item, Unread};
+use roff_sinks::{ByteSink, MessageSink};
 
 /// A run under way.
 #[derive(Drop)]
@@ -43,14 +44,14 @@ impl Running {
     /// before them, that is done at once. Returns whether that is so behind it. An `Err` is the
     /// status of a run that ended.
     #[inline(always)]
-    pub(crate) fn step<S: ByteSource, O: ByteSink, E: ByteSink>(
+    pub(crate) fn step<S: ByteSource, O: ByteSink, E: MessageSink>(
         &mut self,
         is_told: bool,
         source: &mut S,
         out: &mut O,
         err: &mut E,
     ) -> Result<bool, Status>
-        ensures { ComesFurtherOver S.ByteSource O.ByteSink E.ByteSink (falls_told is_told result)
+        ensures { ComesFurtherOver S.ByteSource O.ByteSink E.MessageSink (falls_told is_told result)
             source.old source.new out.old out.new err.old err.new
             self.old self.new (going_on result) }
     {
@@ -68,14 +69,14 @@ impl Running {
 
     /// Does what is due, and then takes an item of the input or ends what is half read.
     #[inline(always)]
-    fn do_due_and_turn<S: ByteSource, O: ByteSink, E: ByteSink>(
+    fn do_due_and_turn<S: ByteSource, O: ByteSink, E: MessageSink>(
         &mut self,
         is_told: bool,
         source: &mut S,
         out: &mut O,
         err: &mut E,
     ) -> Result<bool, Status>
-        ensures { ComesFurtherOver S.ByteSource O.ByteSink E.ByteSink (falls_told is_told result)
+        ensures { ComesFurtherOver S.ByteSource O.ByteSink E.MessageSink (falls_told is_told result)
             source.old source.new out.old out.new err.old err.new
             self.old self.new (going_on result) }
     {
@@ -88,7 +89,7 @@ impl Running {
     /// Takes an item of the input, or ends what is half read; nothing is due. Behind a text line it
     /// doesn't where a control line may begin. Returns whether bytes in front are told behind it.
     #[inline(always)]
-    fn turn<S: ByteSource, O: ByteSink, E: ByteSink>(
+    fn turn<S: ByteSource, O: ByteSink, E: MessageSink>(
         &mut self,
         is_told: bool,
         source: &mut S,
@@ -96,7 +97,7 @@ impl Running {
         err: &mut E,
     ) -> Result<bool, Status>
         requires { due self.old.interpreter.reader.reading ≡ None }
-        ensures { ComesFurtherOver S.ByteSource O.ByteSink E.ByteSink (falls_told is_told result)
+        ensures { ComesFurtherOver S.ByteSource O.ByteSink E.MessageSink (falls_told is_told result)
             source.old source.new out.old out.new err.old err.new
             self.old self.new (going_on result) }
     {
@@ -109,7 +110,7 @@ impl Running {
 
     /// The same where nothing is half read: the front of a text line that begins is told before.
     #[inline(always)]
-    fn turn_beginning<S: ByteSource, O: ByteSink, E: ByteSink>(
+    fn turn_beginning<S: ByteSource, O: ByteSink, E: MessageSink>(
         &mut self,
         is_told: bool,
         source: &mut S,
@@ -118,7 +119,7 @@ impl Running {
     ) -> Result<bool, Status>
         requires none_due { due self.old.interpreter.reader.reading ≡ None }
         requires none_half { self.old.unread.input.escapes ≡ [] }
-        ensures { ComesFurtherOver S.ByteSource O.ByteSink E.ByteSink (falls_told is_told result)
+        ensures { ComesFurtherOver S.ByteSource O.ByteSink E.MessageSink (falls_told is_told result)
             source.old source.new out.old out.new err.old err.new
             self.old self.new (going_on result) }
     {
@@ -131,7 +132,7 @@ impl Running {
 
     /// The same where no line can be put at once.
     #[inline(always)]
-    fn turn_told<S: ByteSource, O: ByteSink, E: ByteSink>(
+    fn turn_told<S: ByteSource, O: ByteSink, E: MessageSink>(
         &mut self,
         is_told: bool,
         source: &mut S,
@@ -140,7 +141,7 @@ impl Running {
     ) -> Result<bool, Status>
         requires none_due { due self.old.interpreter.reader.reading ≡ None }
         requires none_half { self.old.unread.input.escapes ≡ [] }
-        ensures { ComesFurtherOver S.ByteSource O.ByteSink E.ByteSink (falls_told is_told result)
+        ensures { ComesFurtherOver S.ByteSource O.ByteSink E.MessageSink (falls_told is_told result)
             source.old source.new out.old out.new err.old err.new
             self.old self.new (going_on result) }
     {
@@ -153,14 +154,14 @@ impl Running {
 
     /// The same behind that.
     #[inline(always)]
-    fn turn_alone<S: ByteSource, O: ByteSink, E: ByteSink>(
+    fn turn_alone<S: ByteSource, O: ByteSink, E: MessageSink>(
         &mut self,
         source: &mut S,
         out: &mut O,
         err: &mut E,
     ) -> Result<bool, Status>
         requires none_half { self.old.unread.input.escapes ≡ [] }
-        ensures { TurnsOver S.ByteSource O.ByteSink E.ByteSink (λ s. item_read self.old.limits s)
+        ensures { TurnsOver S.ByteSource O.ByteSink E.MessageSink (λ s. item_read self.old.limits s)
             source.old source.new out.old out.new err.old err.new
             self.old self.new (going_on result) }
     {
@@ -174,14 +175,14 @@ impl Running {
     /// The same off a text line: most often a byte that stands ready is taken, whether it is waited
     /// for or not.
     #[inline(always)]
-    fn turn_other<S: ByteSource, O: ByteSink, E: ByteSink>(
+    fn turn_other<S: ByteSource, O: ByteSink, E: MessageSink>(
         &mut self,
         source: &mut S,
         out: &mut O,
         err: &mut E,
     ) -> Result<(), Status>
         requires none_half { self.old.unread.input.escapes ≡ [] }
-        ensures { TurnsOver S.ByteSource O.ByteSink E.ByteSink (λ s. item_read self.old.limits s)
+        ensures { TurnsOver S.ByteSource O.ByteSink E.MessageSink (λ s. item_read self.old.limits s)
             source.old source.new out.old out.new err.old err.new self.old self.new result }
     {
         let line = self.unread.line();
@@ -193,14 +194,14 @@ impl Running {
 
     /// The same where no byte stands ready: what waits for one looks at what is in front.
     #[inline(never)]
-    fn turn_line<S: ByteSource, O: ByteSink, E: ByteSink>(
+    fn turn_line<S: ByteSource, O: ByteSink, E: MessageSink>(
         &mut self,
         source: &mut S,
         out: &mut O,
         err: &mut E,
     ) -> Result<(), Status>
         requires none_half { self.old.unread.input.escapes ≡ [] }
-        ensures { TurnsOver S.ByteSource O.ByteSink E.ByteSink (λ s. item_read self.old.limits s)
+        ensures { TurnsOver S.ByteSource O.ByteSink E.MessageSink (λ s. item_read self.old.limits s)
             source.old source.new out.old out.new err.old err.new self.old self.new result }
     {
         if self.interpreter.reader.waits_alone(&self.unread) {
@@ -212,14 +213,14 @@ impl Running {
 
     /// Takes the item in front, whatever is half read: most often a byte that stands ready.
     #[inline(always)]
-    fn turn_in_front<S: ByteSource, O: ByteSink, E: ByteSink>(
+    fn turn_in_front<S: ByteSource, O: ByteSink, E: MessageSink>(
         &mut self,
         source: &mut S,
         out: &mut O,
         err: &mut E,
     ) -> Result<(), Status>
         requires { SeesOn self.old.unread.input }
-        ensures { TurnsOver S.ByteSource O.ByteSink E.ByteSink
+        ensures { TurnsOver S.ByteSource O.ByteSink E.MessageSink
             (λ s. in_front_taken self.old.limits s.input.ahead s)
             source.old source.new out.old out.new err.old err.new self.old self.new result }
     {
@@ -232,14 +233,14 @@ impl Running {
 
     /// Takes the item in front, whatever it is.
     #[inline(never)]
-    fn turn_item<S: ByteSource, O: ByteSink, E: ByteSink>(
+    fn turn_item<S: ByteSource, O: ByteSink, E: MessageSink>(
         &mut self,
         source: &mut S,
         out: &mut O,
         err: &mut E,
     ) -> Result<(), Status>
         requires { SeesOn self.old.unread.input }
-        ensures { TurnsOver S.ByteSource O.ByteSink E.ByteSink
+        ensures { TurnsOver S.ByteSource O.ByteSink E.MessageSink
             (λ s. in_front_taken self.old.limits s.input.ahead s)
             source.old source.new out.old out.new err.old err.new self.old self.new result }
     {
@@ -252,7 +253,7 @@ impl Running {
                 Ok(())
             }
             Item::Do(event) => self.perform(event, line, out, err),
-            Item::Note(note) => report_note(&note, err),
+            Item::Note(note) => self.tell_note(&note, line, err),
             Item::SourceEnd => self.end_input(out, err),
             Item::Fault => Err(self.source_failed(err)),
             Item::Stop(limit) => Err(Status::Limit(limit)),
@@ -262,7 +263,7 @@ impl Running {
 
     /// Takes a byte; the byte before it stood on this line.
     #[inline(always)]
-    pub(super) fn take<O: ByteSink, E: ByteSink>(
+    pub(super) fn take<O: ByteSink, E: MessageSink>(
         &mut self,
         byte: u8,
         line_before: u32,
@@ -270,8 +271,8 @@ impl Running {
         err: &mut E,
     ) -> Result<(), Status>
         ensures { (failures : ℕ) → DoesItem line_before (byte_taken byte) self.old self.new
-            (seen failures (O.sunk out.old) (E.sunk err.old))
-            (seen failures (O.sunk out.new) (E.sunk err.new)) result }
+            (seen failures (O.sunk out.old) (told_by E.MessageSink err.old))
+            (seen failures (O.sunk out.new) (told_by E.MessageSink err.new)) result }
     {
         let line = self.unread.line();
         match self.interpreter.take(byte, &mut self.unread, out, err) {
@@ -281,7 +282,7 @@ impl Running {
     }
 
     /// Performs an event that was put back.
-    fn perform<O: ByteSink, E: ByteSink>(
+    fn perform<O: ByteSink, E: MessageSink>(
         &mut self,
         event: PageEvent,
         line_before: u32,
@@ -289,8 +290,8 @@ impl Running {
         err: &mut E,
     ) -> Result<(), Status>
         ensures { (failures : ℕ) → DoesItem line_before (ahead_taken (DoAhead event))
-            self.old self.new (seen failures (O.sunk out.old) (E.sunk err.old))
-            (seen failures (O.sunk out.new) (E.sunk err.new)) result }
+            self.old self.new (seen failures (O.sunk out.old) (told_by E.MessageSink err.old))
+            (seen failures (O.sunk out.new) (told_by E.MessageSink err.new)) result }
     {
         let line = self.unread.line();
         self.interpreter.reader.interrupt(&mut self.unread);
@@ -309,17 +310,5 @@ pub(crate) fn untold(done: Result<(), Status>) -> Result<bool, Status>
     match done {
         Ok(()) => Ok(false),
         Err(status) => Err(status),
-    }
-}
-
-/// Writes a message of the source's.
-#[inline(never)]
-fn report_note<E: ByteSink>(note: &Note, err: &mut E) -> Result<(), Status>
-    ensures puts { Puts (E.sunk err.old) (E.sunk err.new) note.now.items result }
-    ensures status { IsOkUnless result Device }
-{
-    match err.put(note) {
-        Ok(()) => Ok(()),
-        Err(_) => Err(Status::Device),
     }
 }

@@ -54,6 +54,13 @@ output-performed : (over : Bool) (sprung : Option ShortName) (left : List PageEv
 output-performed true sprung left behind = refl
 output-performed false sprung left behind = output-sprung sprung left behind
 
+-- no message is told then
+messages-performed : (over : Bool) (sprung : Option ShortName) (left : List PageEvent) (behind : State)
+    → (done_if over behind (sprung_at sprung left behind)).messages ≡ behind.messages
+messages-performed true sprung left behind = refl
+messages-performed false None left behind = refl
+messages-performed false (Some name) left behind = refl
+
 -- A step at an event in front of others, at a state of a run: in it this happens, the event or what comes before it, and these are
 -- left.
 module _ (l : Limits) (t : Beginning) (before : Seen) (failures : ℕ) (err : Sunk) (s : State) (h : PageHistory) (e : PageEvent) (rest : List PageEvent) (old : Sunk)
@@ -81,12 +88,14 @@ module _ (l : Limits) (t : Beginning) (before : Seen) (failures : ℕ) (err : Su
     text = Appends-append _ _ _ _ _ reached.text writes.written;
     messages = reached.messages;
     faults = faults_of_out before failures err old new writes.failures reached.faults;
+    room = reached.room;
   }
   event_performed (Some name) is new allowed goes writes = record {
     comes = Leads-to l (initial l t.start t.tape) _ _ reached.comes (step-event (Some name) is allowed goes);
     text = Appends-append _ _ _ _ _ reached.text writes.written;
     messages = reached.messages;
     faults = faults_of_out before failures err old new writes.failures reached.faults;
+    room = reached.room;
   }
 
   -- and the last page ends with it
@@ -101,6 +110,7 @@ module _ (l : Limits) (t : Beginning) (before : Seen) (failures : ℕ) (err : Su
       text = Appends-append _ _ _ _ _ reached.text writes.written;
       messages = reached.messages;
       faults = faults_of_out before failures err old new writes.failures reached.faults;
+      room = reached.room;
     };
   }
 
@@ -118,6 +128,9 @@ module _ (l : Limits) (t : Beginning) (before : Seen) (failures : ℕ) (err : Su
           (sym (ap output (step-performed allowed) ∙ output-performed (layout_of (happens ∷ h)).is_over (springs h happens) left (acting s (e ∷ rest) (happens ∷ h))))
           (between _ _ _ _ _ reached.text fails.written);
       fault = rw (sym reached.faults.out) fails.fault;
+      quiet = ap (λ (s : State). s.messages) (step-performed allowed)
+          ∙ messages-performed (layout_of (happens ∷ h)).is_over (springs h happens) left (acting s (e ∷ rest) (happens ∷ h));
+      room = reached.room;
     };
     messages = reached.messages;
     messages_stay = reached.faults.err;

@@ -34,6 +34,7 @@ reads_on_taking j next old reader before behind told m takes = record {
           text = rw (← opens.wrote) reached.text;
           messages = rw (append-nil (messages ++ []), append-nil messages, ← opens.said) reached.messages;
           faults = reached.faults;
+          room = rw (append-nil (messages ++ []), append-nil messages, ← opens.said) reached.room;
         };
         stands = stood;
         lines = omega arith;
@@ -67,5 +68,6 @@ closing_taking old new reader u out_old out_new err r kept is performed =
             text = rw (← opens.wrote) reached.text;
             messages = rw (append-nil (messages ++ []), append-nil messages, ← opens.said) reached.messages;
             faults = reached.faults;
+            room = rw (append-nil (messages ++ []), append-nil messages, ← opens.said) reached.room;
           }));
     }

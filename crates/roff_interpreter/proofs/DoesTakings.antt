@@ -5,8 +5,9 @@ use Rattle.roff_num.specs.declared.limits.Limits.{Limits}
 use Rattle.roff_source.specs.Tape.{Tape}
 use Rattle.roff_interpreter.specs.declared.interpreter.Interpreter.{Interpreter}
 use Rattle.roff_formatter.specs.declared.halt.Halt.{Halt}
-use Rattle.roff_formatter.specs.declared.halt.Halt.TheVariants.{Limit as Limited, Refused, Over, Output, Messages}
+use Rattle.roff_formatter.specs.declared.halt.Halt.TheVariants.{Refused}
 use Rattle.roff_interpreter.specs.Outcome.{Beginning, Reaches, Seen, seen}
+use Rattle.roff_interpreter.proofs.Bounded.{told_step-quiet}
 use Rattle.roff_formatter.specs.Formatter.Performing.{acting}
 use Rattle.roff_interpreter.specs.Performing.{TakingDone, KeepsReading, MeaningDone, DoesMeaning, DoesTaking, Means, Opens, RefusedAt, Sinks, going}
 use Rattle.roff_composer.specs.Composer.Standing.{StandFor}
@@ -27,16 +28,6 @@ use Rattle.roff_run.specs.declared.message.Message.{Message}
 use Rattle.roff_run.specs.declared.phase.Phase.{Phase}
 use Rattle.roff_run.specs.declared.line_state.LineState.{LineState}
 
--- what was done of a meaning was done of the taking
-did_does : (l : Limits) (t : Beginning) (before now : Seen) (from s : State) (events : List PageEvent) (h : PageHistory) (kept rest : List PageEvent) (r : Result (Option Sprung) Halt) (es : ComposerOf)
-    → MeaningDone l t before now from s events h kept rest r es → TakingDone l t before now from s events h kept rest r es
-did_does l t before now from s events h kept rest (Ok u) es d = d
-did_does l t before now from s events h kept rest (Err (Limited limit)) es d = d
-did_does l t before now from s events h kept rest (Err (Refused limit)) es d = absurd d
-did_does l t before now from s events h kept rest (Err Output) es d = d
-did_does l t before now from s events h kept rest (Err Over) es d = d
-did_does l t before now from s events h kept rest (Err Messages) es d = d
-
 -- what holds of a success anyway
 on_ok : {T E P : Type 0} (r : Result T E) → P → OnOk r P
 on_ok (Ok x) p = p
@@ -55,6 +46,7 @@ module _ (l : Limits) (from : State) (tape : Tape) (i : PageInput) (reading : Li
         goes_on = opens.goes_on;
         wrote = opens.wrote;
         said = rw (opens.said, is_line, are_messages, append-nil) refl;
+        quiet = refl;
       }
 
   -- or one is, and a limit refuses the step
@@ -64,7 +56,7 @@ module _ (l : Limits) (from : State) (tape : Tape) (i : PageInput) (reading : Li
       let done = taken_as t (going tape i reading rs h messages phase is_closed to_do) in record {
         reaches = reached;
         goes_on = opens.goes_on;
-        stops = opens.opens ∙ ap (λ r. unless_refused l r from done) past;
+        stops = told_step-quiet l from _ now.err.room opens.goes_on reached.room (opens.opens ∙ ap (λ r. unless_refused l r from done) past) refl;
       }
 
 -- a limit refused what the code would take
@@ -116,6 +108,5 @@ module _ (t : Known → Taking) (old mid : Interpreter) (before behind : PageUnr
         let state : State = taken_as (t k) (going tape before.input old.reader.reading old.reader.registers.all h messages phase is_closed rest) in
         subst (λ (es : List PageEvent). TakingDone before.limits t0 start (seen failures told_new.out told_new.err) from state es h new.reader.meaning.events rest r new.formatter.composer)
         (sym (append-nil (t k).effect.events))
-        (did_does before.limits t0 start _ from _ (t k).effect.events h new.reader.meaning.events rest r new.formatter.composer
-        (done_taken new told_old told_new r done t0 start failures from tape h messages phase is_closed rest stood ready reached opens));
+        (done_taken new told_old told_new r done t0 start failures from tape h messages phase is_closed rest stood ready reached opens);
   }

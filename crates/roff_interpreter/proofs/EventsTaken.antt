@@ -92,6 +92,7 @@ event_does event old new before behind out_old out_new err r input performs = re
         text = rw (← opens.wrote) reaches.text;
         messages = rw (append-nil (messages ++ []), append-nil messages, ← opens.said) reaches.messages;
         faults = reaches.faults;
+        room = rw (append-nil (messages ++ []), append-nil messages, ← opens.said) reaches.room;
       }));
 }
 

@@ -9,9 +9,10 @@ use Rattle.roff_run.specs.declared.message.Message.TheVariants.{LimitReached, Wr
 use Rattle.roff_run.specs.Messages.{message_line}
 use Rattle.roff_formatter.specs.declared.halt.Halt.{Halt}
 use Rattle.roff_formatter.specs.declared.halt.Halt.TheVariants.{Limit as ByLimit, Refused}
-use Rattle.roff_interpreter.specs.Outcome.{AppendsBetween, Beginning, Seen, IsLeftOf, IsRest, Completes, OutputFails, MessagesFail, StartFails, seen}
+use Rattle.roff_interpreter.specs.Outcome.{AppendsBetween, Beginning, Seen, IsLeftOf, IsRest, Completes, OutputFails, OutputStops, MessagesFail, StartFails, StopsWriting, seen}
+use Rattle.roff_interpreter.proofs.Bounded.{told_reached, told_step-failing, told_stopped}
 use Rattle.roff_run.specs.Results.{last_state}
-use Rattle.roff_run.specs.Run.{Leads, State, initial, reported, stopped_by}
+use Rattle.roff_run.specs.Run.{State, ToldLeads, initial, reported, stopped_by}
 use Rattle.roff_laws.specs.Statuses.{HasMet, Tells}
 use Rattle.roff_laws.proofs.Endings.{no_other_state_is_last}
 use Rattle.roff_laws.proofs.StatusesTell.{each_status_tells}
@@ -20,7 +21,7 @@ use Rattle.roff_sinks.specs.Sinks.{CountsFault, Sunk, Writes, Fails, Puts}
 use Rattle.std.specs.Io.KnownBytes.{Appends}
 use Rattle.std.specs.Prelude.{IsSome}
 use Rattle.roff_sinks.proofs.Appending.{Appends-append, Appends-nothing}
-use Rattle.roff_run.proofs.Leads.{Leads-refl, Leads-to}
+use Rattle.roff_run.proofs.Leads.{ToldLeads-refl, ToldLeads-to}
 use Rattle.roff_formatter.proofs.Performed.{between, faults_of_err}
 
 -- what is left at a limit, by the status that names it
@@ -42,7 +43,7 @@ rest_done left s (inr closed) (inl all) = inl all
 rest_done left s (inr closed) (inr behind) = inr (closed, behind)
 
 -- and where the last page ended, which it does behind that alone
-pub rest_over : (l : Limits) (t : Beginning) (left : Tape) (s : State) → Leads l (initial l t.start t.tape) s → s.ended ≡ Some Done
+pub rest_over : (l : Limits) (t : Beginning) (left : Tape) (s : State) → ToldLeads l (initial l t.start t.tape) s → s.ended ≡ Some Done
     → IsLeftOf left s.tape → IsRest Done left s
 rest_over l t left s leads ended rest =
     let last : s ≡ last_state l t.start t.tape = no_other_state_is_last l t.start t.tape s leads (rw ended refl) in
@@ -68,7 +69,7 @@ module _ (l : Limits) (t : Beginning) (left : Tape) (line : ℕ) (before : Seen)
   step_told limit stops told = record {
     state = stopped_by l limit stops.state;
     reaches = record {
-      comes = Leads-to l (initial l t.start t.tape) _ _ stops.reaches.comes stops.stops;
+      comes = ToldLeads-to l (initial l t.start t.tape) _ _ (told_reached l t before (seen failures out old) _ stops.reaches) stops.stops;
       text = stops.reaches.text;
       messages = rw stops.line_is (Appends-append _ _ _ _ _ (rw (stops.quiet, append-nil) at stops.reaches.messages) told.written);
       faults = faults_of_err before failures out old new told.failures stops.reaches.faults;
@@ -85,7 +86,7 @@ module _ (l : Limits) (t : Beginning) (left : Tape) (line : ℕ) (before : Seen)
   step_not_told limit stops told = record {
     is_device = refl;
     state = stops.state;
-    comes = stops.reaches.comes;
+    comes = told_reached l t before (seen failures out old) _ stops.reaches;
     goes_on = stops.goes_on;
     text = stops.reaches.text;
     messages = rw (stops.stops, stops.quiet, stops.line_is, append-nil) (between _ _ _ _ _ (rw (stops.quiet, append-nil) at stops.reaches.messages) told.written);
@@ -103,7 +104,7 @@ module _ (l : Limits) (t : Beginning) (left : Tape) (line : ℕ) (before : Seen)
       record {
         state = last;
         reaches = record {
-          comes = subst (λ (s : State). Leads l (initial l t.start t.tape) s) stops.stops (Leads-refl l (initial l t.start t.tape));
+          comes = subst (λ (s : State). ToldLeads l (initial l t.start t.tape) s) stops.stops (ToldLeads-refl l (initial l t.start t.tape));
           text = subst (λ (bytes : List ℕ). Appends before.out.contents out.contents bytes) (sym stops.text)
               (subst (λ (s : Sunk). Appends s.contents out.contents []) stops.out (Appends-nothing out.contents));
           messages = rw (stops.messages, stops.line_is) (subst (λ (s : Sunk). Appends s.contents new.contents (message_line line (LimitReached limit (value_of l limit)))) stops.err told.written);
@@ -149,20 +150,29 @@ module _ (l : Limits) (t : Beginning) (left : Tape) (line : ℕ) (before : Seen)
   limit_not_told limit (inl stops) told = inl (step_not_told limit stops told)
   limit_not_told limit (inr stops) told = inr (start_not_told limit stops told)
 
+  -- the output failed in the step of the run whose messages are bounded
+  failing : (s : State) → OutputStops l t before (seen failures out old) s → StopsWriting l t before (seen failures out new) s
+  failing s stops = record {
+    comes = told_stopped l t before (seen failures out old) s stops;
+    goes_on = stops.goes_on;
+    text = rw (told_step-failing l t before (seen failures out old) s stops) stops.text;
+    fault = stops.fault;
+  }
+
   -- the output failed, and the report was answered so
   pub output_reported : {F : Type 0} (r : Result (Unit {0}) F) → OutputStopsAt l t left line before (seen failures out old)
       → Puts old new (message_line line WriteFailed) r → OutputFails l t left Device before (seen failures out new)
   output_reported (Ok u) stops puts = record {
     is_device = refl;
     state = stops.state;
-    stops = record { comes = stops.stops.comes; goes_on = stops.stops.goes_on; text = stops.stops.text; fault = stops.stops.fault };
+    stops = failing stops.state stops.stops;
     rest = stops.rest;
     messages = inl (rw stops.line_is (Appends-append _ _ _ _ _ stops.messages puts.ok.written), puts.ok.failures ∙ stops.messages_stay);
   }
   output_reported (Err e) stops puts = record {
     is_device = refl;
     state = stops.state;
-    stops = record { comes = stops.stops.comes; goes_on = stops.stops.goes_on; text = stops.stops.text; fault = stops.stops.fault };
+    stops = failing stops.state stops.stops;
     rest = stops.rest;
     messages = inr (rw stops.line_is (between _ _ _ _ _ stops.messages puts.err.written), rw (sym stops.messages_stay) puts.err.fault);
   }

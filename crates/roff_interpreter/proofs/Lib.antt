@@ -1,3 +1,4 @@
+pub mod Bounded
 pub mod EventsKept
 pub mod MessagesTold
 pub mod SoFar

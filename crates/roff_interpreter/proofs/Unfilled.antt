@@ -18,8 +18,7 @@ use Rattle.roff_reader.specs.Reader.Taken.{TakesAs}
 use Rattle.roff_reader.proofs.LinesTaken.{TakesAs-undropped}
 use Rattle.roff_reader.proofs.TakesAs.{TakesAs-where}
 use Rattle.roff_reader.proofs.TextTaken.{TakesAs-named, plain-found}
-use Rattle.roff_sinks.specs.Sinks.{Puts, Sunk}
-use Rattle.roff_sinks.proofs.Appending.{Writes-nothing}
+use Rattle.roff_sinks.specs.Sinks.{Sunk}
 use Rattle.roff_formatter.specs.declared.formatter.Formatter.{Formatter}
 use Rattle.roff_formatter.specs.declared.halt.Halt.{Halt}
 use Rattle.roff_formatter.specs.declared.sprung.Sprung.{Sprung}
@@ -27,6 +26,7 @@ use Rattle.roff_formatter.specs.Formatter.Unfilled.{PutsLine}
 use Rattle.roff_interpreter.specs.declared.interpreter.Interpreter.{Interpreter}
 use Rattle.roff_interpreter.specs.Performing.{PerformsAll, sinks}
 use Rattle.roff_interpreter.specs.Unfilled.{EndsFront, told_as}
+use Rattle.roff_interpreter.proofs.Bounded.{told_nothing}
 use Rattle.roff_interpreter.proofs.DoesTakings.{taking_done}
 use Rattle.roff_interpreter.proofs.MessagesTold.{told_then_performed}
 
@@ -62,8 +62,7 @@ ends_front front count old new out out_new put_result result put_by put performe
   takes = λ line u err glyph none_half.
       let before : Interpreter = told_as old put.told (InText line) in
       let mid : Interpreter = told_as old put.told LineStart in
-      let told : Puts {F = Halt} err err [] (Ok tt) = record { ok = Writes-nothing err; err = tt } in
       taking_done (λ k. taking k (InText line) u.input newline) before mid u u LineEnds
       (takes-newline line put.told.composer before.reader mid.reader u glyph refl none_half refl) refl u.input.line refl new (sinks out err) (sinks out_new err) result
-      (told_then_performed u.input.line [] ending mid new out out_new err err result told performed);
+      (told_then_performed u.input.line [] ending mid new out out_new err err result (told_nothing err) performed);
 }

@@ -2,6 +2,7 @@
 pub use Rattle.roff_interpreter.specs.Outcome.{Beginning, OutcomeOf, Seen, seen}
 pub use Rattle.roff_interpreter.specs.Performing.{DoesMeaning, DoesTaking, PerformsAll, PerformsLeft, DoesEvent, sinks}
 pub use Rattle.roff_interpreter.specs.Giving.{Gives}
+pub use Rattle.roff_interpreter.specs.Reporting.{Tells}
 pub use Rattle.roff_run.specs.Starts.{pages_given}
 pub use Rattle.roff_run.specs.Messages.{message_line, message_lines, text_told, told_line}
 pub use Rattle.roff_run.specs.Events.Lines.{closing_events}

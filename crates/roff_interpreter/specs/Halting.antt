@@ -8,14 +8,14 @@ use Rattle.roff_formatter.specs.declared.halt.Halt.{Halt}
 use Rattle.roff_formatter.specs.declared.halt.Halt.TheVariants.{Limit as Limited, Refused, Over, Output, Messages}
 use Rattle.roff_interpreter.specs.Outcome.{Beginning, Completes, Seen, IsLeftOf, Reaches, OutputStops, MessagesFail}
 use Rattle.roff_run.specs.declared.status.Status.TheVariants.{Device, Done}
-use Rattle.roff_run.specs.Run.{State, initial, step, stopped_by, output, reported}
+use Rattle.roff_run.specs.Run.{State, initial, told_step, stopped_by, output, reported}
 
 -- the definition stops at a limit in the step behind a state of this line
 pub record LimitStops (l : Limits) (t : Beginning) (left : Tape) (line : ℕ) (limit : Limit) (before now : Seen) : Type 0 where
   pub state : State
   pub reaches : Reaches l t before now state
   pub goes_on : state.ended ≡ None
-  pub stops : step l state ≡ stopped_by l limit state
+  pub stops : told_step l state ≡ stopped_by l limit state
   pub rest : IsLeftOf left state.tape
   pub quiet : state.last_message ≡ []
   pub line_is : state.input.line ≡ line

@@ -1,5 +1,6 @@
 pub mod Outcome
 pub mod Performing
+pub mod Reporting
 pub mod Giving
 pub mod Room
 pub mod Halting

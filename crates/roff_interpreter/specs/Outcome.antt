@@ -9,10 +9,26 @@ use Rattle.roff_run.specs.declared.status.Status.TheVariants.{Aborted, Done, Dev
 use Rattle.roff_run.specs.declared.start.Start.{Start}
 use Rattle.roff_run.specs.declared.message.Message.TheVariants.{WriteFailed}
 use Rattle.roff_run.specs.Messages.{message_line}
-use Rattle.roff_run.specs.Run.{State, Leads, initial, step, output, reported}
+use Rattle.roff_run.specs.Run.{State, ToldLeads, initial, told_step, output, reported}
 pub use Rattle.roff_formatter.specs.Reaching.{Beginning, OutputStops, Reaches}
 pub use Rattle.roff_sinks.specs.Devices.{AppendsBetween, NoSinkFault, Seen, seen}
 use Rattle.roff_sinks.specs.Sinks.{CountsFault}
+
+-- the run of the definition, whose messages are bounded, comes to this state, and what it wrote and reported until then was
+-- written and reported
+pub record Arrives (l : Limits) (t : Beginning) (before now : Seen) (s : State) : Type 0 where
+  pub comes : ToldLeads l (initial l t.start t.tape) s
+  pub text : Appends before.out.contents now.out.contents (output s)
+  pub messages : Appends before.err.contents now.err.contents (reported s)
+  pub faults : NoSinkFault before now
+
+-- The output failed in the step that the run made from this state: what was written begins with the text
+-- of all steps before it and is a beginning of that text with the step's own.
+pub record StopsWriting (l : Limits) (t : Beginning) (before now : Seen) (s : State) : Type 0 where
+  pub comes : ToldLeads l (initial l t.start t.tape) s
+  pub goes_on : s.ended ≡ None
+  pub text : AppendsBetween before.out.contents now.out.contents (output s) (output (told_step l s))
+  pub fault : CountsFault before.out.failures now.out.failures
 
 -- what is left of a source whose tape this would be: all of it, or all but the item in front, which was looked at
 abbrev pub IsLeftOf : Tape → Tape → Type 0
@@ -35,7 +51,7 @@ IsRest status left s = (left ≡ s.tape) ⊎ (MayHaveLooked status s × (left �
 -- rose.
 pub record Completes (l : Limits) (t : Beginning) (left : Tape) (status : Status) (before now : Seen) : Type 0 where
   pub state : State
-  pub reaches : Reaches l t before now state
+  pub reaches : Arrives l t before now state
   pub ended : state.ended ≡ Some status
   pub rest : IsRest status left state
   pub fault : status ≡ Device → Rises before.failures now.failures
@@ -45,7 +61,7 @@ pub record Completes (l : Limits) (t : Beginning) (left : Tape) (status : Status
 pub record OutputFails (l : Limits) (t : Beginning) (left : Tape) (status : Status) (before now : Seen) : Type 0 where
   pub is_device : status ≡ Device
   pub state : State
-  pub stops : OutputStops l t before now state
+  pub stops : StopsWriting l t before now state
   pub rest : IsLeftOf left state.tape
   pub messages : let told = reported state ++ message_line state.input.line WriteFailed in
       (Appends before.err.contents now.err.contents told × (now.err.failures ≡ before.err.failures))
@@ -58,13 +74,13 @@ pub record OutputFails (l : Limits) (t : Beginning) (left : Tape) (status : Stat
 pub record MessagesFail (l : Limits) (t : Beginning) (left : Tape) (status : Status) (before now : Seen) : Type 0 where
   pub is_device : status ≡ Device
   pub state : State
-  pub comes : Leads l (initial l t.start t.tape) state
+  pub comes : ToldLeads l (initial l t.start t.tape) state
   pub goes_on : state.ended ≡ None
   pub text : Appends before.out.contents now.out.contents (output state)
-  pub messages : AppendsBetween before.err.contents now.err.contents (reported state) (reported (step l state))
+  pub messages : AppendsBetween before.err.contents now.err.contents (reported state) (reported (told_step l state))
   pub fault : CountsFault before.err.failures now.err.failures
   pub output_stays : now.out.failures ≡ before.out.failures
-  pub rest : IsLeftOf left (step l state).tape
+  pub rest : IsLeftOf left (told_step l state).tape
 
 -- The run ended before its first step, as a limit refused what was given to it, and the message sink failed, once, as that was told:
 -- a beginning of the message was written, and no text. All of its source is left.

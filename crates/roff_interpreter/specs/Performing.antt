@@ -23,7 +23,7 @@ use Rattle.roff_run.specs.PageEvents.{PageEvent, PageHistory}
 use Rattle.roff_run.specs.declared.message.Message.{Message}
 use Rattle.roff_run.specs.declared.line_state.LineState.{LineState}
 use Rattle.roff_run.specs.declared.phase.Phase.{Phase}
-use Rattle.roff_run.specs.Run.{State, Leads, initial, step, stopped_by, made, taken_as, known_at, output, reported}
+use Rattle.roff_run.specs.Run.{State, ToldLeads, initial, step, told_step, stopped_by, made, taken_as, known_at, output, reported}
 use Rattle.roff_reader.specs.Reader.Taken.{CameTo, IsReady}
 use Rattle.roff_run.specs.Reading.Items.{PageUnread}
 use Rattle.roff_sinks.specs.Sinks.{CountsFault, Sunk}
@@ -90,19 +90,27 @@ pub record Means (l : Limits) (from s : State) (h : PageHistory) (line : ℕ) (m
   pub goes_on : from.ended ≡ None
   pub wrote : output from ≡ written h
   pub said : reported s ≡ reported from ++ message_lines line messages
+  pub quiet : s.last_message ≡ []
 
 -- the message sink failed in the step from this state
 pub record LostAt (l : Limits) (t : Beginning) (before now : Seen) (from : State) : Type 0 where
-  pub comes : Leads l (initial l t.start t.tape) from
+  pub comes : ToldLeads l (initial l t.start t.tape) from
   pub goes_on : from.ended ≡ None
   pub text : Appends before.out.contents now.out.contents (output from)
-  pub messages : AppendsBetween before.err.contents now.err.contents (reported from) (reported (step l from))
+  pub messages : AppendsBetween before.err.contents now.err.contents (reported from) (reported (told_step l from))
   pub fault : CountsFault before.err.failures now.err.failures
   pub output_stays : now.out.failures ≡ before.out.failures
+
+-- a limit refuses the step from this state
+pub record RefusedAt (l : Limits) (t : Beginning) (before now : Seen) (from : State) (limit : Limit) : Type 0 where
+  pub reaches : Reaches l t before now from
+  pub goes_on : from.ended ≡ None
+  pub stops : told_step l from ≡ stopped_by l limit from
 
 -- how far the code did what an item means, by its answer
 abbrev pub MeaningDone : Limits → Beginning → Seen → Seen → State → State → List PageEvent → PageHistory → List PageEvent → List PageEvent → Result (Option Sprung) Halt → ComposerOf → Type 0
 MeaningDone l t before now from s events h kept rest (Err Messages) es = LostAt l t before now from
+MeaningDone l t before now from s events h kept rest (Err (Refused limit)) es = RefusedAt l t before now from limit
 MeaningDone l t before now from s events h kept rest result es = ComesTo l t before now s events h kept rest result es
 
 -- what both sinks of a run tell
@@ -148,15 +156,8 @@ pub record Opens (l : Limits) (from done : State) (h : PageHistory) (messages : 
   pub wrote : output from ≡ written h
   pub said : reported from ≡ messages
 
--- a limit refuses the step from this state
-pub record RefusedAt (l : Limits) (t : Beginning) (before now : Seen) (from : State) (limit : Limit) : Type 0 where
-  pub reaches : Reaches l t before now from
-  pub goes_on : from.ended ≡ None
-  pub stops : step l from ≡ stopped_by l limit from
-
 -- how far the code did a taking, from this state to that, by its answer
 abbrev pub TakingDone : Limits → Beginning → Seen → Seen → State → State → List PageEvent → PageHistory → List PageEvent → List PageEvent → Result (Option Sprung) Halt → ComposerOf → Type 0
-TakingDone l t before now from done events h kept rest (Err (Refused limit)) es = RefusedAt l t before now from limit
 TakingDone l t before now from done events h kept rest result es = MeaningDone l t before now from done events h kept rest result es
 
 -- The code did what the definition takes, and performed some events more, as far as it answers: for each state of a

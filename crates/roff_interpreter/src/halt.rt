@@ -3,18 +3,20 @@
 ghost use Rattle.std.specs.Prelude.{ℕ};
 ghost use Rattle.roff_interpreter.specs.Clauses.{Beginning, Tape, OutcomeOf, Seen, seen, Halts};
 ghost use Rattle.roff_interpreter.specs.Clauses.{Sunk};
+ghost use Rattle.roff_sinks.specs.Told.{told_by};
 
 use crate::report::report;
 use roff_formatter::Halt;
 use roff_num::Limits;
 use roff_run::{Message, Status};
-use roff_sinks::ByteSink;
+use roff_sinks::MessageSink;
 
 /// How a run ends that was halted on this line. A limit and a fault of the output are reported.
-pub fn status<E: ByteSink>(halt: Halt, limits: Limits, line: u32, err: &mut E) -> Status
+pub fn status<E: MessageSink>(halt: Halt, limits: Limits, line: u32, err: &mut E) -> Status
     ensures { (t : Beginning) (left : Tape) (before : Seen) (failures : ℕ) (out : Sunk)
-        → Halts limits t left line halt before (seen failures out (E.sunk err.old))
-        → OutcomeOf limits t left result before (seen failures out (E.sunk err.new)) }
+        → Halts limits t left line halt before (seen failures out (told_by E.MessageSink err.old))
+        → OutcomeOf limits t left result before
+        (seen failures out (told_by E.MessageSink err.new)) }
 {
     match halt {
         Halt::Limit(limit) | Halt::Refused(limit) => {

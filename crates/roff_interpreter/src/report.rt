@@ -1,44 +1,90 @@
 //! How messages are reported.
 
-ghost use Rattle.std.specs.Prelude.{◌≡◌};
-ghost use Rattle.roff_interpreter.specs.Clauses.{Puts, message_line, text_told, told_line};
+ghost use Rattle.std.specs.Prelude.{◌≡◌, ◌-◌, OnOk, false, length, true};
+ghost use Rattle.roff_interpreter.specs.Clauses.{Puts, Tells, message_line, told_line};
+ghost use Rattle.roff_sinks.specs.Told.{told_by};
 
+use roff_formatter::Halt;
+use roff_num::Limit;
 use roff_run::Message;
-use roff_sinks::{ByteSink, SinkFault};
+use roff_sinks::{MessageSink, SinkFault};
 
-/// Writes a message of this line of the input, in one piece.
+/// Tells a piece of messages, if there is room for it.
+///
+/// # Errors
+///
+/// [`Halt::Refused`] by the limit on messages where there is none, and [`Halt::Messages`] where the
+/// sink failed.
+pub fn tell<E: MessageSink>(piece: &[u8], err: &mut E) -> Result<(), Halt>
+    ensures { Tells (told_by E.MessageSink err.old)
+        (told_by E.MessageSink err.new) piece.now result }
+{
+    if !err.has_room(piece.len()) {
+        return Err(Halt::Refused(Limit::Messages));
+    }
+    match err.put(piece) {
+        Ok(()) => Ok(()),
+        Err(_) => Err(Halt::Messages),
+    }
+}
+
+/// Tells the text of a message that a request tells, if there is room for it: bare, and a newline.
+///
+/// # Errors
+///
+/// As those of [`tell`].
+pub fn tell_text<E: MessageSink>(text: &[u8], err: &mut E) -> Result<(), Halt>
+    ensures { Tells (told_by E.MessageSink err.old)
+        (told_by E.MessageSink err.new) (told_line false text.now) result }
+{
+    if !err.has_room(text.len() + 1) {
+        return Err(Halt::Refused(Limit::Messages));
+    }
+    match put_line(text, err) {
+        Ok(()) => Ok(()),
+        Err(_) => Err(Halt::Messages),
+    }
+}
+
+/// Writes a message of this line of the input, in one piece, whether there is room for it or not:
+/// one that says why the run ends.
 ///
 /// # Errors
 ///
 /// The sink's fault.
-pub fn report<E: ByteSink>(message: Message, line: u32, err: &mut E) -> Result<(), SinkFault>
-    ensures { Puts (E.sunk err.old) (E.sunk err.new) (message_line line message) result }
+pub fn report<E: MessageSink>(message: Message, line: u32, err: &mut E) -> Result<(), SinkFault>
+    ensures { Puts (told_by E.MessageSink err.old)
+        (told_by E.MessageSink err.new) (message_line line message) result }
 {
     err.put(&message.line(line))
 }
 
-/// Writes the text of a message that a request tells: bare, and a newline. An empty one of a
-/// request that aborts the run is `User Abort`.
+/// Writes the text of a message with which a request aborts the run, whether there is room for it
+/// or not: bare, and a newline. An empty one is `User Abort`.
 ///
 /// # Errors
 ///
 /// The sink's fault.
-pub fn report_text<E: ByteSink>(text: &[u8], aborts: bool, err: &mut E) -> Result<(), SinkFault>
-    ensures { Puts (E.sunk err.old) (E.sunk err.new) (told_line aborts text.now) result }
+pub fn report_abort<E: MessageSink>(text: &[u8], err: &mut E) -> Result<(), SinkFault>
+    ensures { Puts (told_by E.MessageSink err.old)
+        (told_by E.MessageSink err.new) (told_line true text.now) result }
 {
-    match err.put(text_told(text, aborts)) {
-        Ok(()) => err.put(b"\n"),
-        Err(fault) => Err(fault),
+    if text.is_empty() {
+        put_line(b"User Abort", err)
+    } else {
+        put_line(text, err)
     }
 }
 
-/// What is told of such a text: one without a byte that aborts the run says so.
-fn text_told(text: &[u8], aborts: bool) -> &[u8]
-    ensures { result.now ≡ text_told aborts text.now }
+/// Writes a text and a newline.
+fn put_line<E: MessageSink>(text: &[u8], err: &mut E) -> Result<(), SinkFault>
+    ensures puts { Puts (told_by E.MessageSink err.old)
+        (told_by E.MessageSink err.new) (told_line false text.now) result }
+    ensures room { OnOk result
+        (E.room err.new ≡ E.room err.old - length (told_line false text.now)) }
 {
-    if aborts && text.is_empty() {
-        b"User Abort"
-    } else {
-        text
+    match err.put(text) {
+        Ok(()) => err.put(b"\n"),
+        Err(fault) => Err(fault),
     }
 }

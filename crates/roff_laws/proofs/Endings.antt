@@ -1,12 +1,12 @@
 -- Every run comes to an end, and to one alone.
-use Rattle.std.proofs.Common.{◌≡◌, ◌⊎◌, inl, inr, ◌≤◌, ◌+◌, ◌*◌, ℕ, zero, suc, Bool, true, false, not, List, [], ◌∷◌, ◌++◌, length, Option, Some, None, refl, sym, ◌∙◌, ap, subst, add_comm, arith}
+use Rattle.std.proofs.Common.{◌≡◌, inl, inr, ◌≤◌, ◌+◌, ◌*◌, ℕ, zero, suc, Bool, true, false, not, List, [], ◌∷◌, ◌++◌, length, Option, Some, None, refl, sym, ◌∙◌, ap, subst, add_comm, arith}
 use Rattle.std.specs.Prelude.{IsSome, map, ◌&&◌}
 use Rattle.roff_num.specs.declared.limits.Limits.{Limits}
 use Rattle.roff_run.specs.declared.status.Status.{Status}
 use Rattle.roff_run.specs.PageEvents.{PageEvent}
 use Rattle.roff_run.specs.Results.{turn, turns, last_state}
 use Rattle.roff_laws.specs.ResultLaws.{EveryRunEnds, StepsLeadToTheLastState, NoOtherStateIsLast}
-use Rattle.roff_run.specs.Run.{State, Leads, grown, initial, paged_state, performing, sprung_read, unless_refused, with_registers, with_sprung, step_with, step, after}
+use Rattle.roff_run.specs.Run.{State, ToldLeads, grown, initial, paged_state, performing, sprung_read, unless_refused, with_registers, with_sprung, step_with, step, after, told_after}
 use Rattle.roff_source.specs.Tape.{Tape}
 use Rattle.roff_run.specs.TurnsToCome.{left_by, lines_left, most_left, phases_left, unended}
 use Rattle.roff_layout.specs.declared.event.Event.TheVariants.{Print, Tab, WordEnd, Gap, LineEnd, Count, Break as PageBreak, Interrupt as Interrupted, Resume, Set}
@@ -39,40 +39,15 @@ use Rattle.roff_run.specs.declared.start.Start.{Start}
 use Rattle.roff_run.proofs.GivenPages.{environments-given_pages}
 use Rattle.roff_run.proofs.KeepingText.{free_ahead-called}
 use Rattle.roff_run.proofs.Behind.{begun-behind_return}
-use Rattle.roff_run.proofs.Leads.{Leads-refl, Leads-trans, Leads-step, after-add}
 use Rattle.roff_run.proofs.LinesLeft.{lines_left-event, lines_left-few, most_left-fewer}
 use Rattle.roff_run.proofs.PutBack.{free_ahead-back}
 use Rattle.roff_laws.proofs.PerformedOrStopped.{left_of-none, PerformedOrStopped, Performed, Sprang, EndsOver, StoppedAt, performed_or_stopped}
 use Rattle.roff_run.proofs.Readings.{ReadsOn-reading_on}
 use Rattle.roff_laws.proofs.ComesBefore.{ComesBefore, NothingComes, PageComes, WordEndComes, comes_before, steps_in_front, steps_in_front-few}
+use Rattle.roff_laws.proofs.Told.{ToldOrStopped, AllTold, StopsBefore, nothing_told, told_or_stopped, within-told}
+use Rattle.roff_run.proofs.Leads.{ToldLeads-refl, ToldLeads-trans, told_after-add}
 use Rattle.roff_laws.proofs.TurnsNeeded.{EndsWithin, EndsWithin-read, turns_needed}
-
--- a run has ended, or it hasn't
-pub ended_or_not : (o : Option Status) → IsSome o ⊎ (o ≡ None)
-ended_or_not None = inr refl
-ended_or_not (Some status) = inl refl
-
--- not both
-pub not-ended : (o : Option Status) → o ≡ None → IsSome o → ⊥
-not-ended None none some = cc
-not-ended (Some status) none some = cc
-
--- a run that has ended stays as it is
-pub step-ended : (l : Limits) (s : State) → IsSome s.ended → step l s ≡ s
-step-ended l s ended =
-    elim s.ended as (λ o. IsSome o → elim o [ None ↦ step_with l s.to_do s | Some status ↦ s ] ≡ s) [
-      | None ↦ λ none. absurd (cc)
-      | Some status ↦ λ some. refl
-    ] ended
-
--- and one that hasn't ended makes a step
-pub step-going : (l : Limits) (s : State) → s.ended ≡ None → step l s ≡ step_with l s.to_do s
-step-going l s going = rw going refl
-
--- a run that has ended stays as it is, however many steps are made
-pub after-ended : (l : Limits) (n : ℕ) (s : State) → IsSome s.ended → after l n s ≡ s
-after-ended l zero s ended = refl
-after-ended l (suc n) s ended = rw (step-ended l s ended) (after-ended l n s ended)
+pub use Rattle.roff_laws.proofs.Ended.{after-ended, ended_or_not, not-ended, step-ended, step-going, told_after-ended}
 
 -- what sprang takes one step, and an event one, beside what comes before it and what it springs
 abbrev sprung_steps : Option ShortName → ℕ
@@ -248,7 +223,7 @@ Stepped-step l n s enough =
     ]
 
 -- some phase is left
-some_phase : (phase : Phase) → 1 ≤ phases_left phase
+pub some_phase : (phase : Phase) → 1 ≤ phases_left phase
 some_phase Reading = omega arith
 some_phase LastMacro = omega arith
 some_phase Closing = omega arith
@@ -259,13 +234,16 @@ still_within l n s t enough (HasEnded ended) = inl ended
 still_within l n s t enough (HasRead few) = inr (omega (arith, few))
 still_within l n s t enough (HasNeared near) = inr (omega (arith, near.turns, enough))
 
+pub EndsWithin-step : (l : Limits) (n : ℕ) (s : State) → turns_needed l s ≤ suc n → EndsWithin l (suc n) (step l s)
+EndsWithin-step l n s enough = still_within l n s (step l s) enough (Stepped-step l n s enough)
+
 -- and behind several
 EndsWithin-after : (l : Limits) (m n : ℕ) (s : State) → EndsWithin l n s → EndsWithin l n (after l m s)
 EndsWithin-after l zero n s ends = ends
 EndsWithin-after l (suc m) n s (inl ended) = inl (rw (after-ended l (suc m) s ended) ended)
 EndsWithin-after l (suc m) zero s (inr enough) = let some = some_phase s.phase in absurd (omega (arith, enough, some))
 EndsWithin-after l (suc m) (suc n) s (inr enough) =
-    EndsWithin-after l m (suc n) (step l s) (still_within l n s (step l s) enough (Stepped-step l n s enough))
+    EndsWithin-after l m (suc n) (step l s) (EndsWithin-step l n s enough)
 
 -- behind a step that read something, or with which the run ended, one turn fewer is enough; behind another one there are fewer steps
 -- before that
@@ -287,19 +265,34 @@ EndsWithin-steps l zero n s few enough = last_step l n s (step l s) few (Stepped
 EndsWithin-steps l (suc k) n s few enough =
     steps_on l k n s (step l s) few enough (Stepped-step l n s enough) (EndsWithin-steps l k n (step l s))
 
--- a turn is so many steps
-turn-after : (l : Limits) (s : State) → turn l s ≡ after l (suc (3 * length s.to_do + 1)) s
-turn-after l s =
+-- a turn is so many steps whose messages are bounded
+turn-told_after : (l : Limits) (s : State) → turn l s ≡ told_after l (suc (3 * length s.to_do + 1)) s
+turn-told_after l s =
     let k : ℕ = 3 * length s.to_do + 1 in
     let more : k + 1 ≡ suc k = omega arith in
-    sym (after-add l k 1 s) ∙ ap (λ (n : ℕ). after l n s) more
+    sym (told_after-add l k 1 s) ∙ ap (λ (n : ℕ). told_after l n s) more
+
+-- so many turns are enough behind these, if they are without the bound
+EndsWithin-told : (l : Limits) (n k : ℕ) (s t : State) → ToldOrStopped l k s t → EndsWithin l n (after l k s) → EndsWithin l n t
+EndsWithin-told l n k s t (AllTold within) ends = ends
+EndsWithin-told l n k s t (StopsBefore m few going within beyond) ends = inl refl
 
 -- a turn leaves one fewer
-EndsWithin-turn : (l : Limits) (n : ℕ) (s : State) → EndsWithin l (suc n) s → EndsWithin l n (turn l s)
-EndsWithin-turn l n s (inl ended) =
-    let k : ℕ = 3 * length s.to_do + 1 in inl (rw (after-ended l k s ended, step-ended l s ended) ended)
-EndsWithin-turn l n s (inr enough) =
-    rw (turn-after l s) (EndsWithin-steps l (3 * length s.to_do + 1) n s (omega (arith, steps_before-few s.to_do s.sprung s.history)) enough)
+EndsWithin-turn : (l : Limits) (n : ℕ) (s : State) → length s.messages ≤ l.messages → EndsWithin l (suc n) s → EndsWithin l n (turn l s)
+EndsWithin-turn l n s within (inl ended) =
+    let stays : turn l s ≡ s = turn-told_after l s ∙ told_after-ended l (suc (3 * length s.to_do + 1)) s ended in
+    inl (subst (λ (t : State). IsSome t.ended) (sym stays) ended)
+EndsWithin-turn l n s within (inr enough) =
+    let k : ℕ = 3 * length s.to_do + 1 in
+    let few : steps_of s ≤ k = steps_before-few s.to_do s.sprung s.history in
+    subst (λ (t : State). EndsWithin l n t) (sym (turn-told_after l s))
+    (EndsWithin-told l n (suc k) s _ (told_or_stopped l (suc k) s within) (EndsWithin-steps l k n s few enough))
+
+-- and its messages stay within the limit
+messages-turn : (l : Limits) (s : State) → length s.messages ≤ l.messages → length (turn l s).messages ≤ l.messages
+messages-turn l s within =
+    let k : ℕ = suc (3 * length s.to_do + 1) in
+    subst (λ (t : State). length t.messages ≤ l.messages) (sym (turn-told_after l s)) (within-told l k s _ (told_or_stopped l k s within))
 
 -- turns of a run that has ended
 turns-ended : (l : Limits) (n : ℕ) (s : State) → IsSome s.ended → turns l n s ≡ s
@@ -315,14 +308,15 @@ turns-going : (l : Limits) (n : ℕ) (s : State) → s.ended ≡ None → turns 
 turns-going l n s going = ap (λ (o : Option Status). elim o as (λ _. State) [ None ↦ turns l n (turn l s) | Some status ↦ s ]) going
 
 -- with none left the run has ended
-ended-turns : (l : Limits) (n : ℕ) (s : State) → EndsWithin l n s → IsSome (turns l n s).ended
-ended-turns l zero s (inl ended) = ended
-ended-turns l zero s (inr enough) = let some = some_phase s.phase in absurd (omega (arith, enough, some))
-ended-turns l (suc n) s within =
+ended-turns : (l : Limits) (n : ℕ) (s : State) → length s.messages ≤ l.messages → EndsWithin l n s → IsSome (turns l n s).ended
+ended-turns l zero s within (inl ended) = ended
+ended-turns l zero s within (inr enough) = let some = some_phase s.phase in absurd (omega (arith, enough, some))
+ended-turns l (suc n) s within ends =
     let Goal : State → Type 0 = λ t. IsSome t.ended in
     elim (ended_or_not s.ended) [
       | inl ended ↦ subst Goal (sym (turns-ended l (suc n) s ended)) ended
-      | inr going ↦ subst Goal (sym (turns-going l n s going)) (ended-turns l n (turn l s) (EndsWithin-turn l n s within))
+      | inr going ↦
+          subst Goal (sym (turns-going l n s going)) (ended-turns l n (turn l s) (messages-turn l s within) (EndsWithin-turn l n s within ends))
     ]
 
 -- registers that are given take no turn
@@ -343,48 +337,56 @@ EndsWithin-with_registers l (first ∷ others) n s enough =
     EndsWithin-unless_refused l n (first_passed l (names_counted behind.registers)) s _
     (EndsWithin-with_registers l others n behind (omega (arith, enough, same)))
 
+-- so many turns are enough for a run that begins
+pub EndsWithin-initial : (l : Limits) (start : Start) (tape : Tape) → EndsWithin l (4 * (5 * l.bytes + length tape.items) + 5) (initial l start tape)
+EndsWithin-initial l start tape =
+    let none : lines_left (interrupted_line (pages_given start)) ≡ 0 =
+    ap (λ (es : Environments). lines_left (line_to_go_on es.in_force)) (environments-given_pages start) in
+    EndsWithin-with_registers l start.registers.items (4 * (5 * l.bytes + length tape.items) + 5) (paged_state start tape) (omega (arith, none))
+
 -- every run ends
 pub every_run_ends : EveryRunEnds
 every_run_ends l start tape =
-    let none : lines_left (interrupted_line (pages_given start)) ≡ 0 =
-    ap (λ (es : Environments). lines_left (line_to_go_on es.in_force)) (environments-given_pages start) in
-    ended-turns l (4 * (5 * l.bytes + length tape.items) + 5) (initial l start tape)
-    (EndsWithin-with_registers l start.registers.items (4 * (5 * l.bytes + length tape.items) + 5) (paged_state start tape) (omega (arith, none)))
+    ended-turns l (4 * (5 * l.bytes + length tape.items) + 5) (initial l start tape) (nothing_told l start tape) (EndsWithin-initial l start tape)
 
 -- turns are steps
-Leads-turns : (l : Limits) (n : ℕ) (s : State) → Leads l s (turns l n s)
-Leads-turns l zero s = Leads-refl l s
-Leads-turns l (suc n) s =
-    let Goal : State → Type 0 = λ t. Leads l s t in
-    let before : ℕ = 3 * length s.to_do + 1 in
-    let to_turn : Leads l s (turn l s) = Leads-step l s (after l before s) (record { steps = before; there = refl }) in
+ToldLeads-turns : (l : Limits) (n : ℕ) (s : State) → ToldLeads l s (turns l n s)
+ToldLeads-turns l zero s = ToldLeads-refl l s
+ToldLeads-turns l (suc n) s =
+    let Goal : State → Type 0 = λ t. ToldLeads l s t in
+    let to_turn : ToldLeads l s (turn l s) = record { steps = suc (3 * length s.to_do + 1); there = sym (turn-told_after l s) } in
     elim (ended_or_not s.ended) [
-      | inl ended ↦ subst Goal (sym (turns-ended l (suc n) s ended)) (Leads-refl l s)
-      | inr going ↦ subst Goal (sym (turns-going l n s going)) (Leads-trans l s (turn l s) (turns l n (turn l s)) to_turn (Leads-turns l n (turn l s)))
+      | inl ended ↦ subst Goal (sym (turns-ended l (suc n) s ended)) (ToldLeads-refl l s)
+      | inr going ↦
+          subst Goal (sym (turns-going l n s going)) (ToldLeads-trans l s (turn l s) (turns l n (turn l s)) to_turn (ToldLeads-turns l n (turn l s)))
     ]
 
 -- steps lead to the last state
 pub steps_lead_to_the_last_state : StepsLeadToTheLastState
-steps_lead_to_the_last_state l start tape = Leads-turns l (4 * (5 * l.bytes + length tape.items) + 5) (initial l start tape)
+steps_lead_to_the_last_state l start tape = ToldLeads-turns l (4 * (5 * l.bytes + length tape.items) + 5) (initial l start tape)
 
 -- what holds behind each number of steps holds of the last state
-pub at_last_state : (P : State → Type 0) (l : Limits) (start : Start) (tape : Tape) → ((n : ℕ) → P (after l n (initial l start tape))) → P (last_state l start tape)
+pub at_last_state : (P : State → Type 0) (l : Limits) (start : Start) (tape : Tape) → ((n : ℕ) → P (told_after l n (initial l start tape))) → P (last_state l start tape)
 at_last_state P l start tape holds =
     let leads = steps_lead_to_the_last_state l start tape in
     subst P leads.there (holds leads.steps)
 
 -- a run has ended behind more steps than it takes
-pub after-more : (l : Limits) (start : Start) (t : Tape) (more : ℕ) → after l ((steps_lead_to_the_last_state l start t).steps + more) (initial l start t) ≡ last_state l start t
-after-more l start t more =
+pub told_after-more : (l : Limits) (start : Start) (t : Tape) (more : ℕ)
+    → told_after l ((steps_lead_to_the_last_state l start t).steps + more) (initial l start t) ≡ last_state l start t
+told_after-more l start t more =
     let leads = steps_lead_to_the_last_state l start t in
-    after-add l leads.steps more (initial l start t) ∙ ap (after l more) leads.there ∙ after-ended l more (last_state l start t) (every_run_ends l start t)
+    told_after-add l leads.steps more (initial l start t) ∙ ap (told_after l more) leads.there
+    ∙ told_after-ended l more (last_state l start t) (every_run_ends l start t)
 
 -- of two states that have ended, to which steps lead, the second is the first
-same_end : (l : Limits) (s t u : State) → Leads l s t → Leads l s u → IsSome t.ended → IsSome u.ended → t ≡ u
+same_end : (l : Limits) (s t u : State) → ToldLeads l s t → ToldLeads l s u → IsSome t.ended → IsSome u.ended → t ≡ u
 same_end l s t u to_t to_u t_ended u_ended =
-    let through_t : after l (to_t.steps + to_u.steps) s ≡ t = after-add l to_t.steps to_u.steps s ∙ ap (after l to_u.steps) to_t.there ∙ after-ended l to_u.steps t t_ended in
-    let through_u : after l (to_u.steps + to_t.steps) s ≡ u = after-add l to_u.steps to_t.steps s ∙ ap (after l to_t.steps) to_u.there ∙ after-ended l to_t.steps u u_ended in
-    sym through_t ∙ ap (λ n. after l n s) (add_comm to_t.steps to_u.steps) ∙ through_u
+    let through_t : told_after l (to_t.steps + to_u.steps) s ≡ t =
+    told_after-add l to_t.steps to_u.steps s ∙ ap (told_after l to_u.steps) to_t.there ∙ told_after-ended l to_u.steps t t_ended in
+    let through_u : told_after l (to_u.steps + to_t.steps) s ≡ u =
+    told_after-add l to_u.steps to_t.steps s ∙ ap (told_after l to_t.steps) to_u.there ∙ told_after-ended l to_t.steps u u_ended in
+    sym through_t ∙ ap (λ n. told_after l n s) (add_comm to_t.steps to_u.steps) ∙ through_u
 
 -- they lead to no other one that has ended
 pub no_other_state_is_last : NoOtherStateIsLast

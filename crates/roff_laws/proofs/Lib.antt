@@ -3,7 +3,11 @@ pub mod PerformedOrStopped
 pub mod InputLeaving
 pub mod TrapsPlanted
 pub mod StepsAppend
+pub mod Ended
+pub mod Told
 pub mod StepsOnlyCut
+pub mod RefusedSteps
+pub mod ToldOnlyCut
 pub mod RunsOnlyCut
 pub mod CountsWithin
 pub mod RunsStayWithin
@@ -17,7 +21,6 @@ pub mod Endings
 pub mod ResultsOnlyCut
 pub mod Taking
 pub mod StatusesTell
-pub mod RefusedSteps
 pub mod RunsAppend
 pub mod RegisterLaws
 pub mod RequestNames
@@ -31,3 +34,6 @@ pub mod SpringLaws
 pub mod TrapLaws
 pub mod PagesBegun
 pub mod EjectLaws
+pub mod StepsTellLittle
+pub mod TurnsPaid
+pub mod MessagesAreFew

@@ -1,12 +1,13 @@
 -- A run that is done wrote whole pages.
 --
 -- Each function f of the run has its lemma Writes-f here, with a line for each of its cases.
-use Rattle.std.proofs.Common.{◌≡◌, ◌⊎◌, inl, inr, ℕ, zero, suc, Bool, true, false, not, ◌&&◌, ◌||◌, List, [], ◌∷◌, ◌++◌, map, Option, Some, None, refl, sym, ◌∙◌, ap, subst, arith}
+use Rattle.std.proofs.Common.{◌≡◌, ◌⊎◌, inl, inr, ℕ, zero, suc, Bool, true, false, not, ◌&&◌, ◌||◌, List, [], ◌∷◌, ◌++◌, map, Option, Some, None, refl, sym, ◌∙◌, ap, subst}
 use Rattle.roff_run.specs.Results.{last_state}
 use Rattle.std.specs.Prelude.{is_some, ◌==◌}
 use Rattle.std.proofs.lemmas.Bool.{eqb-true}
 use Rattle.roff_layout.specs.declared.event.Event.TheVariants.{WordEnd, Break}
 use Rattle.roff_num.specs.declared.limit.Limit.{Limit}
+use Rattle.roff_num.specs.declared.limit.Limit.TheVariants.{Messages}
 use Rattle.roff_num.specs.declared.limits.Limits.{Limits}
 use Rattle.roff_num.specs.declared.num.Num.{Num}
 use Rattle.roff_input.specs.Input.{Ahead, DoAhead, item_taken}
@@ -24,7 +25,7 @@ use Rattle.roff_run.specs.Output.{written}
 use Rattle.roff_run.specs.Requests.{called_by}
 use Rattle.roff_run.specs.Requests.Effects.{page_numbered}
 use Rattle.roff_run.specs.Requests.Numbering.{number_of_page}
-use Rattle.roff_run.specs.Run.{State, after, initial, paged_state, performing, phase_ended, step, step_with, unless_refused, with_registers}
+use Rattle.roff_run.specs.Run.{State, initial, paged_state, performing, phase_ended, step, step_with, told_after, told_step, unless_refused, with_registers}
 use Rattle.roff_run.specs.Run.Counts.{first_passed, names_counted}
 use Rattle.roff_run.specs.Springs.{begins, left_if, left_of, next, page_begin_or}
 use Rattle.roff_run.specs.Starts.{history_given, pages_given, with_given}
@@ -44,13 +45,14 @@ use Rattle.roff_laws.specs.PageLaws.{WritesWholePages}
 use Rattle.roff_laws.specs.TrapLaws.{IsAmong, IsPutBack, Waits}
 use Rattle.roff_laws.proofs.ClosingPhase.{closing-event}
 use Rattle.roff_laws.proofs.ComesBefore.{ComesBefore, NothingComes, PageComes, WordEndComes, comes_before}
+use Rattle.roff_laws.proofs.Told.{told_step-holds}
 use Rattle.roff_laws.proofs.Endings.{at_last_state, not-ended, step-ended, step-going}
 use Rattle.roff_laws.proofs.InputLeaving.{IsLeft-left_in}
 use Rattle.roff_run.proofs.MeantEvents.{AllMeant, AreMeant, MayBe}
 use Rattle.roff_laws.proofs.MeantAhead.{AllMeantAhead, ahead-back, meant-back}
 use Rattle.roff_laws.proofs.LastPage.{IsWhole, eject-over, is_whole, so_far-eject_last}
 use Rattle.roff_laws.proofs.PagesByRequests.{so_far-eject, so_far-eject_on, so_far-eject_to, so_far-move, so_far-need, so_far-no_space, so_far-plant, so_far-remove, so_far-space, so_far-uproot}
-use Rattle.roff_laws.proofs.PagesSoFar.{IsSoFar, so_far-begin, so_far-close, so_far-length, so_far-listed, so_far-next, so_far-nothing, so_far-number, so_far-offset, so_far-text, so_far-title}
+use Rattle.roff_laws.proofs.PagesSoFar.{IsSoFar, so_far-begin, so_far-blank, so_far-close, so_far-length, so_far-listed, so_far-next, so_far-nothing, so_far-number, so_far-offset, so_far-text, so_far-title}
 use Rattle.roff_laws.proofs.PerformedOrStopped.{PerformedOrStopped, Performed, Sprang, EndsOver, StoppedAt, first_of, left_behind, performed_or_stopped}
 use Rattle.roff_laws.proofs.Stages.{Goes, HasMeant, LaidOpen, Stage, Closes as StageCloses, Stage-given, Stage-paged, history-read, meant-last_called, meant-left, meant-performed, meant-read, open-first}
 use Rattle.roff_laws.proofs.WaitingEvents.{IsLost, RunEnds, StillWaits, WaitsStill, among-behind, among-front, back-among, back-behind, none_back, put_back_where_idle, waits-read}
@@ -341,9 +343,10 @@ Writes-step l s (Closes is so_far) =
 Writes-step l s (Over status ended whole) =
     subst Written (sym (step-ended l s (ap is_some ended))) (Over status ended whole)
 
-Writes-after : (l : Limits) (n : ℕ) (s : State) → Written s → Written (after l n s)
-Writes-after l zero s written = written
-Writes-after l (suc n) s written = Writes-after l n (step l s) (Writes-step l s written)
+Writes-told_after : (l : Limits) (n : ℕ) (s : State) → Written s → Written (told_after l n s)
+Writes-told_after l zero s written = written
+Writes-told_after l (suc n) s written =
+    Writes-told_after l n (told_step l s) (told_step-holds Written l s (Writes-step l s written) (λ going. Over (Limited Messages) refl (λ done. absurd (cc))))
 
 -- registers that are given
 so_far-numbered : (n : Option Num) (h : PageHistory) → IsSoFar h → IsSoFar (page_numbered n ++ h)
@@ -366,22 +369,7 @@ Writes-with_registers l (first ∷ others) s going reads stage so_far =
     Writes-unless_refused l (first_passed l (names_counted behind.registers)) s _
     (Writes-with_registers l others behind going reads (Stage-given first s stage) (so_far-numbered (number_of_page (first.0 ∷ []) first.1) s.history so_far))
 
--- before anything happened nothing was written
-so_far-blank : IsSoFar []
-so_far-blank keeps writes = record {
-  pages = [];
-  page = [];
-  full = tt;
-  written = refl;
-  size = refl;
-  some = omega arith;
-  unended = λ goes. omega arith;
-  ended = λ over. inl refl;
-  unbegun = λ none. (refl, refl);
-  diversions = refl;
-}
-
--- nor is it of what is given of the pages
+-- nothing is written of what is given of the pages
 so_far-paged : (start : Start) → IsSoFar (pages_given start)
 so_far-paged start = keeps-given IsSoFar so_far-listed (λ n h so_far. so_far-next h n so_far) start so_far-blank
 
@@ -394,7 +382,7 @@ done-whole s (Over status ended whole) done = let same : Some status ≡ Some Do
 
 pub writes_whole_pages : WritesWholePages
 writes_whole_pages l start tape done =
-    let each : (n : ℕ) → Written (after l n (initial l start tape)) =
-    λ n. Writes-after l n (initial l start tape)
+    let each : (n : ℕ) → Written (told_after l n (initial l start tape)) =
+    λ n. Writes-told_after l n (initial l start tape)
     (Writes-with_registers l start.registers.items (paged_state start tape) refl refl (Stage-paged start tape) (so_far-paged start)) in
     done-whole (last_state l start tape) (at_last_state Written l start tape each) done

@@ -364,3 +364,18 @@ so_far-begin h at_first goes so_far keeps writes =
       unbegun = λ none. absurd (omega (arith, none));
       diversions = before.diversions;
     }
+
+-- before anything happened nothing was written
+pub so_far-blank : IsSoFar []
+so_far-blank keeps writes = record {
+  pages = [];
+  page = [];
+  full = tt;
+  written = refl;
+  size = refl;
+  some = omega arith;
+  unended = λ goes. omega arith;
+  ended = λ over. inl refl;
+  unbegun = λ none. (refl, refl);
+  diversions = refl;
+}

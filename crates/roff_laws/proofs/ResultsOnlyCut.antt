@@ -4,18 +4,18 @@ use Rattle.roff_num.specs.declared.limits.Limits.{Limits}
 use Rattle.roff_laws.specs.Laws.{OnlyCuts, over, failing_behind, going_on_behind}
 use Rattle.roff_laws.specs.ResultLaws.{GivesABeginning, GiveTheSame, LimitsCutResults, SameResultWithoutALimit, FailingCutsResults, SameResultBeforeTheFault}
 use Rattle.roff_run.specs.Results.{last_state}
-use Rattle.roff_run.specs.Run.{State, initial, after, output, reported}
+use Rattle.roff_run.specs.Run.{State, initial, told_after, output, reported}
 use Rattle.roff_run.specs.declared.start.Start.{Start}
 use Rattle.roff_source.specs.Tape.{Tape}
 use Rattle.roff_laws.proofs.Beginnings.{IsBeginning-append, IsBeginning-trans}
-use Rattle.roff_laws.proofs.Endings.{steps_lead_to_the_last_state, after-more}
+use Rattle.roff_laws.proofs.Endings.{steps_lead_to_the_last_state, told_after-more}
 use Rattle.roff_laws.proofs.RunsOnlyCut.{limits_only_cut, same_until_a_limit, failing_only_cuts, same_until_the_fault}
 
 -- a number of steps behind which two runs have ended
 record BothEnd (start : Start) (l : Limits) (t : Tape) (k : Limits) (u : Tape) : Type 0 where
   steps : ℕ
-  first : after l steps (initial l start t) ≡ last_state l start t
-  second : after k steps (initial k start u) ≡ last_state k start u
+  first : told_after l steps (initial l start t) ≡ last_state l start t
+  second : told_after k steps (initial k start u) ≡ last_state k start u
 
 -- as many as both take together
 both_end : (start : Start) (l : Limits) (t : Tape) (k : Limits) (u : Tape) → BothEnd start l t k u
@@ -23,13 +23,13 @@ both_end start l t k u =
     let m = (steps_lead_to_the_last_state l start t).steps in
     let n = (steps_lead_to_the_last_state k start u).steps in record {
       steps = m + n;
-      first = after-more l start t n;
-      second = ap (λ (i : ℕ). after k i (initial k start u)) (add_comm m n) ∙ after-more k start u m;
+      first = told_after-more l start t n;
+      second = ap (λ (i : ℕ). told_after k i (initial k start u)) (add_comm m n) ∙ told_after-more k start u m;
     }
 
 -- what is only cut behind each number of steps gives a beginning
 GivesABeginning-OnlyCuts : (start : Start) (l : Limits) (t : Tape) (k : Limits) (u : Tape)
-    → ((n : ℕ) → OnlyCuts (after l n (initial l start t)) (after k n (initial k start u))) → GivesABeginning start l t k u
+    → ((n : ℕ) → OnlyCuts (told_after l n (initial l start t)) (told_after k n (initial k start u))) → GivesABeginning start l t k u
 GivesABeginning-OnlyCuts start l t k u cuts =
     let both = both_end start l t k u in
     let at_end : OnlyCuts (last_state l start t) (last_state k start u) = rw (both.first, both.second) at (cuts both.steps) in record {
@@ -57,7 +57,7 @@ GiveTheSame-over start l t k u tape same = record {
 pub same_result_without_a_limit : SameResultWithoutALimit
 same_result_without_a_limit small large within start tape not_stopped =
     let both = both_end start small tape large tape in
-    let same : after large both.steps (initial large start tape) ≡ after small both.steps (initial small start tape) =
+    let same : told_after large both.steps (initial large start tape) ≡ told_after small both.steps (initial small start tape) =
     same_until_a_limit small large within start tape both.steps (λ limit stopped. not_stopped limit (rw both.first at stopped)) in
     let last : last_state large start tape ≡ last_state small start tape = rw (both.first, both.second) at same in
     GiveTheSame-over start small tape large tape (last_state large start tape).tape last
@@ -68,7 +68,7 @@ same_result_before_the_fault l start items more ending not_met =
     let t : Tape = failing_behind items in
     let u : Tape = going_on_behind items more ending in
     let both = both_end start l t l u in
-    let same : over (after l both.steps (initial l start t)).tape (after l both.steps (initial l start u)) ≡ after l both.steps (initial l start t) =
+    let same : over (told_after l both.steps (initial l start t)).tape (told_after l both.steps (initial l start u)) ≡ told_after l both.steps (initial l start t) =
     same_until_the_fault l start items more ending both.steps (λ met. not_met (rw both.first at met)) in
     let last : over (last_state l start t).tape (last_state l start u) ≡ last_state l start t = rw (both.first, both.second) at same in
     GiveTheSame-over start l t l u (last_state l start t).tape last

@@ -1,16 +1,18 @@
 -- Whole runs, of which one is cut short by smaller limits, or by a source that fails.
-use Rattle.std.proofs.Common.{◌≡◌, ◌⊎◌, inl, inr, ℕ, List, [], ◌∷◌, Some, refl, ◌∙◌, ap}
+use Rattle.std.proofs.Common.{◌≡◌, ◌⊎◌, inl, inr, ℕ, List, [], ◌∷◌, Some, refl, sym, ◌∙◌, ap}
 use Rattle.roff_num.specs.declared.limit.Limit.{Limit}
 use Rattle.roff_run.specs.declared.status.Status.{Status}
-use Rattle.roff_run.specs.declared.status.Status.TheVariants.{Device, Limit as Limited}
+use Rattle.roff_run.specs.declared.status.Status.TheVariants.{Device, Done, Limit as Limited}
 use Rattle.roff_num.specs.declared.limits.Limits.{Limits}
 use Rattle.roff_laws.specs.Laws.{OnlyCuts, LimitsOnlyCut, SameUntilALimit, FailingOnlyCuts, SameUntilTheFault, over, failing_behind, going_on_behind}
 use Rattle.roff_laws.specs.Limits.{AreWithin}
-use Rattle.roff_run.specs.Run.{State, initial, paged_state, after}
+use Rattle.roff_run.specs.Run.{State, initial, paged_state, told_after}
 use Rattle.roff_run.specs.declared.start.Start.{Start}
 use Rattle.roff_source.specs.Tape.{Tape, Item, Ending, Ends, Failed, front, behind_front}
 use Rattle.roff_laws.proofs.StepsAppend.{OnlyCuts-same}
-use Rattle.roff_laws.proofs.StepsOnlyCut.{Cut, Same, Short, Differ, Cut-after, Cut-with_registers}
+use Rattle.roff_laws.proofs.StepsOnlyCut.{Cut, Same, Short, Differ, Cut-with_registers}
+use Rattle.roff_laws.proofs.Told.{nothing_told}
+use Rattle.roff_laws.proofs.ToldOnlyCut.{Cut-told_after}
 
 -- a run that may be cut short was only cut
 pub OnlyCuts-Cut : (Beside : Tape → Tape → Type 0) (IsCause : Status → Type 0) (s whole : State) → Cut Beside IsCause s whole → OnlyCuts s whole
@@ -25,6 +27,9 @@ IsSame t u = u ≡ t
 abbrev IsLimit : Status → Type 0
 IsLimit status = (limit : Limit) × (status ≡ Limited limit)
 
+undone-limit : (status : Status) → IsLimit status → status ≡ Done → ⊥
+undone-limit status is done = let wrong : Limited is.0 ≡ Done = sym is.1 ∙ done in absurd (cc)
+
 -- runs that differ in their limits
 Differ-limits : (small large : Limits) → AreWithin small large → Differ IsSame IsLimit small large
 Differ-limits small large within = record {
@@ -33,10 +38,10 @@ Differ-limits small large within = record {
 }
 
 -- the one with the smaller limits may be cut short
-Cut-limits : (small large : Limits) → AreWithin small large → (start : Start) (tape : Tape) (n : ℕ) → Cut IsSame IsLimit (after small n (initial small start tape)) (after large n (initial large start tape))
+Cut-limits : (small large : Limits) → AreWithin small large → (start : Start) (tape : Tape) (n : ℕ) → Cut IsSame IsLimit (told_after small n (initial small start tape)) (told_after large n (initial large start tape))
 Cut-limits small large within start tape n =
     let differ = Differ-limits small large within in
-    Cut-after IsSame IsLimit small large differ n (initial small start tape) (initial large start tape)
+    Cut-told_after IsSame IsLimit small large differ undone-limit n (initial small start tape) (initial large start tape) (nothing_told small start tape)
     (Cut-with_registers IsSame IsLimit small large differ start.registers.items (paged_state start tape) tape refl)
 
 -- limits only cut
@@ -47,7 +52,7 @@ limits_only_cut small large within start tape n = OnlyCuts-Cut IsSame IsLimit _ 
 pub same_until_a_limit : SameUntilALimit
 same_until_a_limit small large within start tape n not_stopped =
     elim (Cut-limits small large within start tape n) [
-      | Same left same_tape same ↦ same ∙ ap (λ t. over t (after small n (initial small start tape))) same_tape
+      | Same left same_tape same ↦ same ∙ ap (λ t. over t (told_after small n (initial small start tape))) same_tape
       | Short status ended cause cuts ↦ absurd (not_stopped cause.0 (ended ∙ ap Some cause.1))
     ]
 
@@ -59,6 +64,9 @@ data GoesOn : Tape → Tape → Type 0 where
 abbrev IsFault : Status → Type 0
 IsFault status = status ≡ Device
 
+undone-fault : (status : Status) → IsFault status → status ≡ Done → ⊥
+undone-fault status is done = let wrong : Device ≡ Done = sym is ∙ done in absurd (cc)
+
 -- runs that differ in their sources: both answer the same until the first one fails
 Differ-sources : (l : Limits) → Differ GoesOn IsFault l l
 Differ-sources l = record { limits = inl refl; tapes = fronts }
@@ -68,9 +76,9 @@ Differ-sources l = record { limits = inl refl; tapes = fronts }
     fronts t u (Behind (item ∷ items) more ending) = inr (refl, Behind items more ending)
 
 -- the one whose source fails may be cut short
-Cut-sources : (l : Limits) (start : Start) (items more : List Item) (ending : Ending) (n : ℕ) → Cut GoesOn IsFault (after l n (initial l start (failing_behind items))) (after l n (initial l start (going_on_behind items more ending)))
+Cut-sources : (l : Limits) (start : Start) (items more : List Item) (ending : Ending) (n : ℕ) → Cut GoesOn IsFault (told_after l n (initial l start (failing_behind items))) (told_after l n (initial l start (going_on_behind items more ending)))
 Cut-sources l start items more ending n =
-    Cut-after GoesOn IsFault l l (Differ-sources l) n _ _
+    Cut-told_after GoesOn IsFault l l (Differ-sources l) undone-fault n _ _ (nothing_told l start (failing_behind items))
     (Cut-with_registers GoesOn IsFault l l (Differ-sources l) start.registers.items (paged_state start (failing_behind items)) (going_on_behind items more ending) (Behind items more ending))
 
 -- a failing source only cuts
@@ -81,6 +89,6 @@ failing_only_cuts l start items more ending n = OnlyCuts-Cut GoesOn IsFault _ _ 
 pub same_until_the_fault : SameUntilTheFault
 same_until_the_fault l start items more ending n not_met =
     elim (Cut-sources l start items more ending n) [
-      | Same left beside same ↦ ap (over (after l n (initial l start (failing_behind items))).tape) same
+      | Same left beside same ↦ ap (over (told_after l n (initial l start (failing_behind items))).tape) same
       | Short status ended cause cuts ↦ absurd (not_met (ended ∙ ap Some cause))
     ]

@@ -4,6 +4,7 @@
 use Rattle.std.proofs.Common.{◌≡◌, ◌≤◌, ◌+◌, ℕ, zero, suc, Bool, true, false, not, ◌||◌, List, [], ◌∷◌, ◌++◌, Option, Some, None, refl, sym, ap, subst, ◌∙◌, arith, append-nil, length-append, map}
 use Rattle.std.specs.Prelude.{length, if◌then◌else◌}
 use Rattle.roff_num.specs.declared.limit.Limit.{Limit}
+use Rattle.roff_num.specs.declared.limit.Limit.TheVariants.{Messages}
 use Rattle.roff_num.specs.declared.limits.Limits.{Limits}
 use Rattle.roff_run.specs.Environments.{PageHistory, Environments, environments, first_environments, gone_back, is_same, turned, turned_to, turned_unless}
 use Rattle.roff_run.specs.declared.environment_number.EnvironmentNumber.{EnvironmentNumber}
@@ -15,13 +16,14 @@ use Rattle.roff_run.specs.TitleTexts.{TitleText, title_length}
 use Rattle.roff_run.specs.Titles.{keeping, put_back, told, with_title_kept}
 use Rattle.roff_run.specs.declared.event.PageEvent.TheVariants.{Text, Page, Interrupt, Environment, Back, InputTrap as SetsTrap, Title}
 use Rattle.roff_run.specs.declared.title.WhichTitle.TheVariants.{Read, Kept}
-use Rattle.roff_run.specs.Run.{State, initial, paged_state, grown, moved, stopped_by, unless_refused, with_registers, step_with, step, after}
+use Rattle.roff_run.specs.Run.{State, initial, paged_state, grown, moved, stopped_by, unless_refused, with_registers, step_with, step, told_after, told_step}
 use Rattle.roff_run.specs.Layouts.{placed}
 use Rattle.roff_run.specs.Output.{happens, layout_of, text_laid, text_of, written}
 use Rattle.roff_run.specs.Run.Counts.{counts, first_passed, names_counted, placed_counted, refusal, written_counted}
 use Rattle.roff_laws.proofs.TrapsPlanted.{length-with_first, length-without_first, traps-placed, traps-put}
 use Rattle.roff_laws.proofs.CountsWithin.{AllWithin, counts_within, last_within}
 use Rattle.roff_laws.proofs.InputLeaving.{IsLeft-left_in}
+use Rattle.roff_laws.proofs.Told.{told_step-holds}
 use Rattle.roff_laws.proofs.PerformedOrStopped.{PerformedOrStopped, Performed, Sprang, EndsOver, StoppedAt, first_of, left_behind, performed_or_stopped}
 use Rattle.roff_run.proofs.Readings.{IsMade, ReadsOn, LimitStops, AheadTaken, ByteTaken, NoteTaken, HalfEnds, InputLeft, LineEnds, PhaseEnds, MessageTold, RunAborts, SourceFails, SourceStops, SprungRead, ReadsOn-with_sprung, within}
 use Rattle.roff_run.proofs.Behind.{Behind-byte_taken, Behind-sprung_read, Behind-ahead_taken, Behind-escape_ends, Behind-line_ends, Passed-phase_ended}
@@ -291,10 +293,14 @@ IsWithin-step l s is =
       | Some status ↦ is
     ]
 
+pub IsWithin-told_step : (l : Limits) (s : State) → IsWithin l s → IsWithin l (told_step l s)
+IsWithin-told_step l s is =
+    told_step-holds (IsWithin l) l s (IsWithin-step l s is) (λ going. IsWithin-same l s (stopped_by l Messages s) refl refl refl is)
+
 -- so many steps
-IsWithin-after : (l : Limits) (n : ℕ) (s : State) → IsWithin l s → IsWithin l (after l n s)
-IsWithin-after l zero s is = is
-IsWithin-after l (suc n) s is = IsWithin-after l n (step l s) (IsWithin-step l s is)
+IsWithin-told_after : (l : Limits) (n : ℕ) (s : State) → IsWithin l s → IsWithin l (told_after l n s)
+IsWithin-told_after l zero s is = is
+IsWithin-told_after l (suc n) s is = IsWithin-told_after l n (told_step l s) (IsWithin-told_step l s is)
 
 -- behind what is given of the pages no count is above its limit
 IsWithin-paged : (l : Limits) (start : Start) (tape : Tape) → IsWithin l (paged_state start tape)
@@ -384,4 +390,4 @@ IsWithin-initial l start tape =
     IsWithin-with_registers l start.registers.items (paged_state start tape) (IsWithin-paged l start tape)
 
 pub no_limit_is_passed : NoLimitIsPassed
-no_limit_is_passed l start tape n = IsWithin-after l n (initial l start tape) (IsWithin-initial l start tape)
+no_limit_is_passed l start tape n = IsWithin-told_after l n (initial l start tape) (IsWithin-initial l start tape)

@@ -5,7 +5,7 @@ use Rattle.std.proofs.Common.{◌≡◌, ◌⊎◌, inl, inr, ℕ, zero, suc, tr
 use Rattle.roff_num.specs.declared.limits.Limits.{Limits}
 use Rattle.roff_run.specs.PageEvents.{PageEvent}
 use Rattle.roff_run.specs.Output.{layout_of}
-use Rattle.roff_run.specs.Run.{State, initial, paged_state, phase_ended, unless_refused, with_registers, step_with, step, after}
+use Rattle.roff_run.specs.Run.{State, initial, paged_state, phase_ended, unless_refused, with_registers, step_with, step, told_after, told_step}
 use Rattle.roff_run.specs.Run.Counts.{first_passed, names_counted}
 use Rattle.roff_run.specs.Requests.{called_by}
 use Rattle.roff_run.specs.Springs.{next}
@@ -24,6 +24,7 @@ use Rattle.roff_source.specs.Tape.{Tape, Item, Ending, Ends, Ended, Failed, Stop
 use Rattle.roff_laws.proofs.Stages.{Stage, Stage-event, Stage-given, Stage-paged, Stage-read, ended-over}
 use Rattle.roff_laws.proofs.Endings.{at_last_state, ended_or_not, step-ended, step-going}
 use Rattle.roff_laws.proofs.InputLeaving.{IsLeft-left_in}
+use Rattle.roff_laws.proofs.Told.{told_step-holds}
 use Rattle.roff_laws.proofs.PerformedOrStopped.{PerformedOrStopped, Performed, Sprang, EndsOver, StoppedAt, first_of, left_behind, performed_or_stopped}
 use Rattle.roff_run.proofs.Readings.{ReadsOn, LimitStops, AheadTaken, ByteTaken, HasEnded, NoteTaken, HalfEnds, InputLeft, LineEnds, PhaseEnds, MessageTold, RunAborts, SourceFails, SourceStops, SprungRead, ReadsOn-with_sprung}
 use Rattle.roff_run.proofs.Behind.{Behind, Behind-ahead_taken, Behind-sprung_read}
@@ -111,17 +112,20 @@ IsTold-step_with l [] s to_do going goes =
     let reads = ReadsOn-with_sprung l s.sprung s refl in IsTold-read l s _ reads going goes.quiet (Stage-read l s _ reads goes.stage)
 
 -- a step
-pub IsTold-step : (l : Limits) (s : State) → IsTold l s → IsTold l (step l s)
+IsTold-step : (l : Limits) (s : State) → IsTold l s → IsTold l (step l s)
 IsTold-step l s told =
     elim (ended_or_not s.ended) [
       | inl ended ↦ subst (λ (t : State). IsTold l t) (sym (step-ended l s ended)) told
       | inr going ↦ subst (λ (t : State). IsTold l t) (sym (step-going l s going)) (IsTold-step_with l s.to_do s refl going (GoesOn-told l s going told))
     ]
 
+pub IsTold-told_step : (l : Limits) (s : State) → IsTold l s → IsTold l (told_step l s)
+IsTold-told_step l s told = told_step-holds (IsTold l) l s (IsTold-step l s told) (λ going. inr refl)
+
 -- so many steps
-IsTold-after : (l : Limits) (n : ℕ) (s : State) → IsTold l s → IsTold l (after l n s)
-IsTold-after l zero s told = told
-IsTold-after l (suc n) s told = IsTold-after l n (step l s) (IsTold-step l s told)
+IsTold-told_after : (l : Limits) (n : ℕ) (s : State) → IsTold l s → IsTold l (told_after l n s)
+IsTold-told_after l zero s told = told
+IsTold-told_after l (suc n) s told = IsTold-told_after l n (told_step l s) (IsTold-told_step l s told)
 
 -- registers are set that are given, or a limit refuses one
 IsTold-unless_refused : (l : Limits) (r : Option Limit) (s done : State) → IsTold l done → IsTold l (unless_refused l r s done)
@@ -136,8 +140,10 @@ IsTold-with_registers l (first ∷ others) s going goes =
     (IsTold-with_registers l others behind going (record { quiet = goes.quiet; stage = Stage-given first s goes.stage }))
 
 -- of each run
-pub IsTold-run : (l : Limits) (start : Start) (tape : Tape) (n : ℕ) → IsTold l (after l n (initial l start tape))
-IsTold-run l start tape n = IsTold-after l n (initial l start tape) (IsTold-with_registers l start.registers.items (paged_state start tape) refl (record { quiet = refl; stage = Stage-paged start tape }))
+pub IsTold-run : (l : Limits) (start : Start) (tape : Tape) (n : ℕ) → IsTold l (told_after l n (initial l start tape))
+IsTold-run l start tape n =
+    IsTold-told_after l n (initial l start tape)
+    (IsTold-with_registers l start.registers.items (paged_state start tape) refl (record { quiet = refl; stage = Stage-paged start tape }))
 
 -- each status tells how the run ended
 pub each_status_tells : EachStatusTells

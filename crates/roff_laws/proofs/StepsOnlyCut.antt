@@ -4,7 +4,7 @@
 -- by no limit, the line is `Same tape beside refl`; where the limit on bytes may stop it, a call of `Cut-stopped`,
 -- with a lemma that what passes a larger limit passes a smaller one; where it leads to a state that is made unless
 -- a count passes its limit there, a call of `Cut-made`; and where it calls another function, that one's lemma.
-use Rattle.std.proofs.Common.{◌≡◌, ◌⊎◌, inl, inr, ℕ, ◌+◌, zero, suc, Bool, true, false, List, [], ◌∷◌, ◌++◌, Option, Some, None, refl, sym, subst, arith}
+use Rattle.std.proofs.Common.{◌≡◌, ◌⊎◌, inl, inr, ℕ, ◌+◌, Bool, true, false, List, [], ◌∷◌, ◌++◌, Option, Some, None, refl, sym, subst, arith}
 use Rattle.std.specs.Prelude.{nat_lt, if◌then◌else◌}
 use Rattle.std.proofs.lemmas.Bool.{cases_Bool, both_ways, false_from_ne_true}
 use Rattle.std.proofs.lemmas.Bool.Decides.{nat_tests}
@@ -27,7 +27,7 @@ use Rattle.roff_run.specs.declared.line_state.Due.{Due}
 use Rattle.roff_run.specs.declared.line_state.Due.TheVariants.{Leaves, Tells as TellsText}
 use Rattle.roff_run.specs.PageEvents.{PageEvent, PastEvent}
 use Rattle.roff_run.specs.Output.{layout_of}
-use Rattle.roff_run.specs.Run.{read_waiting, State, done_if, ending_with, unless_refused, stopped_by, performing, grown, made, escape_ends, taking_ahead, taking_byte, ending_input, answered, in_front_taken, front_seen, awaited_of_source, awaited, item_read, input_ended, left_in, performed, reading_by, sprung_at, sprung_read, step_with, step, after, known, phase_ended, with_registers, with_sprung}
+use Rattle.roff_run.specs.Run.{read_waiting, State, done_if, ending_with, unless_refused, stopped_by, performing, grown, made, escape_ends, taking_ahead, taking_byte, ending_input, answered, in_front_taken, front_seen, awaited_of_source, awaited, item_read, input_ended, left_in, performed, reading_by, sprung_at, sprung_read, step_with, step, known, phase_ended, with_registers, with_sprung}
 use Rattle.roff_run.specs.Run.Counts.{counts, first_passed, passes_bytes, names_counted, refusal}
 use Rattle.roff_run.specs.Requests.{called_by}
 use Rattle.roff_run.specs.Springs.{left_of, next, springs}
@@ -42,7 +42,7 @@ use Rattle.roff_run.specs.declared.phase.Phase.TheVariants.{Reading, LastMacro, 
 use Rattle.roff_run.specs.declared.message.Message.TheVariants.{ReadFailed}
 use Rattle.roff_run.specs.declared.status.Status.{Status}
 use Rattle.roff_run.specs.declared.status.Status.TheVariants.{Device, Limit as Limited}
-use Rattle.roff_laws.proofs.StepsAppend.{OnlyCuts-same, OnlyCuts-given, OnlyCuts-performed, OnlyCuts-sprung_read, OnlyCuts-trans, OnlyCuts-if, OnlyCuts-unless_refused, OnlyCuts-made, OnlyCuts-escape_ends, OnlyCuts-phase_ended, OnlyCuts-with_registers, OnlyCuts-input_ended, OnlyCuts-message_told, OnlyCuts-left_in, ahead_done, OnlyCuts-ahead_done, byte_done, OnlyCuts-byte_done, OnlyCuts-answered, OnlyCuts-awaited_of_source, OnlyCuts-step}
+use Rattle.roff_laws.proofs.StepsAppend.{OnlyCuts-same, OnlyCuts-given, OnlyCuts-performed, OnlyCuts-sprung_read, OnlyCuts-trans, OnlyCuts-if, OnlyCuts-unless_refused, OnlyCuts-made, OnlyCuts-escape_ends, OnlyCuts-phase_ended, OnlyCuts-with_registers, OnlyCuts-input_ended, OnlyCuts-message_told, OnlyCuts-left_in, ahead_done, OnlyCuts-ahead_done, byte_done, OnlyCuts-byte_done, OnlyCuts-answered, OnlyCuts-awaited_of_source}
 
 -- what passes a larger limit passes a smaller one
 abbrev pub IsMonotone : (Limits → Bool) → Type 0
@@ -103,10 +103,6 @@ unless_refused-if : (l : Limits) (b : Bool) (limit : Limit) (r : Option Limit) (
     → (if b then stopped_by l limit s else unless_refused l r s t) ≡ unless_refused l (if b then Some limit else r) s t
 unless_refused-if l true limit r s t = refl
 unless_refused-if l false limit r s t = refl
-
--- a run that has ended stays as it is
-pub step_ended : (l : Limits) (status : Status) (s : State) → s.ended ≡ Some status → step l s ≡ s
-step_ended l status s ended = rw ended refl
 
 module _ (Beside : Tape → Tape → Type 0) (IsCause : Status → Type 0) where
   -- Where two runs have come to: to the same state over two tapes, one beside the other; or the first has
@@ -344,16 +340,3 @@ module _ (Beside : Tape → Tape → Type 0) (IsCause : Status → Type 0) where
           | None ↦ Cut-step_with s.to_do s tape beside
           | Some status ↦ Same tape beside refl
         ]
-
-    -- both make a step
-    pub Cut-step : (s whole : State) → Cut s whole → Cut (step small s) (step large whole)
-    Cut-step s whole (Same tape beside same) =
-        subst (λ (t : State). Cut (step small s) (step large t)) (sym same) (Cut-step_over s tape beside)
-    Cut-step s whole (Short status ended cause cuts) =
-        subst (λ (t : State). Cut t (step large whole)) (sym (step_ended small status s ended))
-        (Short status ended cause (OnlyCuts-trans cuts (OnlyCuts-step large whole)))
-
-    -- both make so many steps
-    pub Cut-after : (n : ℕ) (s whole : State) → Cut s whole → Cut (after small n s) (after large n whole)
-    Cut-after zero s whole so_far = so_far
-    Cut-after (suc n) s whole so_far = Cut-after n (step small s) (step large whole) (Cut-step s whole so_far)

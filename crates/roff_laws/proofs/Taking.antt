@@ -8,6 +8,7 @@ use Rattle.std.proofs.lemmas.List.Sums.{sum_by-append}
 use Rattle.std.proofs.Math.Seq.{take-append_seam}
 use Rattle.roff_num.specs.declared.limits.Limits.{Limits}
 use Rattle.roff_num.specs.declared.limit.Limit.{Limit}
+use Rattle.roff_num.specs.declared.limit.Limit.TheVariants.{Messages}
 use Rattle.roff_num.specs.declared.num.Num.{Num}
 use Rattle.roff_run.specs.Run.Counts.{first_passed, names_counted}
 use Rattle.roff_run.specs.Requests.{called_by}
@@ -17,7 +18,7 @@ use Rattle.roff_run.specs.Within.{IsWithin}
 use Rattle.roff_run.specs.Reading.Items.{PageInput}
 use Rattle.roff_run.specs.PageEvents.{PageEvent}
 use Rattle.roff_run.specs.Results.{last_state}
-use Rattle.roff_run.specs.Run.{State, initial, moved, paged_state, stopped_by, unless_refused, with_registers, step_with, step, after}
+use Rattle.roff_run.specs.Run.{State, initial, moved, paged_state, stopped_by, unless_refused, with_registers, step_with, step, told_after, told_step}
 use Rattle.roff_laws.specs.Taken.{bytes_of, newlines_in, line_of_last, Takes, EachItemIsTakenOnce, EachRunLeavesItsRest}
 use Rattle.roff_source.specs.Bytes.{newline}
 use Rattle.roff_input.specs.Input.{Ahead, counting, item_taken}
@@ -28,6 +29,7 @@ use Rattle.roff_laws.proofs.PerformedOrStopped.{PerformedOrStopped, Performed, S
 use Rattle.roff_run.proofs.Readings.{ReadsOn, LimitStops, AheadTaken, ByteTaken, NoteTaken, HalfEnds, InputLeft, LineEnds, PhaseEnds, MessageTold, RunAborts, SourceFails, SourceStops, SprungRead, ReadsOn-with_sprung, behind_note}
 use Rattle.roff_run.proofs.Behind.{Behind, Behind-sprung_read, Behind-byte_taken, Behind-ahead_taken, Behind-escape_ends, Behind-line_ends, Passed-phase_ended}
 use Rattle.roff_laws.proofs.RunsStayWithin.{no_limit_is_passed}
+use Rattle.roff_laws.proofs.Told.{told_step-holds}
 
 -- the bytes of two lists of items
 bytes_of-append : (xs ys : List Item) → bytes_of (xs ++ ys) ≡ bytes_of xs ++ bytes_of ys
@@ -158,17 +160,21 @@ Takes-step_with tape l (e ∷ es) s takes =
 Takes-step_with tape l [] s takes = Takes-read tape l s _ (ReadsOn-with_sprung l s.sprung s refl) takes
 
 -- a step
-Takes-step : (tape : Tape) (l : Limits) (s : State) → Takes tape s → Takes tape (step l s)
+pub Takes-step : (tape : Tape) (l : Limits) (s : State) → Takes tape s → Takes tape (step l s)
 Takes-step tape l s takes =
     elim s.ended as (λ o. Takes tape (elim o [ None ↦ step_with l s.to_do s | Some status ↦ s ])) [
       | None ↦ Takes-step_with tape l s.to_do s takes
       | Some status ↦ takes
     ]
 
+Takes-told_step : (tape : Tape) (l : Limits) (s : State) → Takes tape s → Takes tape (told_step l s)
+Takes-told_step tape l s takes =
+    told_step-holds (Takes tape) l s (Takes-step tape l s takes) (λ going. Takes-unread tape s (stopped_by l Messages s) refl refl takes)
+
 -- so many steps
-Takes-after : (tape : Tape) (l : Limits) (n : ℕ) (s : State) → Takes tape s → Takes tape (after l n s)
-Takes-after tape l zero s takes = takes
-Takes-after tape l (suc n) s takes = Takes-after tape l n (step l s) (Takes-step tape l s takes)
+Takes-told_after : (tape : Tape) (l : Limits) (n : ℕ) (s : State) → Takes tape s → Takes tape (told_after l n s)
+Takes-told_after tape l zero s takes = takes
+Takes-told_after tape l (suc n) s takes = Takes-told_after tape l n (told_step l s) (Takes-told_step tape l s takes)
 
 -- nothing is taken where registers are set that are given
 Takes-unless_refused : (tape : Tape) (l : Limits) (r : Option Limit) (s done : State) → Takes tape s → Takes tape done → Takes tape (unless_refused l r s done)
@@ -185,7 +191,7 @@ Takes-with_registers tape l (first ∷ others) s takes =
 -- no step skips an item or takes one twice
 pub each_item_is_taken_once : EachItemIsTakenOnce
 each_item_is_taken_once l start tape n =
-    Takes-after tape l n (initial l start tape)
+    Takes-told_after tape l n (initial l start tape)
     (Takes-with_registers tape l start.registers.items (paged_state start tape) (record { taken = []; items = refl; ending = refl; charge = omega arith; newlines = refl; line = refl }))
 
 -- what a whole run takes, and its rest

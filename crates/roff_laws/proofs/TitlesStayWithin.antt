@@ -17,7 +17,7 @@ use Rattle.roff_run.specs.Registers.{AllRegisters, Change, SetTo, FormatAs, Remo
 use Rattle.roff_run.specs.Requests.{called_by}
 use Rattle.roff_run.specs.Requests.Effects.{page_numbered}
 use Rattle.roff_run.specs.Requests.Numbering.{number_of_page}
-use Rattle.roff_run.specs.Run.{State, after, ahead_taken, initial, known, moved, paged_state, phase_ended, sprung_read, step, step_with, unless_refused, with_registers}
+use Rattle.roff_run.specs.Run.{State, ahead_taken, initial, known, moved, paged_state, phase_ended, sprung_read, step, step_with, told_after, told_step, unless_refused, with_registers}
 use Rattle.roff_run.specs.Run.Counts.{first_passed, names_counted}
 use Rattle.roff_run.specs.Springs.{next}
 use Rattle.roff_run.specs.Starts.{given_change, history_given, with_given}
@@ -35,7 +35,8 @@ use Rattle.roff_run.proofs.Behind.{Behind-ahead_taken, Behind-sprung_read, Passe
 use Rattle.roff_laws.specs.Laws.{HasTitlesWithin, NoTitleIsLonger, TitlesAreWithin}
 use Rattle.roff_laws.proofs.InputLeaving.{IsLeft-left_in}
 use Rattle.roff_laws.proofs.PerformedOrStopped.{PerformedOrStopped, Performed, Sprang, EndsOver, StoppedAt, first_of, left_behind, performed_or_stopped}
-use Rattle.roff_laws.proofs.RunsStayWithin.{IsWithin-initial, IsWithin-step, title-chosen, title-given}
+use Rattle.roff_laws.proofs.RunsStayWithin.{IsWithin-initial, IsWithin-step, IsWithin-told_step, title-chosen, title-given}
+use Rattle.roff_laws.proofs.Told.{told_step-holds}
 
 -- the titles that were placed behind an event
 placed-event : (most : ℕ) (rs : AllRegisters) (e : PageEvent) (h : PageHistory) → title_length rs.title ≤ most
@@ -162,12 +163,16 @@ titles-step l s within is =
       | Some status ↦ λ within. is
     ] within
 
+titles-told_step : (l : Limits) (s : State) → IsWithin l s → HasTitlesWithin l.line s → HasTitlesWithin l.line (told_step l s)
+titles-told_step l s within is =
+    told_step-holds (λ (t : State). HasTitlesWithin l.line t) l s (titles-step l s (IsWithin-step l s within) is)
+    (λ going. record { read = is.read; kept = is.kept; placed = is.placed })
+
 -- so many steps
-titles-after : (l : Limits) (n : ℕ) (s : State) → IsWithin l s → HasTitlesWithin l.line s → HasTitlesWithin l.line (after l n s)
-titles-after l zero s within is = is
-titles-after l (suc n) s within is =
-    let behind : IsWithin l (step l s) = IsWithin-step l s within in
-    titles-after l n (step l s) behind (titles-step l s behind is)
+titles-told_after : (l : Limits) (n : ℕ) (s : State) → IsWithin l s → HasTitlesWithin l.line s → HasTitlesWithin l.line (told_after l n s)
+titles-told_after l zero s within is = is
+titles-told_after l (suc n) s within is =
+    titles-told_after l n (told_step l s) (IsWithin-told_step l s within) (titles-told_step l s within is)
 
 -- registers that are given place no title
 placed-numbered : (most : ℕ) (n : Option Num) (h : PageHistory) → TitlesAreWithin most h
@@ -195,7 +200,7 @@ titles-with_registers l (first ∷ others) s is =
 -- no title is longer
 pub no_title_is_longer : NoTitleIsLonger
 no_title_is_longer l start tape n =
-    titles-after l n (initial l start tape) (IsWithin-initial l start tape)
+    titles-told_after l n (initial l start tape) (IsWithin-initial l start tape)
     (titles-with_registers l start.registers.items (paged_state start tape) (record {
       read = omega arith;
       kept = omega arith;

@@ -44,7 +44,7 @@ charged_or_free (ReturnAhead back) behind = omega arith
 charged_or_free (DoAhead event) behind = omega arith
 
 -- what a tape gives goes from its items
-items-behind_front : (tape : Tape) (item : Item) → front tape ≡ Gives item → length tape.items ≡ length (behind_front tape).items + 1
+pub items-behind_front : (tape : Tape) (item : Item) → front tape ≡ Gives item → length tape.items ≡ length (behind_front tape).items + 1
 items-behind_front tape item gives =
     elim tape.items as (λ items. let t : Tape = record tape { items = items } in front t ≡ Gives item → length items ≡ length (behind_front t).items + 1) [
       | [] ↦ λ none. absurd (cc)

@@ -6,7 +6,7 @@ use Rattle.roff_run.specs.declared.status.Status.TheVariants.{Device, Limit as L
 use Rattle.roff_num.specs.declared.limits.Limits.{Limits}
 use Rattle.roff_laws.specs.Limits.{AreWithin}
 use Rattle.roff_run.specs.PageEvents.{PageHistory}
-use Rattle.roff_run.specs.Run.{State, initial, after, output, reported}
+use Rattle.roff_run.specs.Run.{State, initial, told_after, output, reported}
 use Rattle.roff_run.specs.TitleTexts.{title_length}
 use Rattle.roff_run.specs.declared.event.PageEvent.TheVariants.{Title}
 use Rattle.roff_run.specs.declared.start.Start.{Start}
@@ -23,14 +23,14 @@ pub record OnlyCuts (cut whole : State) : Type 0 where
 abbrev pub LimitsOnlyCut : Type 0
 LimitsOnlyCut =
     (small large : Limits) → AreWithin small large → (start : Start) (tape : Tape) (n : ℕ) →
-    OnlyCuts (after small n (initial small start tape)) (after large n (initial large start tape))
+    OnlyCuts (told_after small n (initial small start tape)) (told_after large n (initial large start tape))
 
 -- larger limits change nothing until a limit stops the run
 abbrev pub SameUntilALimit : Type 0
 SameUntilALimit =
     (small large : Limits) → AreWithin small large → (start : Start) (tape : Tape) (n : ℕ) →
-    ((limit : Limit) → (after small n (initial small start tape)).ended ≢ Some (Limited limit)) →
-    after large n (initial large start tape) ≡ after small n (initial small start tape)
+    ((limit : Limit) → (told_after small n (initial small start tape)).ended ≢ Some (Limited limit)) →
+    told_after large n (initial large start tape) ≡ told_after small n (initial small start tape)
 
 -- a source that fails behind these items
 abbrev pub failing_behind : List Item → Tape
@@ -44,7 +44,7 @@ going_on_behind items more ending = record { items = items ++ more; ending = end
 abbrev pub FailingOnlyCuts : Type 0
 FailingOnlyCuts =
     (l : Limits) (start : Start) (items more : List Item) (ending : Ending) (n : ℕ) →
-    OnlyCuts (after l n (initial l start (failing_behind items))) (after l n (initial l start (going_on_behind items more ending)))
+    OnlyCuts (told_after l n (initial l start (failing_behind items))) (told_after l n (initial l start (going_on_behind items more ending)))
 
 -- the same state over another tape
 abbrev pub over : Tape → State → State
@@ -54,13 +54,13 @@ over tape s = record s { tape = tape }
 abbrev pub SameUntilTheFault : Type 0
 SameUntilTheFault =
     (l : Limits) (start : Start) (items more : List Item) (ending : Ending) (n : ℕ) →
-    let cut : State = after l n (initial l start (failing_behind items)) in
-    let whole : State = after l n (initial l start (going_on_behind items more ending)) in
+    let cut : State = told_after l n (initial l start (failing_behind items)) in
+    let whole : State = told_after l n (initial l start (going_on_behind items more ending)) in
     cut.ended ≢ Some Device → over cut.tape whole ≡ cut
 
--- no run passes a limit
+-- no run passes a limit (that on messages: `MessagesAreWithin`)
 abbrev pub NoLimitIsPassed : Type 0
-NoLimitIsPassed = (l : Limits) (start : Start) (tape : Tape) (n : ℕ) → IsWithin l (after l n (initial l start tape))
+NoLimitIsPassed = (l : Limits) (start : Start) (tape : Tape) (n : ℕ) → IsWithin l (told_after l n (initial l start tape))
 
 -- each title that was placed has so many bytes at the most, all its parts together
 abbrev pub TitlesAreWithin : ℕ → PageHistory → Type 0
@@ -76,7 +76,7 @@ pub record HasTitlesWithin (most : ℕ) (s : State) : Type 0 where
 
 -- no title of a run has more bytes than the limit on a line says
 abbrev pub NoTitleIsLonger : Type 0
-NoTitleIsLonger = (l : Limits) (start : Start) (tape : Tape) (n : ℕ) → HasTitlesWithin l.line (after l n (initial l start tape))
+NoTitleIsLonger = (l : Limits) (start : Start) (tape : Tape) (n : ℕ) → HasTitlesWithin l.line (told_after l n (initial l start tape))
 
 -- a run has gone on from one state to another: nothing that it wrote or reported was taken back
 pub record GoesOnTo (s t : State) : Type 0 where
@@ -86,4 +86,4 @@ pub record GoesOnTo (s t : State) : Type 0 where
 -- steps only append
 abbrev pub StepsOnlyAppend : Type 0
 StepsOnlyAppend =
-    (l : Limits) (start : Start) (tape : Tape) (n more : ℕ) → GoesOnTo (after l n (initial l start tape)) (after l (n + more) (initial l start tape))
+    (l : Limits) (start : Start) (tape : Tape) (n more : ℕ) → GoesOnTo (told_after l n (initial l start tape)) (told_after l (n + more) (initial l start tape))

@@ -1,6 +1,7 @@
 pub mod Limits
 pub mod Rows
 pub mod Laws
+pub mod BoundedMessages
 pub mod ResultLaws
 pub mod Taken
 pub mod Statuses
@@ -12,3 +13,4 @@ pub mod EnvironmentLaws
 pub mod SpringLaws
 pub mod TrapLaws
 pub mod SpringRows
+pub mod MessageBounds

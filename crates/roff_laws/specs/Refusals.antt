@@ -2,7 +2,7 @@
 use Rattle.std.specs.Prelude.{◌≡◌, ◌⊎◌, None, Some}
 use Rattle.roff_num.specs.declared.limit.Limit.{Limit}
 use Rattle.roff_num.specs.declared.limits.Limits.{Limits}
-use Rattle.roff_run.specs.Run.{State, ending_as, step, stopped_by}
+use Rattle.roff_run.specs.Run.{State, ending_as, stopped_by, told_step}
 use Rattle.roff_run.specs.declared.status.Status.TheVariants.{Limit as Limited}
 
 -- A run that a limit stops at this step tells nothing of what the step would have done, and nothing else of its state changes: it
@@ -14,4 +14,4 @@ pub record DoesNothing (l : Limits) (limit : Limit) (s t : State) : Type 0 where
 -- so it is with each step
 abbrev pub RefusedStepsDoNothing : Type 0
 RefusedStepsDoNothing =
-    (l : Limits) (limit : Limit) (s : State) → s.ended ≡ None → (step l s).ended ≡ Some (Limited limit) → DoesNothing l limit s (step l s)
+    (l : Limits) (limit : Limit) (s : State) → s.ended ≡ None → (told_step l s).ended ≡ Some (Limited limit) → DoesNothing l limit s (told_step l s)

@@ -7,7 +7,7 @@ use Rattle.roff_num.specs.declared.limits.Limits.{Limits}
 use Rattle.roff_laws.specs.Laws.{failing_behind, going_on_behind, GoesOnTo}
 use Rattle.roff_laws.specs.Limits.{AreWithin}
 use Rattle.roff_run.specs.Results.{last_state, output_of, messages_of, messages_on_the_way, status_of}
-use Rattle.roff_run.specs.Run.{State, Leads, initial}
+use Rattle.roff_run.specs.Run.{State, ToldLeads, initial}
 use Rattle.roff_run.specs.declared.start.Start.{Start}
 use Rattle.roff_source.specs.Tape.{Tape, Item, Ending}
 
@@ -17,12 +17,12 @@ EveryRunEnds = (l : Limits) (start : Start) (tape : Tape) → IsSome (status_of 
 
 -- its steps lead to its last state
 abbrev pub StepsLeadToTheLastState : Type 0
-StepsLeadToTheLastState = (l : Limits) (start : Start) (tape : Tape) → Leads l (initial l start tape) (last_state l start tape)
+StepsLeadToTheLastState = (l : Limits) (start : Start) (tape : Tape) → ToldLeads l (initial l start tape) (last_state l start tape)
 
 -- and to no other one that has ended
 abbrev pub NoOtherStateIsLast : Type 0
 NoOtherStateIsLast =
-    (l : Limits) (start : Start) (tape : Tape) (s : State) → Leads l (initial l start tape) s → IsSome s.ended → s ≡ last_state l start tape
+    (l : Limits) (start : Start) (tape : Tape) (s : State) → ToldLeads l (initial l start tape) s → IsSome s.ended → s ≡ last_state l start tape
 
 -- one run gives a beginning of what another does: of its output, and, but for the message with which the one
 -- ends, of its messages
@@ -61,4 +61,4 @@ SameResultBeforeTheFault =
 
 -- what was written and reported in a state to which steps lead is a beginning of what the whole run gives
 abbrev pub EachStateIsABeginning : Type 0
-EachStateIsABeginning = (l : Limits) (start : Start) (tape : Tape) (s : State) → Leads l (initial l start tape) s → GoesOnTo s (last_state l start tape)
+EachStateIsABeginning = (l : Limits) (start : Start) (tape : Tape) (s : State) → ToldLeads l (initial l start tape) s → GoesOnTo s (last_state l start tape)

@@ -57,6 +57,10 @@ formatted_with stack depth names text =
 abbrev pub formatted_pages_within : ℕ → ℕ → List ℕ → Result
 formatted_pages_within traps output text = result_of (record default_limits { traps = traps; output = output }) text Ended
 
+-- with this limit on the messages
+abbrev pub formatted_telling : ℕ → List ℕ → Result
+formatted_telling messages text = result_of (record default_limits { messages = messages }) text Ended
+
 -- where the text ends so, with this limit on the bytes
 abbrev pub formatted_up_to : ℕ → Ending → List ℕ → Result
 formatted_up_to bytes ending text = result_of (record default_limits { bytes = bytes }) text ending

@@ -2,7 +2,7 @@
 use Rattle.std.specs.Prelude.{◌≡◌, ℕ, ◌+◌, ◌-◌, ◌≤◌, List, [], ◌∷◌, ◌++◌, length, take, count_by, ◌==◌}
 use Rattle.roff_num.specs.declared.limits.Limits.{Limits}
 use Rattle.roff_run.specs.Results.{rest_of, charge_of}
-use Rattle.roff_run.specs.Run.{State, initial, after}
+use Rattle.roff_run.specs.Run.{State, initial, told_after}
 use Rattle.roff_run.specs.declared.start.Start.{Start}
 use Rattle.roff_source.specs.Bytes.{newline}
 use Rattle.roff_source.specs.Tape.{Tape, Item, OneByte, OneNote}
@@ -33,7 +33,7 @@ pub record Takes (tape : Tape) (s : State) : Type 0 where
 
 -- no step skips an item or takes one twice
 abbrev pub EachItemIsTakenOnce : Type 0
-EachItemIsTakenOnce = (l : Limits) (start : Start) (tape : Tape) (n : ℕ) → Takes tape (after l n (initial l start tape))
+EachItemIsTakenOnce = (l : Limits) (start : Start) (tape : Tape) (n : ℕ) → Takes tape (told_after l n (initial l start tape))
 
 -- the items that a whole run takes and its rest are together the tape's; the bytes taken are charged, and the charge
 -- is no more than the limit says

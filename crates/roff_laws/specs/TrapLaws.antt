@@ -91,8 +91,8 @@ pub data HasCome (l : Limits) (from : State) (e : LayoutEvent) (count : ℕ) (s 
   RunEnded : IsSome s.ended → HasCome l from e count s
   InputLeft : (at : State) → Leads l from at → LeavesInput at → Leads l at s → HasCome l from e count s
 
--- An eject ends the page that it was asked on, or the run ends, whatever macros spring on the way: behind each number of steps it has
--- done so, or else it waits, and is on that page yet; but an `ex` on the way leaves it, as all that waits.
+-- An eject ends the page that it was asked on, or the run ends, whatever macros spring on the way: behind each number of steps, whatever
+-- messages they tell, it has done so, or else it waits, and is on that page yet; but an `ex` on the way leaves it, as all that waits.
 abbrev pub EjectsEndTheirPage : Type 0
 EjectsEndTheirPage =
     (l : Limits) (e : LayoutEvent) (s : State) (n : ℕ) → BeginsToEject e s → HasCome l s e (layout_of s.history).begun (after l (suc n) s)

@@ -124,8 +124,8 @@ pub fn line_rows()
         ≡ (97 ∷ 10 ∷ 10 ∷ 10 ∷ []) ∷ (10 ∷ 10 ∷ 10 ∷ []) ∷ [] }
 {}
 
-/// The blanks behind a line of the input, on worked rows: its last word says whether a sentence ends
-/// with it. A gap or a break in front of closers parts them from the word before.
+/// The blanks behind a line of the input, on worked rows: its last word says whether a sentence
+/// ends with it. A gap or a break in front of closers parts them from the word before.
 pub fn sentence_rows()
     ensures gap { lines_written (Break ∷ text_line (codes "bar") (text_line (codes "foo. )") []))
         ≡ codes "foo. ) bar" ∷ [] }

@@ -148,8 +148,8 @@ impl Stretch {
         self.len = begin + count;
     }
 
-    /// Adds words directly behind the text, so many bytes in front with so many gaps. Each is a column
-    /// wide.
+    /// Adds words directly behind the text, so many bytes in front with so many gaps. Each is a
+    /// column wide.
     #[tactic(auto, using(crate::proofs::Widths::text_width_le))]
     pub(crate) fn extend_by_words(&mut self, text: &[u8], count: usize, gaps: u64)
         requires count { count ≤ length text.now }

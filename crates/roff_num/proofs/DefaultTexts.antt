@@ -2,7 +2,7 @@
 use Rattle.std.proofs.Common.{◌≡◌, ℕ, List, refl, codes}
 use Rattle.std.specs.Fmt.{decimal, digits}
 use Rattle.roff_num.specs.declared.limit.Limit.{Limit}
-use Rattle.roff_num.specs.declared.limit.Limit.TheVariants.{Bytes, Stack, Depth, Line, Traps, Diversions, Environments, Conditions, Output, Store, Names, Rows, Columns, Text, Width, TblBytes}
+use Rattle.roff_num.specs.declared.limit.Limit.TheVariants.{Bytes, Stack, Depth, Line, Traps, Diversions, Environments, Conditions, Output, Store, Names, Rows, Columns, Text, Width, TblBytes, Messages}
 use Rattle.roff_num.specs.LimitValues.{default_limits, value_of}
 
 -- a limit's value where none is set, in decimal
@@ -23,6 +23,7 @@ default_text Columns = codes "0"
 default_text Text = codes "0"
 default_text Width = codes "0"
 default_text TblBytes = codes "0"
+default_text Messages = codes "18446744073709551615"
 
 -- it is the decimal text of that value
 pub decimal_default : (limit : Limit) → decimal (value_of default_limits limit) ≡ default_text limit
@@ -43,3 +44,4 @@ decimal_default Columns = refl
 decimal_default Text = refl
 decimal_default Width = refl
 decimal_default TblBytes = refl
+decimal_default Messages = refl

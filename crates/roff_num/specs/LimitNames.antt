@@ -1,7 +1,7 @@
 -- The names of the limits, as messages and options print them.
 use Rattle.std.specs.Prelude.{ℕ, List, codes}
 use Rattle.roff_num.specs.declared.limit.Limit.{Limit}
-use Rattle.roff_num.specs.declared.limit.Limit.TheVariants.{Bytes, Stack, Depth, Line, Traps, Diversions, Environments, Conditions, Output, Store, Names, Rows, Columns, Text, Width, TblBytes}
+use Rattle.roff_num.specs.declared.limit.Limit.TheVariants.{Bytes, Stack, Depth, Line, Traps, Diversions, Environments, Conditions, Output, Store, Names, Rows, Columns, Text, Width, TblBytes, Messages}
 
 -- what a limit is called; the bytes that are read before tables are formatted are called as those of the formatter
 abbrev pub limit_name : Limit → List ℕ
@@ -21,3 +21,4 @@ limit_name Columns = codes "columns"
 limit_name Text = codes "text"
 limit_name Width = codes "width"
 limit_name TblBytes = codes "bytes"
+limit_name Messages = codes "messages"

@@ -1,7 +1,7 @@
 -- The values of the formatter's limits.
 use Rattle.std.specs.Prelude.{ℕ}
 use Rattle.roff_num.specs.declared.limit.Limit.{Limit}
-use Rattle.roff_num.specs.declared.limit.Limit.TheVariants.{Bytes, Stack, Depth, Line, Traps, Diversions, Environments, Conditions, Output, Store, Names, Rows, Columns, Text, Width, TblBytes}
+use Rattle.roff_num.specs.declared.limit.Limit.TheVariants.{Bytes, Stack, Depth, Line, Traps, Diversions, Environments, Conditions, Output, Store, Names, Rows, Columns, Text, Width, TblBytes, Messages}
 use Rattle.roff_num.specs.declared.limits.Limits.{Limits}
 
 -- the value of a limit; 0 for those of tables, which never stop the formatter
@@ -22,6 +22,7 @@ value_of l Columns = 0
 value_of l Text = 0
 value_of l Width = 0
 value_of l TblBytes = 0
+value_of l Messages = l.messages
 
 -- the limits with one of them set; those of tables aren't here, and change nothing
 abbrev pub limits_with : Limits → Limit → ℕ → Limits
@@ -41,8 +42,9 @@ limits_with l Columns value = l
 limits_with l Text value = l
 limits_with l Width value = l
 limits_with l TblBytes value = l
+limits_with l Messages value = record l { messages = value }
 
--- the limits that hold where none is set
+-- the limits that hold where none is set: that on messages is the greatest that there is, above all that a run can tell
 abbrev pub default_limits : Limits
 default_limits = record {
   bytes = 50000000;
@@ -56,4 +58,5 @@ default_limits = record {
   diversions = 16;
   environments = 32;
   conditions = 64;
+  messages = 18446744073709551615;
 }

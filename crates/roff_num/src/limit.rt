@@ -38,6 +38,8 @@ pub enum Limit {
     Width,
     /// The bytes that are read before tables are formatted.
     TblBytes,
+    /// The bytes of messages.
+    Messages,
 }
 
 impl Limit {
@@ -62,6 +64,7 @@ impl Limit {
             Limit::Text => "text",
             Limit::Width => "width",
             Limit::TblBytes => "bytes",
+            Limit::Messages => "messages",
         }
     }
 }

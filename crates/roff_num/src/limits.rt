@@ -30,6 +30,9 @@ pub struct Limits {
     pub environments: u32,
     /// The conditions whose results are kept for their other branch.
     pub conditions: u32,
+    /// The bytes of messages, but for one that says why the run ended. The greatest value bounds
+    /// nothing that a run can tell.
+    pub messages: u64,
 }
 
 impl Default for Limits {
@@ -54,6 +57,7 @@ impl Limits {
         diversions: 16,
         environments: 32,
         conditions: 64,
+        messages: u64::MAX,
     };
 
     /// A limit's value where none is set, in decimal, as an option prints it.
@@ -72,26 +76,28 @@ impl Limits {
             Limit::Output => "200000000",
             Limit::Diversions => "16",
             Limit::Environments => "32",
+            Limit::Messages => "18446744073709551615",
             Limit::Rows | Limit::Columns | Limit::Text | Limit::Width | Limit::TblBytes => "0",
         }
     }
 
     /// The value of a limit; 0 for those of tables, which never stop the formatter.
-    pub fn value(self, limit: Limit) -> u32
+    pub fn value(self, limit: Limit) -> u64
         ensures { result ≡ value_of self limit }
     {
         match limit {
-            Limit::Bytes => self.bytes,
-            Limit::Stack => self.stack,
-            Limit::Depth => self.depth,
-            Limit::Line => self.line,
-            Limit::Traps => self.traps,
-            Limit::Diversions => self.diversions,
-            Limit::Environments => self.environments,
-            Limit::Conditions => self.conditions,
-            Limit::Output => self.output,
-            Limit::Store => self.store,
-            Limit::Names => self.names,
+            Limit::Bytes => u64::from(self.bytes),
+            Limit::Stack => u64::from(self.stack),
+            Limit::Depth => u64::from(self.depth),
+            Limit::Line => u64::from(self.line),
+            Limit::Traps => u64::from(self.traps),
+            Limit::Diversions => u64::from(self.diversions),
+            Limit::Environments => u64::from(self.environments),
+            Limit::Conditions => u64::from(self.conditions),
+            Limit::Output => u64::from(self.output),
+            Limit::Store => u64::from(self.store),
+            Limit::Names => u64::from(self.names),
+            Limit::Messages => self.messages,
             Limit::Rows | Limit::Columns | Limit::Text | Limit::Width | Limit::TblBytes => 0,
         }
     }
@@ -112,6 +118,7 @@ impl Limits {
             Limit::Output => self.output = value,
             Limit::Store => self.store = value,
             Limit::Names => self.names = value,
+            Limit::Messages => self.messages = u64::from(value),
             Limit::Rows | Limit::Columns | Limit::Text | Limit::Width | Limit::TblBytes => {}
         }
     }

@@ -1,6 +1,6 @@
 -- What is known of a page's stops: where a trap is met, and behind what is planted.
-use Rattle.std.proofs.Common.{◌≡◌, ℕ, suc, zero, ◌<◌, ◌≤◌, min, Bool, true, false, ◌==◌, List, [], ◌∷◌, ◌++◌, length, get_or, set, Option, Some, None, refl, sym, ap, ◌∙◌, subst, arith, inl, inr}
-use Rattle.std.specs.Prelude.{if◌then◌else◌, nat_lt, nat_le, ◌&&◌, slice_get}
+use Rattle.std.proofs.Common.{◌≡◌, ℕ, suc, ◌<◌, ◌≤◌, min, Bool, true, false, ◌==◌, List, [], ◌∷◌, ◌++◌, length, Option, Some, None, refl, sym, ap, ◌∙◌, subst, arith, inl, inr}
+use Rattle.std.specs.Prelude.{if◌then◌else◌, nat_lt, nat_le, ◌&&◌}
 use Rattle.std.specs.List.{AllByRecursion}
 use Rattle.std.proofs.lemmas.Bool.{cases_Bool, cases_lt, ltb-true, leb-true, eqb-true, eqb-false, eq-eqb, lt-ltb, le-leb, and_from, and_parts, false≢true}
 use Rattle.roff_num.specs.declared.short_name.ShortName.{ShortName}
@@ -11,19 +11,8 @@ use Rattle.roff_pages.specs.Reach.{IsMetAtEnd}
 use Rattle.roff_pages.specs.declared.stops.Beyond.{Beyond}
 use Rattle.roff_pages.specs.declared.stops.Stops.{Stops}
 use Rattle.roff_pages.specs.Pages.FirstTraps.{first_index, is_at, is_lying}
-use Rattle.roff_pages.specs.Pages.KnownStops.{AreKnown, AreNext, IsFirstAt, IsNext, MayBeginWith, name_at}
+use Rattle.roff_pages.specs.Pages.KnownStops.{AreKnown, AreNext, IsFirstAt, MayBeginWith, name_at}
 use Rattle.roff_pages.proofs.NextStop.{met_at_end, nearer_le, next_stop-end}
-
--- a trap by its place in turn
-pub get_found : (traps : List Trap) (index : ℕ) (found : Trap) → index < length traps → found ≡ get_or traps index found → slice_get traps index ≡ Some found
-get_found [] index found within is = absurd (omega arith)
-get_found (t ∷ traps) zero found within is = ap Some (sym is)
-get_found (t ∷ traps) (suc index) found within is = get_found traps index found (omega arith) is
-
-pub get_none : (traps : List Trap) (index : ℕ) → length traps ≤ index → slice_get traps index ≡ None
-get_none [] index behind = refl
-get_none (t ∷ traps) zero behind = absurd (omega arith)
-get_none (t ∷ traps) (suc index) behind = get_none traps index (omega arith)
 
 -- where all traps that are passed lie at one place, the first of them is the first there
 same_test : (from to n : ℕ) (b : Bool) → from < to → (from < n → n ≤ to → n ≡ to) → (n == to) ≡ b → (nat_lt from n && nat_le n to) ≡ b
@@ -174,24 +163,6 @@ pub planted_further : (lines from stop index : ℕ) (traps : List Trap) (t : Tra
     → IsFirstAt lines stop (traps ++ t ∷ []) index
 planted_further lines from stop index traps t is first before =
     first before ∙ sym (first_index-before (is_lying lines stop) traps t (found_at_stop lines from stop traps is before))
-
--- stops that are kept
-pub next_pushed : (lines : ℕ) (traps : List Trap) (beyond : List Beyond) (b : Beyond) → AreNext lines traps beyond → IsNext lines b.from traps b.stop
-    → AreNext lines traps (beyond ++ b ∷ [])
-next_pushed lines traps [] b all is = (is, tt)
-next_pushed lines traps (a ∷ beyond) b all is = (all.0, next_pushed lines traps beyond b all.1 is)
-
-pub next_set : (lines : ℕ) (traps : List Trap) (beyond : List Beyond) (index : ℕ) (b : Beyond) → AreNext lines traps beyond → IsNext lines b.from traps b.stop
-    → AreNext lines traps (set beyond index b)
-next_set lines traps [] index b all is = tt
-next_set lines traps (a ∷ beyond) zero b all is = (is, all.1)
-next_set lines traps (a ∷ beyond) (suc index) b all is = (all.0, next_set lines traps beyond index b all.1 is)
-
-pub next_found : (lines : ℕ) (traps : List Trap) (beyond : List Beyond) (index : ℕ) (found : Beyond) → AreNext lines traps beyond → index < length beyond
-    → found ≡ get_or beyond index found → IsNext lines found.from traps found.stop
-next_found lines traps [] index found all within is = absurd (omega arith)
-next_found lines traps (a ∷ beyond) zero found all within is = subst (λ (b : Beyond). IsNext lines b.from traps b.stop) (sym is) all.0
-next_found lines traps (a ∷ beyond) (suc index) found all within is = next_found lines traps beyond index found all.1 (omega arith) is
 
 -- what is known where all other stops were forgotten
 pub all_forgotten : (lines stop : ℕ) (traps : List Trap) (known : Stops) → IsFirstAt lines stop traps known.trap → known.beyond.items ≡ [] → known.top ≡ None

@@ -1,10 +1,11 @@
 //! What is known of the stops of a page (manual, section 7.5).
 
 ghost use Rattle.std.specs.Prelude.{◌≡◌, ℕ, ◌≤◌, ◌++◌, ◌∷◌, [], List, length, vec_capacity};
-ghost use Rattle.std.specs.Prelude.{IfSome};
+ghost use Rattle.std.specs.Prelude.{IfSome, Some, ◌<◌};
 ghost use Rattle.roff_layout.specs.declared.trap.Trap.{Trap};
 ghost use Rattle.roff_layout.specs.Stops.{next_stop};
 ghost use Rattle.roff_pages.specs.Pages.KnownStops.{AreKnown, BeginsWith, IsNext, AreNext};
+ghost use Rattle.roff_pages.specs.Pages.KnownStops.{kept_stop};
 
 use crate::sought::Sought;
 use crate::traps::{first_on_top, index_of, nearer_stop, next_stop, place_of};
@@ -85,7 +86,6 @@ impl Stops {
         let nearer = nearer_stop(place, place_of(lines, trap.place), stop);
         if nearer < stop {
             self.trap = count;
-            return nearer;
         }
         nearer
     }
@@ -97,6 +97,11 @@ impl Stops {
         requires room { length traps.now ≤ vec_capacity self.old.beyond }
         ensures stop { result ≡ next_stop lines place traps.now }
         ensures known { AreKnown lines result traps.now self.new }
+        ensures same { IfSome (kept_stop self.old.trap place self.old.beyond.items)
+            (λ stop. self.new ≡ record self.old { trap = stop.trap }) }
+        ensures kept { self.old.trap < length traps.now
+            → kept_stop self.old.trap place self.new.beyond.items
+            ≡ Some (record { place = result; trap = self.new.trap }) }
         ensures capacity { vec_capacity self.old.beyond ≤ vec_capacity self.new.beyond }
     {
         if let Some(stop) = known_beyond(self.beyond.as_slice(), self.trap, place) {
@@ -116,7 +121,11 @@ impl Stops {
             → BeginsWith lines traps.now result }
         ensures known { (stop : ℕ) → AreKnown lines stop traps.now self.old
             → AreKnown lines result.stop.place traps.now self.new }
-        ensures capacity { vec_capacity self.new.beyond ≡ vec_capacity self.old.beyond }
+        ensures kept { IfSome self.old.top (λ top. result ≡ top) }
+        ensures after { self.new ≡ record self.old {
+          trap = result.stop.trap;
+          top = Some result;
+        } }
     {
         if let Some(top) = self.top {
             self.trap = top.stop.trap;
@@ -158,8 +167,9 @@ fn stop_beyond(lines: u32, place: u64, traps: &[Trap]) -> Stop
 
 /// The stop beyond a place, if it was looked for from this trap.
 fn known_beyond(beyond: &[Beyond], trap: usize, place: u64) -> Option<Stop>
-    ensures { (lines : ℕ) (traps : List Trap) → AreNext lines traps beyond.now
+    ensures next { (lines : ℕ) (traps : List Trap) → AreNext lines traps beyond.now
         → IfSome result (IsNext lines place traps) }
+    ensures kept { result ≡ kept_stop trap place beyond.now }
 {
     if trap >= beyond.len() {
         return None;
@@ -177,6 +187,8 @@ fn keep(beyond: &mut Vec<Beyond>, trap: usize, found: Beyond, most: usize)
     requires few { length beyond.old.items ≤ most }
     ensures beyond { (lines : ℕ) (traps : List Trap) → AreNext lines traps beyond.old.items
         → IsNext lines found.from traps found.stop → AreNext lines traps beyond.new.items }
+    ensures kept { trap < most
+        → kept_stop trap found.from beyond.new.items ≡ Some found.stop }
     ensures few { length beyond.new.items ≤ most }
     ensures capacity { vec_capacity beyond.old ≤ vec_capacity beyond.new }
 {

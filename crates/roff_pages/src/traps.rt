@@ -3,19 +3,23 @@
 ghost use Rattle.std.specs.Prelude.{◌≡◌, ◌≤◌, ◌<◌, length, vec_capacity, OnOk, IfOk, IfErr};
 ghost use Rattle.std.specs.Prelude.{true, ◌++◌, ◌∷◌, []};
 ghost use Rattle.roff_num.specs.declared.limit.Limit.TheVariants.{Traps};
-ghost use Rattle.std.specs.Prelude.{ℕ, ◌+◌, Some};
+ghost use Rattle.std.specs.Prelude.{ℕ, ◌+◌, Some, not};
+ghost use Rattle.std.specs.List.{list_any};
 ghost use Rattle.roff_layout.specs.Stops.{place_of, next_stop, nearer_stop, stop_at, trap_stop};
 ghost use Rattle.roff_layout.specs.Queries.{way_from};
 ghost use Rattle.roff_pages.specs.Pages.Counted.{counted};
-ghost use Rattle.roff_layout.specs.Turning.{is_named, same_name};
+ghost use Rattle.roff_layout.specs.Turning.{is_given, is_named, same_name};
 ghost use Rattle.roff_layout.specs.Turning.{moved_to, with_first, with_trap, without_first};
 ghost use Rattle.roff_layout.specs.Springs.{diversion_trap_passed, first_met, is_on_top, is_passed};
-ghost use Rattle.roff_pages.specs.Pages.FirstTraps.{first_index, is_at, is_sought};
+ghost use Rattle.roff_pages.specs.Pages.FirstTraps.{NoneBefore, first_index, is_at, is_sought};
 ghost use Rattle.roff_pages.specs.Pages.KnownStops.{name_at};
 
 use crate::sought::Sought;
 use roff_layout::Trap;
 use roff_num::{Limit, ShortName};
+
+/// So many traps are passed at once where none of them was given a place.
+const AT_ONCE: usize = 64;
 
 /// Where a place as it was given lies on a page of this length, in lines, if it lies there.
 pub(crate) fn place_of(length: u32, place: i32) -> Option<u64>
@@ -150,6 +154,8 @@ pub(crate) fn plant_among(traps: &mut Vec<Trap>, trap: Trap, most: u32) -> Resul
     ensures traps { OnOk result (traps.new.items ≡ with_trap trap traps.old.items) }
     ensures last { IfOk result (λ last. last ≡ true
         → traps.new.items ≡ traps.old.items ++ trap ∷ []) }
+    ensures given { IfOk result (λ last.
+        last ≡ not (list_any (is_given trap.place) traps.old.items)) }
     ensures within { OnOk result (length (with_trap trap traps.old.items) ≤ most) }
     ensures limit { IfErr result (λ l. l ≡ Traps) }
     ensures same { IfErr result (λ l. traps.new ≡ traps.old) }
@@ -203,8 +209,8 @@ pub(crate) fn index_of(traps: &[Trap], sought: Sought) -> usize
     ensures index { result ≡ first_index (is_sought sought) traps.now }
     ensures within { result ≤ length traps.now }
 {
-    let mut index = 0;
-    let mut rest = traps;
+    let mut rest = from_sought(traps, sought);
+    let mut index = traps.len() - rest.len();
     while let Some((trap, others)) = rest.split_first() {
         if is_sought(*trap, sought) {
             return index;
@@ -213,6 +219,45 @@ pub(crate) fn index_of(traps: &[Trap], sought: Sought) -> usize
         rest = others;
     }
     index
+}
+
+/// The traps from one in turn on, before which none is sought.
+fn from_sought(traps: &[Trap], sought: Sought) -> &[Trap]
+    ensures { NoneBefore (is_sought sought) traps.now result.now }
+{
+    match sought {
+        Sought::Given(place) => from_given(traps, place),
+        Sought::Named(_) => traps,
+        Sought::Lying(_, _) => traps,
+    }
+}
+
+/// The traps from one in turn on, before which none was given this place: 64 are passed at once.
+fn from_given(traps: &[Trap], place: i32) -> &[Trap]
+    ensures { NoneBefore (is_given place) traps.now result.now }
+{
+    let mut rest = traps;
+    while let Some((front, others)) = rest.split_at_checked(AT_ONCE) {
+        if is_any_given(front, place) {
+            return rest;
+        }
+        rest = others;
+    }
+    rest
+}
+
+/// Whether one of the traps was given this place. It looks at all of them, so that the compiler can
+/// let it look at several at once.
+fn is_any_given(traps: &[Trap], place: i32) -> bool
+    ensures { result ≡ list_any (is_given place) traps.now }
+{
+    let mut is_any = false;
+    let mut rest = traps;
+    while let Some((trap, others)) = rest.split_first() {
+        is_any |= trap.place == place;
+        rest = others;
+    }
+    is_any
 }
 
 /// Whether a trap is one that is sought.

@@ -5,7 +5,8 @@ ghost use Rattle.roff_source.specs.Bytes.{newline};
 ghost use Rattle.roff_run.specs.declared.line_state.LineState.TheVariants.{Collecting};
 ghost use Rattle.roff_run.specs.declared.purpose.Purpose.TheVariants.{Arguments, Calling};
 ghost use Rattle.roff_run.specs.declared.request.Request.TheVariants.{Break};
-ghost use Rattle.roff_reading.specs.Clauses.{ComposerOf, TakesAs, arguments_ended, line_ended, taking};
+ghost use Rattle.roff_reading.specs.Clauses.{ComposerOf, TakesAs, arguments_ended, line_ended};
+ghost use Rattle.roff_reading.specs.Clauses.{taking};
 ghost use Rattle.roff_reading.specs.Clauses.{row_of};
 
 use roff_composer::Composer;

@@ -32,3 +32,8 @@ pub mod PlainRuns
 pub mod ItemsTaken
 pub mod NameBytes
 pub mod GivenPages
+pub mod HeldBytes
+pub mod OneMessage
+pub mod OneMessageOfRequests
+pub mod OneMessageOfText
+pub mod OneMessageRead

@@ -16,7 +16,9 @@ use Rattle.roff_run.specs.Reading.Items.{PageInput, Taking, going_on, meaning_ev
 use Rattle.roff_run.specs.Reading.TextLines.{blank_taking, glyph_taking, on_line, other_taking, tab_taking, text_line_end, text_taking}
 use Rattle.roff_run.specs.Reading.Found.{read_in}
 use Rattle.roff_run.specs.Requests.{Text}
-use Rattle.roff_run.specs.Telling.{Prints, byte_events}
+use Rattle.roff_run.specs.Registers.{no_registers}
+use Rattle.roff_run.specs.Run.{first_input, known_at}
+use Rattle.roff_run.specs.Telling.{Prints, PrintsText, byte_events}
 use Rattle.roff_run.specs.declared.line_state.LineState.{LineState}
 use Rattle.roff_run.specs.declared.line_state.LineState.TheVariants.{LineStart, Text as InText}
 use Rattle.roff_run.specs.declared.line_state.TextLine.{TextLine}
@@ -83,3 +85,19 @@ prints_text line has_glyph none_leading b text =
     let of : Bool → ℕ → TextLine = λ has leading. record line { has_glyph = has; leading = leading } in
     let is : line ≡ of true 0 = ap (λ (has : Bool). of has line.leading) has_glyph ∙ ap (of true) none_leading in
     subst (λ (there : TextLine). Prints (InText there) b) (sym is) (prints-plain line.has_other line.has_brace b text)
+
+-- what a line has, as what is read says it: whether a glyph, and whether no leading blanks
+abbrev has_glyph_in : LineState → Bool
+has_glyph_in (InText line) = line.has_glyph
+has_glyph_in reading = true
+
+abbrev none_leading_in : LineState → Bool
+none_leading_in (InText line) = line.leading == 0
+none_leading_in reading = true
+
+-- behind an `a` a line has a glyph, and no leading blanks: where that leaves the line as it was, it had
+pub printing_line : (line : TextLine) → PrintsText (InText line) → (line.has_glyph ≡ true) × ((line.leading == 0) ≡ true)
+printing_line line prints =
+    let same : InText (record line { has_glyph = true; leading = 0 }) ≡ InText line =
+    ap (λ (t : Taking). t.reading) (prints 97 refl (known_at [] no_registers first_input) first_input refl) in
+    (sym (ap has_glyph_in same), sym (ap none_leading_in same))

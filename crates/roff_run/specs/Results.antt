@@ -1,15 +1,15 @@
--- What a whole run gives: where it ends, and what it wrote, reported, answered and left until then.
+-- What a whole run gives, of which the messages are bounded: where it ends, and what it wrote, reported, answered and left until then.
 use Rattle.std.specs.Prelude.{ℕ, zero, suc, ◌+◌, ◌*◌, List, length, Option, Some, None}
 use Rattle.roff_num.specs.declared.limits.Limits.{Limits}
 use Rattle.roff_run.specs.declared.start.Start.{Start}
 use Rattle.roff_run.specs.declared.status.Status.{Status}
-use Rattle.roff_run.specs.Run.{State, initial, step, after, output, reported}
+use Rattle.roff_run.specs.Run.{State, initial, told_step, told_after, output, reported}
 use Rattle.roff_source.specs.Tape.{Tape}
 
 -- one turn: all events to do are performed, each with what comes before it, and what sprang is put in front; then an item is taken,
 -- the end is met, or the run ends
 abbrev pub turn : Limits → State → State
-turn l s = step l (after l (3 * length s.to_do + 1) s)
+turn l s = told_step l (told_after l (3 * length s.to_do + 1) s)
 
 -- so many turns, or fewer where the run has ended before
 abbrev pub turns : Limits → ℕ → State → State

@@ -1,7 +1,7 @@
 -- The run: a machine of small steps over the source's tape.
-use Rattle.std.specs.Prelude.{◌≡◌, ℕ, zero, suc, ◌+◌, Bool, true, false, List, [], ◌∷◌, ◌++◌, map, nat_lt, Option, Some, None, if◌then◌else◌}
+use Rattle.std.specs.Prelude.{◌≡◌, ℕ, zero, suc, ◌+◌, Bool, true, false, List, [], ◌∷◌, ◌++◌, length, map, nat_lt, Option, Some, None, if◌then◌else◌}
 use Rattle.roff_num.specs.declared.limit.Limit.{Limit}
-use Rattle.roff_num.specs.declared.limit.Limit.TheVariants.{Bytes}
+use Rattle.roff_num.specs.declared.limit.Limit.TheVariants.{Bytes, Messages}
 use Rattle.roff_num.specs.declared.limits.Limits.{Limits}
 use Rattle.roff_escape.specs.Waiting.{is_ended_by}
 use Rattle.roff_escape.specs.declared.open_escape.Waiting.{Waiting}
@@ -272,7 +272,25 @@ abbrev pub after : Limits → ℕ → State → State
 after l zero s = s
 after l (suc n) s = after l n (step l s)
 
--- some number of steps leads from one state to another
+-- what is done is done and its messages are told, unless these would pass the limit on messages: then the run stops before it
+abbrev pub unless_untold : Limits → State → State → State
+unless_untold l s done = if nat_lt l.messages (length done.messages) then stopped_by l Messages s else done
+
+-- one step of a run that has a limit on its messages: one that has ended stays as it is
+abbrev pub told_step : Limits → State → State
+told_step l s = elim s.ended [ None ↦ unless_untold l s (step l s) | Some status ↦ s ]
+
+-- so many of these
+abbrev pub told_after : Limits → ℕ → State → State
+told_after l zero s = s
+told_after l (suc n) s = told_after l n (told_step l s)
+
+-- some number of these leads from one state to another
+pub record ToldLeads (l : Limits) (s t : State) : Type 0 where
+  pub steps : ℕ
+  pub there : told_after l steps s ≡ t
+
+-- some number of steps leads from one state to another, whatever messages they tell
 pub record Leads (l : Limits) (s t : State) : Type 0 where
   pub steps : ℕ
   pub there : after l steps s ≡ t

@@ -1,7 +1,8 @@
 -- Bytes of a text line that stand behind a glyph: they are told, and what is read stays (manual, section 4.1).
-use Rattle.std.specs.Prelude.{◌≡◌, ℕ, List, [], ◌∷◌, if◌then◌else◌, ◌==◌}
+use Rattle.std.specs.Prelude.{◌≡◌, ℕ, true, List, [], ◌∷◌, if◌then◌else◌, ◌==◌}
 use Rattle.roff_layout.specs.declared.event.Event.TheVariants.{Print, WordEnd, Gap}
 use Rattle.roff_layout.specs.declared.glyph.Glyph.TheVariants.{Printed}
+use Rattle.roff_source.specs.Bytes.{is_text_byte}
 use Rattle.roff_run.specs.Environments.{PageHistory}
 use Rattle.roff_run.specs.Reading.{taking}
 use Rattle.roff_run.specs.Reading.Items.{PageInput, meaning_events}
@@ -16,6 +17,10 @@ byte_events b = if b == 32 then Text WordEnd ∷ Text (Gap 1) ∷ [] else Text (
 -- a byte means these where this is read and nothing is half read, and what is read stays
 abbrev pub Prints : LineState → ℕ → Type 0
 Prints reading b = (k : Known) (i : PageInput) → i.escapes ≡ [] → taking k reading i b ≡ meaning_events i reading (byte_events b)
+
+-- each byte of plain text is told as it is, and leaves what is read as it is
+abbrev pub PrintsText : LineState → Type 0
+PrintsText reading = (b : ℕ) → is_text_byte b ≡ true → Prints reading b
 
 -- a page's history, and such a byte behind it
 abbrev pub byte_told : ℕ → PageHistory → PageHistory

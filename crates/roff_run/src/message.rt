@@ -15,7 +15,7 @@ use roff_num::{Limit, Name};
 #[derive(Clone, Copy)]
 pub enum Message {
     /// A limit of this value stopped the run.
-    LimitReached(Limit, u32),
+    LimitReached(Limit, u64),
     /// An argument that should be a number isn't one, or is out of range; or a register's step is.
     BadNumber,
     /// An argument that should be a format isn't one.
@@ -70,7 +70,7 @@ impl Message {
     fn say(self, text: &mut MessageLine)
         requires { array_vec_len text.old ≤ 64 }
         ensures said { text.new.items ≡ text.old.items ++ message_text self }
-        ensures room { array_vec_len text.new ≤ array_vec_len text.old + 40 }
+        ensures room { array_vec_len text.new ≤ array_vec_len text.old + 50 }
     {
         match self {
             Message::LimitReached(limit, value) => say_limit(limit, value, text),
@@ -139,11 +139,11 @@ impl CharacterName {
 
 /// Adds what is said of a limit of this value.
 #[inline(always)]
-fn say_limit(limit: Limit, value: u32, text: &mut MessageLine)
+fn say_limit(limit: Limit, value: u64, text: &mut MessageLine)
     requires { array_vec_len text.old ≤ 64 }
     ensures said { text.new.items
         ≡ text.old.items ++ message_text (LimitReached limit value) }
-    ensures room { array_vec_len text.new ≤ array_vec_len text.old + 40 }
+    ensures room { array_vec_len text.new ≤ array_vec_len text.old + 50 }
 {
     append(text, b"limit ");
     append(text, limit.name().as_bytes());

@@ -3,10 +3,16 @@ use Rattle.std.specs.Prelude.{◌≡◌, ℕ, ◌+◌, List, ◌++◌, Option, R
 use Rattle.std.specs.Io.KnownBytes.{Appends, Keeps}
 use Rattle.roff_num.specs.Faults.{last_count}
 
--- what a sink tells: the bytes that were written, where it tells them, and how many faults it had
+-- what a sink tells: the bytes that were written, where it tells them, how many faults it had, and of a sink of messages how many
+-- bytes more it may be given
 pub record Sunk : Type 0 where
   pub contents : Option (List ℕ)
   pub failures : ℕ
+  pub room : ℕ
+
+-- what is told of a sink with room for so many bytes more
+abbrev pub with_room : Sunk → ℕ → Sunk
+with_room s room = record s { room = room }
 
 -- one fault more was counted, unless the count stood at its last value
 abbrev pub CountsFault : ℕ → ℕ → Type 0

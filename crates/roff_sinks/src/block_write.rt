@@ -46,13 +46,14 @@ pub struct StdWrite<W: Write> {
 impl<W: Write> Model for StdWrite<W> {
     ghost Value = { Sunk };
 
-    ghost view = { λ s. record { contents = W.contents s.writer; failures = s.failures } };
+    ghost view = { λ s.
+        record { contents = W.contents s.writer; failures = s.failures; room = 0 } };
 }
 
 impl<W: Write + Drop> StdWrite<W> {
     /// Writes to `writer`, of which no call has failed yet.
     pub fn new(writer: W) -> Self
-        ensures { result ≡ record { contents = W.contents writer; failures = 0 } }
+        ensures { result ≡ record { contents = W.contents writer; failures = 0; room = 0 } }
     {
         StdWrite {
             writer,

@@ -109,7 +109,7 @@ pub struct ReadSource<R> {
     failures: u64,
     ghost order: { next ≤ len },
     ghost within: { len ≤ vec_len block },
-    ghost room: { 0 < vec_len block },
+    ghost whole: { vec_len block ≡ 4096 },
     ghost counted: { nat_lt 0 failures ≡ is_fault (reach_ending reach) },
 }
 

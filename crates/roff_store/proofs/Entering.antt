@@ -170,7 +170,7 @@ module _ (a : Inside) (t : Texts) (sound : IsSound a) (is : kept_by a ≡ t) (id
               sound.once in omega arith);
           within = within;
           taken = let n = sound.opens in omega arith;
-          reserved = let n = sound.opens_reserved in omega arith;
+          reserved = capacity ∙ sound.opens_reserved;
         }
 
     pub sound-given : IsSound (record a { names = names; chunks = m; «open» = opens; used = count })

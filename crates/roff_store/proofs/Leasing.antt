@@ -107,8 +107,8 @@ pub record IsLent (a : Inside) (m : Chunks) (leases : Vec (Option Strand) Global
   pub once : AllPairs (λ id later. id ≢ later) ended.items
   pub all : count_by is_some leases.items + vec_len ended ≡ vec_len leases
   pub taken : vec_len leases ≤ a.cap_leases
-  pub reserved : a.cap_leases ≤ vec_capacity leases
-  pub reserved_ended : a.cap_leases ≤ vec_capacity ended
+  pub reserved : vec_capacity leases ≡ a.cap_leases
+  pub reserved_ended : vec_capacity ended ≡ a.cap_leases
 
 -- the store stays sound
 pub IsSound-lent : (a : Inside) (m : Chunks) (leases : Vec (Option Strand) Global) (ended : Vec ℕ Global) (count : ℕ) → IsSound a
@@ -265,7 +265,7 @@ module _ (a : Inside) (t : Texts) (sound : IsSound a) (is : kept_by a ≡ t) (id
 
   -- it ends
   module _ (m : Chunks) (ended : Vec ℕ Global) (items : ended.items ≡ a.ended.items ++ id ∷ [])
-      (len : vec_len ended ≡ vec_len a.ended + 1) (capacity : vec_capacity a.ended ≤ vec_capacity ended)
+      (len : vec_len ended ≡ vec_len a.ended + 1) (capacity : vec_capacity ended ≡ vec_capacity a.ended)
       (shares : (chunk : ℕ) → share m chunk ≡ others a.chunks strand chunk)
       (sum : shares_in m + strand.chunks ≡ shares_in a.chunks)
       (same : AreSameChunks a.chunks m) where
@@ -298,7 +298,7 @@ module _ (a : Inside) (t : Texts) (sound : IsSound a) (is : kept_by a ≡ t) (id
           all = omega arith;
           taken = sound.leases_taken;
           reserved = sound.leases_reserved;
-          reserved_ended = let n = sound.ended_reserved in omega arith;
+          reserved_ended = capacity ∙ sound.ended_reserved;
         }
 
     pub sound-ended : IsSound (record a { chunks = m; leases = with_item a.leases id None; ended = ended; kept = a.kept - strand.rest })

@@ -187,7 +187,7 @@ module _ (a : Inside) (t : Texts) (sound : IsSound a) (is : kept_by a ≡ t) (na
               all = omega arith;
               taken = sound.leases_taken;
               reserved = sound.leases_reserved;
-              reserved_ended = let n = sound.ended_reserved in omega arith;
+              reserved_ended = capacity ∙ sound.ended_reserved;
             }
 
         pub inside-again : id < vec_len a.leases
@@ -227,7 +227,7 @@ module _ (a : Inside) (t : Texts) (sound : IsSound a) (is : kept_by a ≡ t) (na
       module _ (id : ℕ) (leases : Vec (Option Strand) Global) (ended : Vec ℕ Global) (last : id ≡ vec_len a.leases)
           (none_ended : vec_len a.ended ≡ 0) (none_now : vec_len ended ≡ 0)
           (items : leases.items ≡ a.leases.items ++ Some strand ∷ [])
-          (len : vec_len leases ≡ vec_len a.leases + 1) (capacity : vec_capacity a.leases ≤ vec_capacity leases)
+          (len : vec_len leases ≡ vec_len a.leases + 1) (capacity : vec_capacity leases ≡ vec_capacity a.leases)
           (capacity_ended : vec_capacity ended ≡ vec_capacity a.ended) where
         lent-behind : IsLent a m leases ended (a.kept + strand.rest)
         lent-behind =
@@ -255,8 +255,8 @@ module _ (a : Inside) (t : Texts) (sound : IsSound a) (is : kept_by a ≡ t) (na
               once = λ i j d before within. absurd (omega arith);
               all = omega arith;
               taken = let few = few-live in omega arith;
-              reserved = let n = sound.leases_reserved in omega arith;
-              reserved_ended = let n = sound.ended_reserved in omega arith;
+              reserved = capacity ∙ sound.leases_reserved;
+              reserved_ended = capacity_ended ∙ sound.ended_reserved;
             }
 
         pub sound-behind : IsSound (record a { chunks = m; leases = leases; ended = ended; kept = a.kept + strand.rest })

@@ -38,7 +38,7 @@ pub record IsChanged (a : Inside) (names : Table Meaning) (m : Chunks) (opens : 
       (record { names = names.entries; opens = opens.items; leases = a.leases.items })
   pub within : count ≤ a.cap_bytes
   pub taken : vec_len opens ≤ a.cap_open
-  pub reserved : a.cap_open ≤ vec_capacity opens
+  pub reserved : vec_capacity opens ≡ a.cap_open
 
 -- the store stays sound
 pub IsSound-changed : (a : Inside) (names : Table Meaning) (m : Chunks) (opens : Vec Strand Global) (count : ℕ) → IsSound a
@@ -261,7 +261,7 @@ module _ (a : Inside) (t : Texts) (sound : IsSound a) (is : kept_by a ≡ t) (id
           counted = rw items (let all = used-in-hand in omega arith);
           within = let within = sound.within in omega arith;
           taken = let n = sound.opens in omega arith;
-          reserved = let n = sound.opens_reserved in omega arith;
+          reserved = capacity ∙ sound.opens_reserved;
         }
 
     pub sound-dropped : IsSound (record a { chunks = m; «open» = opens; used = a.used - strand.rest })
@@ -281,7 +281,7 @@ module _ (a : Inside) (t : Texts) (sound : IsSound a) (is : kept_by a ≡ t) (id
 module _ (a : Inside) (t : Texts) (sound : IsSound a) (is : kept_by a ≡ t) (given : length t.open_texts < t.cap_open)
     (opens : Vec Strand Global) (blank : Strand) (none : blank.chunks ≡ 0) (at : blank.at ≡ 0)
     (rest : blank.rest ≡ 0) (last : a.chunks.most ≤ blank.last) (items : opens.items ≡ a.open.items ++ blank ∷ [])
-    (len : vec_len opens ≡ vec_len a.open + 1) (capacity : vec_capacity a.open ≤ vec_capacity opens) where
+    (len : vec_len opens ≡ vec_len a.open + 1) (capacity : vec_capacity opens ≡ vec_capacity a.open) where
   changed-begun : IsChanged a a.names a.chunks opens a.used
   changed-begun = record {
     lie = rw items (open-behind a.chunks (strands_in a) [] blank (text-none a.chunks blank last none at rest) none sound.lie);
@@ -303,7 +303,7 @@ module _ (a : Inside) (t : Texts) (sound : IsSound a) (is : kept_by a ≡ t) (gi
         subst (λ (x : Texts). length x.open_texts < x.cap_open) (sym is) given in
         let n = length-map a.open.items (bytes_of a.chunks) in
         omega arith;
-    reserved = let n = sound.opens_reserved in omega arith;
+    reserved = capacity ∙ sound.opens_reserved;
   }
 
   pub sound-begun : IsSound (record a { «open» = opens })

@@ -68,7 +68,7 @@ module _ (a : Inside) (t : Texts) (sound : IsSound a) (is : kept_by a ≡ t) (na
       let leases : length a.leases.items ≤ a.cap_leases = omega arith in
       let opens : length a.open.items ≤ a.cap_open = omega arith in
       let names = sound.few in
-      let room = sound.room in
+      let room = sound.room.enough in
       let kept = sound.given in
       let within = sound.within in
       omega arith

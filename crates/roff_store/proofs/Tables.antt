@@ -121,9 +121,9 @@ module _ {E : Type 0} where
   IsSound-written {place} {name} {slot} a sound found entry =
       let written = entries_in-written found sound.once entry in
       record {
-        cap = sound.cap;
         reserved = sound.reserved;
-        taken = sound.taken;
+        small = sound.small;
+        cap = sound.cap;
         count = rw (written, length-written found sound.once entry) sound.count;
         within = sound.within;
         once = rw written (EachOnce-with_entry name entry (entries_in a.slots.items) sound.once);

@@ -335,9 +335,9 @@ impl Chunks {
             }
             None => {
                 let chunk = self.contents.len();
-                self.contents.push(ArrayVec::new()).unwrap();
-                self.links.push(NO_CHUNK).unwrap();
-                self.shares.push(1).unwrap();
+                self.contents.push_reserved(ArrayVec::new());
+                self.links.push_reserved(NO_CHUNK);
+                self.shares.push_reserved(1);
                 chunk
             }
         }
@@ -366,7 +366,7 @@ impl Chunks {
         let shares = &mut self.shares[chunk];
         *shares -= 1;
         if *shares == 0 {
-            self.free.push(chunk).unwrap();
+            self.free.push_reserved(chunk);
         }
     }
 }

@@ -34,8 +34,6 @@ struct Slot<E> {
 #[derive(Drop)]
 pub(crate) struct NameTable<E> {
     cap: u32,
-    /// How many slots are reserved.
-    room: u32,
     count: u32,
     slots: Vec<Slot<E>>,
     /// For each bucket one more than the place of its newest slot; 0 if it has none.
@@ -67,7 +65,6 @@ impl<E: Copy> NameTable<E> {
         let room = cap.saturating_add(cap.max(SPARE_SLOTS));
         Ok(NameTable {
             cap,
-            room,
             count: 0,
             slots: Vec::with_capacity(alloc, room as usize)?,
             heads: vec![in alloc; 0; BUCKETS]?,
@@ -122,7 +119,7 @@ impl<E: Copy> NameTable<E> {
         if self.count == self.cap {
             return Err(Limit::Names);
         }
-        make_room(&mut self.slots, self.heads.as_mut_slice(), self.room);
+        make_room(&mut self.slots, self.heads.as_mut_slice());
         add(&mut self.slots, self.heads.as_mut_slice(), name, entry);
         self.count += 1;
         Ok(())
@@ -258,7 +255,7 @@ fn add<E>(slots: &mut Vec<Slot<E>>, heads: &mut [u32], name: &Name, entry: E)
         ≡ with_entry name.now entry (entries_in slots.old.items) }
     ensures len { vec_len slots.new ≡ vec_len slots.old + 1 }
     ensures index { IsIndexed slots.new.items heads.new }
-    ensures capacity { vec_capacity slots.old ≤ vec_capacity slots.new }
+    ensures capacity { vec_capacity slots.new ≡ vec_capacity slots.old }
 {
     let head = &mut heads[bucket_of(name)];
     let older = *head;
@@ -269,20 +266,23 @@ fn add<E>(slots: &mut Vec<Slot<E>>, heads: &mut [u32], name: &Name, entry: E)
         is_used: true,
         older,
     };
-    slots.push(slot).unwrap();
+    slots.push_reserved(slot);
 }
 
-/// Makes room for a slot: where so many are taken, those that aren't used go, and the others are
-/// linked anew.
-fn make_room<E: Drop>(slots: &mut Vec<Slot<E>>, heads: &mut [u32], room: u32)
-    requires few { length (entries_in slots.old.items) < room }
+/// Makes room for a slot: where all that are reserved are taken, those that aren't used go, and the
+/// others are linked anew.
+fn make_room<E: Drop>(slots: &mut Vec<Slot<E>>, heads: &mut [u32])
+    requires few { length (entries_in slots.old.items) < vec_capacity slots.old }
+    requires small { vec_capacity slots.old < 2 ^ 32 }
     requires index { IsIndexed slots.old.items heads.old }
-    ensures room { vec_len slots.new < room }
+    ensures room { vec_len slots.new < vec_capacity slots.new }
+    ensures idle { vec_len slots.old < vec_capacity slots.old
+        → (slots.new.items ≡ slots.old.items) × (heads.new ≡ heads.old) }
     ensures entries { entries_in slots.new.items ≡ entries_in slots.old.items }
     ensures index { IsIndexed slots.new.items heads.new }
     ensures capacity { vec_capacity slots.new ≡ vec_capacity slots.old }
 {
-    if slots.len() < room as usize {
+    if slots.len() < slots.capacity() {
         return;
     }
     drop_unused(slots);

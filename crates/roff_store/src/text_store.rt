@@ -6,6 +6,7 @@ ghost use Rattle.std.specs.Prelude.{IsTrue, ◌↔◌, ◌*◌, IfOk, None, vec_
 ghost use Rattle.std.specs.List.{last_or};
 ghost use Rattle.roff_store.specs.Chains.{has, share, shares_in, AreSameChunks, IsShared, IsStrand};
 ghost use Rattle.roff_store.specs.Named.{entry_of};
+ghost use Rattle.roff_store.specs.TextStore.Room.{bytes_wanted, IsLeastFor};
 ghost use Rattle.roff_store.specs.TextStore.Strands.{strands_of};
 
 mod leasing;
@@ -27,9 +28,8 @@ pub(crate) enum Meaning {
     Request(u16),
 }
 
-/// So many chunks more than can be full or begun: one for what the division leaves, and three while
-/// a text is copied behind another one.
-const SPARE: usize = 4;
+/// So many chunks more than can be full or begun, while a text is copied behind another one.
+const SPARE: usize = 3;
 
 /// Texts in the making.
 type Strands = Vec<Strand>;
@@ -201,7 +201,7 @@ fn body_len(meaning: Option<Meaning>) -> usize
 }
 
 /// How many chunks so many bytes, names, texts in the making, leases, and bytes that these still
-/// give, may want.
+/// give, may want: no more than these.
 fn chunks_wanted(
     cap_bytes: u32,
     cap_names: u32,
@@ -209,10 +209,9 @@ fn chunks_wanted(
     cap_leases: u32,
     cap_kept: u32,
 ) -> usize
-    ensures { cap_bytes + cap_kept + 120 * (cap_names + cap_open + 2 * cap_leases) + 360
-        ≤ 120 * result }
+    ensures { IsLeastFor (bytes_wanted cap_bytes cap_kept cap_names cap_open cap_leases) result }
 {
-    let full = (cap_bytes as usize + cap_kept as usize) / CHUNK;
+    let full = (cap_bytes as usize + cap_kept as usize).div_ceil(CHUNK);
     let begun = cap_names as usize + cap_open as usize + 2 * cap_leases as usize;
     full + begun + SPARE
 }
@@ -224,9 +223,9 @@ fn no_strands(
     cap_leases: u32,
 ) -> Result<(Strands, Leases, Vec<u32>), AllocError>
     ensures none { IfOk result (λ t. (t.0.items ≡ []) × (t.1.items ≡ []) × (t.2.items ≡ [])) }
-    ensures open { IfOk result (λ t. cap_open ≤ vec_capacity t.0) }
-    ensures leases { IfOk result (λ t. cap_leases ≤ vec_capacity t.1) }
-    ensures ended { IfOk result (λ t. cap_leases ≤ vec_capacity t.2) }
+    ensures open { IfOk result (λ t. vec_capacity t.0 ≡ cap_open) }
+    ensures leases { IfOk result (λ t. vec_capacity t.1 ≡ cap_leases) }
+    ensures ended { IfOk result (λ t. vec_capacity t.2 ≡ cap_leases) }
 {
     let open = Vec::with_capacity(alloc, cap_open as usize)?;
     let leases = Vec::with_capacity(alloc, cap_leases as usize)?;

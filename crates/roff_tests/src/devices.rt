@@ -1,7 +1,7 @@
 //! Devices in memory that fail, on `run`.
 
 use crate::documents::{check_bytes, check_status};
-use roff_tools::{Job, Limits, MemSink, MemSource, Start, Status, run};
+use roff_tools::{Bounded, Job, Limits, MemSink, MemSource, Start, Status, run};
 use std::alloc::Global;
 use std::process::Abort;
 use std::test::Fail;
@@ -87,11 +87,12 @@ fn failing_devices(rt: HostRuntime) -> Result<(), Fail> {
 fn check_row(rt: &impl Abort, alloc: Global, row: &Row) -> Result<(), Fail> {
     let source = MemSource::new(row.input, row.source_fails_after);
     let mut out = MemSink::new(alloc, row.output_capacity)?;
-    let mut err = MemSink::new(alloc, row.message_capacity)?;
+    let sink = MemSink::new(alloc, row.message_capacity)?;
+    let mut err = Bounded { sink, room: 0 };
     let job = Job::Nroff(Limits::default(), Start::default());
     let (status, _source) = run(alloc, job, source, &mut out, &mut err);
     check_bytes(rt, out.kept(), row.output, "output", row.name);
-    check_bytes(rt, err.kept(), row.messages, "messages", row.name);
+    check_bytes(rt, err.sink.kept(), row.messages, "messages", row.name);
     check_status(rt, status?, row.status, row.name);
     Ok(())
 }

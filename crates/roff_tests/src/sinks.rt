@@ -1,7 +1,7 @@
 //! Documents whose output, or whose messages, find room for so many bytes and no more: just these
 //! are kept, and the run ends with the failure.
 
-use roff_tools::{Job, Limits, MemSink, MemSource, Start, Status, run};
+use roff_tools::{Bounded, Job, Limits, MemSink, MemSource, Start, Status, run};
 use std::alloc::{AllocError, Global};
 use std::process::Abort;
 use std::test::Fail;
@@ -78,10 +78,12 @@ fn given(
 ) -> Result<(Status, MemSink, MemSink), AllocError> {
     let source = MemSource::new(row.input.as_bytes(), None);
     let mut out = MemSink::new(alloc, output)?;
-    let mut err = MemSink::new(alloc, messages)?;
+    let sink = MemSink::new(alloc, messages)?;
+    let mut err = Bounded { sink, room: 0 };
     let job = Job::Nroff(Limits::default(), Start::default());
     let (status, _source) = run(alloc, job, source, &mut out, &mut err);
-    Ok((status?, out, err))
+    let Bounded { sink, room: _ } = err;
+    Ok((status?, out, sink))
 }
 
 /// How a run ends whose sink has room for so many bytes of a text.

@@ -17,7 +17,7 @@ pub use Rattle.roff_tools.specs.InMemory.{IsWholeResult, RanInMemory}
 pub use Rattle.roff_devices.specs.Inputs.Part.{AreNamed, IsNamed}
 pub use Rattle.roff_devices.specs.Buffered.{given_to}
 pub use Rattle.roff_devices.specs.Memory.{tape_of_bytes}
-pub use Rattle.roff_tools.specs.Program.{IsFinished, IsFlushed, IsPrepared, NamesStart, PerformsAsked, PerformsIfAsked, Starts}
+pub use Rattle.roff_tools.specs.Program.{IsFinished, IsFlushed, IsPrepared, IsTold, NamesStart, PerformsAsked, PerformsIfAsked, RunsBuffered, Starts}
 pub use Rattle.roff_tools.specs.RunOver.{Performs}
 pub use Rattle.roff_tools.specs.StartFault.{NamesBad, NamesFile, NamesFirstRefused, NamesPages, NamesRegister, NamesWords, fault_line}
 pub use Rattle.roff_tools.specs.Told.{Shows, Tells, TellsFault, TellsNoMemory, TellsSome}

@@ -20,7 +20,7 @@ exit_after status.Device = DeviceFailed
 exit_after status.Aborted = Aborted
 exit_after (status.Limit limit) = LimitReached
 
--- how it ends once its output is flushed, or that failed: where nothing was written, nothing is lost
+-- how it ends once its output or its messages are flushed, or that failed: where nothing was started, that is what it tells
 abbrev pub exit_flushed : Exit → Bool → Exit
 exit_flushed exit true = exit
 exit_flushed NotStarted false = NotStarted

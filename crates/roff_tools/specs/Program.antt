@@ -90,15 +90,32 @@ pub record IsFlushed {F S : Type 0} (says : List Text → Type 0) (opens : List 
   pub finishes : Finishes given out' flushed
   pub ends : exit ≡ exit_flushed before (is_ok flushed)
 
--- without memory for the buffer that is told, and nothing is on the output
-pub record HasNoBuffer (number : ℕ) (out out' err err' : Sunk) : Type 0 where
-  pub ends : number ≡ exit_number NotStarted
+-- without memory for a buffer that is told, and nothing is on the output
+pub record HasNoBuffer (exit : Exit) (out out' err err' : Sunk) : Type 0 where
+  pub ends : exit ≡ NotStarted
   pub unwritten : out' ≡ out
   pub tells : TellsNoMemory err err'
 
--- the same of the whole program, by its exit status
+-- they were obeyed so, or there was no memory for the buffer of the output
+abbrev pub RunsBuffered : {F S : Type 0} → (List Text → Type 0) → (List ℕ → F → Type 0) → (List ℕ → Type 0) → (S → Type 0) → (F → Tape → Type 0)
+    → (S → Tape → Type 0) → Sunk → Sunk → Exit → Sunk → Sunk → Type 0
+RunsBuffered says opens refuses stands file standard out err exit out' err' =
+    IsFlushed says opens refuses stands file standard out err exit out' err' ⊎ HasNoBuffer exit out out' err err'
+
+-- That was done with messages that are buffered, and then these were flushed: the program ends as it did, unless this flush
+-- failed. `given` is what was given to their buffer.
+pub record IsTold {F S : Type 0} (says : List Text → Type 0) (opens : List ℕ → F → Type 0) (refuses : List ℕ → Type 0)
+    (stands : S → Type 0) (file : F → Tape → Type 0) (standard : S → Tape → Type 0) (out err : Sunk) (exit : Exit) (out' err' : Sunk) : Type 0 where
+  pub before : Exit
+  pub given : Sunk
+  pub runs : RunsBuffered says opens refuses stands file standard out err before out' given
+  pub flushed : Result (Unit {0}) SinkFault
+  pub finishes : Finishes given err' flushed
+  pub ends : exit ≡ exit_flushed before (is_ok flushed)
+
+-- the same of the whole program, by its exit status; or there was no memory for the buffer of the messages
 abbrev pub IsFinished : {F S : Type 0} → (List Text → Type 0) → (List ℕ → F → Type 0) → (List ℕ → Type 0) → (S → Type 0) → (F → Tape → Type 0)
     → (S → Tape → Type 0) → Sunk → Sunk → ℕ → Sunk → Sunk → Type 0
 IsFinished says opens refuses stands file standard out err number out' err' =
-    ((exit : Exit) × IsFlushed says opens refuses stands file standard out err exit out' err' × (number ≡ exit_number exit))
-    ⊎ HasNoBuffer number out out' err err'
+    (exit : Exit) × (IsTold says opens refuses stands file standard out err exit out' err' ⊎ HasNoBuffer exit out out' err err')
+    × (number ≡ exit_number exit)

@@ -9,6 +9,7 @@ use crate::{Job, run};
 use roff_devices::{MemSource, WatchedSink};
 use roff_engine::{Start, Status};
 use roff_num::Limits;
+use roff_sinks::Bounded;
 use std::alloc::{AllocError, Global};
 use tbl_core::TblLimits;
 
@@ -111,11 +112,13 @@ fn run_in_memory(
 {
     let source = MemSource::new(text, fail_at);
     let mut out = WatchedSink::new(alloc, room.output)?;
-    let mut err = WatchedSink::new(alloc, room.messages)?;
+    let sink = WatchedSink::new(alloc, room.messages)?;
+    let mut err = Bounded { sink, room: 0 };
     let (status, _source) = run(alloc, job, source, &mut out, &mut err);
+    let Bounded { sink, room: _ } = err;
     Ok(Formatted {
         status: status?,
         output: out.into_kept(),
-        messages: err.into_kept(),
+        messages: sink.into_kept(),
     })
 }

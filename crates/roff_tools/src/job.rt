@@ -6,7 +6,7 @@ ghost use Rattle.roff_tools.specs.Clauses.{PutsTables, Runs, RunsBoth, RunsJob, 
 use roff_engine::{Engine, Start, Status};
 use roff_num::Limits;
 use roff_scan::ByteSource;
-use roff_sinks::ByteSink;
+use roff_sinks::{ByteSink, MessageSink};
 use std::alloc::{AllocError, Global};
 use tbl_core::{GatheredSource, TblLimits, TblSource};
 use tbl_run::put_tables;
@@ -29,7 +29,7 @@ pub enum Job {
 ///
 /// [`AllocError`] if the memory that the limits ask for can't be had. Then nothing was read or
 /// written, and the source is as it was.
-pub fn run<S: ByteSource, O: ByteSink, E: ByteSink>(
+pub fn run<S: ByteSource, O: ByteSink, E: MessageSink>(
     alloc: Global,
     job: Job,
     source: S,
@@ -57,7 +57,7 @@ pub fn run<S: ByteSource, O: ByteSink, E: ByteSink>(
 }
 
 /// Runs the formatter.
-fn run_nroff<S: ByteSource, O: ByteSink, E: ByteSink>(
+fn run_nroff<S: ByteSource, O: ByteSink, E: MessageSink>(
     alloc: Global,
     limits: Limits,
     start: Start,
@@ -82,7 +82,7 @@ fn run_nroff<S: ByteSource, O: ByteSink, E: ByteSink>(
 }
 
 /// Puts pictures in the places of tables.
-fn run_tbl<S: ByteSource, O: ByteSink, E: ByteSink>(
+fn run_tbl<S: ByteSource, O: ByteSink, E: MessageSink>(
     alloc: Global,
     limits: TblLimits,
     line_length: u32,
@@ -108,7 +108,7 @@ fn run_tbl<S: ByteSource, O: ByteSink, E: ByteSink>(
 }
 
 /// Runs the formatter over a source with the pictures of its tables.
-fn run_both<S: ByteSource, O: ByteSink, E: ByteSink>(
+fn run_both<S: ByteSource, O: ByteSink, E: MessageSink>(
     engine: Engine,
     alloc: Global,
     limits: TblLimits,

@@ -18,6 +18,6 @@ pub use roff_devices::{MemSink, MemSource};
 pub use roff_engine::{Engine, Start, Status};
 pub use roff_num::{Limit, Limits};
 pub use roff_scan::{ByteSource, Note, ReadSource, Taken};
-pub use roff_sinks::{BlockWrite, ByteSink, SinkFault, StdWrite, WriteSink};
+pub use roff_sinks::{BlockWrite, Bounded, ByteSink, MessageSink, SinkFault, StdWrite, WriteSink};
 pub use tbl_core::TblLimits;
 pub use words::Words;

@@ -3,10 +3,11 @@
 ghost use Rattle.std.specs.Prelude.{◌≡◌, ◌⊎◌, Some, true, is_ok, IfOk, IfErr, OnErr, map};
 ghost use Rattle.std.specs.Prelude.{string_bytes};
 ghost use Rattle.roff_tools.specs.Clauses.{AreMistaken, AreNamed, AskForHelp, IsFinished};
-ghost use Rattle.roff_tools.specs.Clauses.{IsFlushed, IsNamed, IsPrepared, NamesBad, NamesFile};
-ghost use Rattle.roff_tools.specs.Clauses.{NamesFirstRefused, NamesPages, NamesRegister, Performs};
-ghost use Rattle.roff_tools.specs.Clauses.{NamesStart, NamesWords, PerformsAsked, PerformsIfAsked};
-ghost use Rattle.roff_tools.specs.Clauses.{Shows, Starts, TellsFault, TellsNoMemory, TellsSome};
+ghost use Rattle.roff_tools.specs.Clauses.{IsFlushed, IsNamed, IsPrepared, IsTold, NamesBad};
+ghost use Rattle.roff_tools.specs.Clauses.{NamesFile, NamesFirstRefused, NamesPages};
+ghost use Rattle.roff_tools.specs.Clauses.{NamesRegister, NamesStart, NamesWords, Performs};
+ghost use Rattle.roff_tools.specs.Clauses.{PerformsAsked, PerformsIfAsked, RunsBuffered, Shows};
+ghost use Rattle.roff_tools.specs.Clauses.{Starts, TellsFault, TellsNoMemory, TellsSome};
 ghost use Rattle.roff_tools.specs.Clauses.{exit_flushed, exit_number, exit_status};
 ghost use Rattle.roff_tools.specs.Clauses.{fault_of, given_to, job_of, roff_app};
 ghost use Rattle.roff_tools.specs.Clauses.{start_read, subcommand_of, takes, told, told_pages};
@@ -15,7 +16,9 @@ use crate::exit::Exit;
 use crate::fault::StartFault;
 use crate::telling::{report, show};
 use crate::words::Words;
-use crate::{BlockWrite, ByteSink, Job, ReadSource, SinkFault, Start, WriteSink, run};
+use crate::{
+    BlockWrite, Bounded, ByteSink, Job, MessageSink, ReadSource, SinkFault, Start, WriteSink, run,
+};
 use roff_command::{Asked, Pages, Registers, Request, STANDARD_INPUT, parse_words, prepare_words};
 use roff_devices::{Buffered, Inputs, Part, Readers};
 use std::alloc::Global;
@@ -33,52 +36,91 @@ pub struct Finished<O, E> {
     pub stderr: E,
 }
 
-/// Runs the program on the words, files and standard input of `rt`. What is written on `stdout` is
-/// buffered here, and what is written on `stderr` is not.
+/// Runs the program on the words, files and standard input of `rt`. What is written on `stdout` and
+/// on `stderr` is buffered here, 8,192 bytes of each at most: the text is flushed first, and then
+/// the messages.
 pub fn main_with<R, O, E>(rt: &R, stdout: O, stderr: E) -> Finished<O, E>
 where
     R: Words + Readers + AllocGlobal,
     O: BlockWrite + Drop,
     E: BlockWrite + Drop,
-    // What the words ask for was done, with the output through a buffer that was flushed at the
-    // end, however the run ended; and that is what the exit status tells. Where nothing was done,
-    // why is told.
+    // What the words ask for was done, with the output and the messages through buffers that were
+    // flushed at the end, however the run ended; and that is what the exit status tells. Where
+    // nothing was done, why is told.
     ensures { IsFinished (R.says rt.now) (R.opens rt.now) (R.refuses rt.now) (R.stands rt.now)
         R.File.gives R.Standard.gives (O.sunk stdout) (E.sunk stderr)
         (exit_status result.exit) (O.sunk result.stdout) (E.sunk result.stderr) }
 {
-    let mut err = WriteSink::new(stderr);
-    match Buffered::new(rt.alloc(), stdout) {
+    match Buffered::new(rt.alloc(), stderr) {
         Ok(buffered) => {
-            let (exit, stdout) = run_buffered(rt, buffered, &mut err);
-            ended_so(exit, stdout, err)
+            let (exit, stdout, stderr) = run_told(rt, stdout, buffered);
+            ended_so(exit, stdout, stderr)
         }
-        Err(stdout) => {
+        Err(stderr) => {
+            let sink = WriteSink::new(stderr);
+            let mut err = Bounded { sink, room: 0 };
             let exit = report(&StartFault::OutOfMemory, &mut err);
-            ended_so(exit, stdout, err)
+            let Bounded { sink, room: _ } = err;
+            ended_so(exit, stdout, sink.into_inner())
         }
     }
 }
 
 /// The program's end.
-fn ended_so<O, E: BlockWrite + Drop>(exit: Exit, stdout: O, err: WriteSink<E>) -> Finished<O, E>
+fn ended_so<O, E>(exit: Exit, stdout: O, stderr: E) -> Finished<O, E>
     ensures exit { exit_status result.exit ≡ exit_number exit }
     ensures stdout { result.stdout ≡ stdout }
-    ensures stderr { E.sunk result.stderr ≡ err }
+    ensures stderr { result.stderr ≡ stderr }
 {
     Finished {
         exit: ExitCode::from(exit.number()),
         stdout,
-        stderr: err.into_inner(),
+        stderr,
+    }
+}
+
+/// Does what the words of the command line ask for, and flushes the messages behind it: the output
+/// was flushed before.
+fn run_told<R, O, E>(rt: &R, stdout: O, stderr: Buffered<E>) -> (Exit, O, E)
+where
+    R: Words + Readers + AllocGlobal,
+    O: BlockWrite + Drop,
+    E: BlockWrite + Drop,
+    ensures { IsTold (R.says rt.now) (R.opens rt.now) (R.refuses rt.now) (R.stands rt.now)
+        R.File.gives R.Standard.gives (O.sunk stdout) (given_to E.sunk stderr)
+        result.0 (O.sunk result.1) (E.sunk result.2) }
+{
+    let sink = WriteSink::new(stderr);
+    let mut err = Bounded { sink, room: 0 };
+    let (exit, stdout) = run_buffered(rt, stdout, &mut err);
+    let Bounded { sink, room: _ } = err;
+    let (stderr, flushed) = sink.into_inner().finish();
+    (after_flush(exit, flushed), stdout, stderr)
+}
+
+/// Does what the words of the command line ask for, with the output through a buffer. Where there
+/// is no memory for that, nothing is done but to tell it.
+fn run_buffered<R, O, E>(rt: &R, stdout: O, err: &mut E) -> (Exit, O)
+where
+    R: Words + Readers + AllocGlobal,
+    O: BlockWrite + Drop,
+    E: MessageSink,
+    ensures { RunsBuffered (R.says rt.now) (R.opens rt.now) (R.refuses rt.now) (R.stands rt.now)
+        R.File.gives R.Standard.gives (O.sunk stdout) (E.sunk err.old)
+        result.0 (O.sunk result.1) (E.sunk err.new) }
+{
+    match Buffered::new(rt.alloc(), stdout) {
+        Ok(buffered) => run_flushed(rt, buffered, err),
+        Err(stdout) => (report(&StartFault::OutOfMemory, err), stdout),
     }
 }
 
 /// Does what the words of the command line ask for, and flushes the output behind it.
-fn run_buffered<R, O, E>(rt: &R, stdout: Buffered<O>, err: &mut E) -> (Exit, O)
+fn run_flushed<R, O, E>(rt: &R, stdout: Buffered<O>, err: &mut E) -> (Exit, O)
 where
     R: Words + Readers + AllocGlobal,
     O: BlockWrite + Drop,
-    E: ByteSink,
+    E: MessageSink,
     ensures { IsFlushed (R.says rt.now) (R.opens rt.now) (R.refuses rt.now) (R.stands rt.now)
         R.File.gives R.Standard.gives (given_to O.sunk stdout) (E.sunk err.old)
         result.0 (O.sunk result.1) (E.sunk err.new) }
@@ -94,7 +136,7 @@ fn start<R, O, E>(rt: &R, out: &mut O, err: &mut E) -> Exit
 where
     R: Words + Readers + AllocGlobal,
     O: ByteSink,
-    E: ByteSink,
+    E: MessageSink,
     ensures { Starts (R.says rt.now) (R.opens rt.now) (R.refuses rt.now) (R.stands rt.now)
         R.File.gives R.Standard.gives result
         (O.sunk out.old) (O.sunk out.new) (E.sunk err.old) (E.sunk err.new) }
@@ -115,7 +157,8 @@ fn words_of<R: Words + AllocGlobal>(rt: &R) -> Result<Vec<String>, StartFault>
     Ok(prepare_words(rt.alloc(), words.as_slice())?)
 }
 
-/// How the program ends, once its output is flushed: a flush that fails is a failed write.
+/// How the program ends, once its output or its messages are flushed: a flush that fails is a
+/// failed write.
 fn after_flush(exit: Exit, flushed: Result<(), SinkFault>) -> Exit
     ensures { result ≡ exit_flushed exit (is_ok flushed) }
 {
@@ -131,7 +174,7 @@ where
     R: Readers + AllocGlobal,
     S: AsStr,
     O: ByteSink,
-    E: ByteSink,
+    E: MessageSink,
     // Where the words are in order a command runs as they ask, or can't start, and why is told.
     ensures performs { takes roff_app (map S.text words.now) ≡ true
         → ((result ≡ Exit.NotStarted)
@@ -168,7 +211,7 @@ fn perform<R, O, E>(
 where
     R: Readers + AllocGlobal,
     O: ByteSink,
-    E: ByteSink,
+    E: MessageSink,
     ensures performs { IfOk result (λ exit. PerformsIfAsked (R.opens rt.now) (R.stands rt.now)
         R.File.gives R.Standard.gives (map (λ name. name.now) request.entry.files.items)
         (start_read request.entry) (Some request.entry.asked) exit
@@ -233,7 +276,7 @@ fn run_over<R, O, E>(
 where
     R: Readers + AllocGlobal,
     O: ByteSink,
-    E: ByteSink,
+    E: MessageSink,
     ensures performs { IfOk result (λ exit. Performs (R.opens rt.now) (R.stands rt.now)
         R.File.gives R.Standard.gives (map (λ name. name.now) names.now) job exit
         (O.sunk out.old) (O.sunk out.new) (E.sunk err.old) (E.sunk err.new)) }

@@ -7,12 +7,12 @@ ghost use Rattle.roff_tools.specs.Clauses.{Writes, fault_line, kind_of};
 
 use crate::exit::Exit;
 use crate::fault::StartFault;
-use crate::{ByteSink, SinkFault};
+use crate::{ByteSink, MessageSink, SinkFault};
 use clap::error::ErrorKind;
 use std::alloc::Global;
 
 /// Writes a fault's message. Where the write fails, there is no one to tell.
-pub(crate) fn report<E: ByteSink>(fault: &StartFault, err: &mut E) -> Exit
+pub(crate) fn report<E: MessageSink>(fault: &StartFault, err: &mut E) -> Exit
     ensures exit { result ≡ Exit.NotStarted }
     ensures told { Tells (E.sunk err.old) (E.sunk err.new) (fault_line fault.now) }
 {
@@ -22,7 +22,7 @@ pub(crate) fn report<E: ByteSink>(fault: &StartFault, err: &mut E) -> Exit
 }
 
 /// Writes two texts as one line of the program's own.
-fn put_line<E: ByteSink>(words: &str, text: &str, err: &mut E) -> Result<(), SinkFault>
+fn put_line<E: MessageSink>(words: &str, text: &str, err: &mut E) -> Result<(), SinkFault>
     ensures { Puts (E.sunk err.old) (E.sunk err.new)
         (codes "roff: " ++ (words.now ++ text.now) ++ 10 ∷ []) result }
 {
@@ -33,7 +33,7 @@ fn put_line<E: ByteSink>(words: &str, text: &str, err: &mut E) -> Result<(), Sin
 }
 
 /// Writes two texts, and a newline behind them.
-fn put_rest<E: ByteSink>(words: &str, text: &str, err: &mut E) -> Result<(), SinkFault>
+fn put_rest<E: MessageSink>(words: &str, text: &str, err: &mut E) -> Result<(), SinkFault>
     ensures { Puts (E.sunk err.old) (E.sunk err.new)
         ((words.now ++ text.now) ++ 10 ∷ []) result }
 {
@@ -44,7 +44,7 @@ fn put_rest<E: ByteSink>(words: &str, text: &str, err: &mut E) -> Result<(), Sin
 }
 
 /// Writes two texts one behind the other.
-fn put_both<E: ByteSink>(first: &str, second: &str, err: &mut E) -> Result<(), SinkFault>
+fn put_both<E: MessageSink>(first: &str, second: &str, err: &mut E) -> Result<(), SinkFault>
     ensures { Puts (E.sunk err.old) (E.sunk err.new) (first.now ++ second.now) result }
 {
     match err.put(first.as_bytes()) {
@@ -54,7 +54,7 @@ fn put_both<E: ByteSink>(first: &str, second: &str, err: &mut E) -> Result<(), S
 }
 
 /// Writes what a parse of the words has to say in place of a request, if there is memory for it.
-pub(crate) fn show<O: ByteSink, E: ByteSink>(
+pub(crate) fn show<O: ByteSink, E: MessageSink>(
     alloc: Global,
     shown: &clap::Error,
     out: &mut O,
@@ -92,7 +92,7 @@ fn text_of(alloc: Global, shown: &clap::Error) -> Option<String>
 }
 
 /// Writes that text where it goes.
-fn show_text<O: ByteSink, E: ByteSink>(
+fn show_text<O: ByteSink, E: MessageSink>(
     shown: &clap::Error,
     text: &str,
     out: &mut O,

@@ -43,13 +43,13 @@ static ROWS: [Row; 12] = [
     ),
     (&["roff", "nroff", "--page"], AMPLE, 0, 1, "", ""),
     (&["roff", "nroff", "one", "none"], AMPLE, 0, 1, "", ""),
-    (&["roff", "nroff", "mistaken"], AMPLE, 0, 2, "ab\n", ""),
+    (&["roff", "nroff", "mistaken"], AMPLE, 0, 2, "ab\ncd\n", ""),
     (
         &["roff", "nroff", "mistaken"],
         AMPLE,
         7,
         2,
-        "ab\n",
+        "ab\ncd\n",
         "nroff: ",
     ),
     (

@@ -101,10 +101,11 @@ fn failing_once(alloc: Global, at: usize, error: ErrorKind) -> Paper {
     }
 }
 
-/// Messages aren't buffered: the first that isn't written ends the run, and nothing is tried again.
+/// Messages are buffered: that they aren't written is found at the last flush, and nothing is tried
+/// again.
 static MESSAGES: [(&[&str], usize, u8, &str, &str); 4] = [
-    (&["roff", "nroff", "mistaken"], 0, 2, "ab\n", ""),
-    (&["roff", "nroff", "mistaken"], 7, 2, "ab\n", "nroff: "),
+    (&["roff", "nroff", "mistaken"], 0, 2, "ab\ncd\n", ""),
+    (&["roff", "nroff", "mistaken"], 7, 2, "ab\ncd\n", "nroff: "),
     (&["roff", "nroff", "aborting"], 3, 2, "ab\n", "no "),
     (&["roff", "nroff", "none"], 4, 1, "", "roff"),
 ];

@@ -52,6 +52,7 @@ Options:
       --diversions <N>    Most diversions open at once [default: 16]
       --environments <N>  Most environments not gone back from [default: 32]
       --conditions <N>    Most conditions that wait for .el [default: 64]
+      --messages <N>      Most bytes of messages; without it, no limit
   -h, --help              Print help
 
 nroff fills lines with the words of its input, and obeys its control lines, which
@@ -87,6 +88,7 @@ Options:
       --width <N>        Most columns of a table's picture [default: 4096]
       --bytes <N>        Most bytes read [default: 50000000]
       --output <N>       Most bytes of output [default: 200000000]
+      --messages <N>     Most bytes of messages; without it, no limit
       --line-length <N>  Columns within which tables are centred [default: 65]
   -h, --help             Print help
 
@@ -129,6 +131,7 @@ Options:
       --diversions <N>    Most diversions open at once [default: 16]
       --environments <N>  Most environments not gone back from [default: 32]
       --conditions <N>    Most conditions that wait for .el [default: 64]
+      --messages <N>      Most bytes of messages; without it, no limit
       --rows <N>          Most rows of a table [default: 5000]
       --columns <N>       Most columns of a table [default: 40]
       --text <N>          Most bytes of a table's lines [default: 262144]

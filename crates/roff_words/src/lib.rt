@@ -17,6 +17,8 @@ mod long_documents;
 #[cfg(test)]
 mod machine;
 #[cfg(test)]
+mod messages;
+#[cfg(test)]
 mod mistake_texts;
 #[cfg(test)]
 mod pages;

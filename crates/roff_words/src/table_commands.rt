@@ -346,7 +346,7 @@ static FAILING_WRITERS: [FailingRow; 4] = [
         ".pl 1\n.TS\n",
         "tbl: ",
     ),
-    (&["roff", "both", "unformatted"], AMPLE, 0, "", ""),
+    (&["roff", "both", "unformatted"], AMPLE, 0, "l x.\nab\n", ""),
 ];
 
 #[test]

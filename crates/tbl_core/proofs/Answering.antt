@@ -74,7 +74,7 @@ module _ (l : TblLimits) (line_length : ℕ) where
   takes_byte b [] (Reads now) old new none reads answers at out behind =
       subst (λ (here : At). TakesOn old new l line_length (record { pending = []; standing = Reads now }) here) (sym (at_of at _ _ out behind))
       (record { taken = OneByte b ∷ []; earlier = answers.before; is = λ left given. refl })
-  takes_byte b [] (Over limit) old new none reads answers at out behind = cc
+  takes_byte b [] (Over limit line) old new none reads answers at out behind = cc
   takes_byte b (item ∷ items) s old new none reads answers at out behind = cc
 
   -- a message is
@@ -83,7 +83,7 @@ module _ (l : TblLimits) (line_length : ℕ) where
       → TakesOn old new l line_length (record { pending = pending; standing = s }) (record { pending = pending; standing = s })
   takes_note message [] (Reads now) old new none reads answers =
       record { taken = OneNote message ∷ []; earlier = answers.before; is = λ left given. refl }
-  takes_note message [] (Over limit) old new none reads answers = cc
+  takes_note message [] (Over limit line) old new none reads answers = cc
   takes_note message (item ∷ items) s old new none reads answers = cc
 
   -- what is pending is given
@@ -122,20 +122,20 @@ module _ (l : TblLimits) (line_length : ℕ) where
   }
 
   -- a limit has stopped the run
-  takes_stop : (gives : Tape → Type 0) (some : Tape) → gives some → (limit : Limit)
-      → Takes gives gives l line_length (record { pending = []; standing = Over limit }) (record { pending = []; standing = Over limit }) (Ends (Stopped limit))
-  takes_stop gives some given limit = record { taken = []; took = took_none gives some given; is = λ left g. refl }
+  takes_stop : (gives : Tape → Type 0) (some : Tape) → gives some → (limit : Limit) (line : ℕ)
+      → Takes gives gives l line_length (record { pending = []; standing = Over limit line }) (record { pending = []; standing = Over limit line }) (Ends (Stopped limit))
+  takes_stop gives some given limit line = record { taken = []; took = took_none gives some given; is = λ left g. refl }
 
   -- the answers are those of what is given for the input
   ending_front : (e : Ending) (s : Standing) (out : List Item) → (ending_answered e s out).answer ≡ front (items_then out (ended_by e s))
   ending_front e s (item ∷ out) = refl
   ending_front e (Reads now) [] = refl
-  ending_front e (Over limit) [] = refl
+  ending_front e (Over limit line) [] = refl
 
   front_by : (s : Standing) (pending items : List Item) (e : Ending)
       → (answered_by l line_length s pending items e).answer ≡ front (items_then pending (yields_from l line_length s items e))
   front_by s (item ∷ pending) items e = refl
-  front_by (Over limit) [] items e = refl
+  front_by (Over limit line) [] items e = refl
   front_by (Reads now) [] [] e = ending_front e (at_ending l line_length e now).behind (at_ending l line_length e now).out
   front_by (Reads now) [] (OneByte b ∷ items) e = front_by (take l line_length b now).behind (take l line_length b now).out items e
   front_by (Reads now) [] (OneNote message ∷ items) e = front_by (Reads now) [] items e
@@ -196,7 +196,7 @@ ending_takes l line_length e [] (Reads now) inner behind none reads answers old 
     given.1 ∙ is ∙ ap (λ (s : Step). record { limits = l; line_length = line_length; at = behind_step s }) step_is in
     rw ends (subst (λ (t : TablesState). Takes inner behind l line_length (record { pending = []; standing = Reads now }) t.at (Ends e)) (sym here)
     (ending_alone l line_length inner behind e now on.0 answers empty on.1))
-ending_takes l line_length e [] (Over limit) inner behind none reads answers old new taken last is given ends = cc
+ending_takes l line_length e [] (Over limit line) inner behind none reads answers old new taken last is given ends = cc
 ending_takes l line_length e (item ∷ items) s inner behind none reads answers old new taken last is given ends = cc
 
 -- what was pending is given
@@ -211,10 +211,10 @@ pub stop_takes : (l : TblLimits) (line_length : ℕ) (inner : Tape → Type 0) (
     → pending ≡ [] → stopped_by s ≡ Some limit → IsAlive inner (record { pending = pending; standing = s })
     → Takes inner inner l line_length (record { pending = pending; standing = s }) (record { pending = pending; standing = s }) (Ends (Stopped limit))
 stop_takes l line_length inner [] (Reads now) limit none stopped alive = cc
-stop_takes l line_length inner [] (Over other) limit none stopped alive =
+stop_takes l line_length inner [] (Over other line) limit none stopped alive =
     let same : other ≡ limit = cc in
-    let some = alive_stopped inner [] (Over other) other refl alive in
-    rw same (takes_stop l line_length inner some.0 some.1 limit)
+    let some = alive_stopped inner [] (Over other line) other line refl alive in
+    rw same (takes_stop l line_length inner some.0 some.1 limit line)
 stop_takes l line_length inner (item ∷ items) s limit none stopped alive = cc
 
 -- the limits and the line length stay as an item is given

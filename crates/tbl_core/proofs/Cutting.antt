@@ -124,7 +124,7 @@ messages_first l line_length now (OneByte b ∷ items) e =
     (λ later. messages_first l line_length later items e)
 
 pub failing_cuts : FailingOnlyCuts
-failing_cuts l line_length (Over limit) items more e = begins_none _
+failing_cuts l line_length (Over limit line) items more e = begins_none _
 failing_cuts l line_length (Reads now) [] more e =
     rw (append-nil (told_items (told_so_far now.place))) (messages_first l line_length now more e)
 failing_cuts l line_length (Reads now) (OneNote m ∷ items) more e = failing_cuts l line_length (Reads now) items more e

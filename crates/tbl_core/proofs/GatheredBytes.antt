@@ -1,5 +1,5 @@
 -- Bytes that are gathered of those that are pending, and given.
-use Rattle.std.proofs.Common.{◌≡◌, ◌∙◌, ℕ, ◌+◌, ◌<◌, ◌≤◌, List, [], ◌∷◌, ◌++◌, length, map, take, drop, get_or, Option, Some, None, IfSome, ap, append_assoc, arith, refl, sym, subst, length-drop, vec_capacity, vec_len}
+use Rattle.std.proofs.Common.{◌≡◌, ◌⊎◌, inl, inr, ◌∙◌, ℕ, ◌+◌, ◌<◌, ◌≤◌, List, [], ◌∷◌, ◌++◌, length, map, take, drop, get_or, Option, Some, None, IfSome, ap, append_assoc, arith, refl, sym, subst, length-drop, vec_capacity, vec_len}
 use Rattle.std.proofs.Math.Bridge.{le_prop}
 use Rattle.std.proofs.lemmas.List.{drop-append-le, drop-drop, drop_all, drop_more, length-map, map-append, take-append-drop}
 use Rattle.roff_source.specs.declared.source.ByteSource as byte_source
@@ -7,7 +7,7 @@ use Rattle.roff_source.specs.BlockRead.{SomeTape}
 use Rattle.roff_source.specs.Tape.{Item, OneByte, Tape, Answer, Answers, Gives, Took, items_then}
 use Rattle.tbl_layout.specs.Parts.{IsFront}
 use Rattle.tbl_core.specs.declared.gathered.GatheredSource.{GatheredSource}
-use Rattle.tbl_core.specs.Gathered.{KeepsGiven, bytes_first, bytes_or, gathered_gives, gathered_ready, inner_of, left_of, tables_of, with_bytes}
+use Rattle.tbl_core.specs.Gathered.{AreGathered, GathersOn, KeepsGiven, StandReady, bytes_first, bytes_or, gathered_gives, gathered_ready, inner_of, left_of, tables_of, with_bytes}
 use Rattle.tbl_core.specs.NotesLeft.{noted, notes_left}
 use Rattle.tbl_core.specs.Source.{Sourced, source_gives, source_ready}
 use Rattle.tbl_core.specs.Tables.{TablesState, behind_given}
@@ -21,6 +21,16 @@ some_left bytes next more = let left = length-drop next bytes in omega (arith, m
 
 pub none_left : (bytes : List ℕ) (next : ℕ) → length bytes ≤ next → drop next bytes ≡ []
 none_left bytes next over = drop_all next bytes over
+
+-- there are some, or none
+cases_list : (bytes : List ℕ) → (bytes ≡ []) ⊎ (1 ≤ length bytes)
+cases_list [] = inl refl
+cases_list (b ∷ bytes) = inr (omega arith)
+
+-- items of which there isn't one are none
+pub none_of_items : (items : List Item) → (1 ≤ length items → ⊥) → items ≡ []
+none_of_items [] none = refl
+none_of_items (item ∷ items) none = absurd (none (omega arith))
 
 -- the first that is left
 pub first_left : (bytes : List ℕ) (next : ℕ) → next < length bytes → drop next bytes ≡ get_or bytes next 0 ∷ drop (next + 1) bytes
@@ -98,6 +108,7 @@ module _ {S : Type 0} {g : byte_source.Ghosts S} where
             ∙ ap (λ (n : ℕ). with_bytes (drop n new.gathered.items) behind) next
             ∙ ap (λ (bytes : List ℕ). with_bytes (drop old.next bytes) behind) items
             ∙ piece_same old.gathered.items piece old.next t within first;
+        giving = ap (λ (s : Sourced S). s.giving) source;
         notes = subst (λ (s : Sourced S). notes_left s.tables ≤ notes_left t) (sym source) (given_fewer (length piece) t none);
       }
 
@@ -122,14 +133,37 @@ module _ {S : Type 0} {g : byte_source.Ghosts S} where
 
   -- nothing changes, or one call behind another changes nothing
   pub kept_here : (s : GatheredSource S g) → KeepsGiven s s
-  kept_here s = record { inner = refl; tables = refl; notes = omega arith }
+  kept_here s = record { inner = refl; tables = refl; giving = refl; notes = omega arith }
 
   pub kept_on : (old between new : GatheredSource S g) → KeepsGiven old between → KeepsGiven between new → KeepsGiven old new
   kept_on old between new first second = record {
     inner = second.inner ∙ first.inner;
     tables = second.tables ∙ first.tables;
+    giving = second.giving ∙ first.giving;
     notes = omega (arith, first.notes, second.notes);
   }
+
+  pub gathers_here : (s : GatheredSource S g) → GathersOn s s
+  gathers_here s = record { kept = kept_here s; next = refl; more = omega arith }
+
+  pub gathers_on : (old between new : GatheredSource S g) → GathersOn old between → GathersOn between new → GathersOn old new
+  gathers_on old between new first second = record {
+    kept = kept_on old between new first.kept second.kept;
+    next = second.next ∙ first.next;
+    more = omega (arith, first.more, second.more);
+  }
+
+  -- where none that were gathered were given, some stand ready if any are to come
+  pub ready_gathered : (s : GatheredSource S g) → s.next ≡ 0 → AreGathered s → StandReady s
+  ready_gathered s none many giving comes = elim (cases_list s.gathered.items) [
+    | inl empty ↦
+        let left : left_of s ≡ [] = ap (drop s.next) empty ∙ drop_all s.next [] (omega arith) in
+        let few = ap (λ (bytes : List ℕ). length bytes) empty in
+        let pending = many giving (omega (arith, few)) in
+        let all = ap (λ (bytes : List ℕ). length (map OneByte bytes ++ s.source.tables.at.pending)) left ∙ ap (λ (items : List Item). length items) pending in
+        absurd (omega (arith, all, comes))
+    | inr some ↦ some_left s.gathered.items s.next (omega (arith, none, some))
+  ]
 
   -- none was left: then none is where none was gathered
   pub emptied_kept : (old new : GatheredSource S g) → new.source ≡ old.source → left_of old ≡ [] → left_of new ≡ [] → KeepsGiven old new
@@ -137,6 +171,7 @@ module _ {S : Type 0} {g : byte_source.Ghosts S} where
     inner = ap (λ (s : Sourced S). s.inner) source;
     tables = ap (λ (bytes : List ℕ). with_bytes bytes new.source.tables) (empty ∙ sym none)
         ∙ ap (λ (s : Sourced S). with_bytes (left_of old) s.tables) source;
+    giving = ap (λ (s : Sourced S). s.giving) source;
     notes = subst (λ (s : Sourced S). notes_left s.tables ≤ notes_left old.source.tables) (sym source) (omega arith);
   }
 

@@ -113,9 +113,9 @@ module _ (l : TblLimits) (line_length : ℕ) where
       }
 
   -- a limit's stop is given again and again
-  pub limit_given : (limit : Limit) (inner : Tape → Type 0) (some : Tape) → inner some
-      → Answers (MayGive l line_length (record { pending = []; standing = Over limit }) inner) (MayGive l line_length (record { pending = []; standing = Over limit }) inner) (Ends (Stopped limit))
-  limit_given limit inner some given = record {
+  pub limit_given : (limit : Limit) (line : ℕ) (inner : Tape → Type 0) (some : Tape) → inner some
+      → Answers (MayGive l line_length (record { pending = []; standing = Over limit line }) inner) (MayGive l line_length (record { pending = []; standing = Over limit line }) inner) (Ends (Stopped limit))
+  limit_given limit line inner some given = record {
     before = λ t gives. record { under = gives.under; given = gives.given; is = refl };
     final = λ e ends t gives. gives.is ∙ ap only (ends_same (Stopped limit) e ends);
     some = only (Stopped limit);

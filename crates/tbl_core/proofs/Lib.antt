@@ -13,3 +13,4 @@ pub mod Limiting
 pub mod ReadOn
 pub mod Given
 pub mod GatheredBytes
+pub mod AnyMessages

@@ -91,7 +91,7 @@ module _ (small large : TblLimits) (less : AreNoGreater small large) where
       SameStep (ap (λ (limit : Option Limit). ended_with large limit line_length count r front) (sym (none refl)))
   ended_by_limit line_length count r front so_far (Some limit) other none =
       StopsAtEnd limit count.line (notes (closed r.table))
-      (ap (λ (items : List Item). record { out = items; behind = Over limit })
+      (ap (λ (items : List Item). record { out = items; behind = Over limit count.line })
       (nothing_behind small limit count.line (told_items (notes (closed r.table)))))
       (begins_more _ _ (map OneByte (given_behind other count.line line_length r))
       (begins_more _ _ (told_items (own_told large count.line other))
@@ -168,7 +168,7 @@ module _ (small large : TblLimits) (less : AreNoGreater small large) where
 
   -- over whole inputs: what comes behind a step, or its ending
   behind_stop : (limit : Limit) (line : ℕ) (told : List Told) (s : Step) (rest : Standing → Tape) (whole : Tape)
-      → s ≡ stops small limit line told → rest (Over limit) ≡ record { items = []; ending = Stopped limit }
+      → s ≡ stops small limit line told → rest (Over limit line) ≡ record { items = []; ending = Stopped limit }
       → Begins (told_items told) whole.items
       → IsCutByLimit small (items_then s.out (rest s.behind)) whole
   behind_stop limit line told s rest whole is over begins =
@@ -190,31 +190,31 @@ module _ (small large : TblLimits) (less : AreNoGreater small large) where
       (begins_both out first whole.items begins)
 
   over_step : (so_far : List Told) (s t : Step) (rest others : Standing → Tape) → IsStopped small so_far s t
-      → ((limit : Limit) → rest (Over limit) ≡ record { items = []; ending = Stopped limit })
+      → ((limit : Limit) (line : ℕ) → rest (Over limit line) ≡ record { items = []; ending = Stopped limit })
       → ((behind : Standing) → IsCutByLimit small (rest behind) (others behind))
       → Begins (told_items so_far) (items_then t.out (others t.behind)).items
       → IsCutByLimit small (items_then s.out (rest s.behind)) (items_then t.out (others t.behind))
   over_step so_far s t rest others (SameStep is) over later begins =
       rw is (cut_behind t.out (rest t.behind) (others t.behind) (later t.behind))
   over_step so_far s t rest others (StopsHere limit line is) over later begins =
-      behind_stop limit line so_far s rest _ is (over limit) begins
+      behind_stop limit line so_far s rest _ is (over limit line) begins
   over_step so_far s t rest others (StopsAtEnd limit line told is first) over later begins =
-      behind_stop limit line told s rest _ is (over limit) (begins_more (told_items told) t.out (others t.behind).items first)
+      behind_stop limit line told s rest _ is (over limit line) (begins_more (told_items told) t.out (others t.behind).items first)
 
   ended_cut : (e : Ending) (s : Standing) → IsCutByLimit small (ended_by e s) (ended_by e s)
   ended_cut e s = NoneMet refl
 
   cut_from : (line_length : ℕ) (s : Standing) (items : List Item) (e : Ending)
       → IsCutByLimit small (yields_from small line_length s items e) (yields_from large line_length s items e)
-  cut_from line_length (Over limit) items e = NoneMet refl
+  cut_from line_length (Over limit line) items e = NoneMet refl
   cut_from line_length (Reads now) [] e =
       over_step (told_so_far now.place) (at_ending small line_length e now) (at_ending large line_length e now) (ended_by e)
       (ended_by e) (ending_stopped line_length e now)
-      (λ limit. refl) (ended_cut e) (messages_first large line_length now [] e)
+      (λ limit line. refl) (ended_cut e) (messages_first large line_length now [] e)
   cut_from line_length (Reads now) (OneByte b ∷ items) e =
       over_step (told_so_far now.place) (take small line_length b now) (take large line_length b now)
       (λ s. yields_from small line_length s items e) (λ s. yields_from large line_length s items e)
-      (byte_stopped line_length b now) (λ limit. refl) (λ s. cut_from line_length s items e)
+      (byte_stopped line_length b now) (λ limit line. refl) (λ s. cut_from line_length s items e)
       (messages_first large line_length now (OneByte b ∷ items) e)
   cut_from line_length (Reads now) (OneNote message ∷ items) e = cut_from line_length (Reads now) items e
 

@@ -132,7 +132,7 @@ few_take l line_length b now =
 
 pub few_byte : (l : TblLimits) (line_length b : ℕ) (s : Standing) → IsFew (most_behind l s) l (byte_step l line_length b s)
 few_byte l line_length b (Reads now) = few_take l line_length b now
-few_byte l line_length b (Over limit) = omega arith
+few_byte l line_length b (Over limit line) = omega arith
 
 -- the message of a table that isn't ended
 not_ended_few : (line : ℕ) (bad : Bool) → length (not_ended line bad) ≤ 1
@@ -178,7 +178,7 @@ pub few_ending : (l : TblLimits) (line_length : ℕ) (e : Ending) (s : Standing)
 few_ending l line_length Ended (Reads now) = few_end l line_length now.count now.place
 few_ending l line_length Failed (Reads now) = few_fault l now
 few_ending l line_length (Stopped limit) (Reads now) = few_fault l now
-few_ending l line_length e (Over limit) = omega arith
+few_ending l line_length e (Over limit line) = omega arith
 
 -- the same of whole states: behind a byte
 noted-handed : (given : Option ℕ) (items : List Item) → noted (handed given ++ items) ≡ noted items

@@ -20,7 +20,7 @@ use Rattle.tbl_core.specs.Yields.{at_ending}
 -- the run reads on, so many bytes taken
 abbrev pub ReadsAt : ℕ → Standing → Type 0
 ReadsAt taken (Reads now) = now.count.taken ≡ taken
-ReadsAt taken (Over limit) = ⊥
+ReadsAt taken (Over limit line) = ⊥
 
 -- where nothing is given, it does
 abbrev pub IsQuiet : ℕ → Step → Type 0
@@ -90,12 +90,12 @@ quiet_ending l line_length (Stopped limit) now = λ none. refl
 -- where the run reads on, no limit has stopped it
 pub reads_on : (taken : ℕ) (s : Standing) → ReadsAt taken s → stopped_by s ≡ None
 reads_on taken (Reads now) is = refl
-reads_on taken (Over limit) is = absurd is
+reads_on taken (Over limit line) is = absurd is
 
 -- a byte that gives nothing leaves fewer to take
 fewer_left : (l : TblLimits) (taken : ℕ) (s : Standing) → nat_le l.bytes taken ≡ false → ReadsAt (taken + 1) s → bytes_left l s < l.bytes - taken
 fewer_left l taken (Reads now) more is = rw is (grind (arith, nat_tests))
-fewer_left l taken (Over limit) more is = absurd is
+fewer_left l taken (Over limit line) more is = absurd is
 
 fewer_if : (l : TblLimits) (taken : ℕ) (t : Bool) (a b : Step) → nat_le l.bytes taken ≡ t → (a.out ≡ [] → ⊥) → IsQuiet (taken + 1) b
     → (if t then a else b).out ≡ [] → bytes_left l (if t then a else b).behind < l.bytes - taken
@@ -106,15 +106,15 @@ pub fewer_behind : (l : TblLimits) (line_length b : ℕ) (s : Standing) → stop
     → bytes_left l (byte_step l line_length b s).behind < bytes_left l s
 fewer_behind l line_length b (Reads now) reads none =
     fewer_if l now.count.taken (nat_le l.bytes now.count.taken) _ _ refl (last_given (told_items (told_so_far now.place)) _) (quiet_at l line_length b (counted b now.count) now.place) none
-fewer_behind l line_length b (Over limit) reads none = cc
+fewer_behind l line_length b (Over limit line) reads none = cc
 
 -- and the run reads on
 pub byte_reads : (l : TblLimits) (line_length b : ℕ) (s : Standing) → stopped_by s ≡ None → (byte_step l line_length b s).out ≡ []
     → stopped_by (byte_step l line_length b s).behind ≡ None
 byte_reads l line_length b (Reads now) reads none = reads_on (now.count.taken + 1) _ (quiet_byte l line_length b now none)
-byte_reads l line_length b (Over limit) reads none = cc
+byte_reads l line_length b (Over limit line) reads none = cc
 
 -- a limit of the source's own is as a fault
 pub stop_is_fault : (l : TblLimits) (line_length : ℕ) (limit : Limit) (s : Standing) → ending_step l line_length (Stopped limit) s ≡ ending_step l line_length Failed s
 stop_is_fault l line_length limit (Reads now) = refl
-stop_is_fault l line_length limit (Over other) = refl
+stop_is_fault l line_length limit (Over other line) = refl

@@ -87,7 +87,7 @@ passing_passes l count (Inside front r) bytes n some few = absurd (omega (arith,
 standing_passes : (l : TblLimits) (s : Standing) (bytes : List ℕ) (n : ℕ) → 1 ≤ n → n ≤ length (passing l s bytes)
     → ArePassed l s (passing l s bytes) bytes n
 standing_passes l (Reads now) bytes n some few = passing_passes l now.count now.place bytes n some few
-standing_passes l (Over limit) bytes n some few = absurd (omega (arith, some, few))
+standing_passes l (Over limit line) bytes n some few = absurd (omega (arith, some, few))
 
 -- the same where it is known that nothing is pending
 pub ready_passes : (idle : Bool) (l : TblLimits) (s : Standing) (bytes : List ℕ) (n : ℕ)
@@ -243,4 +243,4 @@ byte_length old new (Some b) given = ap (λ (t : TablesState). t.line_length) (s
 -- where the next byte passes, no limit has stopped the run
 pub passes_reads : (l : TblLimits) (s : Standing) → passes_next l s ≡ true → stopped_by s ≡ None
 passes_reads l (Reads now) passes = refl
-passes_reads l (Over limit) passes = cc
+passes_reads l (Over limit line) passes = cc

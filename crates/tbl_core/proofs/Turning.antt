@@ -27,7 +27,7 @@ pub byte_silent : (l : TblLimits) (line_length b : ℕ) (pending : List Item) (s
 byte_silent l line_length b [] (Reads now) old new none reads answers at out behind =
     subst (λ (here : At). Continues (MayGive l line_length (record { pending = []; standing = Reads now }) old) (MayGive l line_length here new))
     (sym (at_of at _ _ out behind)) (byte_taken l line_length old new b now answers)
-byte_silent l line_length b [] (Over limit) old new none reads answers at out behind = cc
+byte_silent l line_length b [] (Over limit line) old new none reads answers at out behind = cc
 byte_silent l line_length b (item ∷ items) s old new none reads answers at out behind = cc
 
 -- the same of whole states, with the byte that is handed out
@@ -65,7 +65,7 @@ may_be_given start inner some given old new (Some taken) is goes_on = next_given
 -- where the run reads on, it stands so
 pub reads_now : (taken : ℕ) (s : Standing) → ReadsAt taken s → (now : Now) × (s ≡ Reads now)
 reads_now taken (Reads now) is = (now, refl)
-reads_now taken (Over limit) is = absurd is
+reads_now taken (Over limit line) is = absurd is
 
 -- an ending: what is pending behind it is given first, or else it is
 pub ending_next : (l : TblLimits) (line_length : ℕ) (e : Ending) (pending : List Item) (s : Standing) (inner behind : Tape → Type 0)
@@ -86,7 +86,7 @@ ending_next l line_length e [] (Reads now) inner behind none reads answers old n
     given.1 ∙ is ∙ ap (λ (s : Step). record { limits = l; line_length = line_length; at = behind_step s }) step_is in
     rw ends (subst (λ (t : TablesState). Answers (MayGive l line_length (record { pending = []; standing = Reads now }) inner) (MayGive t.limits t.line_length t.at behind) (Ends e))
     (sym here) (ending_given l line_length inner behind e now on.0 answers step_is))
-ending_next l line_length e [] (Over limit) inner behind none reads answers old new taken last is given ends = cc
+ending_next l line_length e [] (Over limit line) inner behind none reads answers old new taken last is given ends = cc
 ending_next l line_length e (item ∷ items) s inner behind none reads answers old new taken last is given ends = cc
 
 -- something was pending: so the inner source was asked before
@@ -115,19 +115,19 @@ given_now inner old new taken given alive =
     next_given (MayGive old.limits old.line_length old.at inner) inner some.0 some.1 old new taken given (λ t gives. gives)
 
 -- and where a limit has stopped the run, its stop
-pub alive_stopped : (inner : Tape → Type 0) (pending : List Item) (s : Standing) (limit : Limit) → s ≡ Over limit
+pub alive_stopped : (inner : Tape → Type 0) (pending : List Item) (s : Standing) (limit : Limit) (line : ℕ) → s ≡ Over limit line
     → IsAlive inner (record { pending = pending; standing = s }) → (some : Tape) × inner some
-alive_stopped inner pending s limit is (WasAsked some given) = (some, given)
-alive_stopped inner pending s limit is (NotAsked fresh) =
-    let wrong : Over limit ≡ at_start.standing = sym is ∙ ap (λ (at : At). at.standing) fresh in
+alive_stopped inner pending s limit line is (WasAsked some given) = (some, given)
+alive_stopped inner pending s limit line is (NotAsked fresh) =
+    let wrong : Over limit line ≡ at_start.standing = sym is ∙ ap (λ (at : At). at.standing) fresh in
     cc
 
 pub stop_given : (l : TblLimits) (line_length : ℕ) (inner : Tape → Type 0) (pending : List Item) (s : Standing) (limit : Limit)
     → pending ≡ [] → stopped_by s ≡ Some limit → IsAlive inner (record { pending = pending; standing = s })
     → Answers (MayGive l line_length (record { pending = pending; standing = s }) inner) (MayGive l line_length (record { pending = pending; standing = s }) inner) (Ends (Stopped limit))
 stop_given l line_length inner [] (Reads now) limit none stopped alive = cc
-stop_given l line_length inner [] (Over other) limit none stopped alive =
+stop_given l line_length inner [] (Over other line) limit none stopped alive =
     let same : other ≡ limit = cc in
-    let some = alive_stopped inner [] (Over other) other refl alive in
-    rw same (limit_given l line_length limit inner some.0 some.1)
+    let some = alive_stopped inner [] (Over other line) other line refl alive in
+    rw same (limit_given l line_length limit line inner some.0 some.1)
 stop_given l line_length inner (item ∷ items) s limit none stopped alive = cc

@@ -1,5 +1,5 @@
 -- A source of which bytes are gathered, and what it may give.
-use Rattle.std.specs.Prelude.{◌≡◌, ℕ, ◌≤◌, List, [], ◌∷◌, ◌++◌, map, drop, refl}
+use Rattle.std.specs.Prelude.{◌≡◌, ℕ, ◌<◌, ◌≤◌, true, List, [], ◌∷◌, ◌++◌, length, map, drop, refl}
 use Rattle.roff_source.specs.declared.source.ByteSource as byte_source
 use Rattle.roff_source.specs.BlockRead.{SomeTape}
 use Rattle.roff_source.specs.Tape.{Tape, OneByte}
@@ -49,8 +49,23 @@ bytes_or (b ∷ bytes) others = b ∷ bytes
 abbrev pub gathered_ready : {S : Type 0} {g : byte_source.Ghosts S} → (S → List ℕ) → GatheredSource S g → List ℕ
 gathered_ready ready s = bytes_or (left_of s) (source_ready ready s.source)
 
--- what may be given stays, and no message is more to come
+-- what may be given stays, and what is known of messages, of which no more are to come
 pub record KeepsGiven {S : Type 0} {g : byte_source.Ghosts S} (old new : GatheredSource S g) : Type 0 where
   pub inner : inner_of new ≡ inner_of old
   pub tables : tables_of new ≡ tables_of old
+  pub giving : new.source.giving ≡ old.source.giving
   pub notes : notes_left new.source.tables ≤ notes_left old.source.tables
+
+-- bytes were gathered behind those that were, and none of them was given
+pub record GathersOn {S : Type 0} {g : byte_source.Ghosts S} (old new : GatheredSource S g) : Type 0 where
+  pub kept : KeepsGiven old new
+  pub next : new.next ≡ old.next
+  pub more : length old.gathered.items ≤ length new.gathered.items
+
+-- where it is known that no message is pending at least 128 bytes were gathered, or all that were pending
+abbrev pub AreGathered : {S : Type 0} {g : byte_source.Ghosts S} → GatheredSource S g → Type 0
+AreGathered s = s.source.giving ≡ true → length s.gathered.items < 128 → s.source.tables.at.pending ≡ []
+
+-- where it is known that no message is to come in front of them, some bytes stand ready if any are to come
+abbrev pub StandReady : {S : Type 0} {g : byte_source.Ghosts S} → GatheredSource S g → Type 0
+StandReady s = s.source.giving ≡ true → 1 ≤ length (tables_of s).at.pending → 1 ≤ length (left_of s)

@@ -27,10 +27,10 @@ pub record Now : Type 0 where
   pub count : Count
   pub place : Place
 
--- the run reads on, or a limit has stopped it
+-- the run reads on, or a limit has stopped it, with the last byte taken on this line
 pub data Standing : Type 0 where
   Reads : (now : Now) → Standing
-  Over : (limit : Limit) → Standing
+  Over : (limit : Limit) (line : ℕ) → Standing
 
 -- what a step gives, and how the run stands behind it
 pub record Step : Type 0 where
@@ -54,12 +54,12 @@ own_told l line (Some limit) = limit_told l limit line ∷ []
 
 -- a limit stops the run: these messages, and its own
 abbrev pub stops : TblLimits → Limit → ℕ → List Told → Step
-stops l limit line told = record { out = told_items told ++ told_item (limit_told l limit line) ∷ []; behind = Over limit }
+stops l limit line told = record { out = told_items told ++ told_item (limit_told l limit line) ∷ []; behind = Over limit line }
 
 -- how the run stands where a limit may have been met
 abbrev pub standing_behind : Option Limit → Now → Standing
 standing_behind None now = Reads now
-standing_behind (Some limit) now = Over limit
+standing_behind (Some limit) now = Over limit now.count.line
 
 -- a byte that passes
 abbrev pub passes : ℕ → Now → Step

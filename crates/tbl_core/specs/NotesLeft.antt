@@ -28,7 +28,7 @@ most_here (Inside front r) = length (notes (closed r.table)) + length r.line + 4
 -- as many as may come: those here, those of the tables that fewer bytes than the limit have, and that of a limit
 abbrev pub most_behind : TblLimits → Standing → ℕ
 most_behind l (Reads now) = 5 * (l.bytes - now.count.taken) + most_here now.place + 1
-most_behind l (Over limit) = 0
+most_behind l (Over limit line) = 0
 
 abbrev pub notes_left : TablesState → ℕ
 notes_left t = noted t.at.pending + most_behind t.limits t.at.standing
@@ -36,4 +36,4 @@ notes_left t = noted t.at.pending + most_behind t.limits t.at.standing
 -- how many bytes may still be taken
 abbrev pub bytes_left : TblLimits → Standing → ℕ
 bytes_left l (Reads now) = l.bytes - now.count.taken
-bytes_left l (Over limit) = 0
+bytes_left l (Over limit line) = 0

@@ -41,7 +41,7 @@ passing_in l count (Inside front r) bytes = []
 
 abbrev pub passing : TblLimits → Standing → List ℕ → List ℕ
 passing l (Reads now) bytes = passing_in l now.count now.place bytes
-passing l (Over limit) bytes = []
+passing l (Over limit line) bytes = []
 
 -- the next byte passes, whatever it is
 abbrev pub is_outside : Place → Bool
@@ -51,11 +51,11 @@ is_outside (Inside front r) = false
 
 abbrev pub reads_outside : Standing → Bool
 reads_outside (Reads now) = is_outside now.place
-reads_outside (Over limit) = false
+reads_outside (Over limit line) = false
 
 abbrev pub passes_next : TblLimits → Standing → Bool
 passes_next l (Reads now) = nat_lt now.count.taken l.bytes && is_outside now.place
-passes_next l (Over limit) = false
+passes_next l (Over limit line) = false
 
 -- how the run stands behind bytes that pass
 abbrev pub passed_in : List ℕ → Count → Place → Now
@@ -66,7 +66,7 @@ passed_in bytes count (Inside front r) = record { count = count; place = Inside 
 
 abbrev pub passed : List ℕ → Standing → Standing
 passed bytes (Reads now) = Reads (passed_in bytes now.count now.place)
-passed bytes (Over limit) = Over limit
+passed bytes (Over limit line) = Over limit line
 
 -- none of these bytes ends its line, or makes it a `.TS` line
 abbrev pub StaysOutside : Front → List ℕ → Type 0

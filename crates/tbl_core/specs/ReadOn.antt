@@ -19,7 +19,7 @@ line_read_in bytes count (Inside front r) =
 
 abbrev pub line_read : List ℕ → Standing → Standing
 line_read bytes (Reads now) = Reads (line_read_in bytes now.count now.place)
-line_read bytes (Over limit) = Over limit
+line_read bytes (Over limit line) = Over limit line
 
 -- so many bytes of the data, one at least, meet no limit
 pub record HasRoom (l : TblLimits) (taken : ℕ) (r : Reading) (n : ℕ) : Type 0 where

@@ -7,11 +7,13 @@ use Rattle.tbl_core.specs.Passing.{passing}
 use Rattle.tbl_core.specs.Tables.{TablesState}
 use Rattle.tbl_core.specs.Yields.{At, MayGive, at_start, yields}
 
--- the inner source, how far tables have come over it, and whether it is known that nothing is pending
+-- the inner source, how far tables have come over it, whether it is known that nothing is pending, and whether it is known that no
+-- message is
 pub record Sourced (S : Type 0) : Type 0 where
   pub inner : S
   pub tables : TablesState
   pub idle : Bool
+  pub giving : Bool
 
 -- what may be given, by what the inner source may give
 abbrev pub source_gives : {S : Type 0} → (S → Tape → Type 0) → Sourced S → Tape → Type 0

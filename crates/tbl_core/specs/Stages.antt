@@ -26,12 +26,12 @@ answering a standing pending items e = record {
 abbrev pub ending_answered : Ending → Standing → List Item → Answered
 ending_answered e standing (item ∷ out) = answering (Gives item) standing out [] e
 ending_answered e (Reads now) [] = answering (Ends e) (Reads now) [] [] e
-ending_answered e (Over limit) [] = answering (Ends (Stopped limit)) (Over limit) [] [] e
+ending_answered e (Over limit line) [] = answering (Ends (Stopped limit)) (Over limit line) [] [] e
 
 -- what is pending is given first; then items are taken, up to the first for which something is given
 abbrev pub answered_by : TblLimits → ℕ → Standing → List Item → List Item → Ending → Answered
 answered_by l line_length standing (item ∷ pending) items e = answering (Gives item) standing pending items e
-answered_by l line_length (Over limit) [] items e = answering (Ends (Stopped limit)) (Over limit) [] items e
+answered_by l line_length (Over limit line) [] items e = answering (Ends (Stopped limit)) (Over limit line) [] items e
 answered_by l line_length (Reads now) [] [] e =
     ending_answered e (at_ending l line_length e now).behind (at_ending l line_length e now).out
 answered_by l line_length (Reads now) [] (OneByte b ∷ items) e =

@@ -25,23 +25,23 @@ pub record TablesState : Type 0 where
   pub at : At
 
 -- a run that a limit has stopped stays where it is
-abbrev pub stays : Limit → Step
-stays limit = record { out = []; behind = Over limit }
+abbrev pub stays : Limit → ℕ → Step
+stays limit line = record { out = []; behind = Over limit line }
 
 -- the step of a byte
 abbrev pub byte_step : TblLimits → ℕ → ℕ → Standing → Step
 byte_step l line_length b (Reads now) = take l line_length b now
-byte_step l line_length b (Over limit) = stays limit
+byte_step l line_length b (Over limit line) = stays limit line
 
 -- the same of one that was counted
 abbrev pub counted_step : TblLimits → ℕ → ℕ → Standing → Step
 counted_step l line_length b (Reads now) = take_at l line_length b now.count now.place
-counted_step l line_length b (Over limit) = stays limit
+counted_step l line_length b (Over limit line) = stays limit line
 
 -- the step of an ending
 abbrev pub ending_step : TblLimits → ℕ → Ending → Standing → Step
 ending_step l line_length e (Reads now) = at_ending l line_length e now
-ending_step l line_length e (Over limit) = stays limit
+ending_step l line_length e (Over limit line) = stays limit line
 
 -- the item of a byte that is handed out, if there is one
 abbrev pub handed : Option ℕ → List Item
@@ -51,12 +51,12 @@ handed (Some b) = OneByte b ∷ []
 -- the limit that has stopped the run
 abbrev pub stopped_by : Standing → Option Limit
 stopped_by (Reads now) = None
-stopped_by (Over limit) = Some limit
+stopped_by (Over limit line) = Some limit
 
--- the line of the last byte that was taken, 1 if there is none; 0 where a limit has stopped the run
+-- the line of the last byte that was taken, 1 if there is none
 abbrev pub line_of : Standing → ℕ
 line_of (Reads now) = now.count.line
-line_of (Over limit) = 0
+line_of (Over limit line) = line
 
 -- an item that was pending was given
 pub record IsGiven (old new : TablesState) (taken : Taken) : Type 0 where
@@ -77,7 +77,7 @@ abbrev pub standing_of : Count → Position → Reading → Standing
 standing_of count (AtOutside front) r = Reads (record { count = count; place = Outside front })
 standing_of count AtRestOfStart r = Reads (record { count = count; place = RestOfStart })
 standing_of count (AtInside front) r = Reads (record { count = count; place = Inside front r })
-standing_of count (AtOver limit) r = Over limit
+standing_of count (AtOver limit) r = Over limit count.line
 
 -- what is pending: messages of the table, one of the run's own, and bytes
 abbrev pub pending_of : KeptTable → Option Told → List Item

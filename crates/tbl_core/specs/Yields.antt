@@ -27,11 +27,11 @@ at_ending l line_length (Stopped limit) now = at_fault now
 -- how what is given ends behind it
 abbrev pub ended_by : Ending → Standing → Tape
 ended_by e (Reads now) = only e
-ended_by e (Over limit) = only (Stopped limit)
+ended_by e (Over limit line) = only (Stopped limit)
 
 -- what is given for the items of an input; its messages aren't passed on
 abbrev pub yields_from : TblLimits → ℕ → Standing → List Item → Ending → Tape
-yields_from l line_length (Over limit) items e = only (Stopped limit)
+yields_from l line_length (Over limit line) items e = only (Stopped limit)
 yields_from l line_length (Reads now) [] e =
     items_then (at_ending l line_length e now).out (ended_by e (at_ending l line_length e now).behind)
 yields_from l line_length (Reads now) (OneByte b ∷ items) e =

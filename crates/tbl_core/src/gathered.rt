@@ -1,10 +1,10 @@
 //! A source over a source with pictures, of which bytes are gathered.
 
 ghost use Rattle.std.specs.Prelude.{◌≡◌, ◌+◌, ◌<◌, ◌≤◌, ◌++◌, [], length, vec_capacity, vec_len};
-ghost use Rattle.std.specs.Prelude.{IfErr, IfOk};
+ghost use Rattle.std.specs.Prelude.{IfErr, IfOk, false, true};
 ghost use Rattle.roff_num.specs.Faults.{Rises};
 ghost use Rattle.roff_source.specs.Tape.{Answers, Ends, Failed, Gives, OneByte, OneNote, answer_of};
-ghost use Rattle.tbl_core.specs.NotesLeft.{notes_left};
+ghost use Rattle.tbl_core.specs.NotesLeft.{gives_byte, notes_left};
 ghost use Rattle.tbl_core.specs.Yields.{at_start};
 
 use crate::source::TblSource;
@@ -32,8 +32,8 @@ pub struct GatheredSource<S: ByteSource> {
 }
 
 impl<S: ByteSource> GatheredSource<S> {
-    ghost use Rattle.tbl_core.specs.Gathered.{KeepsGiven, gathered_gives, inner_of, left_of};
-    ghost use Rattle.tbl_core.specs.Gathered.{tables_of};
+    ghost use Rattle.tbl_core.specs.Gathered.{AreGathered, GathersOn, KeepsGiven, StandReady};
+    ghost use Rattle.tbl_core.specs.Gathered.{gathered_gives, inner_of, left_of, tables_of};
 
     /// A source over `inner`, of which nothing is read yet. The line length is in columns.
     ///
@@ -77,7 +77,8 @@ impl<S: ByteSource> GatheredSource<S> {
         source.into_inner()
     }
 
-    /// Takes the next byte that was gathered.
+    /// Takes the next byte that was gathered. Behind it others stand ready, if any is to come and
+    /// no message in front of it.
     #[inline(always)]
     fn take_gathered(&mut self) -> u8
         requires { self.old.next < vec_len self.old.gathered }
@@ -85,6 +86,7 @@ impl<S: ByteSource> GatheredSource<S> {
             (Gives (OneByte result)) }
         ensures notes { notes_left self.new.source.tables ≤ notes_left self.old.source.tables }
         ensures inner { inner_of self.new ≡ inner_of self.old }
+        ensures ready { StandReady self.new }
     {
         let byte = self.gathered[self.next];
         self.next += 1;
@@ -92,7 +94,8 @@ impl<S: ByteSource> GatheredSource<S> {
         byte
     }
 
-    /// The next item of the source, where no byte that was gathered is left.
+    /// The next item of the source, where no byte that was gathered is left. Behind a byte that was
+    /// pending others stand ready, if any is to come and no message in front of it.
     #[inline(never)]
     fn take_next(&mut self) -> Taken
         requires { left_of self.old ≡ [] }
@@ -104,6 +107,9 @@ impl<S: ByteSource> GatheredSource<S> {
         ensures failures { S.failures (inner_of self.old) ≤ S.failures (inner_of self.new) }
         ensures fault { answer_of result ≡ Ends Failed
             → Rises (S.failures (inner_of self.old)) (S.failures (inner_of self.new)) }
+        ensures giving { 1 ≤ length self.old.source.tables.at.pending
+            → self.new.source.giving ≡ gives_byte (answer_of result) }
+        ensures ready { StandReady self.new }
     {
         let taken = self.source.take();
         self.gather();
@@ -113,18 +119,22 @@ impl<S: ByteSource> GatheredSource<S> {
     /// Gathers bytes, unless some are left.
     #[inline(always)]
     fn gather_more(&mut self)
-        ensures { KeepsGiven self.old self.new }
+        ensures kept { KeepsGiven self.old self.new }
+        ensures ready { StandReady self.new }
     {
         if self.next >= self.gathered.len() {
             self.gather();
         }
     }
 
-    /// Gathers the bytes that are pending, up to a message, as many as there is room for.
+    /// Gathers the bytes that are pending, up to a message, as many as there is room for: at least
+    /// 128 of them, or all.
     #[inline(never)]
     fn gather(&mut self)
         requires { left_of self.old ≡ [] }
-        ensures { KeepsGiven self.old self.new }
+        ensures kept { KeepsGiven self.old self.new }
+        ensures none { self.new.next ≡ 0 }
+        ensures many { AreGathered self.new }
     {
         self.gathered.clear();
         self.next = 0;
@@ -134,7 +144,8 @@ impl<S: ByteSource> GatheredSource<S> {
     /// The same behind those that are gathered.
     #[inline(always)]
     fn gather_pieces(&mut self)
-        ensures { KeepsGiven self.old self.new }
+        ensures on { GathersOn self.old self.new }
+        ensures many { AreGathered self.new }
     {
         for _ in 0..PIECES {
             if !self.gather_piece() {
@@ -146,7 +157,10 @@ impl<S: ByteSource> GatheredSource<S> {
     /// The same of the next bytes that lie together. Answers whether there were some.
     #[inline(always)]
     fn gather_piece(&mut self) -> bool
-        ensures { KeepsGiven self.old self.new }
+        ensures on { GathersOn self.old self.new }
+        ensures some { result ≡ true → vec_len self.old.gathered < vec_len self.new.gathered }
+        ensures none { result ≡ false → self.new.source.giving ≡ true
+            → vec_len self.new.gathered < 1024 → self.new.source.tables.at.pending ≡ [] }
     {
         let room = GATHERED - self.gathered.len();
         let piece = at_most(self.source.pending(), room);

@@ -63,6 +63,7 @@ impl<S: ByteSource> TblSource<S> {
           tables
               = record { limits = limits; line_length = line_length; at = at_start };
           idle = true;
+          giving = false;
         }) }
         ensures refused { IfErr result (λ e. e.1 ≡ inner) }
     {
@@ -90,8 +91,7 @@ impl<S: ByteSource> TblSource<S> {
         inner
     }
 
-    /// The line of the last byte that was taken, 1 if there is none; 0 where a limit has stopped
-    /// the run.
+    /// The line of the last byte that was taken, 1 if there is none.
     pub fn line(&self) -> u32
         ensures { result ≡ line_of self.now.tables.at.standing }
     {
@@ -106,7 +106,7 @@ impl<S: ByteSource> TblSource<S> {
     }
 
     /// The next item to give, or how they end. Items of the inner source are taken for it, unless
-    /// one is pending.
+    /// one is pending. Behind a byte that was pending it is known that no message is.
     pub fn take(&mut self) -> Taken
         ensures takes { Takes (S.gives self.old.inner) (S.gives self.new.inner)
             self.old.tables.limits self.old.tables.line_length self.old.tables.at
@@ -121,6 +121,8 @@ impl<S: ByteSource> TblSource<S> {
         ensures failures { S.failures self.old.inner ≤ S.failures self.new.inner }
         ensures fault { answer_of result ≡ Ends Failed
             → Rises (S.failures self.old.inner) (S.failures self.new.inner) }
+        ensures giving { 1 ≤ length self.old.tables.at.pending
+            → self.new.giving ≡ gives_byte (answer_of result) }
     {
         if let Some(taken) = self.tables.next() {
             self.giving = is_byte(&taken);
@@ -166,11 +168,14 @@ impl<S: ByteSource> TblSource<S> {
     }
 
     /// The next bytes to give that are pending and lie together; none where a message is pending.
+    /// Some are answered where any is pending, if it is known that no message is.
     #[inline(always)]
     pub fn pending(&self) -> &[u8]
         ensures front { IsFront (map OneByte result.now) self.now.tables.at.pending }
         ensures bytes { 1 ≤ length result.now → noted self.now.tables.at.pending ≡ 0 }
         ensures alive { 1 ≤ length result.now → MayGiveSome (S.gives self.now.inner) }
+        ensures some { self.now.giving ≡ true → 1 ≤ length self.now.tables.at.pending
+            → 1 ≤ length result.now }
     {
         if self.giving {
             self.tables.buffered()

@@ -70,15 +70,12 @@ impl Tables {
         })
     }
 
-    /// The line of the last byte that was taken, 1 if there is none; 0 where a limit has stopped
-    /// the run.
+    /// The line of the last byte that was taken, 1 if there is none.
+    #[tactic(auto, using(crate::proofs::Stopping::line_standing))]
     pub(crate) fn line(&self) -> u32
         ensures { result ≡ line_of self.now.at.standing }
     {
-        match self.position {
-            Position::Over(_) => 0,
-            _ => self.count.line,
-        }
+        self.count.line
     }
 
     /// The limits.
@@ -150,11 +147,12 @@ impl Tables {
         self.table.next()
     }
 
-    /// The next bytes that are pending and lie together, where no message is.
+    /// The next bytes that are pending and lie together, where no message is: some, if any is.
     #[inline(always)]
     pub(crate) fn buffered(&self) -> &[u8]
         requires { noted self.now.at.pending ≡ 0 }
-        ensures { IsFront (map OneByte result.now) self.now.at.pending }
+        ensures front { IsFront (map OneByte result.now) self.now.at.pending }
+        ensures some { 1 ≤ length self.now.at.pending → 1 ≤ length result.now }
     {
         self.table.buffered()
     }

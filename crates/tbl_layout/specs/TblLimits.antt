@@ -1,7 +1,7 @@
 -- The values of the limits of tables.
 use Rattle.std.specs.Prelude.{ℕ}
 use Rattle.roff_num.specs.declared.limit.Limit.{Limit}
-use Rattle.roff_num.specs.declared.limit.Limit.TheVariants.{Bytes, Stack, Depth, Line, Traps, Diversions, Environments, Conditions, Output, Store, Names, Rows, Columns, Text, Width, TblBytes}
+use Rattle.roff_num.specs.declared.limit.Limit.TheVariants.{Bytes, Stack, Depth, Line, Traps, Diversions, Environments, Conditions, Output, Store, Names, Rows, Columns, Text, Width, TblBytes, Messages}
 use Rattle.tbl_layout.specs.declared.limits.TblLimits.{TblLimits}
 
 -- the value of a limit; 0 for those of the formatter alone, which never stop tables
@@ -22,6 +22,7 @@ tbl_value_of l Columns = l.columns
 tbl_value_of l Text = l.text
 tbl_value_of l Width = l.width
 tbl_value_of l TblBytes = l.bytes
+tbl_value_of l Messages = l.messages
 
 -- the limits with one of them set; those of the formatter alone aren't here, and change nothing
 abbrev pub tbl_limits_with : TblLimits → Limit → ℕ → TblLimits
@@ -41,7 +42,8 @@ tbl_limits_with l Columns value = record l { columns = value }
 tbl_limits_with l Text value = record l { text = value }
 tbl_limits_with l Width value = record l { width = value }
 tbl_limits_with l TblBytes value = record l { bytes = value }
+tbl_limits_with l Messages value = record l { messages = value }
 
--- the limits that hold where none is set
+-- the limits that hold where none is set: that on messages is the greatest that there is, above all that a run can tell
 abbrev pub default_tbl_limits : TblLimits
-default_tbl_limits = record { rows = 5000; columns = 40; text = 262144; width = 4096; bytes = 50000000; output = 200000000 }
+default_tbl_limits = record { rows = 5000; columns = 40; text = 262144; width = 4096; bytes = 50000000; output = 200000000; messages = 18446744073709551615 }

@@ -21,6 +21,9 @@ pub struct TblLimits {
     pub bytes: u32,
     /// The bytes given to the output, where tables alone are formatted.
     pub output: u32,
+    /// The bytes of messages of the input, where tables alone are formatted. The greatest value
+    /// bounds nothing that a run can tell.
+    pub messages: u64,
 }
 
 impl Default for TblLimits {
@@ -40,6 +43,7 @@ impl TblLimits {
         width: 4_096,
         bytes: 50_000_000,
         output: 200_000_000,
+        messages: u64::MAX,
     };
 
     /// A limit's value where none is set, in decimal, as an option prints it.
@@ -54,6 +58,7 @@ impl TblLimits {
             Limit::Width => "4096",
             Limit::TblBytes => "50000000",
             Limit::Output => "200000000",
+            Limit::Messages => "18446744073709551615",
             Limit::Bytes
             | Limit::Stack
             | Limit::Depth
@@ -68,16 +73,17 @@ impl TblLimits {
     }
 
     /// The value of a limit; 0 for those of the formatter alone, which never stop tables.
-    pub fn value(self, limit: Limit) -> u32
+    pub fn value(self, limit: Limit) -> u64
         ensures { result ≡ tbl_value_of self limit }
     {
         match limit {
-            Limit::Rows => self.rows,
-            Limit::Columns => self.columns,
-            Limit::Text => self.text,
-            Limit::Width => self.width,
-            Limit::TblBytes => self.bytes,
-            Limit::Output => self.output,
+            Limit::Rows => u64::from(self.rows),
+            Limit::Columns => u64::from(self.columns),
+            Limit::Text => u64::from(self.text),
+            Limit::Width => u64::from(self.width),
+            Limit::TblBytes => u64::from(self.bytes),
+            Limit::Output => u64::from(self.output),
+            Limit::Messages => self.messages,
             Limit::Bytes
             | Limit::Stack
             | Limit::Depth
@@ -102,6 +108,7 @@ impl TblLimits {
             Limit::Width => self.width = value,
             Limit::TblBytes => self.bytes = value,
             Limit::Output => self.output = value,
+            Limit::Messages => self.messages = u64::from(value),
             Limit::Bytes
             | Limit::Stack
             | Limit::Depth

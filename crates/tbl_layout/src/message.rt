@@ -16,7 +16,7 @@ pub type OptionText = ArrayVec<u8, 32>;
 #[derive(Drop)]
 pub enum Message {
     /// A limit of this value stopped the run.
-    LimitReached(Limit, u32),
+    LimitReached(Limit, u64),
     /// A table that can't be formatted, or holds what isn't built. It passes as it was read.
     BadFormat,
     /// The input ended within a table.

@@ -70,7 +70,8 @@ impl Piece {
     pub fn from<'a>(self, block: &'a [u8], frame: &'a [u8], at: usize) -> &'a [u8]
         requires within { length (bytes_of block.now frame.now self) ≡ piece_len self }
         requires some { at < piece_len self }
-        ensures { IsFront result.now (drop at (bytes_of block.now frame.now self)) }
+        ensures front { IsFront result.now (drop at (bytes_of block.now frame.now self)) }
+        ensures some { 1 ≤ length result.now }
     {
         match self {
             Piece::Block(from, to) => part_behind(block, from, to, at),

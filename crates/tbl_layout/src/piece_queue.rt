@@ -111,11 +111,13 @@ impl PieceQueue {
         self.piece < self.pieces.len()
     }
 
-    /// The next bytes to give that lie together, where the pieces are parts of these texts.
+    /// The next bytes to give that lie together, where the pieces are parts of these texts: some,
+    /// if any is left.
     #[inline(always)]
     pub fn buffered<'a>(&self, block: &'a [u8], frame: &'a [u8]) -> &'a [u8]
         requires { AreWithin block.now frame.now self.now.pieces }
-        ensures { IsFront result.now (bytes_left block.now frame.now self.now) }
+        ensures front { IsFront result.now (bytes_left block.now frame.now self.now) }
+        ensures some { has_some self.now.pieces ≡ true → 1 ≤ length result.now }
     {
         match self.pieces.get(self.piece) {
             Some(piece) => piece.from(block, frame, self.offset),

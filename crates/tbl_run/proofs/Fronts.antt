@@ -21,6 +21,7 @@ use Rattle.tbl_core.specs.Yields.{At}
 use Rattle.tbl_run.specs.Coming.{HasCome}
 use Rattle.tbl_run.specs.Outcome.{OutputFails, PutsTables}
 use Rattle.tbl_run.specs.Run.{State, Written, ends_telling, initial, step, steps}
+use Rattle.tbl_run.specs.declared.run.Counts.{Counts}
 use Rattle.tbl_run.specs.Turns.{Adds, FailsAdding, FrontFails, FrontWritten, Tells}
 use Rattle.tbl_run.proofs.Turning.{Appends-adds, AppendsBetween-fails}
 
@@ -115,9 +116,9 @@ module _ (l : TblLimits) (line_length : ℕ) (left : Tape) (s : Standing) where
       ∙ ap (λ (out : List ℕ). state rest (record w { output = out })) (append_assoc w.output (b ∷ []) bytes)
 
 -- the first bytes that are pending were put
-module _ {first gives : Tape → Type 0} (l : TblLimits) (line_length : ℕ) (at : At) (front : List ℕ) (count line : ℕ) (start now behind : Seen)
-    (come : HasCome l line_length first gives at count start now) (is : IsFront (map OneByte front) at.pending)
-    (room : count + length front ≤ l.output) (line_is : line ≡ line_of at.standing) (failures : now.failures ≤ behind.failures) where
+module _ {first gives : Tape → Type 0} (l : TblLimits) (line_length : ℕ) (at : At) (front : List ℕ) (counts : Counts) (line : ℕ) (start now behind : Seen)
+    (come : HasCome l line_length first gives at counts start now) (is : IsFront (map OneByte front) at.pending)
+    (room : counts.written + length front ≤ l.output) (line_is : line ≡ line_of at.standing) (failures : now.failures ≤ behind.failures) where
   -- what is pending behind them
   abbrev rest : List Item
   rest = drop (length front) at.pending
@@ -128,8 +129,18 @@ module _ {first gives : Tape → Type 0} (l : TblLimits) (line_length : ℕ) (at
       sym (take-append-drop (length front) at.pending)
       ∙ ap (λ (items : List Item). items ++ rest) (ap (λ (n : ℕ). take n at.pending) (sym len) ∙ is)
 
+  -- what is counted behind them
+  abbrev with_front : Counts
+  with_front = record counts { written = counts.written + length front }
+
+  more_written : {more : Counts} → more ≡ with_front → more.written ≡ counts.written + length front
+  more_written is = ap (λ (c : Counts). c.written) is
+
+  as_told : {more : Counts} → more ≡ with_front → more.told ≡ counts.told
+  as_told is = ap (λ (c : Counts). c.told) is
+
   -- all of them were written, and the loop goes on
-  pub front_goes_on : (more : ℕ) → FrontWritten front count more now.out behind.out now.err behind.err
+  pub front_goes_on : (more : Counts) → FrontWritten front counts more now.out behind.out now.err behind.err
       → HasCome l line_length first gives (record { pending = rest; standing = at.standing }) more start behind
   front_goes_on more put = record {
     taken = come.taken;
@@ -140,7 +151,7 @@ module _ {first gives : Tape → Type 0} (l : TblLimits) (line_length : ℕ) (at
     comes = λ left may.
         bytes_steps l line_length left at.standing front rest come.written come.turns _
         (come.comes left may ∙ ap (λ (items : List Item). state l line_length left at.standing items come.written) split)
-        (omega (arith, room, come.counted));
+        (omega (arith, room, come.counted.written));
     text = Appends-append start.out.contents _ _ come.written.output front come.text put.text.written;
     told = subst (λ (o : Sunk). Appends start.err.contents o.contents come.written.messages) (sym put.messages) come.told;
     faults = record {
@@ -148,8 +159,14 @@ module _ {first gives : Tape → Type 0} (l : TblLimits) (line_length : ℕ) (at
       out = put.text.failures ∙ come.faults.out;
       err = ap (λ (o : Sunk). o.failures) put.messages ∙ come.faults.err;
     };
-    counted = omega (arith, put.counted, come.counted, length-append come.written.output front);
-    within = omega (arith, put.counted, room);
+    counted = record {
+      written = omega (arith, more_written put.counted, come.counted.written, length-append come.written.output front);
+      told = as_told put.counted ∙ come.counted.told;
+    };
+    within = record {
+      written = omega (arith, more_written put.counted, room);
+      told = omega (arith, as_told put.counted, come.within.told);
+    };
   }
 
   -- or the sink failed at one of them
@@ -206,13 +223,13 @@ module _ {first gives : Tape → Type 0} (l : TblLimits) (line_length : ℕ) (at
       came =
           bytes_steps l line_length left at.standing failed.done (OneByte failed.byte ∷ later) come.written come.turns _
           (come.comes left may ∙ ap (λ (items : List Item). state l line_length left at.standing items come.written) pending_is)
-          (omega (arith, room, come.counted, few))
+          (omega (arith, room, come.counted.written, few))
 
       stepped : step l line_length before ≡ after
       stepped =
           let done = length-append come.written.output failed.done in
           byte_step l line_length left at.standing failed.byte later (with_bytes failed.done come.written)
-          (omega (arith, room, come.counted, few, done))
+          (omega (arith, room, come.counted.written, few, done))
 
       output_fails : OutputFails l line_length (items_then come.taken left) left status start behind
       output_fails =

@@ -1,2 +1,3 @@
 pub mod Turning
 pub mod Fronts
+pub mod MessageLimit

@@ -16,6 +16,7 @@ use Rattle.tbl_layout.specs.declared.message.Message.TheVariants.{WriteFailed}
 use Rattle.tbl_run.specs.Coming.{HasCome}
 use Rattle.tbl_run.specs.Outcome.{Completes, MessagesFail, Outcome, OutputFails, PutsTables}
 use Rattle.tbl_run.specs.Run.{State, Written, done_with, initial, step, steps}
+use Rattle.tbl_run.specs.declared.run.Counts.{Counts}
 use Rattle.tbl_run.specs.Turns.{Adds, EndsItself, ErrFails, FailsAdding, GoesOn, OutFails}
 
 -- items and then others are all of them
@@ -38,7 +39,8 @@ AppendsBetween-fails start from to appends adding = record {
 }
 
 -- before the first turn
-pub starts : (l : TblLimits) (line_length : ℕ) (gives : Tape → Type 0) (at : At) (now : Seen) → at ≡ at_start → HasCome l line_length gives gives at 0 now now
+pub starts : (l : TblLimits) (line_length : ℕ) (gives : Tape → Type 0) (at : At) (now : Seen) → at ≡ at_start
+    → HasCome l line_length gives gives at (record { written = 0; told = 0 }) now now
 starts l line_length gives at now is = record {
   taken = [];
   gave = λ left may. may;
@@ -49,13 +51,13 @@ starts l line_length gives at now is = record {
   text = Appends-nothing now.out.contents;
   told = Appends-nothing now.err.contents;
   faults = record { source = omega arith; out = refl; err = refl };
-  counted = refl;
-  within = omega arith;
+  counted = record { written = refl; told = refl };
+  within = record { written = omega arith; told = omega arith };
 }
 
 -- an answer was taken
-module _ {first old new : Tape → Type 0} (l : TblLimits) (line_length : ℕ) (at at' : At) (a : Answer) (count line : ℕ) (start now behind : Seen)
-    (come : HasCome l line_length first old at count start now) (takes : Takes old new l line_length at at' a) (line_is : line ≡ line_of at'.standing)
+module _ {first old new : Tape → Type 0} (l : TblLimits) (line_length : ℕ) (at at' : At) (a : Answer) (counts : Counts) (line : ℕ) (start now behind : Seen)
+    (come : HasCome l line_length first old at counts start now) (takes : Takes old new l line_length at at' a) (line_is : line ≡ line_of at'.standing)
     (failures : now.failures ≤ behind.failures) where
   abbrev taken : List Item
   taken = come.taken ++ takes.taken
@@ -78,8 +80,9 @@ module _ {first old new : Tape → Type 0} (l : TblLimits) (line_length : ℕ) (
   stepped left may = rw (takes.is left may, line_is) refl
 
   -- it was written, and the loop goes on
-  pub goes_on : (count' : ℕ) → GoesOn l line a come.written count' now.out behind.out now.err behind.err → HasCome l line_length first new at' count' start behind
-  goes_on count' went = record {
+  pub goes_on : (counts' : Counts) → GoesOn l line a come.written counts' now.out behind.out now.err behind.err
+      → HasCome l line_length first new at' counts' start behind
+  goes_on counts' went = record {
     taken = taken;
     gave = before;
     turns = suc come.turns;
@@ -187,22 +190,30 @@ module _ {first old new : Tape → Type 0} (l : TblLimits) (line_length : ℕ) (
   }
 
 -- so many bytes, or a message: fewer of both may still be written
-pub falls : (l : TblLimits) (line : ℕ) (a : Answer) (w : Written) (count count' notes notes' : ℕ) (out out' err err' : Sunk) → w.ended ≡ None
-    → GoesOn l line a w count' out out' err err' → count ≡ length w.output → notes' ≤ notes → ((m : List ℕ) → a ≡ Gives (OneNote m) → notes' < notes)
-    → (l.output - count') + notes' < (l.output - count) + notes
-falls l line (Gives (OneByte b)) w count count' notes notes' out out' err err' none went counted fewer note = go (nat_lt (length w.output) l.output) refl
+pub falls : (l : TblLimits) (line : ℕ) (a : Answer) (w : Written) (count : ℕ) (counts' : Counts) (notes notes' : ℕ) (out out' err err' : Sunk)
+    → w.ended ≡ None → GoesOn l line a w counts' out out' err err' → count ≡ length w.output → notes' ≤ notes → ((m : List ℕ) → a ≡ Gives (OneNote m) → notes' < notes)
+    → (l.output - counts'.written) + notes' < (l.output - count) + notes
+falls l line (Gives (OneByte b)) w count counts' notes notes' out out' err err' none went counted fewer note = go (nat_lt (length w.output) l.output) refl
   where
-    go : (x : Bool) → nat_lt (length w.output) l.output ≡ x → (l.output - count') + notes' < (l.output - count) + notes
+    go : (x : Bool) → nat_lt (length w.output) l.output ≡ x → (l.output - counts'.written) + notes' < (l.output - count) + notes
     go true e =
-        let one : count' ≡ length (w.output ++ b ∷ []) = rw e at went.counted in
+        let one : counts'.written ≡ length (w.output ++ b ∷ []) = rw e at went.counted.written in
         let more : length (w.output ++ b ∷ []) ≡ length w.output + 1 = length-append w.output (b ∷ []) in
-        let within : count' ≤ l.output = went.within in
+        let within : counts'.written ≤ l.output = went.within.written in
         omega (arith, one, more, within, counted, fewer)
     go false e =
         let bad = rw e at went.goes_on in
         cc
-falls l line (Gives (OneNote m)) w count count' notes notes' out out' err err' none went counted fewer note =
-    omega (arith, went.counted, counted, note m refl)
-falls l line (Ends Ended) w count count' notes notes' out out' err err' none went counted fewer note = let bad = went.goes_on in cc
-falls l line (Ends Failed) w count count' notes notes' out out' err err' none went counted fewer note = let bad = went.goes_on in cc
-falls l line (Ends (Stopped limit)) w count count' notes notes' out out' err err' none went counted fewer note = let bad = went.goes_on in cc
+falls l line (Gives (OneNote m)) w count counts' notes notes' out out' err err' none went counted fewer note =
+    go (nat_lt l.messages (length (w.messages ++ m))) refl
+  where
+    go : (x : Bool) → nat_lt l.messages (length (w.messages ++ m)) ≡ x → (l.output - counts'.written) + notes' < (l.output - count) + notes
+    go true e =
+        let bad = rw e at went.goes_on in
+        cc
+    go false e =
+        let same : counts'.written ≡ length w.output = rw e at went.counted.written in
+        omega (arith, same, counted, note m refl)
+falls l line (Ends Ended) w count counts' notes notes' out out' err err' none went counted fewer note = let bad = went.goes_on in cc
+falls l line (Ends Failed) w count counts' notes notes' out out' err err' none went counted fewer note = let bad = went.goes_on in cc
+falls l line (Ends (Stopped limit)) w count counts' notes notes' out out' err err' none went counted fewer note = let bad = went.goes_on in cc

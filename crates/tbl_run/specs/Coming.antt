@@ -1,15 +1,17 @@
 -- How far the loop has come, as a run of the definition.
-use Rattle.std.specs.Prelude.{◌≡◌, ℕ, ◌≤◌, List, length, None}
+use Rattle.std.specs.Prelude.{◌≡◌, ℕ, List, None}
 use Rattle.std.specs.Io.KnownBytes.{Appends}
 use Rattle.roff_sinks.specs.Devices.{NoSinkFault, Seen}
 use Rattle.roff_source.specs.Tape.{Item, Tape, items_then}
 use Rattle.tbl_layout.specs.declared.limits.TblLimits.{TblLimits}
 use Rattle.tbl_core.specs.Yields.{At}
 use Rattle.tbl_run.specs.Run.{Written, initial, steps}
+use Rattle.tbl_run.specs.Turns.{Counted, IsWithin}
+use Rattle.tbl_run.specs.declared.run.Counts.{Counts}
 
 -- The source took items; whatever may still come, the run over these and then that comes to a state that reads on, in which
--- so many bytes are written.
-pub record HasCome (l : TblLimits) (line_length : ℕ) (old new : Tape → Type 0) (at : At) (count : ℕ) (before now : Seen) : Type 0 where
+-- so many bytes are written and told.
+pub record HasCome (l : TblLimits) (line_length : ℕ) (old new : Tape → Type 0) (at : At) (counts : Counts) (before now : Seen) : Type 0 where
   pub taken : List Item
   pub gave : (left : Tape) → new left → old (items_then taken left)
   pub turns : ℕ
@@ -20,5 +22,5 @@ pub record HasCome (l : TblLimits) (line_length : ℕ) (old new : Tape → Type 
   pub text : Appends before.out.contents now.out.contents written.output
   pub told : Appends before.err.contents now.err.contents written.messages
   pub faults : NoSinkFault before now
-  pub counted : count ≡ length written.output
-  pub within : count ≤ l.output
+  pub counted : Counted counts written
+  pub within : IsWithin l counts

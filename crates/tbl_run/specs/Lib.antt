@@ -2,3 +2,4 @@ pub mod Run
 pub mod Outcome
 pub mod Turns
 pub mod Coming
+pub mod Laws

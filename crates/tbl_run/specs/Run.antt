@@ -1,6 +1,6 @@
 -- A run of the command `tbl`: what it writes and reports, an answer of its source a step (Lesk, "Usage").
 use Rattle.std.specs.Prelude.{ℕ, zero, suc, List, [], ◌∷◌, ◌++◌, length, nat_lt, Option, Some, None, if◌then◌else◌}
-use Rattle.roff_num.specs.declared.limit.Limit.TheVariants.{Output}
+use Rattle.roff_num.specs.declared.limit.Limit.TheVariants.{Messages, Output}
 use Rattle.roff_run.specs.declared.status.Status.{Status}
 use Rattle.roff_run.specs.declared.status.Status.TheVariants.{Done, Device, Limit as Limited}
 use Rattle.roff_source.specs.Tape.{Answer, Ended, Ends, Failed, Gives, OneByte, OneNote, Stopped, Tape}
@@ -41,10 +41,17 @@ byte_written l line b w =
     then record w { output = w.output ++ b ∷ [] }
     else ends_telling line (LimitReached Output l.output) (Limited Output) w
 
+-- a note of the source is told whole, unless the messages would pass the limit: then the run ends there
+abbrev pub note_told : TblLimits → ℕ → List ℕ → Written → Written
+note_told l line message w =
+    if nat_lt l.messages (length (w.messages ++ message))
+    then ends_telling line (LimitReached Messages l.messages) (Limited Messages) w
+    else record w { messages = w.messages ++ message }
+
 -- what an answer does, where the last byte that was taken stands on this line
 abbrev pub done_with : TblLimits → ℕ → Answer → Written → Written
 done_with l line (Gives (OneByte b)) w = byte_written l line b w
-done_with l line (Gives (OneNote message)) w = record w { messages = w.messages ++ message }
+done_with l line (Gives (OneNote message)) w = note_told l line message w
 done_with l line (Ends Ended) w = record w { ended = Some Done }
 done_with l line (Ends Failed) w = ends_telling line ReadFailed Device w
 done_with l line (Ends (Stopped limit)) w = record w { ended = Some (Limited limit) }

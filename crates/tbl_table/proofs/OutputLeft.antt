@@ -1,12 +1,12 @@
 -- What is still to give of a table, behind the pieces that follow.
 use Rattle.std.proofs.Common.{◌≡◌, ℕ, ◌+◌, ◌-◌, ◌≤◌, true, List, [], ◌∷◌, ◌++◌, length, take, drop, refl, sym, ap, subst, ◌∙◌, arith, append_assoc, ◌==◌}
 use Rattle.std.specs.List.{slice_range}
-use Rattle.std.proofs.lemmas.List.{append-nil}
+use Rattle.std.proofs.lemmas.List.{append-nil, drop_all}
 use Rattle.roff_source.specs.Bytes.{backslash, newline}
 use Rattle.tbl_layout.specs.Format.{has_some}
 use Rattle.tbl_layout.specs.FormatRows.{KeptFormat}
 use Rattle.tbl_table.specs.Joined.{RiseWithin, unjoined}
-use Rattle.tbl_table.specs.Output.{CanGive, CanLine, IsLast, KeptGiving, coming, lines_from}
+use Rattle.tbl_table.specs.Output.{CanGive, CanLine, IsLast, KeptGiving, coming, following, lines_from}
 use Rattle.tbl_layout.specs.PieceQueue.{KeptPieces, bytes_left}
 use Rattle.tbl_layout.specs.Picture.{before_lines, behind_lines, first_format, line_of, next_of, picture}
 use Rattle.tbl_layout.specs.Pieces.{AreWithin, bytes_of_all, some_piece, texts_of}
@@ -26,6 +26,19 @@ use Rattle.tbl_layout.proofs.PiecesWithin.{AreWithin-append, AreWithin-some}
 pub IsLast-some : (pieces : List Piece) (rest : Rest) → has_some pieces ≡ true → IsLast pieces rest
 IsLast-some [] rest some = absurd (cc)
 IsLast-some (piece ∷ pieces) rest some = tt
+
+-- where any byte is to come, a piece is left
+pub some_coming : (t : KeptText) (r : KeptRows) (k : KeptFormat) (pieces : List Piece) (offset room : ℕ) (rest : Rest) (frame : List ℕ) (frame_end : ℕ)
+    → IsLast pieces rest
+    → 1 ≤ length (coming t r k (record { pieces = record { pieces = pieces; offset = offset; room = room }; rest = rest; frame = frame; frame_end = frame_end }))
+    → has_some pieces ≡ true
+some_coming t r k [] offset room rest frame frame_end last some =
+    let behind : List ℕ = drop frame_end frame in
+    let none : drop offset [] ++ following t r k behind rest ≡ [] =
+    ap (λ (bytes : List ℕ). bytes ++ following t r k behind rest) (drop_all offset [] (omega arith)) ∙ ap (following t r k behind) last in
+    let few = ap (λ (bytes : List ℕ). length bytes) none in
+    absurd (omega (arith, few, some))
+some_coming t r k (piece ∷ pieces) offset room rest frame frame_end last some = refl
 
 module _ (block frame : List ℕ) where
   -- the bytes of parts in front of other pieces

@@ -3,6 +3,7 @@
 ghost use Rattle.std.specs.Prelude.{◌≡◌, ◌+◌, ◌*◌, ◌<◌, ◌≤◌, ◌++◌, [], ◌∷◌, true, length, drop};
 ghost use Rattle.std.specs.Prelude.{IfOk};
 ghost use Rattle.std.specs.Option.{MatchOption};
+ghost use Rattle.tbl_layout.specs.Format.{has_some};
 ghost use Rattle.tbl_layout.specs.FormatRows.{KeptFormat};
 ghost use Rattle.tbl_table.specs.Joined.{RiseWithin, unjoined};
 ghost use Rattle.tbl_layout.specs.Parts.{IsFront};
@@ -131,12 +132,13 @@ impl Giving {
         Some(byte)
     }
 
-    /// The next bytes to give that lie together.
+    /// The next bytes to give that lie together: some, if a piece is left.
     #[inline(always)]
     pub fn buffered<'a>(&'a self, text: &'a TableText) -> &'a [u8]
         requires { AreWithin (block_of text.now) self.now.frame self.now.pieces.pieces }
-        ensures { IsFront result.now
+        ensures front { IsFront result.now
             (bytes_left (block_of text.now) self.now.frame self.now.pieces) }
+        ensures some { has_some self.now.pieces.pieces ≡ true → 1 ≤ length result.now }
     {
         self.pieces.buffered(text.block(), self.frame.as_slice())
     }

@@ -201,10 +201,11 @@ impl Table {
         }
     }
 
-    /// The next bytes to give that lie together.
+    /// The next bytes to give that lie together: some, if any is to come.
     #[inline(always)]
     pub fn buffered(&self) -> &[u8]
-        ensures { IsFront result.now self.now.to_come }
+        ensures front { IsFront result.now self.now.to_come }
+        ensures some { 1 ≤ length self.now.to_come → 1 ≤ length result.now }
     {
         self.giving.buffered(&self.text)
     }

@@ -11,11 +11,11 @@ given_to w = kept_by w.sink ++ option_to_list w.overflow
 
 -- Its room, and behind it those bytes. A run only appends to what it is told, so the room stays.
 abbrev pub told_by : WatchedSink → Sunk
-told_by w = record { contents = Some (room_of w.sink ∷ given_to w); failures = faults_of w.sink }
+told_by w = record { contents = Some (room_of w.sink ∷ given_to w); failures = faults_of w.sink; room = 0 }
 
 -- what is told of a sink with so much room that was given nothing
 abbrev pub nothing_told : ℕ → Sunk
-nothing_told room = record { contents = Some (room ∷ []); failures = 0 }
+nothing_told room = record { contents = Some (room ∷ []); failures = 0; room = 0 }
 
 -- it keeps no more than it has room for, is full where a byte had no room, and had no fault where each had
 pub record IsSound (w : WatchedSink) : Type 0 where

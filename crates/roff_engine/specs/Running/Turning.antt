@@ -16,6 +16,8 @@ use Rattle.roff_interpreter.specs.Performing.{Opens, going}
 use Rattle.roff_interpreter.specs.Room.{FewFor}
 use Rattle.roff_run.specs.TurnsToCome.{most_left}
 use Rattle.roff_sinks.specs.Sinks.{Sunk}
+use Rattle.roff_sinks.specs.Told.{told_by}
+use Rattle.roff_sinks.specs.declared.message_sink.MessageSink as message_sink
 use Rattle.roff_sinks.specs.declared.sink.ByteSink as byte_sink
 use Rattle.roff_reader.specs.Reader.State.{fresh_reader}
 use Rattle.roff_reader.specs.Reader.Taken.{IsReady}
@@ -139,10 +141,10 @@ pub record TurnsBy (does : State → State) (gave gives : Tape → Type 0) (note
       → StepDoes does (items_then taken tape) old at.history at.messages → OnOk r (turns_with new notes < turns_with old noted)
 
 -- the same over a source and sinks that were at one state and are at another
-abbrev pub TurnsOver : {S : Type 0} {O : Type 0} {E : Type 0} → byte_source.Ghosts S → byte_sink.Ghosts O → byte_sink.Ghosts E → (State → State) → S → S → O → O → E → E → Coded → Coded
+abbrev pub TurnsOver : {S : Type 0} {O : Type 0} {E : Type 0} → byte_source.Ghosts S → byte_sink.Ghosts O → message_sink.Ghosts E → (State → State) → S → S → O → O → E → E → Coded → Coded
     → Result (Unit {0}) Status → Type 0
 TurnsOver s o e does was is out_was out_is err_was err_is old new r =
-    TurnsBy does (s.gives was) (s.gives is) (s.notes was) (s.notes is) old new (seen (s.failures was) (o.sunk out_was) (e.sunk err_was)) (seen (s.failures is) (o.sunk out_is) (e.sunk err_is)) r
+    TurnsBy does (s.gives was) (s.gives is) (s.notes was) (s.notes is) old new (seen (s.failures was) (o.sunk out_was) (told_by e err_was)) (seen (s.failures is) (o.sunk out_is) (told_by e err_is)) r
 
 -- The run took items of its source, and goes on behind them, whatever the source may still give; no more turns are to come.
 pub record GoesPast (gave gives : Tape → Type 0) (noted notes : ℕ) (old new : Coded) (now behind : Seen) : Type 0 where
@@ -198,10 +200,10 @@ pub record ComesFurther (fewer : Bool) (gave gives : Tape → Type 0) (noted not
       → OnOk r (AreLeft fewer (turns_with new notes) (turns_with old noted))
 
 -- the same over a source and sinks that were at one state and are at another
-abbrev pub ComesFurtherOver : {S : Type 0} {O : Type 0} {E : Type 0} → byte_source.Ghosts S → byte_sink.Ghosts O → byte_sink.Ghosts E → Bool → S → S → O → O → E → E → Coded → Coded
+abbrev pub ComesFurtherOver : {S : Type 0} {O : Type 0} {E : Type 0} → byte_source.Ghosts S → byte_sink.Ghosts O → message_sink.Ghosts E → Bool → S → S → O → O → E → E → Coded → Coded
     → Result (Unit {0}) Status → Type 0
 ComesFurtherOver s o e fewer was is out_was out_is err_was err_is old new r =
-    ComesFurther fewer (s.gives was) (s.gives is) (s.notes was) (s.notes is) old new (seen (s.failures was) (o.sunk out_was) (e.sunk err_was)) (seen (s.failures is) (o.sunk out_is) (e.sunk err_is)) r
+    ComesFurther fewer (s.gives was) (s.gives is) (s.notes was) (s.notes is) old new (seen (s.failures was) (o.sunk out_was) (told_by e err_was)) (seen (s.failures is) (o.sunk out_is) (told_by e err_is)) r
 
 -- what an answer tells that says whether fewer turns are to come: whether the run goes on
 abbrev pub going_on : Result Bool Status → Result (Unit {0}) Status

@@ -7,28 +7,31 @@ ghost use Rattle.roff_engine.specs.Clauses.{Beginning, ReadFailed, Device, Stand
 ghost use Rattle.roff_num.specs.declared.limits.Limits.{Limits as LimitsOf};
 ghost use Rattle.roff_run.specs.Output.{PageHistory};
 ghost use Rattle.roff_run.specs.declared.phase.Phase.TheVariants.{Reading, LastMacro};
+ghost use Rattle.roff_sinks.specs.Told.{told_by};
 
 use super::Running;
 use roff_formatter::Halt;
 use roff_interpreter::halt::status;
-use roff_interpreter::report::report;
+use roff_interpreter::report::{report, tell};
 use roff_run::{Message, Phase, Status};
-use roff_sinks::{ByteSink, SinkFault};
+use roff_scan::Note;
+use roff_sinks::{ByteSink, MessageSink, SinkFault};
 
 impl Running {
     ghost use Rattle.roff_engine.specs.Running.Turning.{DoesItem, MayEnd, MayGoOn};
     ghost use Rattle.roff_interpreter.specs.Ending.{input_ends};
+    ghost use Rattle.roff_engine.specs.Running.Telling.{TellsOrHalts};
     ghost use Rattle.roff_interpreter.specs.Halting.{Halts, line_told};
 
     /// Ends what is half read, before what stays.
-    pub(super) fn end_escape<O: ByteSink, E: ByteSink>(
+    pub(super) fn end_escape<O: ByteSink, E: MessageSink>(
         &mut self,
         out: &mut O,
         err: &mut E,
     ) -> Result<(), Status>
         ensures { (failures : ℕ) → DoesItem self.old.unread.input.line escape_ends self.old self.new
-            (seen failures (O.sunk out.old) (E.sunk err.old))
-            (seen failures (O.sunk out.new) (E.sunk err.new)) result }
+            (seen failures (O.sunk out.old) (told_by E.MessageSink err.old))
+            (seen failures (O.sunk out.new) (told_by E.MessageSink err.new)) result }
     {
         let line = self.unread.line();
         match self.interpreter.take_escape_end(&mut self.unread, out, err) {
@@ -40,15 +43,15 @@ impl Running {
     /// The end of the input: what is half read ends first, then an unfinished line, and then the
     /// phase.
     #[inline(never)]
-    pub(super) fn end_input<O: ByteSink, E: ByteSink>(
+    pub(super) fn end_input<O: ByteSink, E: MessageSink>(
         &mut self,
         out: &mut O,
         err: &mut E,
     ) -> Result<(), Status>
         ensures acts { MayEnd self.old → (failures : ℕ)
             → DoesItem self.old.unread.input.line input_ends self.old self.new
-            (seen failures (O.sunk out.old) (E.sunk err.old))
-            (seen failures (O.sunk out.new) (E.sunk err.new)) result }
+            (seen failures (O.sunk out.old) (told_by E.MessageSink err.old))
+            (seen failures (O.sunk out.new) (told_by E.MessageSink err.new)) result }
         ensures goes_on { (l : LimitsOf) (h : PageHistory)
             → StandFor l h self.old.interpreter.formatter.composer
             → OnOk result (MayGoOn self.old h) }
@@ -67,11 +70,12 @@ impl Running {
     }
 
     /// Reads the last macro behind the input, if there is one.
-    fn read_last_macro<E: ByteSink>(&mut self, err: &mut E) -> Result<(), Status>
+    fn read_last_macro<E: MessageSink>(&mut self, err: &mut E) -> Result<(), Status>
         requires { self.old.phase ≡ Reading }
         ensures { (failures : ℕ) (out : Sunk)
             → DoesItem self.old.unread.input.line (phase_ended Reading) self.old self.new
-            (seen failures out (E.sunk err.old)) (seen failures out (E.sunk err.new)) result }
+            (seen failures out (told_by E.MessageSink err.old))
+            (seen failures out (told_by E.MessageSink err.new)) result }
     {
         let line = self.unread.line();
         self.phase = Phase::LastMacro;
@@ -82,11 +86,15 @@ impl Running {
     }
 
     /// Ends an unfinished line, with nothing half read.
-    fn end_line<O: ByteSink, E: ByteSink>(&mut self, out: &mut O, err: &mut E) -> Result<(), Status>
+    fn end_line<O: ByteSink, E: MessageSink>(
+        &mut self,
+        out: &mut O,
+        err: &mut E,
+    ) -> Result<(), Status>
         ensures { (failures : ℕ) → DoesItem self.old.unread.input.line (input_ended true)
             self.old self.new
-            (seen failures (O.sunk out.old) (E.sunk err.old))
-            (seen failures (O.sunk out.new) (E.sunk err.new)) result }
+            (seen failures (O.sunk out.old) (told_by E.MessageSink err.old))
+            (seen failures (O.sunk out.new) (told_by E.MessageSink err.new)) result }
     {
         let line = self.unread.line();
         match self.interpreter.end_input_line(&mut self.unread, out, err) {
@@ -96,12 +104,16 @@ impl Running {
     }
 
     /// Places the pending line behind the last macro, with nothing half read.
-    fn finish<O: ByteSink, E: ByteSink>(&mut self, out: &mut O, err: &mut E) -> Result<(), Status>
+    fn finish<O: ByteSink, E: MessageSink>(
+        &mut self,
+        out: &mut O,
+        err: &mut E,
+    ) -> Result<(), Status>
         requires { self.old.phase ≡ LastMacro }
         ensures { (failures : ℕ) → DoesItem self.old.unread.input.line (phase_ended LastMacro)
             self.old self.new
-            (seen failures (O.sunk out.old) (E.sunk err.old))
-            (seen failures (O.sunk out.new) (E.sunk err.new)) result }
+            (seen failures (O.sunk out.old) (told_by E.MessageSink err.old))
+            (seen failures (O.sunk out.new) (told_by E.MessageSink err.new)) result }
     {
         let line = self.unread.line();
         self.phase = Phase::Closing;
@@ -114,7 +126,7 @@ impl Running {
     /// How a run ends that was halted. The byte before its last item stood on the first line, and
     /// the last byte taken stands on the second.
     #[inline(never)]
-    pub(super) fn halted<E: ByteSink>(
+    pub(super) fn halted<E: MessageSink>(
         &self,
         halt: Halt,
         line_before: u32,
@@ -123,9 +135,9 @@ impl Running {
     ) -> Status
         ensures { (t : Beginning) (left : Tape) (start : Seen) (failures : ℕ) (out : Sunk)
             → Halts self.now.limits t left (line_told halt line_before line) halt
-            start (seen failures out (E.sunk err.old))
+            start (seen failures out (told_by E.MessageSink err.old))
             → OutcomeOf self.now.limits t left result start
-            (seen failures out (E.sunk err.new)) }
+            (seen failures out (told_by E.MessageSink err.new)) }
     {
         let told = match halt {
             Halt::Refused(_) => line_before,
@@ -134,11 +146,30 @@ impl Running {
         status(halt, self.limits, told, err)
     }
 
+    /// Tells a message of the source's, if there is room for it. The byte before it stood on this
+    /// line. An `Err` is the status of a run that ended.
+    #[inline(never)]
+    pub(super) fn tell_note<E: MessageSink>(
+        &self,
+        note: &Note,
+        line: u32,
+        err: &mut E,
+    ) -> Result<(), Status>
+        ensures { TellsOrHalts self.now.limits line note.now.items
+            (told_by E.MessageSink err.old) (told_by E.MessageSink err.new) result }
+    {
+        match tell(note, err) {
+            Ok(()) => Ok(()),
+            Err(halt) => Err(self.halted(halt, line, line, err)),
+        }
+    }
+
     /// The source failed: the status of the run.
     #[inline(never)]
-    pub(super) fn source_failed<E: ByteSink>(&self, err: &mut E) -> Status
+    pub(super) fn source_failed<E: MessageSink>(&self, err: &mut E) -> Status
         ensures status { result ≡ Device }
-        ensures report { (r : Result (Unit {0}) SinkFault) × Puts (E.sunk err.old) (E.sunk err.new)
+        ensures report { (r : Result (Unit {0}) SinkFault) × Puts (told_by E.MessageSink err.old)
+            (told_by E.MessageSink err.new)
             (message_line self.now.unread.input.line ReadFailed) r }
     {
         let _ = report(Message::ReadFailed, self.unread.line(), err);

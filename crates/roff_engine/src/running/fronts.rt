@@ -1,8 +1,11 @@
 //! Runs: bytes in front that do alike, and are taken together.
 
 ghost use Rattle.std.specs.Prelude.{◌≡◌, [], true};
+ghost use Rattle.roff_engine.specs.Running.BehindText.{begins_above_controls, behind_ready};
+ghost use Rattle.roff_engine.specs.Running.BehindText.{behind_text};
 ghost use Rattle.roff_fronts.specs.Registers.{IsTextAhead};
 ghost use Rattle.roff_fronts.specs.Runs.{IsRun, run_holding};
+ghost use Rattle.roff_input.specs.Unread.{asks_to_take};
 ghost use Rattle.roff_scan.specs.declared.run_kind.RunKind.TheVariants.{CallArguments};
 ghost use Rattle.roff_scan.specs.declared.run_kind.RunKind.TheVariants.{Text as TextRun};
 
@@ -351,6 +354,8 @@ impl Running {
         ensures past { GoesPastOver S.ByteSource source.old source.new self.old self.new }
         ensures half { self.new.unread.input.escapes ≡ self.old.unread.input.escapes }
         ensures reads { self.new.interpreter.reader ≡ self.old.interpreter.reader }
+        ensures behind { asks_to_take self.old.unread ≡ true → result
+            ≡ behind_ready (S.ready source.old) self.old.unread self.new.unread }
     {
         let front = self.unread.front(source);
         if !begins_above_controls(front) {
@@ -365,7 +370,9 @@ impl Running {
 
 /// Whether these bytes begin with one that isn't a control byte. Few fronts behind a tab do.
 #[inline(always)]
-fn begins_above_controls(bytes: &[u8]) -> bool {
+fn begins_above_controls(bytes: &[u8]) -> bool
+    ensures { result ≡ begins_above_controls bytes.now }
+{
     match bytes {
         [first, ..] => *first >= b' ',
         [] => false,
@@ -374,7 +381,9 @@ fn begins_above_controls(bytes: &[u8]) -> bool {
 
 /// What stands at this place of some bytes.
 #[inline(always)]
-pub(super) fn behind_text(bytes: &[u8], place: usize) -> Behind {
+pub(super) fn behind_text(bytes: &[u8], place: usize) -> Behind
+    ensures { result ≡ behind_text bytes.now place }
+{
     if place > bytes.len() {
         return Behind::Other;
     }

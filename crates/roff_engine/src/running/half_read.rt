@@ -5,11 +5,12 @@ ghost use Rattle.roff_run.specs.Run.{awaited, byte_taken, in_front_taken, item_r
 ghost use Rattle.roff_input.specs.Shown.{SeesByte, seen_ahead};
 ghost use Rattle.roff_scan.specs.Unread.Calls.{Looks};
 ghost use Rattle.roff_engine.specs.Clauses.{seen};
+ghost use Rattle.roff_sinks.specs.Told.{told_by};
 
-use super::{Running, report_note};
+use super::Running;
 use roff_run::Status;
 use roff_scan::{ByteSource, Sight, Waiting};
-use roff_sinks::ByteSink;
+use roff_sinks::{ByteSink, MessageSink};
 
 impl Running {
     ghost use Rattle.roff_interpreter.specs.Room.{SeesOn};
@@ -18,13 +19,13 @@ impl Running {
     /// The same where something is half read: it takes the item in front, or waits for a byte, or a
     /// condition that is read decides.
     #[inline(always)]
-    pub(super) fn turn_half_read<S: ByteSource, O: ByteSink, E: ByteSink>(
+    pub(super) fn turn_half_read<S: ByteSource, O: ByteSink, E: MessageSink>(
         &mut self,
         source: &mut S,
         out: &mut O,
         err: &mut E,
     ) -> Result<(), Status>
-        ensures { TurnsOver S.ByteSource O.ByteSink E.ByteSink (λ s. item_read self.old.limits s)
+        ensures { TurnsOver S.ByteSource O.ByteSink E.MessageSink (λ s. item_read self.old.limits s)
             source.old source.new out.old out.new err.old err.new self.old self.new result }
     {
         match self.interpreter.reader.waiting(&self.unread) {
@@ -37,13 +38,13 @@ impl Running {
     /// What is half read waits: what stands in front stays, and ends it, or is taken. Most often it
     /// is a byte that is taken.
     #[inline(never)]
-    fn turn_waiting<S: ByteSource, O: ByteSink, E: ByteSink>(
+    fn turn_waiting<S: ByteSource, O: ByteSink, E: MessageSink>(
         &mut self,
         source: &mut S,
         out: &mut O,
         err: &mut E,
     ) -> Result<(), Status>
-        ensures { TurnsOver S.ByteSource O.ByteSink E.ByteSink
+        ensures { TurnsOver S.ByteSource O.ByteSink E.MessageSink
             (λ s. awaited self.old.limits (seen_ahead s.input.ahead) s)
             source.old source.new out.old out.new err.old err.new self.old self.new result }
     {
@@ -56,13 +57,13 @@ impl Running {
 
     /// What waits looks at the first byte behind any ends of texts.
     #[inline(always)]
-    pub(super) fn turn_looking<S: ByteSource, O: ByteSink, E: ByteSink>(
+    pub(super) fn turn_looking<S: ByteSource, O: ByteSink, E: MessageSink>(
         &mut self,
         source: &mut S,
         out: &mut O,
         err: &mut E,
     ) -> Result<(), Status>
-        ensures { TurnsOver S.ByteSource O.ByteSink E.ByteSink
+        ensures { TurnsOver S.ByteSource O.ByteSink E.MessageSink
             (λ s. awaited self.old.limits (seen_ahead s.input.ahead) s)
             source.old source.new out.old out.new err.old err.new self.old self.new result }
     {
@@ -74,7 +75,7 @@ impl Running {
 
     /// The same, with this byte ahead.
     #[inline(always)]
-    fn turn_seeing<S: ByteSource, O: ByteSink, E: ByteSink>(
+    fn turn_seeing<S: ByteSource, O: ByteSink, E: MessageSink>(
         &mut self,
         byte: u8,
         source: &mut S,
@@ -83,7 +84,7 @@ impl Running {
     ) -> Result<(), Status>
         requires { Looks (S.gives source.old) (S.gives source.old)
             self.old.unread self.old.unread (SeesByte byte) }
-        ensures { TurnsOver S.ByteSource O.ByteSink E.ByteSink
+        ensures { TurnsOver S.ByteSource O.ByteSink E.MessageSink
             (λ s. awaited self.old.limits (seen_ahead s.input.ahead) s)
             source.old source.new out.old out.new err.old err.new self.old self.new result }
     {
@@ -95,21 +96,22 @@ impl Running {
 
     /// The same where no byte is known to stand ahead.
     #[inline(never)]
-    fn turn_asking<S: ByteSource, O: ByteSink, E: ByteSink>(
+    fn turn_asking<S: ByteSource, O: ByteSink, E: MessageSink>(
         &mut self,
         source: &mut S,
         out: &mut O,
         err: &mut E,
     ) -> Result<(), Status>
-        ensures { TurnsOver S.ByteSource O.ByteSink E.ByteSink
+        ensures { TurnsOver S.ByteSource O.ByteSink E.MessageSink
             (λ s. awaited self.old.limits (seen_ahead s.input.ahead) s)
             source.old source.new out.old out.new err.old err.new self.old self.new result }
     {
+        let line = self.unread.line();
         let seen = match self.unread.look(source) {
             Sight::Byte(byte) => Some(byte),
             Sight::Nothing => None,
             Sight::SourceEnd => None,
-            Sight::Note(note) => return report_note(&note, err),
+            Sight::Note(note) => return self.tell_note(&note, line, err),
             Sight::Fault => return Err(self.source_failed(err)),
             Sight::Stop(limit) => return Err(Status::Limit(limit)),
         };
@@ -121,14 +123,14 @@ impl Running {
 
     /// The same above what is half read, where the end of a text is often in front.
     #[inline(always)]
-    fn turn_above<S: ByteSource, O: ByteSink, E: ByteSink>(
+    fn turn_above<S: ByteSource, O: ByteSink, E: MessageSink>(
         &mut self,
         source: &mut S,
         out: &mut O,
         err: &mut E,
     ) -> Result<(), Status>
         requires { SeesOn self.old.unread.input }
-        ensures { TurnsOver S.ByteSource O.ByteSink E.ByteSink
+        ensures { TurnsOver S.ByteSource O.ByteSink E.MessageSink
             (λ s. in_front_taken self.old.limits s.input.ahead s)
             source.old source.new out.old out.new err.old err.new self.old self.new result }
     {
@@ -140,7 +142,7 @@ impl Running {
 
     /// The same where something is half read.
     #[inline(always)]
-    fn take_half<O: ByteSink, E: ByteSink>(
+    fn take_half<O: ByteSink, E: MessageSink>(
         &mut self,
         byte: u8,
         line_before: u32,
@@ -148,8 +150,8 @@ impl Running {
         err: &mut E,
     ) -> Result<(), Status>
         ensures { (failures : ℕ) → DoesItem line_before (byte_taken byte) self.old self.new
-            (seen failures (O.sunk out.old) (E.sunk err.old))
-            (seen failures (O.sunk out.new) (E.sunk err.new)) result }
+            (seen failures (O.sunk out.old) (told_by E.MessageSink err.old))
+            (seen failures (O.sunk out.new) (told_by E.MessageSink err.new)) result }
     {
         let line = self.unread.line();
         match self.interpreter.take_half(byte, &mut self.unread, out, err) {

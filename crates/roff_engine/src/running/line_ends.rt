@@ -7,25 +7,26 @@ ghost use Rattle.roff_run.specs.declared.line_state.LineState.TheVariants.{Colle
 ghost use Rattle.roff_run.specs.declared.purpose.Purpose.TheVariants.{Arguments, Calling};
 ghost use Rattle.roff_run.specs.declared.request.Request.TheVariants.{Break};
 ghost use Rattle.roff_engine.specs.Clauses.{seen};
+ghost use Rattle.roff_sinks.specs.Told.{told_by};
 
 use super::Running;
 use roff_num::ShortName;
 use roff_run::{LineState, Purpose, Request, Status};
-use roff_sinks::ByteSink;
+use roff_sinks::{ByteSink, MessageSink};
 
 impl Running {
     ghost use Rattle.roff_engine.specs.Running.Turning.{DoesItem, going_on};
 
     /// Ends a control line, whose newline was taken. Where the run goes on a line begins.
     #[inline(always)]
-    pub(super) fn end_control_line<O: ByteSink, E: ByteSink>(
+    pub(super) fn end_control_line<O: ByteSink, E: MessageSink>(
         &mut self,
         out: &mut O,
         err: &mut E,
     ) -> Result<bool, Status>
         ensures { (failures : ℕ) → DoesItem self.old.unread.input.line (byte_taken newline)
-            self.old self.new (seen failures (O.sunk out.old) (E.sunk err.old))
-            (seen failures (O.sunk out.new) (E.sunk err.new)) (going_on result) }
+            self.old self.new (seen failures (O.sunk out.old) (told_by E.MessageSink err.old))
+            (seen failures (O.sunk out.new) (told_by E.MessageSink err.new)) (going_on result) }
     {
         match self.end_held_line(out, err) {
             Ok(()) => Ok(true),
@@ -35,14 +36,14 @@ impl Running {
 
     /// The same by what the line is.
     #[inline(always)]
-    fn end_held_line<O: ByteSink, E: ByteSink>(
+    fn end_held_line<O: ByteSink, E: MessageSink>(
         &mut self,
         out: &mut O,
         err: &mut E,
     ) -> Result<(), Status>
         ensures { (failures : ℕ) → DoesItem self.old.unread.input.line (byte_taken newline)
-            self.old self.new (seen failures (O.sunk out.old) (E.sunk err.old))
-            (seen failures (O.sunk out.new) (E.sunk err.new)) result }
+            self.old self.new (seen failures (O.sunk out.old) (told_by E.MessageSink err.old))
+            (seen failures (O.sunk out.new) (told_by E.MessageSink err.new)) result }
     {
         if self.unread.has_open_escape() {
             return self.end_any_line(out, err);
@@ -64,14 +65,14 @@ impl Running {
 
     /// The same of any line.
     #[inline(never)]
-    fn end_any_line<O: ByteSink, E: ByteSink>(
+    fn end_any_line<O: ByteSink, E: MessageSink>(
         &mut self,
         out: &mut O,
         err: &mut E,
     ) -> Result<(), Status>
         ensures { (failures : ℕ) → DoesItem self.old.unread.input.line (byte_taken newline)
-            self.old self.new (seen failures (O.sunk out.old) (E.sunk err.old))
-            (seen failures (O.sunk out.new) (E.sunk err.new)) result }
+            self.old self.new (seen failures (O.sunk out.old) (told_by E.MessageSink err.old))
+            (seen failures (O.sunk out.new) (told_by E.MessageSink err.new)) result }
     {
         let line = self.unread.line();
         self.take(b'\n', line, out, err)
@@ -79,7 +80,7 @@ impl Running {
 
     /// The same of a line that calls this body.
     #[inline(never)]
-    fn end_call_line<O: ByteSink, E: ByteSink>(
+    fn end_call_line<O: ByteSink, E: MessageSink>(
         &mut self,
         name: ShortName,
         out: &mut O,
@@ -88,8 +89,8 @@ impl Running {
         requires line { self.old.interpreter.reader.reading ≡ Collecting (Calling name) }
         requires none_half { self.old.unread.input.escapes ≡ [] }
         ensures { (failures : ℕ) → DoesItem self.old.unread.input.line (byte_taken newline)
-            self.old self.new (seen failures (O.sunk out.old) (E.sunk err.old))
-            (seen failures (O.sunk out.new) (E.sunk err.new)) result }
+            self.old self.new (seen failures (O.sunk out.old) (told_by E.MessageSink err.old))
+            (seen failures (O.sunk out.new) (told_by E.MessageSink err.new)) result }
     {
         let line = self.unread.line();
         match self
@@ -103,7 +104,7 @@ impl Running {
 
     /// The same of a break.
     #[inline(never)]
-    fn end_break<O: ByteSink, E: ByteSink>(
+    fn end_break<O: ByteSink, E: MessageSink>(
         &mut self,
         breaks: bool,
         out: &mut O,
@@ -112,8 +113,8 @@ impl Running {
         requires line { self.old.interpreter.reader.reading ≡ Collecting (Arguments breaks Break) }
         requires none_half { self.old.unread.input.escapes ≡ [] }
         ensures { (failures : ℕ) → DoesItem self.old.unread.input.line (byte_taken newline)
-            self.old self.new (seen failures (O.sunk out.old) (E.sunk err.old))
-            (seen failures (O.sunk out.new) (E.sunk err.new)) result }
+            self.old self.new (seen failures (O.sunk out.old) (told_by E.MessageSink err.old))
+            (seen failures (O.sunk out.new) (told_by E.MessageSink err.new)) result }
     {
         let line = self.unread.line();
         match self
@@ -127,7 +128,7 @@ impl Running {
 
     /// The same of this request.
     #[inline(never)]
-    fn end_request<O: ByteSink, E: ByteSink>(
+    fn end_request<O: ByteSink, E: MessageSink>(
         &mut self,
         breaks: bool,
         request: Request,
@@ -138,8 +139,8 @@ impl Running {
             ≡ Collecting (Arguments breaks request) }
         requires none_half { self.old.unread.input.escapes ≡ [] }
         ensures { (failures : ℕ) → DoesItem self.old.unread.input.line (byte_taken newline)
-            self.old self.new (seen failures (O.sunk out.old) (E.sunk err.old))
-            (seen failures (O.sunk out.new) (E.sunk err.new)) result }
+            self.old self.new (seen failures (O.sunk out.old) (told_by E.MessageSink err.old))
+            (seen failures (O.sunk out.new) (told_by E.MessageSink err.new)) result }
     {
         let line = self.unread.line();
         match self

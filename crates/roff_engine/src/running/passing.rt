@@ -18,7 +18,7 @@ use roff_fronts::{
 use roff_reader::CALL_ARGUMENTS;
 use roff_run::Status;
 use roff_scan::ByteSource;
-use roff_sinks::ByteSink;
+use roff_sinks::{ByteSink, MessageSink};
 
 impl Running {
     ghost use Rattle.roff_engine.specs.Running.Turning.{ComesFurtherOver, GoesFurtherOver};
@@ -26,14 +26,14 @@ impl Running {
 
     /// What [`pass_over`](Running::pass_over) does, unless the bytes in front were told.
     #[inline(always)]
-    pub(crate) fn pass_untold<S: ByteSource, O: ByteSink, E: ByteSink>(
+    pub(crate) fn pass_untold<S: ByteSource, O: ByteSink, E: MessageSink>(
         &mut self,
         is_told: bool,
         source: &mut S,
         out: &mut O,
         err: &mut E,
     ) -> Result<bool, Status>
-        ensures { ComesFurtherOver S.ByteSource O.ByteSink E.ByteSink (says_fewer result)
+        ensures { ComesFurtherOver S.ByteSource O.ByteSink E.MessageSink (says_fewer result)
             source.old source.new out.old out.new err.old err.new
             self.old self.new (going_on result) }
     {
@@ -46,13 +46,13 @@ impl Running {
     /// Takes bytes at once that stand in front: those of a control line, and those that
     /// [`pass_line`](Running::pass_line) takes. Returns whether a line begins behind them.
     #[inline(always)]
-    fn pass_over<S: ByteSource, O: ByteSink, E: ByteSink>(
+    fn pass_over<S: ByteSource, O: ByteSink, E: MessageSink>(
         &mut self,
         source: &mut S,
         out: &mut O,
         err: &mut E,
     ) -> Result<bool, Status>
-        ensures { ComesFurtherOver S.ByteSource O.ByteSink E.ByteSink (says_fewer result)
+        ensures { ComesFurtherOver S.ByteSource O.ByteSink E.MessageSink (says_fewer result)
             source.old source.new out.old out.new err.old err.new
             self.old self.new (going_on result) }
     {
@@ -66,7 +66,7 @@ impl Running {
     /// Takes the front of a control line at once, if it stands in front, and then bytes behind it,
     /// or takes the end of a call. Returns whether a line begins behind them.
     #[inline(never)]
-    fn pass_control_line<S: ByteSource, O: ByteSink, E: ByteSink>(
+    fn pass_control_line<S: ByteSource, O: ByteSink, E: MessageSink>(
         &mut self,
         source: &mut S,
         out: &mut O,
@@ -76,7 +76,7 @@ impl Running {
         requires none_due { due self.old.interpreter.reader.reading ≡ None }
         requires takes { TakesAtBeginning self.old.interpreter.reader.reading }
         requires none_half { self.old.unread.input.escapes ≡ [] }
-        ensures { ComesFurtherOver S.ByteSource O.ByteSink E.ByteSink (says_fewer result)
+        ensures { ComesFurtherOver S.ByteSource O.ByteSink E.MessageSink (says_fewer result)
             source.old source.new out.old out.new err.old err.new
             self.old self.new (going_on result) }
     {
@@ -86,7 +86,7 @@ impl Running {
 
     /// The same behind blanks where a branch begins.
     #[inline(always)]
-    fn pass_control_front<S: ByteSource, O: ByteSink, E: ByteSink>(
+    fn pass_control_front<S: ByteSource, O: ByteSink, E: MessageSink>(
         &mut self,
         source: &mut S,
         out: &mut O,
@@ -96,7 +96,7 @@ impl Running {
         requires none_due { due self.old.interpreter.reader.reading ≡ None }
         requires takes { TakesAtBeginning self.old.interpreter.reader.reading }
         requires none_half { self.old.unread.input.escapes ≡ [] }
-        ensures { ComesFurtherOver S.ByteSource O.ByteSink E.ByteSink (says_fewer result)
+        ensures { ComesFurtherOver S.ByteSource O.ByteSink E.MessageSink (says_fewer result)
             source.old source.new out.old out.new err.old err.new
             self.old self.new (going_on result) }
     {

@@ -1,13 +1,14 @@
 //! What is due before anything more is taken.
 
-ghost use Rattle.std.specs.Prelude.{◌≡◌, ℕ, Some};
+ghost use Rattle.std.specs.Prelude.{◌≡◌, ℕ, Err, Some, false, true};
 ghost use Rattle.roff_engine.specs.Clauses.{LineStart, Sunk, seen, due, Leaves, Tells};
 ghost use Rattle.roff_run.specs.Reading.Returns.{behind_return};
+ghost use Rattle.roff_sinks.specs.Told.{told_by};
 
 use super::Running;
-use roff_interpreter::report::report_text;
+use roff_interpreter::report::{report_abort, tell_text};
 use roff_run::{Due, Phase, Status};
-use roff_sinks::ByteSink;
+use roff_sinks::MessageSink;
 
 impl Running {
     ghost use Rattle.roff_engine.specs.Running.Turning.{DoesDue};
@@ -15,9 +16,10 @@ impl Running {
 
     /// Does what is due before anything more is taken. An `Err` is the status of a run that ended.
     #[inline(always)]
-    pub(crate) fn do_due<E: ByteSink>(&mut self, err: &mut E) -> Result<(), Status>
+    pub(crate) fn do_due<E: MessageSink>(&mut self, err: &mut E) -> Result<(), Status>
         ensures { (failures : ℕ) (out : Sunk) → DoesDue self.old self.new
-            (seen failures out (E.sunk err.old)) (seen failures out (E.sunk err.new)) result }
+            (seen failures out (told_by E.MessageSink err.old))
+            (seen failures out (told_by E.MessageSink err.new)) result }
     {
         match self.interpreter.reader.due() {
             None => Ok(()),
@@ -27,13 +29,15 @@ impl Running {
 
     /// The same of what is due.
     #[inline(never)]
-    fn carry_out<E: ByteSink>(&mut self, what: Due, err: &mut E) -> Result<(), Status>
+    fn carry_out<E: MessageSink>(&mut self, what: Due, err: &mut E) -> Result<(), Status>
         requires { due self.old.interpreter.reader.reading ≡ Some what }
         ensures { (failures : ℕ) (out : Sunk) → DoesDue self.old self.new
-            (seen failures out (E.sunk err.old)) (seen failures out (E.sunk err.new)) result }
+            (seen failures out (told_by E.MessageSink err.old))
+            (seen failures out (told_by E.MessageSink err.new)) result }
     {
         match what {
-            Due::Tells { aborts } => self.report_held_text(aborts, err),
+            Due::Tells { aborts: true } => Err(self.abort(err)),
+            Due::Tells { aborts: false } => self.tell_held_text(err),
             Due::Leaves => {
                 self.leave_input();
                 Ok(())
@@ -84,20 +88,37 @@ impl Running {
         }
     }
 
-    /// Tells a message, which may end the run.
-    fn report_held_text<E: ByteSink>(&mut self, aborts: bool, err: &mut E) -> Result<(), Status>
-        requires { due self.old.interpreter.reader.reading ≡ Some (Tells aborts) }
+    /// Tells a message, if there is room for it.
+    fn tell_held_text<E: MessageSink>(&mut self, err: &mut E) -> Result<(), Status>
+        requires { due self.old.interpreter.reader.reading ≡ Some (Tells false) }
         ensures { (failures : ℕ) (out : Sunk) → DoesDue self.old self.new
-            (seen failures out (E.sunk err.old)) (seen failures out (E.sunk err.new)) result }
+            (seen failures out (told_by E.MessageSink err.old))
+            (seen failures out (told_by E.MessageSink err.new)) result }
     {
-        match report_text(self.unread.begun(), aborts, err) {
-            Ok(()) if aborts => Err(Status::Aborted),
+        match tell_text(self.unread.begun(), err) {
             Ok(()) => {
                 self.unread.begin_arguments();
                 self.interpreter.reader.begin_next_line();
                 Ok(())
             }
-            Err(_) => Err(Status::Device),
+            Err(halt) => {
+                let line = self.unread.line();
+                Err(self.halted(halt, line, line, err))
+            }
+        }
+    }
+
+    /// A message ends the run: its status.
+    fn abort<E: MessageSink>(&self, err: &mut E) -> Status
+        requires { due self.now.interpreter.reader.reading ≡ Some (Tells true) }
+        ensures { (failures : ℕ) (out : Sunk) → DoesDue self.now self.now
+            (seen failures out (told_by E.MessageSink err.old))
+            (seen failures out (told_by E.MessageSink err.new))
+            (Err result) }
+    {
+        match report_abort(self.unread.begun(), err) {
+            Ok(()) => Status::Aborted,
+            Err(_) => Status::Device,
         }
     }
 }

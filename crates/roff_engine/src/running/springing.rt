@@ -3,25 +3,27 @@
 ghost use Rattle.roff_engine.specs.Clauses.{Sunk, seen};
 ghost use Rattle.std.specs.Prelude.{ℕ, ◌≡◌, ◌≤◌, [], Some, drop};
 ghost use Rattle.roff_formatter.specs.Formatter.Sprung.{event_going_on, left_behind};
+ghost use Rattle.roff_sinks.specs.Told.{told_by};
 
 use super::Running;
 use roff_formatter::{Halt, Sprung};
 use roff_layout::LayoutEvent;
 use roff_run::{PageEvent, Status};
-use roff_sinks::ByteSink;
+use roff_sinks::MessageSink;
 
 impl Running {
     ghost use Rattle.roff_engine.specs.Running.Springing.{GoesOn, PutsBack};
 
     /// Goes on behind the events of an item, of which one may have sprung a macro: that is read.
     #[inline(always)]
-    pub(super) fn go_on<E: ByteSink>(
+    pub(super) fn go_on<E: MessageSink>(
         &mut self,
         sprung: Option<Sprung>,
         err: &mut E,
     ) -> Result<(), Status>
         ensures { (failures : ℕ) (out : Sunk) → GoesOn sprung self.old self.new
-            (seen failures out (E.sunk err.old)) (seen failures out (E.sunk err.new)) result }
+            (seen failures out (told_by E.MessageSink err.old))
+            (seen failures out (told_by E.MessageSink err.new)) result }
     {
         match sprung {
             None => Ok(()),
@@ -32,9 +34,10 @@ impl Running {
     /// Puts the events back that were left, and reads a macro that sprang.
     #[cold]
     #[inline(never)]
-    fn spring<E: ByteSink>(&mut self, sprung: Sprung, err: &mut E) -> Result<(), Status>
+    fn spring<E: MessageSink>(&mut self, sprung: Sprung, err: &mut E) -> Result<(), Status>
         ensures { (failures : ℕ) (out : Sunk) → GoesOn (Some sprung) self.old self.new
-            (seen failures out (E.sunk err.old)) (seen failures out (E.sunk err.new)) result }
+            (seen failures out (told_by E.MessageSink err.old))
+            (seen failures out (told_by E.MessageSink err.new)) result }
     {
         self.put_left_back(sprung);
         let line = self.unread.line();

@@ -6,12 +6,13 @@ ghost use Rattle.roff_run.specs.Output.{PageHistory, written};
 ghost use Rattle.roff_run.specs.Run.{initial, stopped_by, with_registers};
 ghost use Rattle.roff_run.specs.declared.start.Start.{Start as StartOf};
 ghost use Rattle.roff_input.specs.declared.looked.Looked.TheVariants.{Nothing};
+ghost use Rattle.roff_sinks.specs.Told.{told_by};
 
 use super::Running;
 use roff_formatter::Halt;
 use roff_num::{Limit, Num};
 use roff_run::{Start, Status};
-use roff_sinks::ByteSink;
+use roff_sinks::MessageSink;
 
 impl Running {
     ghost use Rattle.roff_engine.specs.Running.Turning.{state_at};
@@ -19,7 +20,7 @@ impl Running {
 
     /// Sets the registers that are given. An `Err` is the status of a run that ended: the limit on
     /// names refused one.
-    pub(crate) fn begin<E: ByteSink>(&mut self, start: &Start, err: &mut E) -> Result<(), Status>
+    pub(crate) fn begin<E: MessageSink>(&mut self, start: &Start, err: &mut E) -> Result<(), Status>
         ensures begins { OnOk result
             (Begins (pages_given start.now) self.old self.new start.now.registers.items) }
         ensures err { OnOk result (err.new ≡ err.old) }
@@ -29,7 +30,8 @@ impl Running {
             (state_at tape self.old (pages_given start.now) [])
             → (failures : ℕ) (out : Sunk) → IfErr result (λ status.
             Outcome self.old.limits start.now tape tape status
-            (seen failures out (E.sunk err.old)) (seen failures out (E.sunk err.new))) }
+            (seen failures out (told_by E.MessageSink err.old))
+            (seen failures out (told_by E.MessageSink err.new))) }
     {
         match self.set_registers(start.registers.as_slice()) {
             Ok(()) => Ok(()),
@@ -57,13 +59,14 @@ impl Running {
 
     /// A limit refused what is given: the status of the run.
     #[inline(never)]
-    fn refuse<E: ByteSink>(&self, limit: Limit, err: &mut E) -> Status
+    fn refuse<E: MessageSink>(&self, limit: Limit, err: &mut E) -> Status
         ensures { (given : StartOf) (tape : Tape) (h : PageHistory) (failures : ℕ) (out : Sunk)
             → self.now.unread.looked ≡ Nothing → written h ≡ []
             → initial self.now.limits given tape
             ≡ stopped_by self.now.limits limit (state_at tape self.now h [])
             → Outcome self.now.limits given tape tape result
-            (seen failures out (E.sunk err.old)) (seen failures out (E.sunk err.new)) }
+            (seen failures out (told_by E.MessageSink err.old))
+            (seen failures out (told_by E.MessageSink err.new)) }
     {
         let line = self.unread.line();
         self.halted(Halt::Refused(limit), line, line, err)

@@ -10,12 +10,13 @@ ghost use Rattle.roff_run.specs.Run.{byte_taken, item_read};
 ghost use Rattle.roff_fronts.specs.Runs.{IsRun};
 ghost use Rattle.roff_run.specs.declared.line_state.LineState.TheVariants.{Text as InText};
 ghost use Rattle.roff_scan.specs.declared.run_kind.RunKind.TheVariants.{Text as TextRun};
+ghost use Rattle.roff_sinks.specs.Told.{told_by};
 
 use super::fronts::{Behind, behind_text};
 use super::{Running, untold};
 use roff_run::{LineState, Status, TextLine};
 use roff_scan::ByteSource;
-use roff_sinks::ByteSink;
+use roff_sinks::{ByteSink, MessageSink};
 
 impl Running {
     ghost use Rattle.roff_engine.specs.Running.Turning.{ComesFurtherOver, DoesItem, TellsOver};
@@ -24,7 +25,7 @@ impl Running {
     /// Takes the item in front on this text line, where nothing is half read: most often a byte
     /// that stands ready, behind which bytes are told. Returns whether they are.
     #[inline(always)]
-    pub(super) fn turn_text<S: ByteSource, O: ByteSink, E: ByteSink>(
+    pub(super) fn turn_text<S: ByteSource, O: ByteSink, E: MessageSink>(
         &mut self,
         line: TextLine,
         source: &mut S,
@@ -33,7 +34,7 @@ impl Running {
     ) -> Result<bool, Status>
         requires line { self.old.interpreter.reader.reading ≡ InText line }
         requires none_half { self.old.unread.input.escapes ≡ [] }
-        ensures { TurnsOver S.ByteSource O.ByteSink E.ByteSink (λ s. item_read self.old.limits s)
+        ensures { TurnsOver S.ByteSource O.ByteSink E.MessageSink (λ s. item_read self.old.limits s)
             source.old source.new out.old out.new err.old err.new
             self.old self.new (going_on result) }
     {
@@ -49,14 +50,14 @@ impl Running {
 
     /// The same where a line begins.
     #[inline(always)]
-    pub(super) fn turn_first<S: ByteSource, O: ByteSink, E: ByteSink>(
+    pub(super) fn turn_first<S: ByteSource, O: ByteSink, E: MessageSink>(
         &mut self,
         source: &mut S,
         out: &mut O,
         err: &mut E,
     ) -> Result<bool, Status>
         requires none_half { self.old.unread.input.escapes ≡ [] }
-        ensures { TurnsOver S.ByteSource O.ByteSink E.ByteSink (λ s. item_read self.old.limits s)
+        ensures { TurnsOver S.ByteSource O.ByteSink E.MessageSink (λ s. item_read self.old.limits s)
             source.old source.new out.old out.new err.old err.new
             self.old self.new (going_on result) }
     {
@@ -73,7 +74,7 @@ impl Running {
     /// Takes a byte where a line begins; the byte before it stood on this line. Bytes that often
     /// begin one have a copy each.
     #[inline(always)]
-    fn take_first<O: ByteSink, E: ByteSink>(
+    fn take_first<O: ByteSink, E: MessageSink>(
         &mut self,
         byte: u8,
         line_before: u32,
@@ -81,8 +82,8 @@ impl Running {
         err: &mut E,
     ) -> Result<(), Status>
         ensures { (failures : ℕ) → DoesItem line_before (byte_taken byte) self.old self.new
-            (seen failures (O.sunk out.old) (E.sunk err.old))
-            (seen failures (O.sunk out.new) (E.sunk err.new)) result }
+            (seen failures (O.sunk out.old) (told_by E.MessageSink err.old))
+            (seen failures (O.sunk out.new) (told_by E.MessageSink err.new)) result }
     {
         match byte {
             b'\n' => self.take(b'\n', line_before, out, err),
@@ -96,14 +97,14 @@ impl Running {
     /// ends the line. Returns whether they are told as far as they can be; behind a newline they
     /// are told at the next turn.
     #[inline(always)]
-    fn tell_behind<S: ByteSource, O: ByteSink, E: ByteSink>(
+    fn tell_behind<S: ByteSource, O: ByteSink, E: MessageSink>(
         &mut self,
         byte: u8,
         source: &mut S,
         out: &mut O,
         err: &mut E,
     ) -> Result<bool, Status>
-        ensures { ComesFurtherOver S.ByteSource O.ByteSink E.ByteSink false
+        ensures { ComesFurtherOver S.ByteSource O.ByteSink E.MessageSink false
             source.old source.new out.old out.new err.old err.new
             self.old self.new (going_on result) }
     {
@@ -120,7 +121,7 @@ impl Running {
     /// Takes a byte on this text line, where nothing is half read; the byte before it stood on this
     /// line. Bytes that come often have a copy each, for which the compiler knows the byte.
     #[inline(always)]
-    fn take_text<O: ByteSink, E: ByteSink>(
+    fn take_text<O: ByteSink, E: MessageSink>(
         &mut self,
         text_line: TextLine,
         byte: u8,
@@ -131,8 +132,8 @@ impl Running {
         requires line { self.old.interpreter.reader.reading ≡ InText text_line }
         requires none_half { self.old.unread.input.escapes ≡ [] }
         ensures { (failures : ℕ) → DoesItem line_before (byte_taken byte) self.old self.new
-            (seen failures (O.sunk out.old) (E.sunk err.old))
-            (seen failures (O.sunk out.new) (E.sunk err.new)) result }
+            (seen failures (O.sunk out.old) (told_by E.MessageSink err.old))
+            (seen failures (O.sunk out.new) (told_by E.MessageSink err.new)) result }
     {
         match byte {
             b'\n' => self.take_on_line(text_line, b'\n', line_before, out, err),
@@ -144,7 +145,7 @@ impl Running {
 
     /// The same of any byte.
     #[inline(always)]
-    fn take_on_line<O: ByteSink, E: ByteSink>(
+    fn take_on_line<O: ByteSink, E: MessageSink>(
         &mut self,
         text_line: TextLine,
         byte: u8,
@@ -155,8 +156,8 @@ impl Running {
         requires line { self.old.interpreter.reader.reading ≡ InText text_line }
         requires none_half { self.old.unread.input.escapes ≡ [] }
         ensures { (failures : ℕ) → DoesItem line_before (byte_taken byte) self.old self.new
-            (seen failures (O.sunk out.old) (E.sunk err.old))
-            (seen failures (O.sunk out.new) (E.sunk err.new)) result }
+            (seen failures (O.sunk out.old) (told_by E.MessageSink err.old))
+            (seen failures (O.sunk out.new) (told_by E.MessageSink err.new)) result }
     {
         let line = self.unread.line();
         match self

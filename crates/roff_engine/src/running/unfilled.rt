@@ -17,6 +17,7 @@ ghost use Rattle.roff_run.specs.Run.{byte_taken};
 ghost use Rattle.roff_run.specs.declared.line_state.LineState.TheVariants.{Text as InText};
 ghost use Rattle.roff_run.specs.declared.line_state.TextLine.{TextLine as TextLineOf};
 ghost use Rattle.roff_source.specs.Bytes.{newline};
+ghost use Rattle.roff_sinks.specs.Told.{told_by};
 
 use super::Running;
 use super::texts::begin_with_text;
@@ -24,20 +25,21 @@ use roff_formatter::{Halt, Sprung};
 use roff_interpreter::Interpreter;
 use roff_run::{LineState, Status};
 use roff_scan::ByteSource;
-use roff_sinks::ByteSink;
+use roff_sinks::{ByteSink, MessageSink};
 
 impl Running {
     ghost use Rattle.roff_engine.specs.Running.Turning.{ComesFurtherOver, DoesItem};
 
     /// What [`end_line_at_once`](Running::end_line_at_once) does where a line begins.
     #[inline(always)]
-    pub(super) fn begin_and_end_line<S: ByteSource, O: ByteSink, E: ByteSink>(
+    pub(super) fn begin_and_end_line<S: ByteSource, O: ByteSink, E: MessageSink>(
         &mut self,
         source: &mut S,
         out: &mut O,
         err: &mut E,
     ) -> Option<Result<(), Status>>
-        ensures ends { IfSome result (λ r. ComesFurtherOver S.ByteSource O.ByteSink E.ByteSink true
+        ensures ends { IfSome result (λ r.
+            ComesFurtherOver S.ByteSource O.ByteSink E.MessageSink true
             source.old source.new out.old out.new err.old err.new self.old self.new r) }
         ensures unchanged { result ≡ None → (self.new ≡ self.old) × (source.new ≡ source.old) }
         ensures sinks { result ≡ None → (out.new ≡ out.old) × (err.new ≡ err.old) }
@@ -51,13 +53,14 @@ impl Running {
     /// Tells a text line that stands in front up to its newline, ends it, and places the line that
     /// this finishes, where words aren't measured. Else nothing happens.
     #[inline(always)]
-    pub(super) fn end_line_at_once<S: ByteSource, O: ByteSink, E: ByteSink>(
+    pub(super) fn end_line_at_once<S: ByteSource, O: ByteSink, E: MessageSink>(
         &mut self,
         source: &mut S,
         out: &mut O,
         err: &mut E,
     ) -> Option<Result<(), Status>>
-        ensures ends { IfSome result (λ r. ComesFurtherOver S.ByteSource O.ByteSink E.ByteSink true
+        ensures ends { IfSome result (λ r.
+            ComesFurtherOver S.ByteSource O.ByteSink E.MessageSink true
             source.old source.new out.old out.new err.old err.new self.old self.new r) }
         ensures unchanged { result ≡ None → (self.new ≡ self.old) × (source.new ≡ source.old) }
         ensures sinks { result ≡ None → (out.new ≡ out.old) × (err.new ≡ err.old) }
@@ -70,14 +73,15 @@ impl Running {
 
     /// The same where nothing is half read.
     #[inline(never)]
-    fn end_line_in_front<S: ByteSource, O: ByteSink, E: ByteSink>(
+    fn end_line_in_front<S: ByteSource, O: ByteSink, E: MessageSink>(
         &mut self,
         source: &mut S,
         out: &mut O,
         err: &mut E,
     ) -> Option<Result<(), Status>>
         requires none_half { self.old.unread.input.escapes ≡ [] }
-        ensures ends { IfSome result (λ r. ComesFurtherOver S.ByteSource O.ByteSink E.ByteSink true
+        ensures ends { IfSome result (λ r.
+            ComesFurtherOver S.ByteSource O.ByteSink E.MessageSink true
             source.old source.new out.old out.new err.old err.new self.old self.new r) }
         ensures unchanged { result ≡ None → (self.new ≡ self.old) × (source.new ≡ source.old) }
         ensures sinks { result ≡ None → (out.new ≡ out.old) × (err.new ≡ err.old) }
@@ -95,7 +99,7 @@ impl Running {
 
     /// Goes on behind a newline that was taken, by what became of its events.
     #[inline(always)]
-    fn go_on_behind<E: ByteSink>(
+    fn go_on_behind<E: MessageSink>(
         &mut self,
         done: Result<Option<Sprung>, Halt>,
         err: &mut E,
@@ -104,10 +108,12 @@ impl Running {
             (out_old out_new : Sunk)
             → DoesTaking (λ k. taking k (InText line) self.old.unread.input newline) []
             (told_as was told (InText line)) self.old.interpreter self.old.unread self.old.unread
-            (sinks out_old (E.sunk err.old)) (sinks out_new (E.sunk err.old)) done
+            (sinks out_old (told_by E.MessageSink err.old))
+            (sinks out_new (told_by E.MessageSink err.old)) done
             → DoesItem self.old.unread.input.line (byte_taken newline)
             (record self.old { interpreter = told_as was told (InText line) }) self.new
-            (seen failures out_old (E.sunk err.old)) (seen failures out_new (E.sunk err.new))
+            (seen failures out_old (told_by E.MessageSink err.old)) (seen failures out_new
+            (told_by E.MessageSink err.new))
             result }
     {
         let line = self.unread.line();

@@ -10,13 +10,14 @@ ghost use Rattle.roff_run.specs.Reading.Ends.{is_unfinished};
 ghost use Rattle.roff_run.specs.Reading.Items.{PageInput, PageUnread, going_on, meaning_events};
 ghost use Rattle.roff_run.specs.Registers.{AllRegisters};
 ghost use Rattle.roff_run.specs.Run.{known_at};
+ghost use Rattle.roff_sinks.specs.Told.{told_by};
 
 use super::Interpreter;
 use roff_formatter::{Halt, Sprung};
 use roff_reading::{end_escape, end_line_of_input};
 use roff_run::{PageEvent, Phase};
 use roff_scan::Unread;
-use roff_sinks::ByteSink;
+use roff_sinks::{ByteSink, MessageSink};
 
 impl Interpreter {
     /// Ends what is half read, before a newline that stays or at the end of the input, and performs
@@ -25,7 +26,7 @@ impl Interpreter {
     /// # Errors
     ///
     /// As those of [`Interpreter::take`].
-    pub fn take_escape_end<O: ByteSink, E: ByteSink>(
+    pub fn take_escape_end<O: ByteSink, E: MessageSink>(
         &mut self,
         unread: &mut Unread<PageEvent>,
         out: &mut O,
@@ -33,8 +34,8 @@ impl Interpreter {
     ) -> Result<Option<Sprung>, Halt>
         ensures { DoesTaking (λ k. escape_ended k self.old.reader.reading unread.old.input) []
             self.old self.new unread.old unread.new
-            (sinks (O.sunk out.old) (E.sunk err.old))
-            (sinks (O.sunk out.new) (E.sunk err.new)) result }
+            (sinks (O.sunk out.old) (told_by E.MessageSink err.old))
+            (sinks (O.sunk out.new) (told_by E.MessageSink err.new)) result }
     {
         match end_escape(&mut self.reader, &self.formatter.composer, unread) {
             Ok(step) => self.perform_seldom(step, unread.line(), out, err),
@@ -48,7 +49,7 @@ impl Interpreter {
     /// # Errors
     ///
     /// As those of [`Interpreter::take`].
-    pub fn end_input_line<O: ByteSink, E: ByteSink>(
+    pub fn end_input_line<O: ByteSink, E: MessageSink>(
         &mut self,
         unread: &mut Unread<PageEvent>,
         out: &mut O,
@@ -56,8 +57,8 @@ impl Interpreter {
     ) -> Result<Option<Sprung>, Halt>
         ensures { DoesTaking (λ k. end_taking k self.old.reader.reading unread.old.input) []
             self.old self.new unread.old unread.new
-            (sinks (O.sunk out.old) (E.sunk err.old))
-            (sinks (O.sunk out.new) (E.sunk err.new)) result }
+            (sinks (O.sunk out.old) (told_by E.MessageSink err.old))
+            (sinks (O.sunk out.new) (told_by E.MessageSink err.new)) result }
     {
         match end_line_of_input(&mut self.reader, &self.formatter.composer, unread) {
             Ok(step) => self.perform(step, unread.line(), out, err),

@@ -6,6 +6,7 @@ ghost use Rattle.roff_run.specs.declared.line_state.LineState.TheVariants.{Colle
 ghost use Rattle.roff_run.specs.declared.purpose.Purpose.TheVariants.{Arguments, Calling};
 ghost use Rattle.roff_run.specs.declared.request.Request.TheVariants.{Break};
 ghost use Rattle.roff_source.specs.Bytes.{newline};
+ghost use Rattle.roff_sinks.specs.Told.{told_by};
 
 use super::Interpreter;
 use roff_formatter::{Halt, Sprung};
@@ -13,7 +14,7 @@ use roff_num::ShortName;
 use roff_reading::{end_break, end_call_line, end_request};
 use roff_run::{PageEvent, Request};
 use roff_scan::Unread;
-use roff_sinks::ByteSink;
+use roff_sinks::{ByteSink, MessageSink};
 
 impl Interpreter {
     /// Reads a newline behind the arguments of this request, where nothing is half read, and
@@ -23,7 +24,7 @@ impl Interpreter {
     ///
     /// As those of [`Interpreter::take`].
     #[inline(always)]
-    pub fn end_request<O: ByteSink, E: ByteSink>(
+    pub fn end_request<O: ByteSink, E: MessageSink>(
         &mut self,
         breaks: bool,
         request: Request,
@@ -35,8 +36,8 @@ impl Interpreter {
         requires none_half { unread.old.input.escapes ≡ [] }
         ensures { DoesTaking (λ k. taking k self.old.reader.reading unread.old.input newline) []
             self.old self.new unread.old unread.new
-            (sinks (O.sunk out.old) (E.sunk err.old))
-            (sinks (O.sunk out.new) (E.sunk err.new)) result }
+            (sinks (O.sunk out.old) (told_by E.MessageSink err.old))
+            (sinks (O.sunk out.new) (told_by E.MessageSink err.new)) result }
     {
         match end_request(
             &mut self.reader,
@@ -56,7 +57,7 @@ impl Interpreter {
     ///
     /// As those of [`Interpreter::take`].
     #[inline(always)]
-    pub fn end_break<O: ByteSink, E: ByteSink>(
+    pub fn end_break<O: ByteSink, E: MessageSink>(
         &mut self,
         breaks: bool,
         unread: &mut Unread<PageEvent>,
@@ -67,8 +68,8 @@ impl Interpreter {
         requires none_half { unread.old.input.escapes ≡ [] }
         ensures { DoesTaking (λ k. taking k self.old.reader.reading unread.old.input newline) []
             self.old self.new unread.old unread.new
-            (sinks (O.sunk out.old) (E.sunk err.old))
-            (sinks (O.sunk out.new) (E.sunk err.new)) result }
+            (sinks (O.sunk out.old) (told_by E.MessageSink err.old))
+            (sinks (O.sunk out.new) (told_by E.MessageSink err.new)) result }
     {
         let step = end_break(&mut self.reader, breaks, unread);
         self.perform(step, unread.line(), out, err)
@@ -80,7 +81,7 @@ impl Interpreter {
     ///
     /// As those of [`Interpreter::take`].
     #[inline(always)]
-    pub fn end_call_line<O: ByteSink, E: ByteSink>(
+    pub fn end_call_line<O: ByteSink, E: MessageSink>(
         &mut self,
         name: ShortName,
         unread: &mut Unread<PageEvent>,
@@ -91,8 +92,8 @@ impl Interpreter {
         requires none_half { unread.old.input.escapes ≡ [] }
         ensures { DoesTaking (λ k. taking k self.old.reader.reading unread.old.input newline) []
             self.old self.new unread.old unread.new
-            (sinks (O.sunk out.old) (E.sunk err.old))
-            (sinks (O.sunk out.new) (E.sunk err.new)) result }
+            (sinks (O.sunk out.old) (told_by E.MessageSink err.old))
+            (sinks (O.sunk out.new) (told_by E.MessageSink err.new)) result }
     {
         match end_call_line(&mut self.reader, name, unread) {
             Ok(step) => self.perform(step, unread.line(), out, err),

@@ -1,22 +1,24 @@
 //! What is meant is done: the message is told, and the events are performed.
 
-ghost use Rattle.std.specs.Prelude.{[], ◌≡◌, ◌∷◌, IsOkUnless, if◌then◌else◌};
+ghost use Rattle.std.specs.Prelude.{[], ◌≡◌, ◌∷◌, if◌then◌else◌};
 ghost use Rattle.roff_run.specs.Events.Steps.{events_of, messages_of};
 ghost use Rattle.roff_interpreter.specs.Clauses.{option_to_list, message_lines, DoesMeaning};
-ghost use Rattle.roff_interpreter.specs.Clauses.{DoesEvent, PerformsAll, PerformsLeft, Puts, sinks};
+ghost use Rattle.roff_interpreter.specs.Clauses.{DoesEvent, PerformsAll, PerformsLeft, Tells};
+ghost use Rattle.roff_interpreter.specs.Clauses.{sinks};
 ghost use Rattle.roff_run.specs.declared.event.PageEvent.TheVariants.{Title};
+ghost use Rattle.roff_sinks.specs.Told.{told_by};
 
 use super::Interpreter;
-use crate::report::report;
+use crate::report::tell;
 use roff_formatter::{Halt, Sprung};
 use roff_run::{Message, PageEvent, Step, WhichTitle};
-use roff_sinks::ByteSink;
+use roff_sinks::{ByteSink, MessageSink};
 
 impl Interpreter {
     /// Does what an item means that ended on this line of the input: its message is reported, and
     /// then its events are performed, up to one that springs a macro.
     #[inline(always)]
-    pub(super) fn perform<O: ByteSink, E: ByteSink>(
+    pub(super) fn perform<O: ByteSink, E: MessageSink>(
         &mut self,
         step: Step,
         line: u32,
@@ -25,8 +27,8 @@ impl Interpreter {
     ) -> Result<Option<Sprung>, Halt>
         ensures { DoesMeaning line (messages_of self.old.reader.meaning.message step)
             (events_of self.old.reader.meaning.events step) self.old self.new
-            (sinks (O.sunk out.old) (E.sunk err.old))
-            (sinks (O.sunk out.new) (E.sunk err.new)) result }
+            (sinks (O.sunk out.old) (told_by E.MessageSink err.old))
+            (sinks (O.sunk out.new) (told_by E.MessageSink err.new)) result }
     {
         match step {
             Step::Meaning => self.report_and_perform(line, out, err),
@@ -36,7 +38,7 @@ impl Interpreter {
 
     /// The same of the meaning that the reader keeps.
     #[inline(never)]
-    fn report_and_perform<O: ByteSink, E: ByteSink>(
+    fn report_and_perform<O: ByteSink, E: MessageSink>(
         &mut self,
         line: u32,
         out: &mut O,
@@ -44,8 +46,8 @@ impl Interpreter {
     ) -> Result<Option<Sprung>, Halt>
         ensures { DoesMeaning line (option_to_list self.old.reader.meaning.message)
             self.old.reader.meaning.events self.old self.new
-            (sinks (O.sunk out.old) (E.sunk err.old))
-            (sinks (O.sunk out.new) (E.sunk err.new)) result }
+            (sinks (O.sunk out.old) (told_by E.MessageSink err.old))
+            (sinks (O.sunk out.new) (told_by E.MessageSink err.new)) result }
     {
         match report_message(self.reader.message(), line, err) {
             Ok(()) => self.perform_each(out),
@@ -199,16 +201,16 @@ impl Interpreter {
 }
 
 /// Writes the message of an effect, if it has one.
-fn report_message<E: ByteSink>(message: Option<Message>, line: u32, err: &mut E) -> Result<(), Halt>
-    ensures puts { Puts (E.sunk err.old) (E.sunk err.new)
+fn report_message<E: MessageSink>(
+    message: Option<Message>,
+    line: u32,
+    err: &mut E,
+) -> Result<(), Halt>
+    ensures { Tells (told_by E.MessageSink err.old) (told_by E.MessageSink err.new)
         (message_lines line (option_to_list message)) result }
-    ensures halt { IsOkUnless result Halt.Messages }
 {
     match message {
         None => Ok(()),
-        Some(message) => match report(message, line, err) {
-            Ok(()) => Ok(()),
-            Err(_) => Err(Halt::Messages),
-        },
+        Some(message) => tell(&message.line(line), err),
     }
 }

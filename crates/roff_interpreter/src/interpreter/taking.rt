@@ -4,13 +4,14 @@ ghost use Rattle.std.specs.Prelude.{◌≡◌, []};
 ghost use Rattle.roff_interpreter.specs.Clauses.{DoesMeaning, DoesTaking, sinks, taking};
 ghost use Rattle.roff_run.specs.Events.Steps.{events_of, messages_of};
 ghost use Rattle.roff_run.specs.declared.line_state.LineState.TheVariants.{Text as InText};
+ghost use Rattle.roff_sinks.specs.Told.{told_by};
 
 use super::Interpreter;
 use roff_formatter::{Halt, Sprung};
 use roff_reading::{read, read_half, read_on_line};
 use roff_run::{PageEvent, Step, TextLine};
 use roff_scan::Unread;
-use roff_sinks::ByteSink;
+use roff_sinks::{ByteSink, MessageSink};
 
 impl Interpreter {
     /// Reads a byte that was taken of the unread input, and performs what it means. Returns what
@@ -21,7 +22,7 @@ impl Interpreter {
     /// [`Halt`] if a limit refuses it or its message can't be told, or where its events end the run
     /// or meet a limit or a fault of the output.
     #[inline(always)]
-    pub fn take<O: ByteSink, E: ByteSink>(
+    pub fn take<O: ByteSink, E: MessageSink>(
         &mut self,
         byte: u8,
         unread: &mut Unread<PageEvent>,
@@ -30,8 +31,8 @@ impl Interpreter {
     ) -> Result<Option<Sprung>, Halt>
         ensures { DoesTaking (λ k. taking k self.old.reader.reading unread.old.input byte) []
             self.old self.new unread.old unread.new
-            (sinks (O.sunk out.old) (E.sunk err.old))
-            (sinks (O.sunk out.new) (E.sunk err.new)) result }
+            (sinks (O.sunk out.old) (told_by E.MessageSink err.old))
+            (sinks (O.sunk out.new) (told_by E.MessageSink err.new)) result }
     {
         match read(&mut self.reader, byte, &self.formatter.composer, unread) {
             Ok(step) => self.perform(step, unread.line(), out, err),
@@ -45,7 +46,7 @@ impl Interpreter {
     ///
     /// As those of [`Interpreter::take`].
     #[inline(always)]
-    pub fn take_on_line<O: ByteSink, E: ByteSink>(
+    pub fn take_on_line<O: ByteSink, E: MessageSink>(
         &mut self,
         line: TextLine,
         byte: u8,
@@ -57,8 +58,8 @@ impl Interpreter {
         requires none_half { unread.old.input.escapes ≡ [] }
         ensures { DoesTaking (λ k. taking k self.old.reader.reading unread.old.input byte) []
             self.old self.new unread.old unread.new
-            (sinks (O.sunk out.old) (E.sunk err.old))
-            (sinks (O.sunk out.new) (E.sunk err.new)) result }
+            (sinks (O.sunk out.old) (told_by E.MessageSink err.old))
+            (sinks (O.sunk out.new) (told_by E.MessageSink err.new)) result }
     {
         match read_on_line(
             &mut self.reader,
@@ -78,7 +79,7 @@ impl Interpreter {
     ///
     /// As those of [`Interpreter::take`].
     #[inline(always)]
-    pub fn take_half<O: ByteSink, E: ByteSink>(
+    pub fn take_half<O: ByteSink, E: MessageSink>(
         &mut self,
         byte: u8,
         unread: &mut Unread<PageEvent>,
@@ -87,8 +88,8 @@ impl Interpreter {
     ) -> Result<Option<Sprung>, Halt>
         ensures { DoesTaking (λ k. taking k self.old.reader.reading unread.old.input byte) []
             self.old self.new unread.old unread.new
-            (sinks (O.sunk out.old) (E.sunk err.old))
-            (sinks (O.sunk out.new) (E.sunk err.new)) result }
+            (sinks (O.sunk out.old) (told_by E.MessageSink err.old))
+            (sinks (O.sunk out.new) (told_by E.MessageSink err.new)) result }
     {
         match read_half(&mut self.reader, byte, &self.formatter.composer, unread) {
             Ok(step) => self.perform_seldom(step, unread.line(), out, err),
@@ -98,7 +99,7 @@ impl Interpreter {
 
     /// Does what an item means that ended on this line of the input: most often nothing.
     #[inline(always)]
-    pub(super) fn perform_seldom<O: ByteSink, E: ByteSink>(
+    pub(super) fn perform_seldom<O: ByteSink, E: MessageSink>(
         &mut self,
         step: Step,
         line: u32,
@@ -107,8 +108,8 @@ impl Interpreter {
     ) -> Result<Option<Sprung>, Halt>
         ensures { DoesMeaning line (messages_of self.old.reader.meaning.message step)
             (events_of self.old.reader.meaning.events step) self.old self.new
-            (sinks (O.sunk out.old) (E.sunk err.old))
-            (sinks (O.sunk out.new) (E.sunk err.new)) result }
+            (sinks (O.sunk out.old) (told_by E.MessageSink err.old))
+            (sinks (O.sunk out.new) (told_by E.MessageSink err.new)) result }
     {
         match step {
             Step::Nothing => self.perform(Step::Nothing, line, out, err),
@@ -118,7 +119,7 @@ impl Interpreter {
 
     /// The same, whatever it means.
     #[inline(never)]
-    fn perform_any<O: ByteSink, E: ByteSink>(
+    fn perform_any<O: ByteSink, E: MessageSink>(
         &mut self,
         step: Step,
         line: u32,
@@ -127,8 +128,8 @@ impl Interpreter {
     ) -> Result<Option<Sprung>, Halt>
         ensures { DoesMeaning line (messages_of self.old.reader.meaning.message step)
             (events_of self.old.reader.meaning.events step) self.old self.new
-            (sinks (O.sunk out.old) (E.sunk err.old))
-            (sinks (O.sunk out.new) (E.sunk err.new)) result }
+            (sinks (O.sunk out.old) (told_by E.MessageSink err.old))
+            (sinks (O.sunk out.new) (told_by E.MessageSink err.new)) result }
     {
         self.perform(step, line, out, err)
     }

@@ -1,5 +1,6 @@
 -- The first trap that passes a test, by its place in turn.
-use Rattle.std.specs.Prelude.{ℕ, suc, Bool, false, List, [], ◌∷◌, Option, Some, None, ◌==◌, if◌then◌else◌}
+use Rattle.std.specs.Prelude.{◌≡◌, ℕ, suc, Bool, false, List, [], ◌∷◌, ◌++◌, Option, Some, None, ◌==◌, if◌then◌else◌}
+use Rattle.std.specs.List.{list_any}
 use Rattle.roff_pages.specs.declared.sought.Sought.{Sought}
 use Rattle.roff_pages.specs.declared.sought.Sought.TheVariants.{Given, Named, Lying}
 use Rattle.roff_layout.specs.declared.trap.Trap.{Trap}
@@ -10,6 +11,12 @@ use Rattle.roff_layout.specs.Turning.{is_given, is_named}
 abbrev pub first_index : (Trap → Bool) → List Trap → ℕ
 first_index is_it [] = 0
 first_index is_it (t ∷ traps) = if is_it t then 0 else suc (first_index is_it traps)
+
+-- The traps from one in turn on, where none before it passes a test.
+pub record NoneBefore (is_it : Trap → Bool) (traps rest : List Trap) : Type 0 where
+  pub front : List Trap
+  pub is : traps ≡ front ++ rest
+  pub none : list_any is_it front ≡ false
 
 -- whether a trap lies at a place of a page of this length
 abbrev pub is_at : ℕ → Option ℕ → Bool

@@ -1,5 +1,5 @@
 -- What is known of a page's stops.
-use Rattle.std.specs.Prelude.{◌≡◌, ℕ, ◌<◌, ◌≤◌, List, length, Option, Some, None, slice_get, option_map}
+use Rattle.std.specs.Prelude.{◌≡◌, ℕ, ◌<◌, ◌≤◌, List, length, Option, Some, None, slice_get, option_map, ◌==◌, if◌then◌else◌}
 use Rattle.std.specs.List.{AllByRecursion}
 use Rattle.roff_num.specs.declared.short_name.ShortName.{ShortName}
 use Rattle.roff_layout.specs.declared.trap.Trap.{Trap}
@@ -27,6 +27,14 @@ pub record IsNext (lines from : ℕ) (traps : List Trap) (stop : Stop) : Type 0 
 -- stops are the next ones beyond their places
 abbrev pub AreNext : ℕ → List Trap → List Beyond → Type 0
 AreNext lines traps beyond = AllByRecursion (λ (b : Beyond). IsNext lines b.from traps b.stop) beyond
+
+-- the stop that is kept at a trap's place in turn, if it was looked for from this place
+abbrev pub stop_from : ℕ → Option Beyond → Option Stop
+stop_from place None = None
+stop_from place (Some b) = if b.from == place then Some b.stop else None
+
+abbrev pub kept_stop : ℕ → ℕ → List Beyond → Option Stop
+kept_stop trap place beyond = stop_from place (slice_get beyond trap)
 
 -- what a page begins with
 pub record BeginsWith (lines : ℕ) (traps : List Trap) (top : Top) : Type 0 where

@@ -1,11 +1,10 @@
 //! A text line, and which of its bytes are told as they are.
 
-ghost use Rattle.std.specs.Prelude.{◌≡◌, ℕ, true};
+ghost use Rattle.std.specs.Prelude.{◌≡◌, ◌↔◌, true};
 ghost use Rattle.roff_run.specs.Reading.TextLines.{fresh_line};
 ghost use Rattle.roff_run.specs.Reading.Beginnings.{line_begun_as};
 ghost use Rattle.roff_run.specs.Stages.{blanks_counted, counts_blanks};
-ghost use Rattle.roff_run.specs.Telling.{Prints};
-ghost use Rattle.roff_source.specs.Bytes.{is_text_byte};
+ghost use Rattle.roff_run.specs.Telling.{PrintsText};
 ghost use Rattle.roff_run.specs.declared.line_state.LineState.TheVariants.{Text as InText};
 
 use super::{LineState, TextLine};
@@ -37,9 +36,8 @@ impl TextLine {
     }
 
     /// Whether bytes of plain text are told, each as a glyph or a gap, and the line stays as it is.
-    #[tactic(auto, using(crate::proofs::TextBytes::prints_text))]
     pub fn prints(self) -> bool
-        ensures { result ≡ true → (b : ℕ) → is_text_byte b ≡ true → Prints (InText self) b }
+        ensures { (result ≡ true) ↔ PrintsText (InText self) }
     {
         self.leading == 0 && self.has_glyph
     }

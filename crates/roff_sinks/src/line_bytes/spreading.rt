@@ -89,7 +89,8 @@ fn fill(block: &mut Vec<u8>, needed: usize)
     requires { needed ≤ vec_capacity block.old }
     ensures capacity { vec_capacity block.old ≤ vec_capacity block.new }
     ensures filled { needed ≤ length block.new.items }
-    ensures few { (most : ℕ) → needed ≤ most → length block.old.items ≤ most → length block.new.items ≤ most }
+    ensures few { (most : ℕ) → needed ≤ most → length block.old.items ≤ most
+        → length block.new.items ≤ most }
 {
     if block.len() < needed {
         block.resize(needed, b' ').unwrap();

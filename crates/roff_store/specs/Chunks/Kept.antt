@@ -11,7 +11,7 @@ kept_by a = record { contents = a.contents.items; links = a.links.items; shares 
 abbrev pub is_free : ℕ → Bool
 is_free shares = shares == 0
 
--- each chunk that no strand has can be claimed, and no other one; room is reserved for the most
+-- each chunk that no strand has can be claimed, and no other one; room is reserved for the most, and for no more
 pub record IsSound (a : Inside) : Type 0 where
   pub links : vec_len a.links ≡ vec_len a.contents
   pub shares : vec_len a.shares ≡ vec_len a.contents
@@ -22,7 +22,7 @@ pub record IsSound (a : Inside) : Type 0 where
   pub unshared : All (λ chunk. share (kept_by a) chunk ≡ 0) a.free.items
   pub once : AllPairs (λ chunk later. chunk ≢ later) a.free.items
   pub all : vec_len a.free ≡ count_by is_free a.shares.items
-  pub contents_reserved : a.most ≤ vec_capacity a.contents
-  pub links_reserved : a.most ≤ vec_capacity a.links
-  pub shares_reserved : a.most ≤ vec_capacity a.shares
-  pub free_reserved : a.most ≤ vec_capacity a.free
+  pub contents_reserved : vec_capacity a.contents ≡ a.most
+  pub links_reserved : vec_capacity a.links ≡ a.most
+  pub shares_reserved : vec_capacity a.shares ≡ a.most
+  pub free_reserved : vec_capacity a.free ≡ a.most

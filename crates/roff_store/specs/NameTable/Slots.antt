@@ -1,8 +1,13 @@
 -- What stands in the slots of a table.
-use Rattle.std.specs.Prelude.{◌≡◌, ◌≢◌, ℕ, ◌+◌, ◌<◌, ◌≤◌, true, List, [], ◌∷◌, length, map, slice_get, slice_index, Some, if◌then◌else◌}
+use Rattle.std.specs.Prelude.{◌≡◌, ◌≢◌, ℕ, ◌+◌, ◌-◌, ◌^◌, ◌<◌, ◌≤◌, min, max, true, List, [], ◌∷◌, length, map, slice_get, slice_index, Some, if◌then◌else◌}
 use Rattle.roff_store.specs.declared.name_table.Slot.{Slot}
 use Rattle.roff_store.specs.Buckets.{bucket_of, bucket_count}
 use Rattle.roff_store.specs.Named.{Named}
+
+-- how many slots so many names have: as many again are spare, and 1,024 at least, so that those that aren't used any more
+-- are seldom swept; but no more slots than a number of 32 bits counts
+abbrev pub slots_for : ℕ → ℕ
+slots_for names = min (names + max names 1024) (2 ^ 32 - 1)
 
 -- the entries in the slots that are used, in their order
 abbrev pub entries_in : {E : Type 0} → List (Slot E) → Named E

@@ -77,7 +77,7 @@ impl TextStore {
                 Leased::Body(LeaseId(id), last)
             }
             None => {
-                self.leases.push(Some(body)).unwrap();
+                self.leases.push_reserved(Some(body));
                 Leased::Body(LeaseId(self.leases.len() as u32 - 1), last)
             }
         }
@@ -175,7 +175,7 @@ impl TextStore {
     {
         if let Some(strand) = self.leases[id.0 as usize] {
             self.leases[id.0 as usize] = None;
-            self.ended.push(id.0).unwrap();
+            self.ended.push_reserved(id.0);
             self.kept -= strand.rest;
             self.chunks.release(strand);
         }

@@ -44,7 +44,7 @@ impl TextStore {
         ensures texts { self.new ≡ after Open self.old }
     {
         let id = self.open.len();
-        self.open.push(Strand::empty()).unwrap();
+        self.open.push_reserved(Strand::empty());
         OpenId(id)
     }
 

@@ -35,3 +35,7 @@ returns-clause-all_of_tables c = refl
 pub returns-clause-both : goal.returns-clause-both
 unfolding clap_on_literals roff_app nroff_app tbl_app both_app digits
 returns-clause-both c = refl
+
+pub returns-clause-messages_of_both : goal.returns-clause-messages_of_both
+unfolding clap_on_literals roff_app nroff_app tbl_app both_app digits
+returns-clause-messages_of_both c = refl

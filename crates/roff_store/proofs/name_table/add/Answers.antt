@@ -17,7 +17,7 @@ returns-clause-entries g c =
       is_used = true;
       older = get_or c.args.heads.now c.bucket_of.result 0;
     } in
-    let pushed = rw c.unwrap-2.ensures at c.push.ensures.items in
+    let pushed = c.push_reserved.ensures.items in
     rw (pushed, entries_in-push c.args.slots.now.items slot refl, named)
     (sym (with_entry-new c.args.name.now c.args.entry (entries_in c.args.slots.now.items) c.requires.absent))
 
@@ -26,7 +26,7 @@ returns-clause-index g c =
     let named : c.unwrap.result ≡ c.args.name.now =
     name_of-Some c.as_bytes.result.now c.unwrap.result (sym c.new.ensures ∙ c.unwrap.ensures) ∙ c.as_bytes.ensures.value in
     let bucket : c.bucket_of.result ≡ bucket_of c.unwrap.result = c.bucket_of.ensures.value ∙ ap bucket_of (sym named) in
-    let pushed = rw c.unwrap-2.ensures at c.push.ensures.items in
+    let pushed = c.push_reserved.ensures.items in
     let long : c.len.result ≡ length c.args.slots.now.items = c.len.ensures ∙ c.args.slots.now.ok.0 in
     let slot : Slot g.row.E.Denot = record {
       name = c.unwrap.result;
@@ -38,4 +38,4 @@ returns-clause-index g c =
     (rw (← bucket) c.bucket_of.ensures.within) refl refl)
 
 pub returns-clause-len : goal.returns-clause-len
-returns-clause-len g c = rw c.unwrap-2.ensures at c.push.ensures.len
+returns-clause-len g c = c.push_reserved.ensures.len

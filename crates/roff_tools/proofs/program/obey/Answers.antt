@@ -11,14 +11,14 @@ use Rattle.roff_tools.proofs.program.obey.Goals as goal
 pub returns-in-Err-perform-clause-performs : goal.returns-in-Err-perform-clause-performs
 returns-in-Err-perform-clause-performs g c = λ taken.
     let fault = c.in-Err-perform.fault in
-    let sunk = ap g.E.ByteSink.sunk c.in-Err-perform.ensures.unwritten.1 in
+    let sunk = ap g.E.MessageSink.sunk c.in-Err-perform.ensures.unwritten.1 in
     inl (
       c.report.ensures.exit,
       record {
         fault = fault;
         names = request_names (g.R.Readers.opens c.args.rt.now) (g.R.Readers.refuses c.args.rt.now) (g.R.Readers.stands c.args.rt.now)
             (subcommand_of roff_app (map g.S.AsStr.text c.args.words.now)) c.in-Ok.request fault c.in-Ok.ensures.ok c.in-Err-perform.ensures.fault;
-        told = subst (λ (old : Sunk). Tells old (g.E.ByteSink.sunk c.report.new.err) (fault_line fault)) sunk c.report.ensures.told;
+        told = subst (λ (old : Sunk). Tells old (g.E.MessageSink.sunk c.report.new.err) (fault_line fault)) sunk c.report.ensures.told;
       },
     )
 

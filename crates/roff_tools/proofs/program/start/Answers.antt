@@ -9,7 +9,7 @@ returns-in-Ok g c = inl record {
     performs = c.obey.ensures.performs;
     asked = λ help. elim (c.obey.ensures.asked help) [
       | inl refused ↦ inl refused
-      | inr shown ↦ inr (shown.0, ap g.E.ByteSink.sunk shown.1)
+      | inr shown ↦ inr (shown.0, ap g.E.MessageSink.sunk shown.1)
     ];
     mistaken = c.obey.ensures.mistaken;
     unwritten = λ refused. ap g.O.ByteSink.sunk (c.obey.ensures.unwritten refused);

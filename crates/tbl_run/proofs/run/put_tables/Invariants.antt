@@ -10,11 +10,11 @@ invariant-loop-front g l = record {
   same : l.source.tables.limits ≡ l.initial.source.tables.limits;
   line_length : l.source.tables.line_length ≡ l.initial.source.tables.line_length;
   come : HasCome l.initial.source.tables.limits l.initial.source.tables.line_length (g.S.ByteSource.gives l.initial.source.inner)
-      (g.S.ByteSource.gives l.source.inner) l.source.tables.at l.written
-      (seen (g.S.ByteSource.failures l.initial.source.inner) (g.O.ByteSink.sunk l.initial.out) (g.E.ByteSink.sunk l.initial.err))
-      (seen (g.S.ByteSource.failures l.source.inner) (g.O.ByteSink.sunk l.out) (g.E.ByteSink.sunk l.err));
+      (g.S.ByteSource.gives l.source.inner) l.source.tables.at l.counts
+      (seen (g.S.ByteSource.failures l.initial.source.inner) (g.O.ByteSink.sunk l.initial.out) (g.E.MessageSink.sunk l.initial.err))
+      (seen (g.S.ByteSource.failures l.source.inner) (g.O.ByteSink.sunk l.out) (g.E.MessageSink.sunk l.err));
 }
 
 -- how many bytes and messages may still be written
 abbrev pub decreases-loop-front : goal.decreases-loop-front
-decreases-loop-front g l = (l.limits.output - l.written) + notes_left l.source.tables
+decreases-loop-front g l = (l.limits.output - l.counts.written) + notes_left l.source.tables

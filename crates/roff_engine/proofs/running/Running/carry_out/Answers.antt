@@ -5,9 +5,6 @@ use Rattle.roff_run.specs.Reading.Ends.{due}
 use Rattle.roff_engine.proofs.DueDone.{leaves_due}
 use Rattle.roff_engine.proofs.running.Running.carry_out.Goals as goal
 
-pub returns-in-Tells : goal.returns-in-Tells
-returns-in-Tells g c = λ failures out. c.report_held_text.ensures failures out
-
 pub returns-in-Leaves : goal.returns-in-Leaves
 returns-in-Leaves g c = λ failures out.
     let is : due c.args.self.now.interpreter.reader.reading ≡ Some Leaves = c.requires ∙ ap (λ (d : Due). Some d) c.in-Leaves.is in

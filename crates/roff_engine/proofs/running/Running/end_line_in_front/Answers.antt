@@ -1,4 +1,5 @@
 use Rattle.roff_engine.proofs.Unfilled.{comes_line, no_newline_told, stands_newline}
+use Rattle.roff_sinks.specs.Told.{told_by}
 use Rattle.roff_engine.proofs.running.Running.end_line_in_front.Goals as goal
 
 pub pass_line-requires-clause-plain : goal.pass_line-requires-clause-plain
@@ -13,7 +14,7 @@ pub returns-in-Some-clause-ends : goal.returns-in-Some-clause-ends
 returns-in-Some-clause-ends g c =
     let passed = c.pass_line.ensures in
     let out = g.O.ByteSink.sunk c.args.out.now in
-    let err = g.E.ByteSink.sunk c.args.err.now in
+    let err = told_by g.E.MessageSink c.args.err.now in
     comes_line _ _ _ _ _ _ _ out err c.args.self.now c.pass_line.new.self _ _ c.requires.none_half c.front-front.ensures.bytes passed.passes c.in-Some.ensures.stands.ends.words.some
     passed.notes passed.failures c.end_front-done.new.self _ c.end_front-done.result c.end_front-done.ensures c.go_on_behind.new.self _ c.go_on_behind.result
     (λ told line takes. c.go_on_behind.ensures _ c.args.self.now.interpreter told line _ _ takes) c.in-Some.ensures.reads

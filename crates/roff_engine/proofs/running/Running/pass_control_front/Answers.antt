@@ -10,12 +10,13 @@ use Rattle.roff_engine.proofs.LinesEnded.{comes-as, comes-line}
 use Rattle.roff_engine.proofs.PassingEnds.{goes_further_passed, goes_further_returned}
 use Rattle.roff_engine.proofs.PassingOn.{goes_further_begun, goes_further_both, goes_past_kept}
 use Rattle.roff_engine.proofs.Turned.{goes_past_turned}
+use Rattle.roff_sinks.specs.Told.{told_by}
 use Rattle.roff_engine.proofs.running.Running.pass_control_front.Goals as goal
 
 pub returns-in-Front : goal.returns-in-Front
 returns-in-Front g c =
     let out = g.O.ByteSink.sunk c.args.out.now in
-    let err = g.E.ByteSink.sunk c.args.err.now in
+    let err = told_by g.E.MessageSink c.args.err.now in
     let read = c.read_control_front.ensures in
     comes_past _ _ _ _ _ _ _ _ _ (goes_further_both _ _ _ _ _ _ _ _ _ _ _ _ _
     (goes_past_turned _ _ _ _ _ _ out err c.args.self.now _ _ (read.past (ap is_past c.in-Front.is)) read.notes read.failures) (c.pass_behind_front.ensures out err))
@@ -23,14 +24,14 @@ returns-in-Front g c =
 pub returns-in-Dropped : goal.returns-in-Dropped
 returns-in-Dropped g c =
     let out = g.O.ByteSink.sunk c.args.out.now in
-    let err = g.E.ByteSink.sunk c.args.err.now in
+    let err = told_by g.E.MessageSink c.args.err.now in
     let read = c.read_control_front.ensures in
     comes_past _ _ _ _ _ _ _ _ _ (goes_further_begun _ _ _ _ _ _ out err c.args.self.now _ _ (read.past (ap is_past c.in-Dropped.is)) (read.dropped c.in-Dropped.is) read.notes read.failures)
 
 pub returns-in-Held : goal.returns-in-Held
 returns-in-Held g c =
     let out = g.O.ByteSink.sunk c.args.out.now in
-    let err = g.E.ByteSink.sunk c.args.err.now in
+    let err = told_by g.E.MessageSink c.args.err.now in
     let read = c.read_control_front.ensures in
     let ends = c.pass_end.ensures in
     comes_past _ _ _ _ _ _ _ _ _ (goes_further_both _ _ _ _ _ _ _ _ _ _ _ _ _
@@ -43,7 +44,7 @@ hold_on-requires g c = c.read_control_front.ensures.escape c.in-HeldToEscape.is
 pub returns-in-HeldToEscape : goal.returns-in-HeldToEscape
 returns-in-HeldToEscape g c =
     let out = g.O.ByteSink.sunk c.args.out.now in
-    let err = g.E.ByteSink.sunk c.args.err.now in
+    let err = told_by g.E.MessageSink c.args.err.now in
     let read = c.read_control_front.ensures in
     comes_past _ _ _ _ _ _ _ _ _ (goes_further_both _ _ _ _ _ _ _ _ _ _ _ _ _
     (goes_past_turned _ _ _ _ _ _ out err c.args.self.now _ _ (read.past (ap is_past c.in-HeldToEscape.is)) read.notes read.failures) (c.hold_on.ensures out err))
@@ -54,7 +55,7 @@ hold_call_on-requires g c = c.read_control_front.ensures.call c.in-HeldForCall.i
 pub returns-in-HeldForCall : goal.returns-in-HeldForCall
 returns-in-HeldForCall g c =
     let out = g.O.ByteSink.sunk c.args.out.now in
-    let err = g.E.ByteSink.sunk c.args.err.now in
+    let err = told_by g.E.MessageSink c.args.err.now in
     let read = c.read_control_front.ensures in
     comes_past _ _ _ _ _ _ _ _ _ (goes_further_both _ _ _ _ _ _ _ _ _ _ _ _ _
     (goes_past_turned _ _ _ _ _ _ out err c.args.self.now _ _ (read.past (ap is_past c.in-HeldForCall.is)) read.notes read.failures) (c.hold_call_on.ensures out err))
@@ -62,7 +63,7 @@ returns-in-HeldForCall g c =
 pub returns-in-HeldToEnd : goal.returns-in-HeldToEnd
 returns-in-HeldToEnd g c =
     let out = g.O.ByteSink.sunk c.args.out.now in
-    let err = g.E.ByteSink.sunk c.args.err.now in
+    let err = told_by g.E.MessageSink c.args.err.now in
     let read = c.read_control_front.ensures in
     comes-as _ _ _ _ _ _ _ _ _ _
     (comes-line _ _ _ _ _ _ out err c.args.self.now _ _ (read.line c.in-HeldToEnd.is) _ _ _ read.notes read.failures (c.end_control_line.ensures _))
@@ -73,7 +74,7 @@ pass_condition-requires g c = c.read_control_front.ensures.condition c.in-Condit
 pub returns-in-Condition : goal.returns-in-Condition
 returns-in-Condition g c =
     let out = g.O.ByteSink.sunk c.args.out.now in
-    let err = g.E.ByteSink.sunk c.args.err.now in
+    let err = told_by g.E.MessageSink c.args.err.now in
     let read = c.read_control_front.ensures in
     comes_past _ _ _ _ _ _ _ _ _ (goes_further_both _ _ _ _ _ _ _ _ _ _ _ _ _
     (goes_past_turned _ _ _ _ _ _ out err c.args.self.now _ _ (read.past (ap is_past c.in-Condition.is)) read.notes read.failures) (c.pass_condition.ensures out err))
@@ -81,7 +82,7 @@ returns-in-Condition g c =
 pub returns-in-Decided : goal.returns-in-Decided
 returns-in-Decided g c =
     let out = g.O.ByteSink.sunk c.args.out.now in
-    let err = g.E.ByteSink.sunk c.args.err.now in
+    let err = told_by g.E.MessageSink c.args.err.now in
     let read = c.read_control_front.ensures in
     comes_past _ _ _ _ _ _ _ _ _ (goes_further_at_once _ _ _ _ _ _ out err c.args.self.now _ _ (read.decides c.in-Decided.is) read.notes read.failures)
 
@@ -91,7 +92,7 @@ returns-in-Nothing g c =
     let old = c.args.self.now in
     let source = kept.2 in
     let out = g.O.ByteSink.sunk c.args.out.now in
-    let err = g.E.ByteSink.sunk c.args.err.now in
+    let err = told_by g.E.MessageSink c.args.err.now in
     comes_past _ _ _ _ _ _ _ _ _ (goes_further_both _ _ _ _ _ _ _ _ _ _ _ _ _
     (goes_past_kept _ _ _ _ _ _ out err old _ (ap g.S.ByteSource.gives source) (ap g.S.ByteSource.notes source) (ap g.S.ByteSource.failures source)
     (ap (λ (r : ReaderState). record old { interpreter = record old.interpreter { reader = r }; unread = c.read_control_front.new.unread }) kept.0
@@ -107,7 +108,7 @@ returns-in-Escape g c =
     let old = c.args.self.now in
     let source = kept.2 in
     let out = g.O.ByteSink.sunk c.args.out.now in
-    let err = g.E.ByteSink.sunk c.args.err.now in
+    let err = told_by g.E.MessageSink c.args.err.now in
     comes_past _ _ _ _ _ _ _ _ _ (goes_further_both _ _ _ _ _ _ _ _ _ _ _ _ _
     (goes_past_kept _ _ _ _ _ _ out err old _ (ap g.S.ByteSource.gives source) (ap g.S.ByteSource.notes source) (ap g.S.ByteSource.failures source)
     (ap (λ (r : ReaderState). record old { interpreter = record old.interpreter { reader = r }; unread = c.read_control_front.new.unread }) kept.0

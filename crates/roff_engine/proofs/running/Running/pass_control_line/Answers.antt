@@ -4,6 +4,7 @@ use Rattle.roff_run.specs.Reading.Ends.{due}
 use Rattle.roff_engine.specs.declared.running.Running.{Running as Coded}
 use Rattle.roff_engine.proofs.ComingFurther.{comes_both, comes_past}
 use Rattle.roff_engine.proofs.PassingOn.{goes_further_none}
+use Rattle.roff_sinks.specs.Told.{told_by}
 use Rattle.roff_engine.proofs.running.Running.pass_control_line.Goals as goal
 
 pub pass_control_front-requires-clause-begins : goal.pass_control_front-requires-clause-begins
@@ -21,5 +22,5 @@ pass_control_front-requires-clause-takes g c =
 pub returns : goal.returns
 returns g c =
     let out = g.O.ByteSink.sunk c.args.out.now in
-    let err = g.E.ByteSink.sunk c.args.err.now in
+    let err = told_by g.E.MessageSink c.args.err.now in
     comes_both _ _ _ _ _ _ _ _ _ _ _ _ _ _ _ (comes_past _ _ _ _ _ _ _ _ _ (goes_further_none _ _ _ _ _ _ _ _ (c.take_branch_blanks.ensures.past out err))) c.pass_control_front.ensures

@@ -2,6 +2,7 @@ use Rattle.std.proofs.Common.{◌≡◌, Err, Ok, rules}
 use Rattle.roff_engine.proofs.ComingFurther.{comes_none, comes_past, comes_some_as}
 use Rattle.roff_engine.proofs.PassingOn.{goes_further_none}
 use Rattle.roff_engine.proofs.Unfilled.{comes_kept}
+use Rattle.roff_sinks.specs.Told.{told_by}
 use Rattle.roff_engine.proofs.running.Running.tell_behind.Goals as goal
 
 pub returns-then-byte-eq10 : goal.returns-then-byte-eq10
@@ -12,7 +13,7 @@ returns-in-None g c =
     let kept = c.end_line_at_once.ensures.unchanged c.in-None.is in
     let said = c.end_line_at_once.ensures.sinks c.in-None.is in
     let out = g.O.ByteSink.sunk c.args.out.now in
-    let err = g.E.ByteSink.sunk c.args.err.now in
+    let err = told_by g.E.MessageSink c.args.err.now in
     let past = rw kept.1 at (c.tell_on.ensures out err) in
     let comes = comes_kept _ _ _ _ _ _ _ _ _ _ _ kept.0 (comes_past _ _ _ _ _ _ _ _ _ (goes_further_none _ _ _ _ _ _ _ _ past)) in
     rw (said.0, said.1) comes

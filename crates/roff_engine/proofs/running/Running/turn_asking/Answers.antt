@@ -7,7 +7,7 @@ use Rattle.roff_engine.proofs.running.Running.turn_asking.Goals.{in-Byte, in-Not
 pub returns-in-Note : goal.returns-in-Note
 returns-in-Note g c =
     let shown = c.in-Note.ensures in
-    waiting_note c.args.self.now _ _ _ _ _ _ shown.failures shown.notes _ _ _ shown.looks (shown.note _ refl) c.report_note.ensures.puts c.report_note.ensures.status
+    waiting_note c.args.self.now _ _ _ _ _ _ shown.failures shown.notes _ _ c.line-line.result _ shown.looks (shown.note _ refl) c.line-line.ensures c.tell_note.ensures
 
 pub returns-in-Fault : goal.returns-in-Fault
 returns-in-Fault g c =

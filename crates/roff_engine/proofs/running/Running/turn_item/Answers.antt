@@ -25,7 +25,7 @@ returns-in-Do g c =
 pub returns-in-Note : goal.returns-in-Note
 returns-in-Note g c =
     let shown = c.in-Note.ensures in
-    front_note c.args.self.now _ _ _ _ _ _ shown.failures shown.notes c.requires _ _ _ shown.takes (shown.note _ refl) c.report_note.ensures.puts c.report_note.ensures.status
+    front_note c.args.self.now _ _ _ _ _ _ shown.failures shown.notes c.requires _ _ c.line-line.result _ shown.takes (shown.note _ refl) c.line-line.ensures c.tell_note.ensures
 
 pub returns-in-SourceEnd : goal.returns-in-SourceEnd
 returns-in-SourceEnd g c =

@@ -1,13 +1,12 @@
-use Rattle.std.proofs.Common.{◌≡◌, List, [], Ok, sym, subst}
+use Rattle.std.proofs.Common.{◌≡◌, List, [], sym, subst}
 use Rattle.roff_run.specs.Events.Steps.{events_of, messages_of}
 use Rattle.roff_run.specs.PageEvents.{PageEvent}
 use Rattle.roff_run.specs.declared.message.Message.{Message}
-use Rattle.roff_formatter.specs.declared.halt.Halt.{Halt}
 use Rattle.roff_interpreter.specs.Performing.{DoesMeaning, sinks}
-use Rattle.roff_sinks.specs.Sinks.{Puts}
-use Rattle.roff_sinks.proofs.Appending.{Writes-nothing}
+use Rattle.roff_interpreter.proofs.Bounded.{told_nothing}
 use Rattle.roff_interpreter.proofs.NamedSteps.{named-events, named-quiet}
 use Rattle.roff_interpreter.proofs.MessagesTold.{told_then_performed}
+use Rattle.roff_sinks.specs.Told.{told_by}
 use Rattle.roff_interpreter.proofs.interpreter.Interpreter.perform.Goals as goal
 
 pub returns-in-Meaning : goal.returns-in-Meaning
@@ -17,12 +16,11 @@ pub returns-in_default : goal.returns-in_default
 returns-in_default g c =
     let old = c.args.self.now in
     let kept = old.reader.meaning in
-    let err = g.E.ByteSink.sunk c.args.err.now in
+    let err = told_by g.E.MessageSink c.args.err.now in
     let done = c.perform_line in
     let told_old = sinks (g.O.ByteSink.sunk c.args.out.now) err in
     let told_new = sinks (g.O.ByteSink.sunk done.new.out) err in
-    let told : Puts {F = Halt} err err [] (Ok tt) = record { ok = Writes-nothing err; err = tt } in
-    let performed = told_then_performed c.args.line [] (events_of [] c.args.step) old done.new.self _ _ err err done.result told done.ensures in
+    let performed = told_then_performed c.args.line [] (events_of [] c.args.step) old done.new.self _ _ err err done.result (told_nothing err) done.ensures in
     let quiet : [] ≡ messages_of kept.message c.args.step = sym (named-quiet c.args.step kept.message c.in_default.not-Meaning) in
     subst (λ (messages : List Message). DoesMeaning c.args.line messages (events_of kept.events c.args.step) old done.new.self told_old told_new done.result) quiet
     (subst (λ (events : List PageEvent). DoesMeaning c.args.line [] events old done.new.self told_old told_new done.result) (named-events c.args.step kept.events c.in_default.not-Meaning) performed)

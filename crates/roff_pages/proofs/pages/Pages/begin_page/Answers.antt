@@ -1,6 +1,7 @@
-use Rattle.std.proofs.Common.{◌≡◌, List, ap, subst, sym, ◌∙◌, arith}
+use Rattle.std.proofs.Common.{◌≡◌, List, ap, subst, sym, ◌∙◌, vec_capacity, arith}
 use Rattle.roff_layout.specs.declared.trap.Trap.{Trap}
 use Rattle.roff_layout.specs.Springs.{first_met, is_on_top}
+use Rattle.roff_pages.specs.declared.stops.Stops.{Stops}
 use Rattle.roff_pages.specs.Pages.Kept.{Kept}
 use Rattle.roff_pages.specs.Pages.KnownStops.{AreKnown, BeginsWith}
 use Rattle.roff_pages.proofs.pages.Pages.begin_page.Goals as goal
@@ -20,7 +21,7 @@ invariant_of-self c =
       known = subst (λ (traps : List Trap). AreKnown a.length c.begin-top.result.stop.place traps c.begin-top.new.self) lent (c.begin-top.ensures.known a.stop before);
       traps = inv.traps;
       traps_room = inv.traps_room;
-      stops_room = omega (arith, inv.stops_room, c.begin-top.ensures.capacity);
+      stops_room = omega (arith, inv.stops_room, ap (λ (known : Stops). vec_capacity known.beyond) c.begin-top.ensures.after);
       outer = inv.outer;
       outer_room = inv.outer_room;
       free = omega arith;

@@ -24,14 +24,14 @@ returns-then-nearer-stop-clause-known c traps counted is known =
     subst (λ (s : ℕ). IsFirstAt c.args.lines s (traps ++ c.args.trap ∷ []) c.args.count) (sym at) first in
     all_forgotten c.args.lines c.nearer_stop-nearer.result (traps ++ c.args.trap ∷ []) (record { trap = c.args.count; beyond = c.clear.new.self; top = None }) there c.clear.ensures.items refl
 
-pub returns-clause-stop : goal.returns-clause-stop
-returns-clause-stop c traps is =
+pub returns-else-nearer-stop-clause-stop : goal.returns-else-nearer-stop-clause-stop
+returns-else-nearer-stop-clause-stop c traps is =
     let given : to_z w32 (of_z w32 c.args.trap.place) ≡ c.args.trap.place = omega (arith, ints) in
     planted_stop c.args.lines c.args.place c.args.stop c.nearer_stop-nearer.result traps c.args.trap c.place_of.result
     (c.place_of.ensures ∙ ap (place_of c.args.lines) given) c.nearer_stop-nearer.ensures is
 
-pub returns-clause-known : goal.returns-clause-known
-returns-clause-known c traps counted is known =
+pub returns-else-nearer-stop-clause-known : goal.returns-else-nearer-stop-clause-known
+returns-else-nearer-stop-clause-known c traps counted is known =
     let at : c.nearer_stop-nearer.result ≡ nearer_stop c.args.place c.place_of.result c.args.stop = c.nearer_stop-nearer.ensures in
     let same : c.args.stop ≡ c.nearer_stop-nearer.result = omega (arith, at, c.if-nearer-stop.false, nearer_le c.args.place c.place_of.result c.args.stop) in
     let first = planted_further c.args.lines c.args.place c.args.stop c.args.self.now.trap traps c.args.trap is known.trap in

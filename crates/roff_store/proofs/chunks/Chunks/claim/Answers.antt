@@ -37,38 +37,29 @@ invariant_of-self c =
       free_reserved = omega arith;
     }
 
-pub unwrap-requires : goal.unwrap-requires
-unwrap-requires c =
+pub push_reserved-requires : goal.push_reserved-requires
+push_reserved-requires c =
     let sound = c.self.invariant in
     let room = room_for_one c.self.inside c.args.self.now sound c.self.view_is c.in-None.ensures.cases.0 c.requires in
-    c.push.ensures.succeeds (omega arith)
+    omega arith
 
-pub unwrap-requires-in-None : goal.unwrap-requires-in-None
-unwrap-requires-in-None c =
+pub push_reserved-requires-in-None : goal.push_reserved-requires-in-None
+push_reserved-requires-in-None c =
     let sound = c.self.invariant in
     let room = room_for_one c.self.inside c.args.self.now sound c.self.view_is c.in-None.ensures.cases.0 c.requires in
-    c.push-in-None.ensures.succeeds (omega arith)
+    omega arith
 
-pub unwrap-requires-in-None-2 : goal.unwrap-requires-in-None-2
-unwrap-requires-in-None-2 c =
+pub push_reserved-requires-in-None-2 : goal.push_reserved-requires-in-None-2
+push_reserved-requires-in-None-2 c =
     let sound = c.self.invariant in
     let room = room_for_one c.self.inside c.args.self.now sound c.self.view_is c.in-None.ensures.cases.0 c.requires in
-    c.push-in-None-2.ensures.succeeds (omega arith)
+    omega arith
 
 pub invariant_of-self-in-None : goal.invariant_of-self-in-None
 invariant_of-self-in-None c =
     let sound = c.self.invariant in
     let room = room_for_one c.self.inside c.args.self.now sound c.self.view_is c.in-None.ensures.cases.0 c.requires in
     let below = subst (λ (m : Chunks). shares_in m < m.most) (sym c.self.view_is) c.requires in
-    let contents : c.push.new.self.items ≡ c.self.inside.contents.items ++ c.new.result ∷ [] =
-    rw c.unwrap.ensures at c.push.ensures.items in
-    let contents_len : vec_len c.push.new.self ≡ vec_len c.self.inside.contents + 1 = rw c.unwrap.ensures at c.push.ensures.len in
-    let links_len : vec_len c.push-in-None.new.self ≡ vec_len c.self.inside.links + 1 =
-    rw c.unwrap-in-None.ensures at c.push-in-None.ensures.len in
-    let shares : c.push-in-None-2.new.self.items ≡ c.self.inside.shares.items ++ 1 ∷ [] =
-    rw c.unwrap-in-None-2.ensures at c.push-in-None-2.ensures.items in
-    let shares_len : vec_len c.push-in-None-2.new.self ≡ vec_len c.self.inside.shares + 1 =
-    rw c.unwrap-in-None-2.ensures at c.push-in-None-2.ensures.len in
     let none : (vec_len c.self.inside.free ≡ 0) × (vec_len c.pop.new.self ≡ 0) = c.in-None.ensures.cases in
     let made : AreFree (c.self.inside.shares.items ++ 1 ∷ []) c.pop.new.self.items =
     AreFree-made c.self.inside.shares.items c.self.inside.free.items c.pop.new.self.items (omega arith) (omega arith)
@@ -79,12 +70,12 @@ invariant_of-self-in-None c =
       links = omega arith;
       shares = omega arith;
       within = omega arith;
-      shared = rw (shares, all) (omega arith);
-      fits = rw contents (fits-push c.self.inside.contents.items c.new.result (rw c.new.ensures (omega arith)) sound.fits);
+      shared = rw (c.push_reserved-in-None-2.ensures.items, all) (omega arith);
+      fits = rw c.push_reserved.ensures.items (fits-push c.self.inside.contents.items c.new.result (rw c.new.ensures (omega arith)) sound.fits);
       known = λ k d below. absurd (omega arith);
       unshared = λ k d below. absurd (omega arith);
       once = made.once;
-      all = rw shares (c.pop.new.self.ok.0 ∙ made.all);
+      all = rw c.push_reserved-in-None-2.ensures.items (c.pop.new.self.ok.0 ∙ made.all);
       contents_reserved = omega arith;
       links_reserved = omega arith;
       shares_reserved = omega arith;

@@ -1,26 +1,24 @@
 use Rattle.std.proofs.lemmas.Int.{ints}
 use Rattle.std.proofs.lemmas.Grind.{common_steps}
-use Rattle.std.proofs.Common.{◌≡◌, ◌∙◌, ◌++◌, ◌∷◌, [], set, arith}
+use Rattle.std.proofs.Common.{◌∙◌, set, arith}
 use Rattle.std.proofs.lemmas.List.{length-set}
 use Rattle.roff_store.proofs.Free.{AreFree, AreFree-let_go, free_kept, last_share, room_for_free, sum-set}
 use Rattle.roff_store.proofs.chunks.Chunks.let_go.Goals as goal
 
-pub unwrap-requires : goal.unwrap-requires
-unwrap-requires c =
+pub push_reserved-requires : goal.push_reserved-requires
+push_reserved-requires c =
     let last = last_share c.self.inside c.args.self.now c.args.chunk c.index_mut-shares.result.now c.self.view_is c.requires
     c.index_mut-shares.ensures.value c.if-shares-eq0.true in
     let room = room_for_free c.self.inside c.args.chunk c.self.invariant last.0 last.1 in
-    c.push.ensures.succeeds (omega arith)
+    omega arith
 
 pub invariant_of-self : goal.invariant_of-self
 invariant_of-self c =
     let sound = c.self.invariant in
     let last = last_share c.self.inside c.args.self.now c.args.chunk c.index_mut-shares.result.now c.self.view_is c.requires
     c.index_mut-shares.ensures.value c.if-shares-eq0.true in
-    let pushed : c.push.new.self.items ≡ c.self.inside.free.items ++ c.args.chunk ∷ [] =
-    rw c.unwrap.ensures at c.push.ensures.items in
-    let gone : AreFree (set c.self.inside.shares.items c.args.chunk 0) c.push.new.self.items =
-    rw pushed (AreFree-let_go c.self.inside.shares.items c.self.inside.free.items c.args.chunk last.0 last.1
+    let gone : AreFree (set c.self.inside.shares.items c.args.chunk 0) c.push_reserved.new.self.items =
+    rw c.push_reserved.ensures.items (AreFree-let_go c.self.inside.shares.items c.self.inside.free.items c.args.chunk last.0 last.1
     (free_kept c.self.inside sound)) in
     let all = sum-set c.self.inside.shares.items c.args.chunk 0 last.0 in
     record {
@@ -34,7 +32,7 @@ invariant_of-self c =
           omega (arith, gone.known k d below);
       unshared = rw c.if-shares-eq0.true gone.unshared;
       once = gone.once;
-      all = rw c.if-shares-eq0.true (c.push.new.self.ok.0 ∙ gone.all);
+      all = rw c.if-shares-eq0.true (c.push_reserved.new.self.ok.0 ∙ gone.all);
       contents_reserved = sound.contents_reserved;
       links_reserved = sound.links_reserved;
       shares_reserved = sound.shares_reserved;

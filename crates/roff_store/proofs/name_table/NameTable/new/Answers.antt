@@ -9,9 +9,9 @@ invariant_of-result g c =
     let none = c.in_ok-with_capacity.ensures.items in
     let clear = clear_heads c.in_ok-vec.field-0.items bucket_count (c.in_ok-vec.ensures.items_if_clones_equal (λ y e. e)) in
     record {
-      cap = omega (arith, c.ranges.cap.fits, c.saturating_add-room.ensures);
-      reserved = c.in_ok-with_capacity.ensures.capacity;
-      taken = omega (arith, c.in_ok-with_capacity.ensures.len);
+      reserved = let exact = c.in_ok-with_capacity.ensures.exact in grind (arith, c.saturating_add-room.ensures);
+      small = omega (arith, c.in_ok-with_capacity.ensures.exact, c.saturating_add-room.ensures);
+      cap = omega (arith, c.ranges.cap.fits, c.in_ok-with_capacity.ensures.exact, c.saturating_add-room.ensures);
       count = rw none refl;
       within = omega arith;
       once = rw none tt;

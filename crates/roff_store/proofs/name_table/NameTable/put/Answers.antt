@@ -37,9 +37,9 @@ invariant_of-self-2 g c =
     let still = c.add.ensures.index.head_count in
     let long : length c.add.new.heads ≡ c.self.inside.heads.len = omega (arith, c.self.inside.heads.ok.0) in
     record {
-      cap = c.self.invariant.cap;
-      reserved = let kept = c.make_room.ensures.capacity in let grown = c.add.ensures.capacity in let room = c.self.invariant.reserved in omega arith;
-      taken = let room = c.make_room.ensures.room in let more = c.add.ensures.len in omega arith;
+      reserved = c.add.ensures.capacity ∙ (c.make_room.ensures.capacity ∙ c.self.invariant.reserved);
+      small = let kept = c.make_room.ensures.capacity in let still = c.add.ensures.capacity in let small = c.self.invariant.small in omega arith;
+      cap = let kept = c.make_room.ensures.capacity in let still = c.add.ensures.capacity in let cap = c.self.invariant.cap in omega arith;
       count = rw (entries, length-added c.args.name.now c.args.entry (entries_in c.self.inside.slots.items) absent)
           (ap (λ n. n + 1) c.self.invariant.count);
       within = let n = c.self.invariant.within in omega arith;

@@ -28,9 +28,9 @@ invariant_of-self g c =
     let entries : entries_in c.unlink.new.slots ≡ without_entry c.args.name.now (entries_in c.self.inside.slots.items) =
     rw (← c.as_mut_slice.ensures.value) c.unlink.ensures.entries in
     record {
-      cap = c.self.invariant.cap;
       reserved = c.self.invariant.reserved;
-      taken = c.self.invariant.taken;
+      small = c.self.invariant.small;
+      cap = c.self.invariant.cap;
       count = rw (slots, entries) (let n = length-unused found c.self.invariant.once in let m = c.self.invariant.count in omega arith);
       within = let n = c.self.invariant.within in omega arith;
       once = rw (slots, entries) (EachOnce-without_entry c.args.name.now (entries_in c.self.inside.slots.items) c.self.invariant.once);

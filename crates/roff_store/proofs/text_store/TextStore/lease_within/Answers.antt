@@ -91,16 +91,16 @@ invariant_of-self c =
 
 pub invariant_of-self-in-None-pop : goal.invariant_of-self-in-None-pop
 invariant_of-self-in-None-pop c =
-    let items = rw c.unwrap.ensures at c.push.ensures.items in
-    let len = rw c.unwrap.ensures at c.push.ensures.len in
+    let items = c.push_reserved.ensures.items in
+    let len = c.push_reserved.ensures.len in
     let fits =
     room-within c.self.inside c.args.self.now c.self.invariant c.self.view_is c.args.name.now c.in-Some-Body.body
     (sym c.get.ensures ∙ (c.in-Some-Body.is ∙ ap Some c.in-Some-Body.field-0-is)) c.args.most c.if-body-most.false c.requires.room in
     sound-behind c.self.inside c.args.self.now c.self.invariant c.self.view_is c.args.name.now c.in-Some-Body.body
     (sym c.get.ensures ∙ (c.in-Some-Body.is ∙ ap Some c.in-Some-Body.field-0-is))
     c.requires.fewer fits
-    c.share.new.self c.share.ensures.shares c.share.ensures.sum c.share.ensures.same c.self.inside.leases.len c.push.new.self
-    c.pop.new.self refl c.in-None-pop.ensures.cases.0 c.in-None-pop.ensures.cases.1 items len c.push.ensures.capacity
+    c.share.new.self c.share.ensures.shares c.share.ensures.sum c.share.ensures.same c.self.inside.leases.len c.push_reserved.new.self
+    c.pop.new.self refl c.in-None-pop.ensures.cases.0 c.in-None-pop.ensures.cases.1 items len c.push_reserved.ensures.capacity
     c.in-None-pop.ensures.capacity
 
 pub returns-in-Some : goal.returns-in-Some
@@ -134,8 +134,8 @@ returns-in-Some c =
 
 pub returns-in-None-pop : goal.returns-in-None-pop
 returns-in-None-pop c =
-    let items = rw c.unwrap.ensures at c.push.ensures.items in
-    let len = rw c.unwrap.ensures at c.push.ensures.len in
+    let items = c.push_reserved.ensures.items in
+    let len = c.push_reserved.ensures.len in
     let fits =
     room-within c.self.inside c.args.self.now c.self.invariant c.self.view_is c.args.name.now c.in-Some-Body.body
     (sym c.get.ensures ∙ (c.in-Some-Body.is ∙ ap Some c.in-Some-Body.field-0-is)) c.args.most c.if-body-most.false c.requires.room in
@@ -153,14 +153,14 @@ returns-in-None-pop c =
           free-behind c.self.inside c.args.self.now c.self.invariant c.self.view_is c.args.name.now c.in-Some-Body.body
           found
           c.requires.fewer fits
-          c.share.new.self c.share.ensures.shares c.share.ensures.sum c.share.ensures.same (c.len.result - 1) c.push.new.self
-          c.pop.new.self (omega (arith, len, c.len.ensures)) c.in-None-pop.ensures.cases.0 c.in-None-pop.ensures.cases.1 items len c.push.ensures.capacity
+          c.share.new.self c.share.ensures.shares c.share.ensures.sum c.share.ensures.same (c.len.result - 1) c.push_reserved.new.self
+          c.pop.new.self (omega (arith, len, c.len.ensures)) c.in-None-pop.ensures.cases.0 c.in-None-pop.ensures.cases.1 items len c.push_reserved.ensures.capacity
           c.in-None-pop.ensures.capacity;
       leased =
           after-behind c.self.inside c.args.self.now c.self.invariant c.self.view_is c.args.name.now c.in-Some-Body.body
           found
           c.requires.fewer fits
-          c.share.new.self c.share.ensures.shares c.share.ensures.sum c.share.ensures.same (c.len.result - 1) c.push.new.self
-          c.pop.new.self (omega (arith, len, c.len.ensures)) c.in-None-pop.ensures.cases.0 c.in-None-pop.ensures.cases.1 items len c.push.ensures.capacity
+          c.share.new.self c.share.ensures.shares c.share.ensures.sum c.share.ensures.same (c.len.result - 1) c.push_reserved.new.self
+          c.pop.new.self (omega (arith, len, c.len.ensures)) c.in-None-pop.ensures.cases.0 c.in-None-pop.ensures.cases.1 items len c.push_reserved.ensures.capacity
           c.in-None-pop.ensures.capacity;
     }

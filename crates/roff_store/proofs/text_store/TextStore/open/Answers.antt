@@ -6,14 +6,14 @@ use Rattle.roff_store.proofs.text_store.TextStore.open.Goals as goal
 
 pub invariant_of-self : goal.invariant_of-self
 invariant_of-self c =
-    let items = rw c.unwrap.ensures at c.push.ensures.items in
-    let len = rw c.unwrap.ensures at c.push.ensures.len in
-    sound-begun c.self.inside c.args.self.now c.self.invariant c.self.view_is c.requires c.push.new.self c.empty.result
+    let items = c.push_reserved.ensures.items in
+    let len = c.push_reserved.ensures.len in
+    sound-begun c.self.inside c.args.self.now c.self.invariant c.self.view_is c.requires c.push_reserved.new.self c.empty.result
     c.empty.ensures.chunks c.empty.ensures.at c.empty.ensures.rest
-    (let last = c.empty.ensures.last in let most = c.self.invariant.most in omega arith) items len c.push.ensures.capacity
+    (let last = c.empty.ensures.last in let most = c.self.invariant.most in omega arith) items len c.push_reserved.ensures.capacity
 
-pub unwrap-requires : goal.unwrap-requires
-unwrap-requires c = grind (ints, arith, common_steps)
+pub push_reserved-requires : goal.push_reserved-requires
+push_reserved-requires c = grind (ints, arith, common_steps)
 
 pub returns-clause-number : goal.returns-clause-number
 returns-clause-number c = grind (ints, arith, common_steps)

@@ -22,6 +22,6 @@ pub returns-then-self-len-clause-gives : goal.returns-then-self-len-clause-gives
 returns-then-self-len-clause-gives g c =
     let now = c.args.self.now in
     let more : now.next < length now.gathered.items = search rules in
-    let kept = c.gather_more.ensures in
+    let kept = c.gather_more.ensures.kept in
     gathered_taken g.S.ByteSource.gives g.met.S.ByteSource.some g.S.ByteSource.ready now c.gather_more.new.self c.args.count (some_left now.gathered.items now.next more)
     kept.inner kept.tables

@@ -1,0 +1,36 @@
+-- What the limit on messages does, whatever a source gives.
+use Rattle.std.specs.Prelude.{◌≡◌, ℕ, ◌≤◌, length}
+use Rattle.roff_num.specs.Lists.{IsBeginning}
+use Rattle.roff_num.specs.declared.limit.Limit.TheVariants.{Messages}
+use Rattle.roff_run.specs.declared.status.Status.TheVariants.{Limit as Limited}
+use Rattle.roff_source.specs.Tape.{Tape}
+use Rattle.tbl_layout.specs.TblLimits.{tbl_limits_with}
+use Rattle.tbl_layout.specs.declared.limits.TblLimits.{TblLimits}
+use Rattle.tbl_layout.specs.declared.message.Message.TheVariants.{LimitReached}
+use Rattle.tbl_run.specs.Outcome.{Comes}
+use Rattle.tbl_run.specs.Run.{State, ends_telling, initial, step, steps}
+
+-- the messages of a run that hasn't ended are within the limit
+abbrev pub MessagesAreWithin : Type 0
+MessagesAreWithin =
+    (l : TblLimits) (line_length : ℕ) (t : Tape) (s : State) → Comes l line_length t s → length s.written.messages ≤ l.messages
+
+-- a step within the limit, beside the same within a larger one: they are the same, or the first one ends the run by the limit, and
+-- what was written and told before it is a beginning of what the other one's state has
+pub data IsOnlyStopped (l : TblLimits) (before small large : State) : Type 0 where
+  SameStep : (is : small ≡ large) → IsOnlyStopped l before small large
+  LimitMet : (line : ℕ) (is : small.written ≡ ends_telling line (LimitReached Messages l.messages) (Limited Messages) before.written)
+      (stage : small.stage ≡ large.stage) (text : IsBeginning before.written.output large.written.output)
+      (messages : IsBeginning before.written.messages large.written.messages)
+      → IsOnlyStopped l before small large
+
+-- a run that comes to a state does so within larger limits in as many steps, and its next step is only stopped
+pub record GoesFurther (small large : TblLimits) (line_length : ℕ) (t : Tape) (count : ℕ) (s : State) : Type 0 where
+  pub comes : steps large line_length count (initial t) ≡ s
+  pub next : IsOnlyStopped small s (step small line_length s) (step large line_length s)
+
+-- a smaller limit on messages only stops
+abbrev pub MessagesOnlyStop : Type 0
+MessagesOnlyStop =
+    (l : TblLimits) (more line_length : ℕ) (t : Tape) (s : State) → l.messages ≤ more → (come : Comes l line_length t s)
+    → GoesFurther l (tbl_limits_with l Messages more) line_length t come.count s
