@@ -32,7 +32,7 @@ COMMANDS = {"tables": "both"}
 # puts `Engine::format` into `job::run`, or that into `program::run_over`, with the turn of a byte that stands ready and
 # with the glyph that it adds; and the calls of the environment into functions of `Formatter`.
 STAGES = {
-    "turn": ["roff_tools::job", "roff_tools::program::run_over", "roff_engine::engine", "roff_engine::running"],
+    "turn": ["roff_tools::job", "roff_tools::program::run_over", "roff_engine", "roff_running"],
     "source": ["roff_source::source", "roff_devices", "roff_tools"],
     "unread": ["roff_scan::unread", "roff_ahead", "roff_input"],
     "reader": [
@@ -51,7 +51,7 @@ STAGES = {
         "roff_source",
         "roff_num",
     ],
-    "formatter": ["roff_engine", "roff_interpreter", "roff_formatter"],
+    "formatter": ["roff_interpreter", "roff_formatter"],
     "environment": [
         "roff_layout",
         "roff_lines",

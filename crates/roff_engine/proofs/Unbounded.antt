@@ -1,5 +1,5 @@
 -- What a run tells of a sink behind a bound holds of the sink.
-use Rattle.std.proofs.Common.{◌≡◌, ℕ, inl, inr}
+use Rattle.std.proofs.Common.{ℕ, inl, inr}
 use Rattle.roff_num.specs.declared.limits.Limits.{Limits}
 use Rattle.roff_interpreter.specs.Outcome.{Outcome, Runs, seen}
 use Rattle.roff_run.specs.declared.start.Start.{Start}

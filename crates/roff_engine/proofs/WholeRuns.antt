@@ -1,5 +1,5 @@
--- A whole run of the code, turn by turn: each turn is a step of the definition.
-use Rattle.std.proofs.Common.{◌≡◌, ℕ, true, false, List, [], Option, None, Result, refl, sym, ap, subst, ◌∙◌, arith}
+-- A whole run of the code: how it starts, and that it comes further until it ends.
+use Rattle.std.proofs.Common.{◌≡◌, ℕ, [], true, false, List, None, refl, sym, ap, subst, ◌∙◌, arith, ◌+◌, ◌*◌, ◌<◌, Bool, ◌++◌, Ok, Err}
 use Rattle.std.specs.Prelude.{IsSome, nat_lt}
 use Rattle.std.proofs.lemmas.Bool.{le-ltb}
 use Rattle.roff_num.specs.declared.limits.Limits.{Limits}
@@ -14,46 +14,22 @@ use Rattle.roff_reader.specs.Reader.State.{ReaderState, fresh_reader}
 use Rattle.roff_reader.specs.Reader.Taken.{IsReady}
 use Rattle.roff_run.specs.Reading.Items.{PageUnread}
 use Rattle.roff_run.specs.Registers.{no_registers}
-use Rattle.roff_run.specs.Run.{State, Leads, first_input, first_unread, initial, item_read, paged_state, reading_by, step, with_registers}
+use Rattle.roff_run.specs.Run.{State, Leads, first_input, first_unread, initial, paged_state, with_registers}
 use Rattle.roff_run.specs.Starts.{pages_given}
 use Rattle.roff_run.specs.declared.phase.Phase.{Phase}
 use Rattle.roff_run.specs.declared.phase.Phase.TheVariants.{Reading}
 use Rattle.roff_run.specs.declared.start.Start.{Start}
 use Rattle.roff_sinks.specs.Sinks.{Sunk}
 use Rattle.roff_run.specs.Run.Counts.{counts_in, first_passed}
-use Rattle.roff_run.specs.Reading.Ends.{due}
-use Rattle.roff_run.specs.declared.line_state.Due.{Due}
-use Rattle.roff_engine.specs.declared.running.Running.{Running as Coded}
+use Rattle.roff_running.specs.declared.running.Running.{Running as Coded}
 use Rattle.roff_interpreter.specs.Outcome.{Seen, Outcome, Runs, seen}
 use Rattle.roff_interpreter.specs.Performing.{going}
-use Rattle.roff_engine.specs.Running.Turning.{HasCome, IsFresh, TurnsBy, state_at}
-use Rattle.roff_engine.specs.Running.Starting.{Begins, HasRoom}
+use Rattle.roff_running.specs.Running.Turning.{HasCome, IsFresh, state_at, AreLeft, ComesFurther, IsAt, falls_told, turns_with}
+use Rattle.roff_engine.specs.Starting.{Begins, HasRoom}
 use Rattle.roff_interpreter.proofs.Fronts.{few-nothing}
 use Rattle.roff_sinks.proofs.Appending.{Appends-nothing}
 use Rattle.roff_run.proofs.Leads.{Leads-refl}
-
--- a turn that does what a step does is one
-step_turn : (does : State → State) (gave gives : Tape → Type 0) (noted notes : ℕ) (old new : Coded) (now behind : Seen) (r : Result (Unit {0}) Status)
-    → ((tape : Tape) (h : PageHistory) (ms : List ℕ) → step old.limits (state_at tape old h ms) ≡ does (state_at tape old h ms))
-    → TurnsBy does gave gives noted notes old new now behind r → TurnsBy (step old.limits) gave gives noted notes old new now behind r
-step_turn does gave gives noted notes old new now behind r is turn = record {
-  limits = turn.limits;
-  taken = turn.taken;
-  before = turn.before;
-  turns = λ t tape start may at goes. turn.turns t tape start may at (is (items_then turn.taken tape) at.history at.messages);
-  falls = λ t tape start may at goes. turn.falls t tape start may at (is (items_then turn.taken tape) at.history at.messages);
-}
-
--- nothing is due: an item of the input is read
-pub read_turn : (gave gives : Tape → Type 0) (noted notes : ℕ) (old new : Coded) (now behind : Seen) (r : Result (Unit {0}) Status)
-    → due old.interpreter.reader.reading ≡ None
-    → TurnsBy (λ s. item_read old.limits s) gave gives noted notes old new now behind r
-    → TurnsBy (step old.limits) gave gives noted notes old new now behind r
-read_turn gave gives noted notes old new now behind r none_due turn =
-    step_turn _ gave gives noted notes old new now behind r (λ tape h ms.
-    let s : State = state_at tape old h ms in
-    ap (λ (what : Option Due). reading_by old.limits what s) none_due)
-    turn
+use Rattle.roff_running.proofs.Waiting.{items_then-append}
 
 -- before the first item no count is above its limit
 none_passed-fresh : (l : Limits) → first_passed l (counts_in no_registers first_input) ≡ None
@@ -140,3 +116,54 @@ ends_unread l given status gives now behind may ends = record {
   took = record { before = λ t given. given; some = may.tape; some_given = may.given };
   outcome = λ left given. ends left;
 }
+
+-- a run that has come so far
+module _ {given : Start} {first gave gives : Tape → Type 0} (noted notes : ℕ) (start now behind : Seen) (old new : Coded) (come : HasCome given first gave start now old) where
+  -- has come further
+  pub come_further : (fewer : Bool) → ComesFurther fewer gave gives noted notes old new now behind (Ok tt) → HasCome given first gives start behind new
+  come_further fewer further = record {
+    taken = come.taken ++ further.taken;
+    before = λ t may. subst first (sym (items_then-append come.taken further.taken t)) (come.before (items_then further.taken t) (further.before t may));
+    at = λ t may.
+        let tape : Tape = items_then further.taken t in
+        subst (λ (whole : Tape). IsAt (record { start = given; tape = whole }) t start behind new) (sym (items_then-append come.taken further.taken t))
+        (further.comes (record { start = given; tape = items_then come.taken tape }) t start may (come.at tape (further.before t may)));
+  }
+
+  -- with no more turns to come, or fewer
+  pub come_left : (fewer : Bool) → SomeTape gives → ComesFurther fewer gave gives noted notes old new now behind (Ok tt)
+      → AreLeft fewer (turns_with new notes) (turns_with old noted)
+  come_left fewer may further =
+      let tape : Tape = items_then further.taken may.tape in
+      further.turns (record { start = given; tape = items_then come.taken tape }) may.tape start may.given (come.at tape (further.before may.tape may.given))
+
+  -- or has ended
+  pub come_to_end : (fewer : Bool) (l : Limits) (status : Status) → old.limits ≡ l → SomeTape gives → ComesFurther fewer gave gives noted notes old new now behind (Err status)
+      → Runs l given status first gives start behind
+  come_to_end fewer l status limits may further = record {
+    taken = come.taken ++ further.taken;
+    took = record {
+      before = λ t given. subst first (sym (items_then-append come.taken further.taken t)) (come.before (items_then further.taken t) (further.before t given));
+      some = may.tape;
+      some_given = may.given;
+    };
+    outcome = λ t may.
+        let tape : Tape = items_then further.taken t in
+        let whole : Tape = items_then come.taken tape in
+        let own : Outcome new.limits given whole t status start behind =
+        further.comes (record { start = given; tape = whole }) t start may (come.at tape (further.before t may)) in
+        subst (λ (whole : Tape). Outcome l given whole t status start behind) (sym (items_then-append come.taken further.taken t))
+        (subst (λ (k : Limits). Outcome k given whole t status start behind) (further.limits ∙ limits) own);
+  }
+
+-- turns to come, and whether bytes were told
+abbrev pub turns_told : ℕ → Bool → ℕ
+turns_told turns false = 2 * turns
+turns_told turns true = 2 * turns + 1
+
+-- they fall with each step
+pub told-fewer : (was is : Bool) (left turns : ℕ) → AreLeft (falls_told was (Ok is)) left turns → turns_told left is < turns_told turns was
+told-fewer false false left turns less = omega (arith, less)
+told-fewer false true left turns less = omega (arith, less)
+told-fewer true false left turns less = omega (arith, less)
+told-fewer true true left turns less = omega (arith, less)

@@ -1,5 +1,5 @@
 pub mod Engine
 pub mod Outcomes
 pub mod TwoRuns
-pub mod Running
+pub mod Starting
 pub mod Clauses

@@ -5,11 +5,12 @@ ghost use Rattle.roff_engine.specs.Clauses.{StandFor, Limits, Runs, Tape, seen, 
 ghost use Rattle.roff_run.specs.Run.{initial};
 ghost use Rattle.roff_sinks.specs.Told.{told_by};
 
-use crate::running::Running;
+use crate::starting::begin;
 use roff_interpreter::Interpreter;
 use roff_names::first_unread;
 use roff_num::Limits;
 use roff_run::{Phase, Start, Status};
+use roff_running::Running;
 use roff_scan::ByteSource;
 use roff_sinks::{ByteSink, MessageSink};
 use std::alloc::{AllocError, Global};
@@ -94,7 +95,7 @@ impl Engine {
             → source.new ≡ source.old }
     {
         let Engine { start, mut running } = self;
-        if let Err(status) = running.begin(&start, err) {
+        if let Err(status) = begin(&mut running, &start, err) {
             return status;
         }
         let mut is_told = false;

@@ -3,7 +3,7 @@
 
 mod engine;
 pub mod laws;
-mod running;
+mod starting;
 
 pub use engine::Engine;
 pub use roff_run::{Start, Status, TooManyRegisters};

@@ -2,13 +2,12 @@ use Rattle.std.proofs.Common.{◌≡◌, ap, sym, subst, ◌∙◌}
 use Rattle.std.specs.Prelude.{IsSome}
 use Rattle.roff_interpreter.specs.Outcome.{Runs, seen}
 use Rattle.roff_engine.specs.Engine.Setup.{Setup}
-use Rattle.roff_engine.specs.Running.Turning.{HasCome}
-use Rattle.roff_engine.specs.declared.running.Running.{Running as Coded}
+use Rattle.roff_running.specs.Running.Turning.{HasCome}
+use Rattle.roff_running.specs.declared.running.Running.{Running as Coded}
 use Rattle.roff_run.specs.Reading.Items.{PageUnread}
 use Rattle.roff_run.specs.Run.{initial}
 use Rattle.roff_input.specs.declared.looked.Looked.TheVariants.{Nothing}
-use Rattle.roff_engine.proofs.ComingFurther.{come_further, come_left, come_to_end, told-fewer}
-use Rattle.roff_engine.proofs.WholeRuns.{HasRoom-fresh, ends_unread, initial-fresh, not_refused, started}
+use Rattle.roff_engine.proofs.WholeRuns.{HasRoom-fresh, come_further, come_left, come_to_end, ends_unread, initial-fresh, not_refused, started, told-fewer}
 use Rattle.roff_sinks.specs.Told.{told_by}
 use Rattle.roff_engine.proofs.engine.Engine.format_within.Goals as goal
 
@@ -34,7 +33,7 @@ loop-told-init g c =
       come = rw c.in_default.ensures.err
           (subst (λ (v : Setup). HasCome v.start (g.S.ByteSource.gives c.args.source.now) (g.S.ByteSource.gives c.args.source.now)
           (seen (g.S.ByteSource.failures c.args.source.now) (g.O.ByteSink.sunk c.args.out.now) (told_by g.E.MessageSink c.args.err.now))
-          (seen (g.S.ByteSource.failures c.args.source.now) (g.O.ByteSink.sunk c.args.out.now) (told_by g.E.MessageSink c.args.err.now)) c.begin.new.self) c.self.view_is come);
+          (seen (g.S.ByteSource.failures c.args.source.now) (g.O.ByteSink.sunk c.args.out.now) (told_by g.E.MessageSink c.args.err.now)) c.begin.new.running) c.self.view_is come);
       limits = ap (λ (run : Coded). run.limits) begins.some.sets ∙ ap (λ (v : Setup). v.limits) c.self.view_is;
     }
 
@@ -44,7 +43,7 @@ returns-in-Err-step-clause-runs g c =
     come_to_end _ _ _ _ _ _ _ before.come _ _ c.in-Err-step.status before.limits (g.met.S.ByteSource.some c.step.new.source) c.in-Err-step.ensures
 
 pub returns-in-Err-step-clause-unread : goal.returns-in-Err-step-clause-unread
-returns-in-Err-step-clause-unread g c = λ tape refused. absurd (not_refused _ c.begin.new.self c.self.inside.start c.self.invariant.2 c.self.invariant.1 c.in_default.ensures.begins tape
+returns-in-Err-step-clause-unread g c = λ tape refused. absurd (not_refused _ c.begin.new.running c.self.inside.start c.self.invariant.2 c.self.invariant.1 c.in_default.ensures.begins tape
     (subst (λ (v : Setup). IsSome (initial v.limits v.start tape).ended) (sym c.self.view_is) refused))
 
 pub loop-told-preserved : goal.loop-told-preserved

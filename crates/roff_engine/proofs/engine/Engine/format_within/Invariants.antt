@@ -1,7 +1,7 @@
 use Rattle.std.proofs.Common.{◌≡◌}
 use Rattle.roff_interpreter.specs.Outcome.{seen}
-use Rattle.roff_engine.specs.Running.Turning.{HasCome, turns_with}
-use Rattle.roff_engine.proofs.ComingFurther.{turns_told}
+use Rattle.roff_running.specs.Running.Turning.{HasCome, turns_with}
+use Rattle.roff_engine.proofs.WholeRuns.{turns_told}
 use Rattle.roff_sinks.specs.Told.{told_by}
 use Rattle.roff_engine.proofs.engine.Engine.format_within.Given as goal
 

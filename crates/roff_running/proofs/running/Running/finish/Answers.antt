@@ -1,0 +1,24 @@
+use Rattle.std.proofs.Common.{arith, [], refl}
+use Rattle.roff_run.specs.Events.Lines.{closing_events}
+use Rattle.roff_run.specs.Run.{phase_ended}
+use Rattle.roff_run.specs.Reading.Items.{meaning_events}
+use Rattle.roff_run.specs.Registers.{Known}
+use Rattle.roff_run.specs.declared.line_state.LineState.TheVariants.{LineStart}
+use Rattle.roff_run.specs.declared.phase.Phase.TheVariants.{Closing, LastMacro}
+use Rattle.roff_formatter.proofs.EventsLeft.{few-short}
+use Rattle.roff_running.proofs.Acting.{taking_acts, halted_acts}
+use Rattle.roff_running.proofs.running.Running.finish.Goals as goal
+
+pub returns-in-Ok : goal.returns-in-Ok
+returns-in-Ok g c = λ failures.
+    let old = c.args.self.now in
+    taking_acts (λ (k : Known). meaning_events old.unread.input LineStart closing_events)
+    (phase_ended LastMacro) Closing [] _ old _ c.go_on.new.self failures c.in-Ok.sprung _ _ (λ tape h messages. refl) refl refl (c.in-Ok.ensures old.unread _)
+    (λ k. few-short closing_events (omega arith)) (λ k room most few. few) (c.go_on.ensures failures _)
+
+pub returns-in-Err : goal.returns-in-Err
+returns-in-Err g c = λ failures.
+    let old = c.args.self.now in
+    halted_acts (λ (k : Known). meaning_events old.unread.input LineStart closing_events)
+    (phase_ended LastMacro) Closing [] _ old (λ tape h messages. refl) _ failures c.in-Err.halt _ _ old.unread.input.line refl
+    (λ k. refl) (c.in-Err.ensures old.unread _) (λ t left start halts. c.halted.ensures t left start failures _ (rw c.line-line.ensures halts))

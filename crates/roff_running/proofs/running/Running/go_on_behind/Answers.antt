@@ -1,0 +1,36 @@
+use Rattle.std.proofs.Common.{ℕ, [], Option, Result, refl, subst, sym}
+use Rattle.roff_formatter.specs.declared.halt.Halt.{Halt}
+use Rattle.roff_formatter.specs.declared.sprung.Sprung.{Sprung}
+use Rattle.roff_interpreter.specs.Halting.{Halts, line_told}
+use Rattle.roff_interpreter.specs.Outcome.{seen}
+use Rattle.roff_interpreter.specs.Performing.{DoesTaking, sinks}
+use Rattle.roff_interpreter.specs.Unfilled.{told_as}
+use Rattle.roff_run.specs.Reading.{taking}
+use Rattle.roff_run.specs.declared.line_state.LineState.TheVariants.{Text as InText}
+use Rattle.roff_running.specs.declared.running.Running.{Running as Coded}
+use Rattle.roff_running.proofs.BytesActed.{byte_acts, byte_halts}
+use Rattle.roff_sinks.specs.Told.{told_by}
+use Rattle.roff_running.proofs.running.Running.go_on_behind.Goals as goal
+
+pub returns-in-Ok : goal.returns-in-Ok
+returns-in-Ok g c = λ failures was told line out_old out_new takes.
+    let now = c.args.self.now in
+    let before : Coded = record now { interpreter = told_as was told (InText line) } in
+    let err = told_by g.E.MessageSink c.args.err.now in
+    byte_acts 10 _ before now c.go_on.new.self failures c.in-Ok.sprung _ _ refl refl
+    (subst
+    (λ (done : Result (Option Sprung) Halt). DoesTaking (λ k. taking k (InText line) now.unread.input 10) [] before.interpreter now.interpreter now.unread now.unread (sinks out_old err) (sinks out_new err) done)
+    c.in-Ok.is takes)
+    (c.go_on.ensures failures _)
+
+pub returns-in-Err : goal.returns-in-Err
+returns-in-Err g c = λ failures was told line out_old out_new takes.
+    let now = c.args.self.now in
+    let before : Coded = record now { interpreter = told_as was told (InText line) } in
+    let err = told_by g.E.MessageSink c.args.err.now in
+    byte_halts 10 _ before now failures c.in-Err.halt _ _ c.line-line.result refl (sym c.line-line.ensures)
+    (subst
+    (λ (done : Result (Option Sprung) Halt). DoesTaking (λ k. taking k (InText line) now.unread.input 10) [] before.interpreter now.interpreter now.unread now.unread (sinks out_old err) (sinks out_new err) done)
+    c.in-Err.is takes)
+    (λ t left start halts. c.halted.ensures t left start failures _
+    (subst (λ (n : ℕ). Halts now.limits t left (line_told c.in-Err.halt n c.line-line.result) c.in-Err.halt start (seen failures out_new err)) (sym c.line-line.ensures) halts))

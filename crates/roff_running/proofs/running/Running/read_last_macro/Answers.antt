@@ -1,0 +1,25 @@
+use Rattle.std.proofs.Common.{[], refl}
+use Rattle.roff_run.specs.Run.{phase_ended}
+use Rattle.roff_run.specs.Reading.Calls.{last_called}
+use Rattle.roff_run.specs.Reading.Items.{going_on}
+use Rattle.roff_run.specs.Registers.{Known}
+use Rattle.roff_run.specs.declared.line_state.LineState.TheVariants.{LineStart}
+use Rattle.roff_run.specs.declared.phase.Phase.TheVariants.{LastMacro, Reading}
+use Rattle.roff_run.proofs.Keeping.{Keeps-last_called}
+use Rattle.roff_running.proofs.Acting.{taking_acts, halted_acts}
+use Rattle.roff_running.proofs.running.Running.read_last_macro.Goals as goal
+
+pub returns-in-Ok : goal.returns-in-Ok
+returns-in-Ok g c = λ failures out.
+    let old = c.args.self.now in
+    taking_acts (λ (k : Known). going_on (last_called old.interpreter.reader.registers.all.last_macro old.unread.input) LineStart)
+    (phase_ended Reading) LastMacro [] _ old _ c.go_on.new.self failures c.in-Ok.sprung _ _ (λ tape h messages. refl) refl refl (c.in-Ok.ensures out _)
+    (λ k. tt) (λ k. (Keeps-last_called old.interpreter.reader.registers.all.last_macro old.unread.input).few) (c.go_on.ensures failures out)
+
+pub returns-in-Err : goal.returns-in-Err
+returns-in-Err g c = λ failures out.
+    let old = c.args.self.now in
+    halted_acts (λ (k : Known). going_on (last_called old.interpreter.reader.registers.all.last_macro old.unread.input) LineStart)
+    (phase_ended Reading) LastMacro [] _ old (λ tape h messages. refl) _ failures c.in-Err.halt _ _ old.unread.input.line refl
+    (λ k. (Keeps-last_called old.interpreter.reader.registers.all.last_macro old.unread.input).line)
+    (c.in-Err.ensures out _) (λ t left start halts. c.halted.ensures t left start failures out (rw c.line-line.ensures halts))
