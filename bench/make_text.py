@@ -10,6 +10,8 @@
     bench/make_text.py springs MEGABYTES    running text in which a macro springs behind every third line
     bench/make_text.py pages MEGABYTES      the same on pages of 20 lines, with a space or a page length after every 2 to 5 lines
     bench/make_text.py headers MEGABYTES    running text on pages with a header and a footer, each paragraph of which needs three lines
+    bench/make_text.py diversions MEGABYTES running text of which each paragraph is diverted, and read again without filling
+    bench/make_text.py diverting MEGABYTES  the same, which isn't read
     bench/make_text.py loop MEGABYTES       macros that call each other until so many bytes of them were read; writes nothing
     bench/make_text.py tables MEGABYTES     tables of 200 rows of three columns, with a line of text before each
 """
@@ -17,7 +19,8 @@ import functools
 import random
 import sys
 
-KINDS = ("text", "requests", "registers", "code", "skipped", "macros", "springs", "pages", "headers", "loop", "tables")
+KINDS = ("text", "requests", "registers", "code", "skipped", "macros", "springs", "pages", "headers", "diversions",
+         "diverting", "loop", "tables")
 
 MEGABYTE = 1_000_000
 
@@ -112,6 +115,9 @@ SIGNS = [" ", " ", "_", ".", ", ", " = ", " + ", " == ", "(", ") * (", "[i]->", 
 ENDS = [";", ";", ";", ");", " {", "}", ",", ""]
 
 LONGEST_CODE = 90
+
+# What stands behind a paragraph that was diverted: it is read, or not.
+DIVERTED = {"diversions": [".nf", ".pa", ".fi"], "diverting": []}
 
 # What stands before lines of source code.
 UNFILLED = b".nf\n"
@@ -275,6 +281,8 @@ class Writer:
                 lines = self.with_requests([f"{line} {self.one_of(PLACES)}" for line in lines], SPACES)
             elif kind == "headers":
                 lines = [".ne 3", *lines]
+            elif kind in DIVERTED:
+                lines = [".di pa", *lines, ".br", ".di", *DIVERTED[kind]]
             elif kind == "macros":
                 lines = self.with_requests([f"{line} {self.one_of(STRINGS)}" for line in lines], CALLS)
             part = "\n".join(lines) + "\n\n"

@@ -24,7 +24,7 @@ PROGRAM = os.path.join(os.path.dirname(HERE), "crates", "roff", "out", "roff")
 
 SIZE = 300_000
 PRELUDE = b".nh\n"
-KINDS = ("text", "requests", "registers", "code", "macros", "loop", "skipped", "pages", "tables")
+KINDS = ("text", "requests", "registers", "code", "macros", "loop", "skipped", "pages", "diversions", "tables")
 # The command that a kind of document is for, where it isn't `nroff`.
 COMMANDS = {"tables": "both"}
 

@@ -2,8 +2,9 @@
 """Gives the built program documents that nobody would write, most of them made of escapes, conditions, strings, macros
 and environments:
 
-    tests/hostile.py [KIND ..]
+    tests/hostile.py [--program PROGRAM] [KIND ..]
 
+PROGRAM is crates/roff/out/roff if none is given.
 Some are long, some nest deeply, some end in the middle; some are tables, which both `tbl` and `both` are given; some have
 each byte behind a backslash, as a delimiter and in other places, and some are made at random, always the same. Each
 document is formatted twice. Both runs must end alike, with the same output and messages and a status from 0 to 4; a run
@@ -321,10 +322,44 @@ LONG.update({
     "needs_from_here": (b".pl 9\n", b".ne |9\na\n.br\n", b"", 5 * MEGABYTE),
     "no_space_mode": (b"", b".ns\n.sp\n.rs\n", b"a\n", 5 * MEGABYTE),
 })
+# Sixteen diversions, each within the one before; behind the innermost each is read in the one around it, and the last on the page.
+SIXTEEN = [b"%c" % letter for letter in b"ABCDEFGHIJKLMNOP"]
+WITHIN_EACH_OTHER = b".nf\n" + b"".join(b".di %s\n" % name for name in SIXTEEN)
+READ_IN_EACH_OTHER = b"".join(b".di\n.%s\n.rm %s\n" % (name, name) for name in reversed(SIXTEEN))
+# A page whose top macro reads what its footer had begun to divert, and one with notes that its footer reads.
+DIVERTED_BY_FOOTERS = b".pl 9\n.nf\n.de F\n.di D\n..\n.de H\n.D\n.rm D\n..\n.wh 0 H\n.wh -3 F\n"
+NOTES = b".pl 12\n.de F\n.ev 1\n.nf\n.FO\n.rm FO\n.ev\n'bp\n..\n.wh -7 F\n"
+LONG.update({
+    "diversion": (b".nf\n.di D\n", b"a line\n", b".di\n\\n(dn \\n(dl\n", 7 * MEGABYTE // 10),
+    "diversion_past_the_store": (b".nf\n.di D\n", b"a line\n", b".di\n.D\n", 4 * MEGABYTE),
+    "diversion_read_past_the_stack": (b".nf\n.di D\n", b"a line\n", b".di\n.D\n", 7 * MEGABYTE // 10),
+    "diversion_read_in_a_loop": (b".nf\n.di D\n", b"a line\n", b".di\n" + 20 * b".D\n", 170_000),
+    "diversion_read_while_filling": (b".di D\n", b"words of a line that is filled\n", b".br\n.di\n" + 20 * b".D\n", 170_000),
+    "diversion_of_blank_lines": (b".di D\n", b"\n", b".di\n" + 5 * b".D\n", 240_000),
+    "diversion_of_one_line": (b".di D\n", b"word", b"\n.br\n.di\n.D\n", 240_000),
+    "diversion_left_open": (b".nf\n.di D\n", b"a line\n", b"", 7 * MEGABYTE // 10),
+    "diversion_appended_to": (b"", b".da D\na line\n.br\n.da\n", b".D\n", 10 * MEGABYTE),
+    "diversion_that_reads_itself": (b"'nf\n", b".di D\n.D\na\n.di\n", b"", 400_000),
+    "diversion_doubled": (b"'nf\n.di D\na\n.di\n", b".da D\n.D\n.da\n", b"", 420),
+    "diversions": (b"", b".di D\nA line of a paragraph.\n.br\n.di\n", b"", 5 * MEGABYTE),
+    "diversions_that_are_read": (b"", b".di D\nA line of a paragraph.\n.br\n.di\n.D\n", b"", 5 * MEGABYTE),
+    "diversions_without_lines": (b"", b".di D\n.di\n", b"a\n", 5 * MEGABYTE),
+    "diversions_not_ended": (b"", b".di D\n", b"a\n", 6 * LINES),
+    "diversions_ended_without_one": (b"", b".di\n.da\n", b"a\n", 5 * MEGABYTE),
+    "diversions_in_each_environment": (b"", b".di D\n.ev 1\na\n.br\n.ev\n.di\n.D\n", b"", 5 * MEGABYTE),
+    "diversions_within_each_other": (WITHIN_EACH_OTHER, b"a line\n", READ_IN_EACH_OTHER, 150_000),
+    "diversions_one_in_another": (b".nf\n", b".di A\na\n.di B\nb\n.di\n.B\n.di\n.A\n", b"", 5 * MEGABYTE),
+    "diversions_with_traps": (b".nf\n.de T\nt\n..\n", b".di D\n.dt 1 T\na\nb\n.di\n", b"", 5 * MEGABYTE),
+    "diversions_with_traps_without_macros": (b".nf\n.di D\n", b".dt |1 xx\na\n", b".di\n", MEGABYTE),
+    "diversions_ended_by_their_traps": (b".nf\n.de T\n.di\n..\n", b".di D\n.dt 1 T\na\n.D\n", b"", 5 * MEGABYTE),
+    "diversions_of_titles": (b".di D\n", b".tl 'left'- % -'right'\n", b".di\n", MEGABYTE // 8),
+    "diversions_that_footers_open": (DIVERTED_BY_FOOTERS, b"a line\na line\n.di\n", b"", 5 * MEGABYTE),
+    "diversions_of_notes": (NOTES, b"A line of text.\n.br\n.da FO\n.ev 1\nnote\n.br\n.ev\n.da\n", b"", 5 * MEGABYTE),
+})
 # Documents for which fewer bytes are allowed. A call costs many times what a byte of text does, and in these there is one
 # for each few bytes. Their time is bounded for each byte that is read, those of strings and macros too, and not by the
 # document's length.
-LESS_TO_READ = dict.fromkeys(("strings_of_strings", "macros_of_macros"), ("--bytes=20000000",))
+LESS_TO_READ = dict.fromkeys(("strings_of_strings", "macros_of_macros", "diversion_that_reads_itself"), ("--bytes=20000000",))
 # Documents for which more traps are allowed.
 MORE_TRAPS = dict.fromkeys(("traps_in_order", "traps_in_no_order", "traps_moved_among_thousands", "traps_of_fifty_thousand_lines"),
                            ("--traps=50000",))
@@ -380,6 +415,12 @@ STOPPED_BY = {
     "top_macro_that_spaces": "depth",
     "traps_past_the_limit": "traps",
     "traps_planted_by_each_that_springs": "traps",
+    "diversion_past_the_store": "store",
+    "diversion_read_past_the_stack": "stack",
+    "diversion_appended_to": "store",
+    "diversion_that_reads_itself": "bytes",
+    "diversion_doubled": "stack",
+    "diversions_not_ended": "diversions",
 }
 # What long documents begin with, where the program's answer is short to say.
 BEGINS = {
@@ -460,6 +501,16 @@ BEGINS = {
     "needs": b"a\n" * 5 + b"\n" * 4 + b"a\n" * 5,
     "needs_farthest": b"\n" * 66,
     "no_space_mode": b"a\n",
+    "diversion": b"3999840 144\n",
+    "diversion_read_in_a_loop": b"a line\n" * 9,
+    "diversion_read_while_filling": b"words of",
+    "diversion_of_blank_lines": b"\n" * 99,
+    "diversion_left_open": b"",
+    "diversions_that_are_read": b"A line of a paragraph.",
+    "diversions_ended_without_one": b"a\n",
+    "diversions_within_each_other": b"a line\n" * 9,
+    "diversions_one_in_another": b"a\nb\n" * 9,
+    "diversions_ended_by_their_traps": b"a\n" * 9,
 }
 
 # Long documents with tables: what stands in front, what is repeated, what stands behind, the bytes of it all, the options,
@@ -541,6 +592,14 @@ FAR = {
         b".nf\n.in 2147483647u\n" + 1000 * b"a\n", ("output", 5), b" " * 9, 2 * (FARTHEST + 2)),
     "spaces_on_the_longest_page": (
         b".pl 2147483647u\n" + LINES // 2 * b".sp 2147483647u\n", ("output", 5), b"\n\n\n", 3 * LONGEST),
+    "space_of_a_diversion_farthest": (b".di D\n.sp 2147483647u\n", ("store", 2), b"", 0),
+    "spacing_of_a_diversion_farthest": (b".ls 2147483647\n.di D\na\n.br\n", ("store", 4), b"", 0),
+    "indent_of_a_diversion_farthest": (b".in 2147483647u\n.di D\n.nf\na\n", ("store", 4), b"", 0),
+    "motion_of_a_diversion_farthest": (b".di D\n.nf\n\\h'2147483647u'\n", ("line", 3), b"", 0),
+    "centre_of_a_diversion_farthest": (b".di D\n.ll 2147483647u\n.ce\na\n", ("store", 4), b"", 0),
+    "title_of_a_diversion_farthest": (b".di D\n.lt 2147483647u\n.tl !!!a!\n", ("store", 3), b"", 0),
+    "trap_of_a_diversion_farthest": (b".di D\n.dt 2147483627u X\n.sp 2147483627u\n", ("store", 3), b"", 0),
+    "need_of_a_diversion_farthest": (b".di D\n.dt 2147483000u X\n.ne 2147483000u\n.ne 2147483627u\n", ("store", 4), b"", 0),
     "spacings_on_the_longest_page": (
         b".pl 2147483647u\n.ls 2147483647\n" + 1000 * b"a\n.br\n", ("output", 10), b"a\n\n\n", 3 * (LONGEST + 1)),
 }
@@ -640,6 +699,8 @@ AROUND = (
     b".de m\nx%s\n%s..\n.wh 1 m\na%s\nb\n.wh 1%s\n",
     b".bp%s5%s\n'bp \\%s\n.bp +%s",
     b".ne %s1\n.ns%s\n.sp\n.rs\\%s",
+    b".di D%s\na%s\\%sb\n.br\n.di%s\n.di\n.D\n\\*D",
+    b".da %s\n.dt%s1 m\na\\%s\n%s\n.da\n.%s",
 )
 
 # What random documents are made of, how many there are of each kind, and the options with which each is formatted.
@@ -696,6 +757,16 @@ PIECES_OF_TRAPS = (
     + 3 * [b"\n.de m\n", b"\n.de n\n", b"\n..\n", b"\n.tl 'a'%'b'\n", b"a word\n", b"a b c d e f\n", b"\\\n", b"\\c\n", b"\n.pl 3\n", b"\n.pl 6\n"]
     + [b"\n.ll 9n\n", b"\n.ex\n", b"\n.it 1 m\n", b"\n.ev 1\n", b"\n.ev\n", b"\\n(\\\n", b"\n.tm \\\n", b"\n.ds s \\\n", b"\n.if 'a\\\n", b"\n.if 1 \\\n"]
 )
+PIECES_OF_DIVERSIONS = (
+    4 * [b"\n.di D\n", b"\n.di\n", b"\n.D\n"]
+    + [b"\n.da D\n", b"\n.da\n", b"\n.di E\n", b"\n.E\n", b"\n.di ", b"\n.da ", b"\n.di \\\n"]
+    + [b"\n.rm D\n", b"\n.rn D E\n", b"\n.am D\n", b"\n.as D x\n", b"\\*D"]
+    + 2 * [b"\n.dt 1 m\n", b"\n.dt 2 n\n", b"\n.dt 1 D\n"]
+    + [b"\n.dt\n", b"\n.dt ", b"\n.dt |2 m\n", b"\n.dt x m\n", b"\\n(dn", b"\\n(dl", b"\\n(.d", b"\\n(.z", b"\\n(.t"]
+    + 3 * [b"\na word\n", b"a b c d e f\n", b"\n.br\n", b"\n.nf\n", b"\n.fi\n", b"\n.ll 9n\n"]
+    + [b"\n.tl 'a'%'b'\n", b"\n.sp 2\n", b"\n.ne 2\n", b"\n.ls 2\n", b"\n.bp\n", b"\n.wh 2 m\n", b"\n.ex\n"]
+    + [b"\\ ", b"\\e", b"\\&", b"\\c\n"]
+)
 RANDOM = {
     "random": PIECES,
     "random_conditions": PIECES + 12 * PIECES_OF_CONDITIONS,
@@ -706,6 +777,7 @@ RANDOM = {
     "random_titles": PIECES + 20 * PIECES_OF_TITLES + 6 * PIECES_OF_PAGES + 2 * PIECES_OF_ENVIRONMENTS,
     "random_ends": PIECES + 20 * PIECES_OF_ENDS + 5 * PIECES_OF_CONDITIONS,
     "random_traps": PIECES + 20 * PIECES_OF_TRAPS + 4 * PIECES_OF_PAGES + 2 * PIECES_OF_ENVIRONMENTS,
+    "random_diversions": PIECES + 20 * PIECES_OF_DIVERSIONS + 4 * PIECES_OF_MACROS + 2 * PIECES_OF_ENVIRONMENTS,
     "random_springs": PIECES + 20 * PIECES_OF_SPRINGS + 4 * PIECES_OF_ENVIRONMENTS + 4 * PIECES_OF_ENDS,
 }
 RANDOM_DOCUMENTS = 100
@@ -730,7 +802,7 @@ TABLES_AROUND = (
     b".TS%s\nl.\na\n.TE\n.TS\nl.\na\\\n%s\n.TE",
 )
 OPTIONS = ((), ("--stack=9", "--depth=2"), ("--line=30", "--bytes=900"), ("--conditions=1", "--environments=2"),
-           ("--store=9", "--names=2"), ("--output=90", "--traps=1"))
+           ("--store=9", "--names=2"), ("--output=90", "--traps=1"), ("--diversions=1", "--store=90"))
 
 
 class Run:
@@ -924,6 +996,10 @@ def check_random(folder, name):
 
 
 def main():
+    global PROGRAM
+    words = sys.argv[1:]
+    if words[:1] == ["--program"]:
+        PROGRAM, words = pathlib.Path(words[1]).resolve(), words[2:]
     if not PROGRAM.exists():
         raise SystemExit("tests/hostile.py: %s is missing; ./roff --version builds it" % PROGRAM)
     if not GNU_TIME.exists():
@@ -933,7 +1009,7 @@ def main():
     checks |= dict.fromkeys(TABLES, check_tables) | dict.fromkeys(RANDOM_TABLES, check_random_tables)
     checks |= {"bytes_of_tables": check_bytes_of_tables} | dict.fromkeys(FAR_TABLES, check_far_table)
     checks |= dict.fromkeys(TELLING, check_telling)
-    kinds = sys.argv[1:] or list(checks)
+    kinds = words or list(checks)
     for kind in set(kinds) - set(checks):
         raise SystemExit("tests/hostile.py: no documents are named %s" % kind)
     failures = []

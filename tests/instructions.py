@@ -1,5 +1,5 @@
 #!/usr/bin/env python3
-"""Counts the built program's instructions on six small documents, beside those that are stored.
+"""Counts the built program's instructions on seven small documents, beside those that are stored.
 
     tests/instructions.py [PROGRAM]        # crates/roff/out/roff, if none is given
     tests/instructions.py --store          # stores what the built program takes now
@@ -25,7 +25,8 @@ PROGRAM = TOP / "crates" / "roff" / "out" / "roff"
 STORED = TOP / "tests" / "instructions.txt"
 SIZE = 60_000
 # A kind of document, and the command that formats it.
-KINDS = {"text": "nroff", "requests": "nroff", "registers": "nroff", "macros": "nroff", "headers": "nroff", "tables": "both"}
+KINDS = {"text": "nroff", "requests": "nroff", "registers": "nroff", "macros": "nroff", "headers": "nroff", "diversions": "nroff",
+         "tables": "both"}
 MORE = 1.05
 
 

@@ -90,7 +90,8 @@ class Environment:
 
 
 def width(word):
-    return len(word) - word.count(NOTHING)
+    """The columns of a word: bytes that go on with a character have none."""
+    return sum(glyph != NOTHING and not "\x80" <= glyph <= "\xbf" for glyph in word)
 
 
 class Model:

@@ -90,7 +90,7 @@ class Pages:
             passed = next((name for p, name in places if p is not None and place < p <= place + boxes), None)
             self.lines += boxes
             self.mode = self.mode and (eject or not boxes)
-        if self.lines >= self.length:
+        if not diverted and self.lines >= self.length:
             if self.closing:
                 self.over = True
             else:

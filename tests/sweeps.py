@@ -2,18 +2,18 @@
 """Runs the worked rows and the examples on the built program, within each of some limits in turn, and with devices that
 fail behind each byte:
 
-    tests/sweeps.py [NAME ..]
+    tests/sweeps.py [--program PROGRAM] [NAME ..]
 
-NAME is a row or a folder of rows. Each document is run by its command with each of the command's limits from 0 up to the
-first value with which no limit stops it. Within a smaller limit the output must be a beginning of what it is within the
-next one, and so must the messages without the one that tells of the limit; where no limit stops it they must be the row's.
-Within each limit on messages those are whole lines that are no longer than it, and the output a beginning of the row's.
-The same must hold where the source fails behind each of the document's bytes: there a folder, which can be opened but not
-read, follows a file with the bytes before. A document of `tbl` or `both` is also run with an output, and with messages,
-that take so many bytes and no more: they must have the first bytes of the row's, and the status is 2. Where output and
-messages go to one pipe, and each fits into the program's buffer, the output comes first. Rows that have
-other options than `-r` are left out, and so are those that don't end with status 0. The exit status is 1 if something
-else comes out.
+PROGRAM is crates/roff/out/roff if none is given. NAME is a row or a folder of rows. Each document is run by its command with
+each of the command's limits from 0 up to the first value with which no limit stops it. Within a smaller limit the output
+must be a beginning of what it is within the next one, and so must the messages without the one that tells of the limit;
+where no limit stops it they must be the row's. Within each limit on messages those are whole lines that are no longer than
+it, and the output a beginning of the row's. The same must hold where the source fails behind each of the document's bytes:
+there a folder, which can be opened but not read, follows a file with the bytes before. A document of `tbl` or `both` is also
+run with an output, and with messages, that take so many bytes and no more: they must have the first bytes of the row's, and
+the status is 2. Where output and messages go to one pipe, and each fits into the program's buffer, the output comes first.
+Rows that have other options than `-r` are left out, and so are those that don't end with status 0. The exit status is 1 if
+something else comes out.
 """
 import pathlib
 import resource
@@ -24,10 +24,11 @@ import tempfile
 TOP = pathlib.Path(__file__).resolve().parent.parent
 PROGRAM = TOP / "crates" / "roff" / "out" / "roff"
 DATA = TOP / "crates" / "roff_rows" / "data"
-OF_TEXT = ("bytes", "store", "stack", "depth", "names", "line", "environments", "conditions", "traps", "output", "messages")
+OF_TEXT = ("bytes", "store", "stack", "depth", "names", "line", "environments", "conditions", "traps", "diversions", "output",
+           "messages")
 OF_TABLES = ("rows", "columns", "text", "width")
 # The folders of rows about pages.
-OF_PAGES = ("pl", "sp", "wh", "bp", "ne")
+OF_PAGES = ("pl", "sp", "wh", "bp", "ne", "diversions")
 # How many bytes the program's buffers hold.
 HELD = 8_192
 LIMITS = {"nroff": OF_TEXT, "tbl": OF_TABLES + ("bytes", "output", "messages"), "both": OF_TEXT + OF_TABLES}
@@ -152,9 +153,13 @@ def sweeps_of(document, folder):
 
 
 def main():
+    global PROGRAM
+    words = sys.argv[1:]
+    if words[:1] == ["--program"]:
+        PROGRAM, words = pathlib.Path(words[1]).resolve(), words[2:]
     if not PROGRAM.exists():
         raise SystemExit("tests/sweeps.py: %s is missing; ./roff --version builds it" % PROGRAM)
-    names = set(sys.argv[1:])
+    names = set(words)
     counts, documents = [], 0
     with tempfile.TemporaryDirectory() as folder:
         for path in sorted(DATA.rglob("*.roff")):

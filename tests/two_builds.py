@@ -37,7 +37,7 @@ OTHERS = (
     r'|.ds <name> "<words>|.as <name> <words>|.tm <words>|.rm <name>|.rn <name> <name>|.rr <register>|.af <register> 1'
     r"|.af <register> 001|.af <register> i|.af <register> A|.af <register> x|.ta <number> <number>R 20C|.wh <number> <name>"
     r"|.ch <name> <number>|.it 1 <name>|.it 2 <name>|.em <name>|.tl '<word>'<words>'%'|.tl <words>|.pc #|.pc|.lt <number>"
-    r"|.di <name>|.nx <name>|.ec \||.ec|.cc !|.cc|.c2 ^|.xa <arguments>"
+    r"|.di <name>|.di <name>|.da <name>|.di|.di|.da|.dt <number> <name>|.dt|.nx <name>|.ec \||.ec|.cc !|.cc|.c2 ^|.xa <arguments>"
 ).split("|")
 ASKED = (
     r"""'a'b' 'a'a' "x"x" o e n t !o !n 1 0 !1 \na \na<0 \n(it>2 \n(it=7&1 \na-1 !\nb \n+a<3 '\*(fm'x' '' 'a 1+ ( \nz<1"""
@@ -45,7 +45,7 @@ ASKED = (
 ).split() + [""]
 BEGUN = '.\\" <words>|.<words>|\'<words>|.\\}|.|...|. |.\tbr||  <words>|\t<words>'.split("|")
 TABLES = "center; tab(:); box; expand;".split() + [""], "l l r.|c s|l2 c r.|l.|n n.|.".split("|"), ".TE .TE .T&".split() + [""]
-LIMITS = "bytes store names stack depth line environments conditions traps output".split()
+LIMITS = "bytes store names stack depth line environments conditions traps diversions output".split()
 TABLE_LIMITS = "rows columns text width".split()
 MOST = {"bytes": 4000, "output": 3000, "store": 800, "stack": 300, "line": 120, "text": 400}
 OPTIONS = "-n3 -o2 -o1-2,4- -ra5 -rb-1 -o1".split()

@@ -9,19 +9,22 @@ ghost use Rattle.roff_run.specs.Registers.{AllRegisters, is_page_odd};
 ghost use Rattle.roff_run.specs.Run.States.{known_at};
 ghost use Rattle.roff_run.specs.Starts.{first_page_numbered, pages_given, pages_listed};
 
+use crate::due_text::Due;
 use crate::environments::Environments;
 use roff_num::{Limits, Num};
 use roff_pages::Pages;
 use roff_run::Start;
 use std::alloc::{AllocError, Global};
 
-/// The environments and the pages.
+/// The environments and the pages, and what is due behind the last event.
 #[derive(Drop)]
 pub struct Composer {
     /// The environments.
     pub environments: Environments,
     /// The pages.
     pub pages: Pages,
+    /// What is due behind the last event.
+    pub due: Due,
 }
 
 impl Composer {
@@ -38,6 +41,7 @@ impl Composer {
         Ok(Composer {
             environments: Environments::new(alloc, limits)?,
             pages: Pages::new(alloc, limits)?,
+            due: Due::nothing(),
         })
     }
 

@@ -4,12 +4,14 @@
 
 mod composer;
 mod conditions;
+mod due_text;
 mod environments;
 mod places;
 mod title_text;
 
 pub use composer::Composer;
 pub use conditions::is_so;
+pub use due_text::{Due, DueText};
 pub use environments::{Environment, Environments, Left};
 pub use places::{at_start, on_line};
 pub use title_text::TitleText;

@@ -29,7 +29,7 @@ use Rattle.roff_engine.specs.Starting.{Begins, HasRoom}
 use Rattle.roff_interpreter.proofs.Fronts.{few-nothing}
 use Rattle.roff_sinks.proofs.Appending.{Appends-nothing}
 use Rattle.roff_run.proofs.Leads.{Leads-refl}
-use Rattle.roff_running.proofs.Waiting.{items_then-append}
+use Rattle.roff_interpreter.proofs.Sighted.{items_then-append}
 
 -- before the first item no count is above its limit
 none_passed-fresh : (l : Limits) → first_passed l (counts_in no_registers first_input) ≡ None

@@ -1,63 +1,60 @@
 -- Events that are performed where they stand in front of others, each behind the first page's beginning if it begins there.
-use Rattle.std.proofs.Common.{◌∙◌, ◌≡◌, ◌≤◌, ℕ, Bool, true, false, List, [], ◌∷◌, length, Option, Some, None, Result, Ok, Err, ap, arith, refl, subst, sym}
+use Rattle.std.proofs.Common.{◌∙◌, ◌≡◌, ◌≤◌, ℕ, true, List, [], ◌∷◌, length, Option, Some, None, Result, Ok, Err, ap, arith, refl, subst, sym}
 use Rattle.roff_num.specs.declared.limit.Limit.{Limit}
-use Rattle.roff_num.specs.declared.limit.Limit.TheVariants.{Output as OutputLimit}
 use Rattle.roff_num.specs.declared.limits.Limits.{Limits}
 use Rattle.roff_num.specs.declared.short_name.ShortName.{ShortName}
 use Rattle.roff_layout.specs.declared.event.Event.TheVariants.{WordEnd}
-use Rattle.roff_layout.specs.DeviceText.{device_text}
-use Rattle.roff_layout.specs.Happenings.{Happening}
-use Rattle.roff_layout.specs.Layout.{Layout}
-use Rattle.roff_pages.specs.Pages.Kept.{Kept}
-use Rattle.roff_pages.specs.Pages.Printing.{DidTo}
-use Rattle.roff_pages.specs.Pages.Stands.{StandsAs}
-use Rattle.roff_layout.specs.Springs.{springs as springs_on_page}
-use Rattle.roff_layout.specs.Turning.{with_event}
+use Rattle.roff_layout.specs.DueTexts.{TextDue}
+use Rattle.roff_layout.specs.Words.{has_open_word}
+use Rattle.roff_lines.specs.Env.Stands.{Stands, StandsBehind}
+use Rattle.roff_lines.specs.declared.env.Env.{Env}
 use Rattle.roff_composer.specs.Composer.Standing.{StandFor}
-use Rattle.roff_composer.specs.Environments.Standing.{StandBy}
 use Rattle.roff_composer.specs.declared.composer.Composer.{Composer as ComposerOf}
+use Rattle.roff_composer.specs.declared.due_text.Due.{Due}
 use Rattle.roff_formatter.specs.declared.formatter.Formatter.{Formatter}
 use Rattle.roff_formatter.specs.declared.halt.Halt.{Halt}
-use Rattle.roff_formatter.specs.declared.halt.Halt.TheVariants.{Limit as Limited, Output}
+use Rattle.roff_formatter.specs.declared.halt.Halt.TheVariants.{Limit as Limited}
 use Rattle.roff_formatter.specs.declared.sprung.Sprung.{Sprung}
 use Rattle.roff_formatter.specs.Reaching.{Beginning, Reaches}
 use Rattle.roff_sinks.specs.Devices.{Seen, seen}
-use Rattle.roff_formatter.specs.Formatter.Performing.{AllPerformed, EndsBefore, EndsWordFirst, HaltedAt, Performs, PerformsEvents, SprungAt, StoppedAt, acting, behind_event, behind_next}
-use Rattle.roff_formatter.specs.Formatter.Paging.{PutsOnPage, ReadyFor, halted_by}
-use Rattle.roff_formatter.specs.Formatter.Sprung.{first_left, left_behind, may_be_left, most_back, sprung_before, sprung_behind, sprung_by}
-use Rattle.roff_run.specs.Environments.{PageHistory, environments, interrupted_line, text_of}
-use Rattle.roff_run.specs.Layouts.{laid_out}
-use Rattle.roff_run.specs.Output.{happens, layout_of, text_laid, written_by}
+use Rattle.roff_formatter.specs.Formatter.Performing.{AllPerformed, EndsBefore, EndsWordFirst, HaltedAt, Performs, PerformsEvents, SprungAt, acting, behind_event, behind_next}
+use Rattle.roff_formatter.specs.Formatter.Paging.{ReadyFor}
+use Rattle.roff_formatter.specs.Formatter.Sprung.{MovesOn, StopsBehind, diverting, first_left, following_of, left_before, left_behind, may_be_left, most_back, noted, open_weight, sprung_before, sprung_behind, sprung_by, with_sprung, word_weight}
+use Rattle.roff_run.specs.Environments.{PageHistory, interrupted_line, text_of}
+use Rattle.roff_run.specs.Output.{happens, layout_of, written_by}
 use Rattle.roff_run.specs.Registers.{AllRegisters}
-use Rattle.roff_run.specs.Springs.{begins, left_of, springs, sprung_on}
+use Rattle.roff_run.specs.Springs.{begins, left_of, springs}
 use Rattle.roff_run.specs.Titles.{told}
 use Rattle.roff_run.specs.TurnsToCome.{left_by, lines_left}
 use Rattle.roff_run.specs.PageEvents.{PageEvent, PastEvent}
 use Rattle.roff_run.specs.declared.event.PageEvent.TheVariants.{Text}
-use Rattle.roff_run.specs.Run.{State, performed, sprung_at, step, unless_refused}
-use Rattle.roff_run.specs.Run.Counts.{first_passed, refusal, written_counted}
-use Rattle.roff_sinks.specs.Sinks.{Fails, Sunk, Writes}
-use Rattle.roff_sinks.specs.declared.page_fault.PageFault.{PageFault}
-use Rattle.roff_sinks.specs.declared.page_fault.PageFault.TheVariants.{Output as PastOutput, Sink as SinkFails}
+use Rattle.roff_run.specs.Following.{following, text_behind}
+use Rattle.roff_run.specs.Run.{State, Following, followed_by, nothing_follows, only_sprung, performed, step, unless_refused}
+use Rattle.roff_run.specs.Run.Counts.{refusal}
+use Rattle.roff_sinks.specs.Sinks.{Sunk, Writes}
 use Rattle.roff_sinks.proofs.Appending.{Writes-nothing}
 use Rattle.roff_formatter.proofs.EventsLeft.{going-none, most-left}
-use Rattle.roff_formatter.proofs.FirstPages.{DoneFirst, begun, begun_for, behind-alone, done_alone, done_own, next-alone, next-own, page_sprang, word_end-same}
+use Rattle.roff_formatter.proofs.FirstPages.{DoneFirst, begun, begun_for, behind-alone, done_alone, done_own, moves-before, next-alone, next-own, page_sprang, word_end-same}
 use Rattle.roff_formatter.proofs.LinesLeft.{lines_left-behind, owns-left, left-leaves}
-use Rattle.roff_formatter.proofs.Performed.{event_failed, event_over, event_performed, event_stopped}
-use Rattle.roff_formatter.proofs.Placed.{stands_put, written_allowed, written_refused}
+use Rattle.roff_formatter.proofs.Performed.{event_performed, event_stopped, moves-behind, sprung-least}
 
--- Nothing sprang with what happened where an event stands in front of others, behind which these are left.
+-- Nothing follows what happened where an event stands in front of others, behind which these are left.
 pub record DoneHere (l : Limits) (t : Beginning) (before now : Seen) (s : State) (h : PageHistory) (x : PastEvent) (left : List PageEvent) (es : ComposerOf) : Type 0 where
   pub reaches : Reaches l t before now (acting s left (x ∷ h))
   pub stands : StandFor l (x ∷ h) es
   pub springs : springs h x ≡ None
 
--- or this did
+-- a macro sprang, or the text of a diversion is to be changed first
+pub data StopsSo (h : PageHistory) (x : PastEvent) : Sprung → Type 0 where
+  BySpringing : (name : ShortName) → springs h x ≡ Some name → StopsSo h x sprung_behind
+  ByText : (due : TextDue) → text_behind (happens h x) (layout_of h) ≡ Some due → StopsSo h x diverting
+
+-- this follows it
 pub record SprungHere (l : Limits) (t : Beginning) (before now : Seen) (s : State) (h : PageHistory) (x : PastEvent) (left : List PageEvent) (sprung : Sprung) (es : ComposerOf) : Type 0 where
-  pub reaches : Reaches l t before now (sprung_at (Some sprung.name) left (acting s [] (x ∷ h)))
+  pub reaches : Reaches l t before now (followed_by (following_of es sprung s.registers) left (acting s [] (x ∷ h)))
   pub stands : StandFor l (x ∷ h) es
-  pub springs : springs h x ≡ Some sprung.name
-  pub is : sprung ≡ sprung_behind sprung.name
+  pub so : StopsSo h x sprung
+  pub follows : following h x ≡ following_of es sprung s.registers
 
 -- what became of it
 abbrev pub Here : Limits → Beginning → Seen → Seen → State → PageHistory → PastEvent → List PageEvent → Result (Option Sprung) Halt → ComposerOf → Type 0
@@ -65,14 +62,15 @@ Here l t before now s h x left (Ok None) es = DoneHere l t before now s h x left
 Here l t before now s h x left (Ok (Some sprung)) es = SprungHere l t before now s h x left sprung es
 Here l t before now s h x left (Err halt) es = HaltedAt l t before now s halt
 
--- A formatter performed this where it is done first, in front of which no page begins: for each state of a run that has an event
--- to do where it is, behind which these are left.
-pub record PerformsHere (x : PastEvent) (old new : Formatter) (out out_new : Sunk) (r : Result (Option Sprung) Halt) : Type 0 where
+-- A formatter performed this, as this event happens, where it is done first, in front of which no page begins: for each state of a run
+-- that has an event to do where it is, behind which these are left.
+pub record PerformsHere (own : PageEvent) (x : PastEvent) (old new : Formatter) (out out_new : Sunk) (r : Result (Option Sprung) Halt) : Type 0 where
   pub here : (l : Limits) (t : Beginning) (before : Seen) (failures : ℕ) (err : Sunk) (s : State) (h : PageHistory) (e : PageEvent) (rest left : List PageEvent)
-      → StandFor l h old.composer
+      → StandFor l h old.composer → told s.registers own ≡ x
       → step l (acting s (e ∷ rest) h) ≡ unless_refused l (refusal l h x) (acting s (e ∷ rest) h) (performed x left (acting s (e ∷ rest) h))
       → Reaches l t before (seen failures out err) (acting s (e ∷ rest) h)
       → Here l t before (seen failures out_new err) s h x left r new.composer
+  pub stops : StopsBehind r
 
 -- the same of an event as it happens, with the first page's beginning, if that springs nothing
 pub record PerformsFirst (x : PageEvent) (p : PastEvent) (old new : Formatter) (out out_new : Sunk) (r : Result (Option Sprung) Halt) : Type 0 where
@@ -80,10 +78,11 @@ pub record PerformsFirst (x : PageEvent) (p : PastEvent) (old new : Formatter) (
       → StandFor l h old.composer → told s.registers x ≡ p → ((g : PageHistory) → text_of g ≡ text_of h → DoneFirst e x rest (left g) g)
       → Reaches l t before (seen failures out err) (acting s (e ∷ rest) h)
       → Here l t before (seen failures out_new err) s (begun_for x h) p (left (begun_for x h)) r new.composer
+  pub stops : StopsBehind r
 
 -- a formatter that is ready for an event performs it first
 pub ready_then : (x : PageEvent) (p : PastEvent) (old mid new : Formatter) (out out_new : Sunk) (r : Result (Option Sprung) Halt) → ReadyFor x old mid None
-    → PerformsHere p mid new out out_new r → PerformsFirst x p old new out out_new r
+    → PerformsHere x p mid new out out_new r → PerformsFirst x p old new out out_new r
 ready_then x p old mid new out out_new r ready here = record {
   first = λ l t before failures err s h e rest left stood is done reached.
       let now = begun l t before failures err s h e x rest out (done h refl).page old mid None ready stood reached refl in
@@ -91,13 +90,38 @@ ready_then x p old mid new out out_new r ready here = record {
       let steps = subst (λ (p : PastEvent). step l (acting s (e ∷ rest) there)
       ≡ unless_refused l (refusal l there p) (acting s (e ∷ rest) there) (performed p (left there) (acting s (e ∷ rest) there))) is
       ((done there now.text).itself l s now.none) in
-      here.here l t before failures err s there e rest (left there) now.stands steps now.reaches;
+      here.here l t before failures err s there e rest (left there) now.stands is steps now.reaches;
+  stops = here.stops;
 }
 
 -- no more are left behind one event than may be
-pub left-one : (e : PageEvent) (name : ShortName) → may_be_left e ≡ true → (others : List PageEvent)
-    → length (left_behind (sprung_behind name) (e ∷ others)) ≤ most_back (e ∷ others)
-left-one e name may others = omega (arith, most-left e others may, ap length (going-none others))
+pub left-one : (e : PageEvent) → may_be_left e ≡ true → (others : List PageEvent)
+    → length (left_behind sprung_behind (e ∷ others)) ≤ most_back (e ∷ others)
+left-one e may others = omega (arith, most-left e others may, ap length (going-none others))
+
+-- one that stopped the list behind itself leaves itself out
+pub stopped_one : (l : Limits) (t : Beginning) (before now : Seen) (s : State) (e : PageEvent) (h g : PageHistory) (x : PastEvent) (rest : List PageEvent) (sprung : Sprung) (es : ComposerOf)
+    → may_be_left e ≡ true → lines_left (interrupted_line (x ∷ g)) ≤ left_by e (lines_left (interrupted_line h)) → StopsSo g x sprung
+    → Reaches l t before now (followed_by (following_of es sprung s.registers) rest (acting s [] (x ∷ g))) → StandFor l (x ∷ g) es
+    → SprungAt l t before now s (e ∷ []) h sprung rest es
+stopped_one l t before now s e h g x rest sprung es may few (BySpringing name is) reaches stands = record {
+  history = x ∷ g;
+  reaches = reaches;
+  stands = stands;
+  lines = omega (arith, few);
+  among = omega arith;
+  named = λ goes. absurd (cc);
+  few = λ others. left-one e may others;
+}
+stopped_one l t before now s e h g x rest sprung es may few (ByText due is) reaches stands = record {
+  history = x ∷ g;
+  reaches = reaches;
+  stands = stands;
+  lines = omega (arith, few);
+  among = omega arith;
+  named = λ goes. absurd (cc);
+  few = λ others. left-one e may others;
+}
 
 -- what became of one event, as it was performed in front of others, with what comes before it
 pub one_here : (l : Limits) (t : Beginning) (before now : Seen) (s : State) (e : PageEvent) (h g : PageHistory) (x : PastEvent) (rest : List PageEvent) (r : Result (Option Sprung) Halt) (es : ComposerOf) (behind : PageHistory)
@@ -107,17 +131,8 @@ pub one_here : (l : Limits) (t : Beginning) (before now : Seen) (s : State) (e :
 one_here l t before now s e h g x rest (Ok None) es behind may is lines p =
     subst (λ (h : PageHistory). AllPerformed l t before now s h rest es) is (record { reaches = p.reaches; stands = p.stands })
 one_here l t before now s e h g x rest (Ok (Some sprung)) es behind may is lines p =
-    let few : lines_left (interrupted_line (x ∷ g)) ≤ left_by e (lines_left (interrupted_line h)) =
-    subst (λ (g : PageHistory). lines_left (interrupted_line g) ≤ left_by e (lines_left (interrupted_line h))) (sym is) lines in
-    let one : SprungAt l t before now s (e ∷ []) h (sprung_behind sprung.name) rest es = record {
-      history = x ∷ g;
-      reaches = p.reaches;
-      stands = p.stands;
-      lines = omega (arith, few);
-      among = omega arith;
-      few = λ others. left-one e sprung.name (may sprung refl) others;
-    } in
-    subst (λ (sprung : Sprung). SprungAt l t before now s (e ∷ []) h sprung rest es) (sym p.is) one
+    stopped_one l t before now s e h g x rest sprung es (may sprung refl)
+    (subst (λ (g : PageHistory). lines_left (interrupted_line g) ≤ left_by e (lines_left (interrupted_line h))) (sym is) lines) p.so p.reaches p.stands
 one_here l t before now s e h g x rest (Err halt) es behind may is lines p = p
 
 -- it is performed with what comes before it, where it happens so with any registers, and nothing goes on of it
@@ -132,196 +147,167 @@ only_first x p old new out out_new r always whole may done = record {
       (lines_left-behind s.registers x h)
       (done.first l t before failures err s h x rest (λ g. rest) stood is
       (λ g same. done_alone x [] rest g (λ rs. ap (left_of g) (always rs) ∙ whole g) (word_end-same x g h same ∙ flows.0)) reached);
+  moves = moves-behind old new r done.stops;
 }
 
 -- or where the page begins in front of it, and springs something
-pub only_begun : (x : PageEvent) (old new : Formatter) (out : Sunk) (name : ShortName) → ((h : PageHistory) → begins h x ≡ true → may_be_left x ≡ true) → ReadyFor x old new (Some name)
-    → PerformsEvents (x ∷ []) old new out out (Ok (Some (sprung_before name)))
-only_begun x old new out name may ready = record {
+only_begun : (x : PageEvent) (old mid : Formatter) (out : Sunk) (name : ShortName) → ((h : PageHistory) → begins h x ≡ true → may_be_left x ≡ true) → ReadyFor x old mid (Some name)
+    → PerformsEvents (x ∷ []) old (with_sprung name mid) out out (Ok (Some sprung_before))
+only_begun x old mid out name may ready = record {
   performs = λ l t before failures err s h rest stood flows reached.
-      page_sprang l t before failures err s h x x rest out (λ is. next-alone h x true flows.0 is) old new (Some name) ready stood reached name refl (may h);
+      page_sprang l t before failures err s h x x rest out (λ is. next-alone h x true flows.0 is) old mid (Some name) ready stood reached name refl (may h);
+  moves = moves-before x old mid name ready;
 }
 
-pub only_page : (x : PageEvent) (old new : Formatter) (out : Sunk) (name : ShortName) → may_be_left x ≡ true → ReadyFor x old new (Some name)
-    → PerformsEvents (x ∷ []) old new out out (Ok (Some (sprung_before name)))
-only_page x old new out name may ready = only_begun x old new out name (λ h begun. may) ready
+-- as the code says where it stopped
+pub only_stopped : (x : PageEvent) (old mid new : Formatter) (out : Sunk) (name : ShortName) (r : Result (Option Sprung) Halt) → ((h : PageHistory) → begins h x ≡ true → may_be_left x ≡ true)
+    → ReadyFor x old mid (Some name) → new ≡ with_sprung name mid → r ≡ Ok (Some sprung_before) → PerformsEvents (x ∷ []) old new out out r
+only_stopped x old mid new out name r may ready there is =
+    subst (λ (r : Result (Option Sprung) Halt). PerformsEvents (x ∷ []) old new out out r) (sym is)
+    (subst (λ (f : Formatter). PerformsEvents (x ∷ []) old f out out (Ok (Some sprung_before))) (sym there) (only_begun x old mid out name may ready))
+
+pub only_page : (x : PageEvent) (old mid new : Formatter) (out : Sunk) (name : ShortName) (r : Result (Option Sprung) Halt) → may_be_left x ≡ true → ReadyFor x old mid (Some name)
+    → new ≡ with_sprung name mid → r ≡ Ok (Some sprung_before) → PerformsEvents (x ∷ []) old new out out r
+only_page x old mid new out name r may ready there is = only_stopped x old mid new out name r (λ h begun. may) ready there is
+
+-- the end of a word that stopped in front of an event leaves that
+word_stopped : (l : Limits) (t : Beginning) (before now : Seen) (s : State) (e : PageEvent) (h g : PageHistory) (rest : List PageEvent) (sprung : Sprung) (es : ComposerOf)
+    → may_be_left e ≡ true → lines_left (interrupted_line (Text WordEnd ∷ g)) ≤ lines_left (interrupted_line h) → StopsSo g (Text WordEnd) sprung
+    → Reaches l t before now (followed_by (following_of es sprung s.registers) (e ∷ rest) (acting s [] (Text WordEnd ∷ g))) → StandFor l (Text WordEnd ∷ g) es
+    → SprungAt l t before now s (e ∷ []) h (left_before sprung) rest es
+word_stopped l t before now s e h g rest sprung es may few (BySpringing name is) reaches stands =
+    let left : left_by e (lines_left (interrupted_line h)) ≡ lines_left (interrupted_line h) = left-leaves e (lines_left (interrupted_line h)) may in record {
+      history = Text WordEnd ∷ g;
+      reaches = reaches;
+      stands = stands;
+      lines = omega (arith, left, few);
+      among = omega arith;
+      named = λ goes. absurd (cc);
+      few = λ more. omega (arith, most-left e more may);
+    }
+word_stopped l t before now s e h g rest sprung es may few (ByText due is) reaches stands =
+    let left : left_by e (lines_left (interrupted_line h)) ≡ lines_left (interrupted_line h) = left-leaves e (lines_left (interrupted_line h)) may in record {
+      history = Text WordEnd ∷ g;
+      reaches = reaches;
+      stands = stands;
+      lines = omega (arith, left, few);
+      among = omega arith;
+      named = λ goes. absurd (cc);
+      few = λ more. omega (arith, most-left e more may);
+    }
+
+-- what became of it
+ended_here : (l : Limits) (t : Beginning) (before now : Seen) (s : State) (e : PageEvent) (h : PageHistory) (rest : List PageEvent) (r : Result (Option Sprung) Halt) (es : ComposerOf)
+    → may_be_left e ≡ true → Here l t before now s (begun_for (Text WordEnd) h) (Text WordEnd) (e ∷ rest) r es
+    → EndsBefore l t before now s e h (behind_event s.registers (Text WordEnd) h) rest (first_left r) es
+ended_here l t before now s e h rest (Ok None) es may p =
+    subst (λ (g : PageHistory). AllPerformed l t before now s (Text WordEnd ∷ g) (e ∷ rest) es) (sym (behind-alone s.registers (Text WordEnd) h refl))
+    (record { reaches = p.reaches; stands = p.stands })
+ended_here l t before now s e h rest (Ok (Some sprung)) es may p =
+    let is : behind_next s.registers 2 (Text WordEnd) h ≡ begun_for (Text WordEnd) h = behind-alone s.registers (Text WordEnd) h refl in
+    word_stopped l t before now s e h (begun_for (Text WordEnd) h) rest sprung es may
+    (subst (λ (g : PageHistory). lines_left (interrupted_line (Text WordEnd ∷ g)) ≤ lines_left (interrupted_line h)) is (lines_left-behind s.registers (Text WordEnd) h))
+    p.so p.reaches p.stands
+ended_here l t before now s e h rest (Err halt) es may p = p
+
+-- behind it no word is open
+closed_behind : (l : Limits) (h : PageHistory) (old mid new : Formatter) (name : Option ShortName) → ReadyFor (Text WordEnd) old mid name → StandFor l h old.composer
+    → StandsBehind mid.composer.environments.in_force.lines WordEnd new.composer.environments.in_force.lines → open_weight new.composer ≡ 0
+closed_behind l h old mid new name ready stood behind =
+    let same : mid.composer.environments.in_force.lines ≡ old.composer.environments.in_force.lines = ap (λ (f : Formatter). f.composer.environments.in_force.lines) ready.others in
+    ap word_weight (behind l.line (text_of h) (subst (λ (k : Env). Stands l.line (text_of h) k) (sym same) stood.environments.in_force.lines)).is_open
+
+-- so it moved on, in front of an event
+ends_moving : (l : Limits) (h : PageHistory) (old new : Formatter) (r : Result (Option Sprung) Halt) → StandFor l h old.composer → has_open_word (text_of h) ≡ true
+    → open_weight new.composer ≡ 0 → MovesOn old new (first_left r)
+ends_moving l h old new (Ok None) stood found closed = tt
+ends_moving l h old new (Ok (Some sprung)) stood found closed =
+    let opened : open_weight old.composer ≡ 2 = ap word_weight (stood.environments.in_force.lines.is_open ∙ found) in
+    omega (arith, opened, closed, sprung-least new.composer.due.sprung)
+ends_moving l h old new (Err halt) stood found closed = tt
 
 -- so is the end of a word where that comes before an event
-pub word_first : (old new : Formatter) (out out_new : Sunk) (r : Result (Option Sprung) Halt) → PerformsFirst (Text WordEnd) (Text WordEnd) old new out out_new r
-    → EndsWordFirst old new out out_new r
-word_first old new out out_new r done = record {
-  first = λ l t before failures err s h e rest stood own reached.
-      ended_here l t before (seen failures out_new err) s e h rest r new.composer (owns-left h e (Text WordEnd) own)
-      (done.first l t before failures err s h e rest (λ g. e ∷ rest) stood refl (λ g same. done_own e (Text WordEnd) rest g (word_end-same e g h same ∙ own)) reached);
-}
-  where
-    ended_here : (l : Limits) (t : Beginning) (before now : Seen) (s : State) (e : PageEvent) (h : PageHistory) (rest : List PageEvent) (r : Result (Option Sprung) Halt) (es : ComposerOf)
-        → may_be_left e ≡ true → Here l t before now s (begun_for (Text WordEnd) h) (Text WordEnd) (e ∷ rest) r es
-        → EndsBefore l t before now s e h (behind_event s.registers (Text WordEnd) h) rest (first_left r) es
-    ended_here l t before now s e h rest (Ok None) es may p =
-        subst (λ (g : PageHistory). AllPerformed l t before now s (Text WordEnd ∷ g) (e ∷ rest) es) (sym (behind-alone s.registers (Text WordEnd) h refl))
-        (record { reaches = p.reaches; stands = p.stands })
-    ended_here l t before now s e h rest (Ok (Some sprung)) es may p =
-        let is : behind_next s.registers 2 (Text WordEnd) h ≡ begun_for (Text WordEnd) h = behind-alone s.registers (Text WordEnd) h refl in
-        let left : left_by e (lines_left (interrupted_line h)) ≡ lines_left (interrupted_line h) = left-leaves e (lines_left (interrupted_line h)) may in
-        let few : lines_left (interrupted_line (Text WordEnd ∷ begun_for (Text WordEnd) h)) ≤ lines_left (interrupted_line h) =
-        subst (λ (g : PageHistory). lines_left (interrupted_line (Text WordEnd ∷ g)) ≤ lines_left (interrupted_line h)) is (lines_left-behind s.registers (Text WordEnd) h) in record {
-          history = Text WordEnd ∷ begun_for (Text WordEnd) h;
-          reaches = p.reaches;
-          stands = p.stands;
-          lines = omega (arith, left, few);
-          among = omega arith;
-          few = λ more. omega (arith, most-left e more may);
-        }
-    ended_here l t before now s e h rest (Err halt) es may p = p
+pub word_first : (old mid new : Formatter) (out out_new : Sunk) (r : Result (Option Sprung) Halt) → ReadyFor (Text WordEnd) old mid None
+    → StandsBehind mid.composer.environments.in_force.lines WordEnd new.composer.environments.in_force.lines
+    → PerformsHere (Text WordEnd) (Text WordEnd) mid new out out_new r → EndsWordFirst old new out out_new r
+word_first old mid new out out_new r ready behind here =
+    let done : PerformsFirst (Text WordEnd) (Text WordEnd) old new out out_new r = ready_then (Text WordEnd) (Text WordEnd) old mid new out out_new r ready here in record {
+      first = λ l t before failures err s h e rest stood own reached.
+          ended_here l t before (seen failures out_new err) s e h rest r new.composer (owns-left h e (Text WordEnd) own)
+          (done.first l t before failures err s h e rest (λ g. e ∷ rest) stood refl (λ g same. done_own e (Text WordEnd) rest g (word_end-same e g h same ∙ own)) reached);
+      closes = λ is l h stood. closed_behind l h old mid new None ready stood behind;
+      moves = λ l h stood found. ends_moving l h old new r stood found (closed_behind l h old mid new None ready stood behind);
+    }
 
 -- or the page begins in front of it, and springs something
-pub word_page : (old new : Formatter) (out : Sunk) (name : ShortName) → ReadyFor (Text WordEnd) old new (Some name)
-    → EndsWordFirst old new out out (Ok (Some (sprung_before name)))
-word_page old new out name ready = record {
-  first = λ l t before failures err s h e rest stood own reached.
-      page_sprang l t before failures err s h e (Text WordEnd) rest out (λ is. next-own h e (Text WordEnd) true own is) old new (Some name) ready stood reached name refl (λ begun. owns-left h e (Text WordEnd) own);
-}
+pub word_page : (old mid new : Formatter) (out : Sunk) (name : ShortName) (r : Result (Option Sprung) Halt) → ReadyFor (Text WordEnd) old mid (Some name)
+    → new ≡ with_sprung name mid → r ≡ Ok (Some sprung_before) → EndsWordFirst old new out out r
+word_page old mid new out name r ready there is =
+    subst (λ (r : Result (Option Sprung) Halt). EndsWordFirst old new out out r) (sym is)
+    (subst (λ (f : Formatter). EndsWordFirst old f out out (Ok (Some sprung_before))) (sym there) (record {
+      first = λ l t before failures err s h e rest stood own reached.
+          page_sprang l t before failures err s h e (Text WordEnd) rest out (λ is. next-own h e (Text WordEnd) true own is) old mid (Some name) ready stood reached name refl (λ begun. owns-left h e (Text WordEnd) own);
+      closes = λ is. cc;
+      moves = λ l h stood found. moves-before (Text WordEnd) old mid name ready;
+    }))
 
 -- one that no limit refuses, that writes nothing and springs nothing
-pub changes_here : (x : PastEvent) (old new : Formatter) (out : Sunk)
+pub changes_here : (own : PageEvent) (x : PastEvent) (old new : Formatter) (out : Sunk)
     → ((l : Limits) (h : PageHistory) → StandFor l h old.composer → refusal l h x ≡ None)
     → ((l : Limits) (h : PageHistory) → StandFor l h old.composer → StandFor l (x ∷ h) new.composer)
     → ((l : Limits) (h : PageHistory) → StandFor l h old.composer → written_by h x ≡ [])
-    → ((l : Limits) (h : PageHistory) → StandFor l h old.composer → springs h x ≡ None)
-    → PerformsHere x old new out out (Ok None)
-changes_here x old new out allowed stands nothing unsprung = record {
-  here = λ l t before failures err s h e rest left stood steps reached. record {
-    reaches = event_performed l t before failures err s h e rest out reached x left steps None (unsprung l h stood) out (allowed l h stood) (stands l h stood).goes_on
+    → ((l : Limits) (h : PageHistory) → StandFor l h old.composer → following h x ≡ nothing_follows)
+    → PerformsHere own x old new out out (Ok None)
+changes_here own x old new out allowed stands nothing follows = record {
+  here = λ l t before failures err s h e rest left stood told_so steps reached. record {
+    reaches = event_performed l t before failures err s h e rest out reached x left steps nothing_follows (follows l h stood) out (allowed l h stood) (stands l h stood).goes_on
         (subst (λ (bytes : List ℕ). Writes out out bytes) (sym (nothing l h stood)) (Writes-nothing out));
     stands = stands l h stood;
-    springs = unsprung l h stood;
+    springs = ap (λ (f : Following). f.sprung) (follows l h stood);
   };
+  stops = tt;
 }
 
--- one that may spring something, and writes nothing
-pub springs_here : (x : PastEvent) (old new : Formatter) (out : Sunk) (sprung : Option Sprung)
+-- one behind which this follows, and that writes nothing
+pub stops_here : (own : PageEvent) (x : PastEvent) (old new : Formatter) (out : Sunk) (sprung : Sprung)
     → ((l : Limits) (h : PageHistory) → StandFor l h old.composer → refusal l h x ≡ None)
     → ((l : Limits) (h : PageHistory) → StandFor l h old.composer → StandFor l (x ∷ h) new.composer)
     → ((l : Limits) (h : PageHistory) → StandFor l h old.composer → written_by h x ≡ [])
-    → ((l : Limits) (h : PageHistory) → StandFor l h old.composer → sprung ≡ sprung_by (springs h x))
-    → PerformsHere x old new out out (Ok sprung)
-springs_here x old new out sprung allowed stands nothing springs_this = record {
-  here = λ l t before failures err s h e rest left stood steps reached.
-      let by : (o : Option ShortName) → springs h x ≡ o → Here l t before (seen failures out err) s h x left (Ok (sprung_by o)) new.composer = λ o is.
-      named_here l t before failures err s h e rest left stood steps reached o is in
-      subst (λ (sprung : Option Sprung). Here l t before (seen failures out err) s h x left (Ok sprung) new.composer) (sym (springs_this l h stood)) (by (springs h x) refl);
+    → ((l : Limits) (h : PageHistory) (rs : AllRegisters) → StandFor l h old.composer → following h x ≡ following_of new.composer sprung rs)
+    → ((l : Limits) (h : PageHistory) → StandFor l h old.composer → StopsSo h x sprung)
+    → 1 ≤ sprung.left → PerformsHere own x old new out out (Ok (Some sprung))
+stops_here own x old new out sprung allowed stands nothing follows so one = record {
+  here = λ l t before failures err s h e rest left stood told_so steps reached. record {
+    reaches = event_performed l t before failures err s h e rest out reached x left steps (following_of new.composer sprung s.registers) (follows l h s.registers stood) out
+        (allowed l h stood) (stands l h stood).goes_on
+        (subst (λ (bytes : List ℕ). Writes out out bytes) (sym (nothing l h stood)) (Writes-nothing out));
+    stands = stands l h stood;
+    so = so l h stood;
+    follows = follows l h s.registers stood;
+  };
+  stops = one;
 }
-  where
-    named_here : (l : Limits) (t : Beginning) (before : Seen) (failures : ℕ) (err : Sunk) (s : State) (h : PageHistory) (e : PageEvent) (rest left : List PageEvent)
-        → StandFor l h old.composer
-        → step l (acting s (e ∷ rest) h) ≡ unless_refused l (refusal l h x) (acting s (e ∷ rest) h) (performed x left (acting s (e ∷ rest) h))
-        → Reaches l t before (seen failures out err) (acting s (e ∷ rest) h)
-        → (o : Option ShortName) → springs h x ≡ o → Here l t before (seen failures out err) s h x left (Ok (sprung_by o)) new.composer
-    named_here l t before failures err s h e rest left stood steps reached None is = record {
-      reaches = event_performed l t before failures err s h e rest out reached x left steps None is out (allowed l h stood) (stands l h stood).goes_on
-          (subst (λ (bytes : List ℕ). Writes out out bytes) (sym (nothing l h stood)) (Writes-nothing out));
-      stands = stands l h stood;
-      springs = is;
-    }
-    named_here l t before failures err s h e rest left stood steps reached (Some name) is = record {
-      reaches = event_performed l t before failures err s h e rest out reached x left steps (Some name) is out (allowed l h stood) (stands l h stood).goes_on
-          (subst (λ (bytes : List ℕ). Writes out out bytes) (sym (nothing l h stood)) (Writes-nothing out));
-      stands = stands l h stood;
-      springs = is;
-      is = refl;
-    }
+
+-- one that springs a macro, or none, and changes no text
+pub springs_here : (own : PageEvent) (x : PastEvent) (old new : Formatter) (out : Sunk) (name : Option ShortName)
+    → ((l : Limits) (h : PageHistory) → StandFor l h old.composer → refusal l h x ≡ None)
+    → ((l : Limits) (h : PageHistory) → StandFor l h old.composer → StandFor l (x ∷ h) new.composer)
+    → ((l : Limits) (h : PageHistory) → StandFor l h old.composer → written_by h x ≡ [])
+    → ((l : Limits) (h : PageHistory) → StandFor l h old.composer → following h x ≡ only_sprung name)
+    → new.composer.due ≡ noted name old.composer.due
+    → PerformsHere own x old new out out (Ok (sprung_by name))
+springs_here own x old new out None allowed stands nothing follows due = changes_here own x old new out allowed stands nothing follows
+springs_here own x old new out (Some name) allowed stands nothing follows due =
+    stops_here own x old new out sprung_behind allowed stands nothing
+    (λ l h rs stood. follows l h stood ∙ ap only_sprung (sym (ap (λ (d : Due). d.sprung) due)))
+    (λ l h stood. BySpringing name (ap (λ (f : Following). f.sprung) (follows l h stood))) (omega arith)
 
 -- one that a limit refuses
-pub stopped_here : (x : PastEvent) (old new : Formatter) (out : Sunk) (limit : Limit)
+pub stopped_here : (own : PageEvent) (x : PastEvent) (old new : Formatter) (out : Sunk) (limit : Limit)
     → ((l : Limits) (h : PageHistory) → StandFor l h old.composer → refusal l h x ≡ Some limit)
-    → PerformsHere x old new out out (Err (Limited limit))
-stopped_here x old new out limit refused = record {
-  here = λ l t before failures err s h e rest left stood steps reached.
+    → PerformsHere own x old new out out (Err (Limited limit))
+stopped_here own x old new out limit refused = record {
+  here = λ l t before failures err s h e rest left stood told_so steps reached.
       event_stopped l t before failures err s h e rest out reached x left steps limit (refused l h stood);
+  stops = tt;
 }
-
--- one with which something happens to the pages that may write
-module _ (x : PastEvent) (y : Happening) (old new : Formatter) (out out_new : Sunk) (r : Result (Option Sprung) Halt)
-    (put : PutsOnPage y old.composer.pages new.composer.pages out out_new r)
-    (is : (l : Limits) (h : PageHistory) → StandFor l h old.composer → happens h x ≡ Some y)
-    (met : (h : PageHistory) → springs h x ≡ sprung_on (happens h x) (layout_of h))
-    (counted : (l : Limits) (h : PageHistory) → StandFor l h old.composer → refusal l h x ≡ first_passed l (written_counted h (Some y)))
-    (stands : (l : Limits) (h : PageHistory) → StandFor l h old.composer → StandBy l (environments (x ∷ h)) new.composer.environments) where
-  module _ (l : Limits) (t : Beginning) (before : Seen) (failures : ℕ) (err : Sunk) (s : State) (h : PageHistory) (e : PageEvent) (rest left : List PageEvent)
-      (stood : StandFor l h old.composer)
-      (steps : step l (acting s (e ∷ rest) h) ≡ unless_refused l (refusal l h x) (acting s (e ∷ rest) h) (performed x left (acting s (e ∷ rest) h)))
-      (reached : Reaches l t before (seen failures out err) (acting s (e ∷ rest) h)) where
-    wrote : written_by h x ≡ device_text y (layout_of h)
-    wrote = ap (λ (o : Option Happening). text_laid o (layout_of h)) (is l h stood)
-
-    laid : layout_of (x ∷ h) ≡ with_event y (layout_of h)
-    laid = ap (λ (o : Option Happening). laid_out o (layout_of h)) (is l h stood)
-
-    sprang : springs h x ≡ springs_on_page y (layout_of h)
-    sprang = met h ∙ ap (λ (o : Option Happening). sprung_on o (layout_of h)) (is l h stood)
-
-    abbrev Done : Result (Option Sprung) Halt → Type 0
-    Done answer = Here l t before (seen failures out_new err) s h x left answer new.composer
-
-    -- it is done, and springs this, if anything
-    module _ (name : Option ShortName) (goes_on : (with_event y (layout_of h)).is_over ≡ false)
-        (did : DidTo (layout_of h) y (Ok name) old.composer.pages new.composer.pages out out_new) where
-      found : springs h x ≡ name
-      found = sprang ∙ sym did.springs
-
-      now_stands : StandFor l (x ∷ h) new.composer
-      now_stands =
-          stands_put l h x y old.composer new.composer stood (is l h stood) (stands l h stood) did.stands did.printed.written did.printed.within put.puts.limits goes_on
-
-      now_reaches : Reaches l t before (seen failures out_new err) (sprung_at name left (acting s [] (x ∷ h)))
-      now_reaches =
-          let within = did.printed.within in
-          let allowed : refusal l h x ≡ None = counted l h stood ∙ written_allowed l h y (omega (arith, within, stood.written, stood.output)) in
-          event_performed l t before failures err s h e rest out reached x left steps name found out_new allowed (ap (λ (L : Layout). L.is_over) laid ∙ goes_on)
-          (subst (λ (bytes : List ℕ). Writes out out_new bytes) (sym wrote) did.printed.writes)
-
-    put_named : (name : Option ShortName) → (with_event y (layout_of h)).is_over ≡ false
-        → DidTo (layout_of h) y (Ok name) old.composer.pages new.composer.pages out out_new → Done (Ok (sprung_by name))
-    put_named None goes_on did = record { reaches = now_reaches None goes_on did; stands = now_stands None goes_on did; springs = found None goes_on did }
-    put_named (Some name) goes_on did = record {
-      reaches = now_reaches (Some name) goes_on did;
-      stands = now_stands (Some name) goes_on did;
-      springs = found (Some name) goes_on did;
-      is = refl;
-    }
-
-    put_done : (name : Option ShortName) (over : Bool) → (with_event y (layout_of h)).is_over ≡ over
-        → DidTo (layout_of h) y (Ok name) old.composer.pages new.composer.pages out out_new → Done (halted_by (Ok name) over)
-    put_done name false goes_on did = put_named name goes_on did
-    put_done name true over did =
-        let within = did.printed.within in
-        let allowed : refusal l h x ≡ None = counted l h stood ∙ written_allowed l h y (omega (arith, within, stood.written, stood.output)) in
-        event_over l t before failures err s h e rest out reached x left steps out_new allowed (ap (λ (L : Layout). L.is_over) laid ∙ over)
-        (subst (λ (bytes : List ℕ). Writes out out_new bytes) (sym wrote) did.printed.writes)
-
-    -- by what pages answer
-    put_by : (answer : Result (Option ShortName) PageFault) → DidTo (layout_of h) y answer old.composer.pages new.composer.pages out out_new
-        → ((L : Layout) → StandsAs L new.composer.pages → r ≡ halted_by answer L.is_over) → Done r
-    put_by (Ok name) did halts =
-        subst Done (sym (halts (with_event y (layout_of h)) did.stands)) (put_done name (with_event y (layout_of h)).is_over refl did)
-    put_by (Err PastOutput) did halts =
-        let halted : r ≡ Err (Limited OutputLimit) = halts (layout_of h) (subst (λ (k : Kept). StandsAs (layout_of h) k) (sym did.same) stood.pages) in
-        let above = did.above in
-        let refused : refusal l h x ≡ Some OutputLimit = counted l h stood ∙ written_refused l h y (omega (arith, above, stood.written, stood.output)) in
-        subst Done (sym halted)
-        (subst (λ (now : Sunk). StoppedAt l t before (seen failures now err) s OutputLimit) (sym did.unwritten)
-        (event_stopped l t before failures err s h e rest out reached x left steps OutputLimit refused))
-    put_by (Err SinkFails) did halts =
-        let halted : r ≡ Err Output = halts (layout_of h) (subst (λ (k : Kept). StandsAs (layout_of h) k) (sym did.same) stood.pages) in
-        let within = did.within in
-        let allowed : refusal l h x ≡ None = counted l h stood ∙ written_allowed l h y (omega (arith, within, stood.written, stood.output)) in
-        subst Done (sym halted)
-        (event_failed l t before failures err s h e rest out reached x left steps out_new allowed
-        (subst (λ (bytes : List ℕ). Fails out out_new bytes) (sym wrote) did.fails))
-
-    placed : Done r
-    placed = put_by put.answer (put.puts.did (layout_of h) stood.pages stood.within) put.halts
-
-  pub put_here : PerformsHere x old new out out_new r
-  put_here = record { here = placed }

@@ -4,9 +4,9 @@ use Rattle.std.specs.Prelude.{is_some, nat_le, nat_lt}
 use Rattle.std.proofs.lemmas.Bool.{and_parts, eq-eqb, leb-true, ltb-true, ne_eqb}
 use Rattle.std.proofs.lemmas.List.{length-append}
 use Rattle.roff_num.specs.declared.short_name.ShortName.{ShortName}
-use Rattle.roff_layout.specs.Happenings.{Happening, Does}
+use Rattle.roff_layout.specs.Happenings.{Happening, Does, is_eject_event}
 use Rattle.roff_layout.specs.Layout.{Box, Layout, page_place}
-use Rattle.roff_layout.specs.Puts.{boxes_put, ejected_if}
+use Rattle.roff_layout.specs.Puts.{boxes_put, ejected_if, puts}
 use Rattle.roff_layout.specs.Queries.{nl}
 use Rattle.roff_layout.specs.Springs.{first_met, goes_on, is_on_top, is_passed, springs}
 use Rattle.roff_layout.specs.Stops.{page_target, place_of}
@@ -29,6 +29,12 @@ nothing_left e L none = by (goes_on (Does e) L) refl
     by : (b : Bool) → goes_on (Does e) L ≡ b → left_if b e ≡ []
     by false is = refl
     by true is = absurd (let some = waits (Does e) L is in let wrong = ap (λ (o : Option ShortName). is_some o) none in cc)
+
+-- what is no eject doesn't go on
+pub not_left : (e : LayoutEvent) (L : Layout) → is_eject_event e ≡ false → left_if (goes_on (Does e) L) e ≡ []
+not_left e L alone =
+    let behind : Layout = with_event (Does e) L in
+    ap (λ (b : Bool). left_if (b && (is_some (puts (Does e) L) && ((behind.begun == L.begun) && not behind.is_over))) e) alone
 
 -- a trap that was passed lies beyond the place
 passed-beyond : (from to : ℕ) (place : Option ℕ) → is_passed from to place ≡ true → from < to

@@ -4,6 +4,9 @@ use Rattle.std.specs.Prelude.{drop, slice_get, if◌then◌else◌, not, ◌&&�
 use Rattle.roff_run.specs.PageEvents.{PageEvent}
 use Rattle.roff_num.specs.declared.num.Num.{Num}
 use Rattle.roff_num.specs.declared.short_name.ShortName.{ShortName}
+use Rattle.roff_layout.specs.DueTexts.{TextDue, due_by}
+use Rattle.roff_layout.specs.Happenings.{is_eject_event}
+use Rattle.roff_layout.specs.Layout.{Layout}
 use Rattle.roff_layout.specs.Queries.{takes_text}
 use Rattle.roff_layout.specs.declared.layout_event.LayoutEvent.{LayoutEvent}
 use Rattle.roff_layout.specs.declared.layout_event.LayoutEvent.TheVariants.{ListPages, Begin, Close, Space, Need, Eject, EjectTo, EjectOn, EjectLast, Length, Offset, Next, Number, NoSpace, Plant, Uproot, MoveTrap, RemoveTrap, DiversionTrap, NoDiversionTrap, Divert, EndDivert}
@@ -13,7 +16,7 @@ use Rattle.roff_run.specs.Output.{PageHistory}
 use Rattle.roff_run.specs.Springs.{AreFewBehind, begins, may_spring, springs}
 use Rattle.roff_run.specs.declared.event.PageEvent.TheVariants.{Text, Page, Interrupt, Environment, Back, InputTrap as SetsTrap, Title}
 use Rattle.roff_run.proofs.UnseenEnds.{NoneSprings}
-use Rattle.roff_formatter.specs.Formatter.Sprung.{IsAmong, first_going_on, further, left_behind, may_be_left, most_back, reach_of}
+use Rattle.roff_formatter.specs.Formatter.Sprung.{IsAmong, first_going_on, further, is_going_on, left_behind, may_be_left, most_back, reach_of}
 use Rattle.roff_formatter.specs.declared.sprung.Sprung.{Sprung}
 
 -- of nothing, nothing is left
@@ -137,6 +140,23 @@ page-left e h name sprang = elim (page_kind e) [
       let wrong : None ≡ Some name = sym (springs-none (Number number.0) (layout_of h) refl) ∙ springs_it in cc)
 ]
 
+-- and so may one with which the text of a diversion changes: none is an eject
+pub text-left : (e : LayoutEvent) (L : Layout) (due : TextDue) → due_by e L ≡ Some due → may_be_left (Page e) ≡ true
+text-left Close L due is = refl
+text-left (Space lines) L due is = refl
+text-left (Need lines) L due is = refl
+text-left (Divert name appends) L due is = refl
+text-left EndDivert L due is = refl
+text-left (_) L due is = absurd (cc)
+
+pub text-alone : (e : LayoutEvent) (L : Layout) (due : TextDue) → due_by e L ≡ Some due → is_eject_event e ≡ false
+text-alone Close L due is = refl
+text-alone (Space lines) L due is = refl
+text-alone (Need lines) L due is = refl
+text-alone (Divert name appends) L due is = refl
+text-alone EndDivert L due is = refl
+text-alone (_) L due is = absurd (cc)
+
 -- and so may one in front of which the first page begins
 pub paged-left : (e : LayoutEvent) (h : PageHistory) → begins h (Page e) ≡ true → may_be_left (Page e) ≡ true
 paged-left e h begun = elim (page_kind e) [
@@ -165,7 +185,7 @@ going-none (e ∷ events) = refl
 pub left-further : (sprung : Sprung) (e : PageEvent) (events : List PageEvent) → left_behind (further 1 sprung) (e ∷ events) ≡ left_behind sprung events
 left-further sprung e events =
     let next : sprung.left + 1 ≡ suc sprung.left = omega arith in
-    ap (λ (k : ℕ). first_going_on sprung.goes_on (drop k (e ∷ events))) next
+    ap (λ (k : ℕ). first_going_on (is_going_on sprung.why) (drop k (e ∷ events))) next
 
 -- the events that it speaks of are no fewer than those that were performed
 pub reach-least : (goes_on : Bool) (left : ℕ) → left ≤ reach_of goes_on left
@@ -189,7 +209,7 @@ left-with true (suc n) (e ∷ events) others among = left-with true n events oth
 
 pub left-front : (sprung : Sprung) (events others : List PageEvent) → IsAmong events sprung
     → left_behind sprung (events ++ others) ≡ left_behind sprung events ++ others
-left-front sprung events others among = left-with sprung.goes_on sprung.left events others among
+left-front sprung events others among = left-with (is_going_on sprung.why) sprung.left events others among
 
 -- with nothing more to do they are the same
 pub few-none : (events : List PageEvent) → AreFewBehind events → AreFewBehind (events ++ [])

@@ -1,5 +1,5 @@
 -- The first page, which begins in front of the first event that needs one.
-use Rattle.std.proofs.Common.{◌∙◌, ◌≡◌, ◌<◌, ℕ, Bool, true, false, not, ◌||◌, ◌&&◌, List, [], ◌∷◌, ◌++◌, Option, Some, None, ap, arith, refl, subst, sym, if◌then◌else◌}
+use Rattle.std.proofs.Common.{◌∙◌, ◌≡◌, ◌<◌, ℕ, Bool, true, false, not, ◌||◌, ◌&&◌, List, [], ◌∷◌, ◌++◌, Option, Some, None, Ok, ap, arith, refl, subst, sym, if◌then◌else◌}
 use Rattle.std.specs.Prelude.{is_some, nat_le, option_map}
 use Rattle.std.proofs.lemmas.Bool.{ne_eqb}
 use Rattle.roff_num.specs.declared.limits.Limits.{Limits}
@@ -12,6 +12,7 @@ use Rattle.roff_layout.specs.Happenings.{Does, Places}
 use Rattle.roff_layout.specs.Layout.{Layout, page_place}
 use Rattle.roff_layout.specs.Puts.{appended}
 use Rattle.roff_layout.specs.Queries.{is_diverting, takes_text}
+use Rattle.roff_layout.specs.Stops.{is_diverted}
 use Rattle.roff_layout.specs.Turning.{page_begun, with_boxes, with_event}
 use Rattle.roff_layout.specs.declared.layout_event.LayoutEvent.TheVariants.{Begin}
 use Rattle.roff_composer.specs.Composer.Standing.{StandFor}
@@ -19,7 +20,7 @@ use Rattle.roff_formatter.specs.declared.formatter.Formatter.{Formatter}
 use Rattle.roff_formatter.specs.Reaching.{Beginning, Reaches}
 use Rattle.roff_sinks.specs.Devices.{Seen, seen}
 use Rattle.roff_formatter.specs.Formatter.Performing.{SprungAt, acting, behind_next, behind_word}
-use Rattle.roff_formatter.specs.Formatter.Sprung.{may_be_left, sprung_before}
+use Rattle.roff_formatter.specs.Formatter.Sprung.{MovesOn, may_be_left, noted, open_weight, sprung_before, with_sprung}
 use Rattle.roff_formatter.specs.Formatter.Paging.{BeginsPage, BeginsFor, ReadyFor}
 use Rattle.roff_run.specs.Environments.{PageHistory, interrupted_line, text_of}
 use Rattle.roff_run.specs.Layouts.{laid_out}
@@ -29,7 +30,7 @@ use Rattle.roff_run.specs.PageEvents.{PageEvent}
 use Rattle.roff_run.specs.Registers.{AllRegisters}
 use Rattle.roff_run.specs.Titles.{told}
 use Rattle.roff_run.specs.declared.event.PageEvent.TheVariants.{Text, Interrupt, Environment, Back, InputTrap as SetsTrap, Page, Title}
-use Rattle.roff_run.specs.Run.{State, performed, performing, sprung_at, step, unless_refused}
+use Rattle.roff_run.specs.Run.{State, followed_by, only_sprung, performed, performing, step, unless_refused}
 use Rattle.roff_run.specs.TurnsToCome.{left_by, lines_left}
 use Rattle.roff_run.proofs.LinesLeft.{lines_left-event}
 use Rattle.roff_num.specs.declared.short_name.ShortName.{ShortName}
@@ -39,7 +40,7 @@ use Rattle.roff_sinks.proofs.Appending.{Writes-nothing}
 use Rattle.roff_formatter.proofs.EventsLeft.{most-left}
 use Rattle.roff_formatter.proofs.LinesLeft.{left-leaves}
 use Rattle.roff_formatter.proofs.Performed.{event_performed}
-use Rattle.roff_formatter.proofs.Placed.{nothing_allowed, nothing_written, stands_set}
+use Rattle.roff_formatter.proofs.Placed.{nothing_allowed, nothing_written, stands-due, stands_set}
 
 -- the history with the first page's beginning, if it begins
 abbrev pub begun_by : Bool → PageHistory → PageHistory
@@ -61,10 +62,15 @@ begun-turned false closing L some = some
 begun-turned true false L some = omega (arith, some)
 begun-turned true true L some = some
 
+begun-unless : (diverted full closing : Bool) (L : Layout) → 0 < L.begun
+    → 0 < (if diverted then L else if full then (if closing then record L { is_over = true } else page_begun L) else L).begun
+begun-unless true full closing L some = some
+begun-unless false full closing L some = begun-turned full closing L some
+
 begun-placed : (line : Finished) (L : Layout) → 0 < L.begun → 0 < (with_event (Places line) L).begun
 begun-placed line L some =
     let M : Layout = with_boxes (Places line) (appended (Places line) L) (record L { next = L.next }) in
-    begun-turned (nat_le M.length (page_place M)) M.is_closing M some
+    begun-unless (is_diverted (Places line) L) (nat_le M.length (page_place M)) M.is_closing M some
 
 -- whatever an event of the text finishes
 pub begun-text : (h : PageHistory) (e : Event) → 0 < (layout_of h).begun → 0 < (layout_of (Text e ∷ h)).begun
@@ -173,13 +179,14 @@ module _ (l : Limits) (t : Beginning) (before : Seen) (failures : ℕ) (err : Su
       subst (λ (f : Formatter). StandFor l (Page Begin ∷ h) f.composer) (sym page.others) now
 
   -- with what it sprang
-  page_reaches : BeginsPage old mid name → begins h x ≡ true → Reaches l t before (seen failures out err) (sprung_at name (e ∷ rest) (acting s [] (Page Begin ∷ h)))
+  page_reaches : BeginsPage old mid name → begins h x ≡ true → Reaches l t before (seen failures out err) (followed_by (only_sprung name) (e ∷ rest) (acting s [] (Page Begin ∷ h)))
   page_reaches page is =
       let steps : step l (acting s (e ∷ rest) h)
       ≡ unless_refused l (refusal l h (Page Begin)) (acting s (e ∷ rest) h) (performed (Page Begin) (e ∷ rest) (acting s (e ∷ rest) h))
       = ap (λ (own : Option PageEvent). performing l own e rest (acting s (e ∷ rest) h)) (first is) in
       let wrote : written_by h (Page Begin) ≡ [] = nothing_written (Does Begin) (layout_of h) refl in
-      event_performed l t before failures err s h e rest out reached (Page Begin) (e ∷ rest) steps name (sym (page.springs (layout_of h) stood.pages)) out
+      event_performed l t before failures err s h e rest out reached (Page Begin) (e ∷ rest) steps (only_sprung name)
+      (ap only_sprung (sym (page.springs (layout_of h) stood.pages))) out
       (nothing_allowed l h (Does Begin) old.composer stood wrote) stood.goes_on
       (subst (λ (bytes : List ℕ). Writes out out bytes) (sym wrote) (Writes-nothing out))
 
@@ -197,7 +204,7 @@ module _ (l : Limits) (t : Beginning) (before : Seen) (failures : ℕ) (err : Su
       let page : BeginsPage old mid name = ready.page l h stood is in
       record {
         reaches = subst (λ (g : PageHistory). Reaches l t before (seen failures out err) (acting s (e ∷ rest) g)) same
-            (subst (λ (o : Option ShortName). Reaches l t before (seen failures out err) (sprung_at o (e ∷ rest) (acting s [] (Page Begin ∷ h)))) none (page_reaches page is));
+            (subst (λ (o : Option ShortName). Reaches l t before (seen failures out err) (followed_by (only_sprung o) (e ∷ rest) (acting s [] (Page Begin ∷ h)))) none (page_reaches page is));
         stands = subst (λ (g : PageHistory). StandFor l g mid.composer) same (page_stands page);
         none = subst (λ (g : PageHistory). begins g x ≡ false) same (begins-taken (Page Begin ∷ h) x (begun-takes h));
         text = ap text_of (sym same);
@@ -208,22 +215,23 @@ module _ (l : Limits) (t : Beginning) (before : Seen) (failures : ℕ) (err : Su
 
   -- it sprang something: the event is left
   sprang_where : (found : ShortName) → name ≡ Some found → (begins h x ≡ true → may_be_left e ≡ true) → (b : Bool) → begins h x ≡ b
-      → SprungAt l t before (seen failures out err) s (e ∷ []) h (sprung_before found) rest mid.composer
+      → SprungAt l t before (seen failures out err) s (e ∷ []) h sprung_before rest (with_sprung found mid).composer
   sprang_where found some may false is = absurd (let none = (ready.stays l h stood is).1 in cc)
   sprang_where found some may true is =
       let page : BeginsPage old mid name = ready.page l h stood is in
       let left : left_by e (lines_left (interrupted_line h)) ≡ lines_left (interrupted_line h) = left-leaves e (lines_left (interrupted_line h)) (may is) in
       record {
         history = Page Begin ∷ h;
-        reaches = subst (λ (o : Option ShortName). Reaches l t before (seen failures out err) (sprung_at o (e ∷ rest) (acting s [] (Page Begin ∷ h)))) some (page_reaches page is);
-        stands = page_stands page;
+        reaches = subst (λ (o : Option ShortName). Reaches l t before (seen failures out err) (followed_by (only_sprung o) (e ∷ rest) (acting s [] (Page Begin ∷ h)))) some (page_reaches page is);
+        stands = stands-due l (Page Begin ∷ h) mid.composer (noted (Some found) mid.composer.due) (page_stands page);
         lines = omega (arith, left, lines_left-event s.registers (Page Begin) h);
         among = omega arith;
+        named = λ goes. absurd (cc);
         few = λ more. omega (arith, most-left e more (may is));
       }
 
   pub page_sprang : (found : ShortName) → name ≡ Some found → (begins h x ≡ true → may_be_left e ≡ true)
-      → SprungAt l t before (seen failures out err) s (e ∷ []) h (sprung_before found) rest mid.composer
+      → SprungAt l t before (seen failures out err) s (e ∷ []) h sprung_before rest (with_sprung found mid).composer
   page_sprang found some may = sprang_where found some may (begins h x) refl
 
 -- a formatter is ready for an event that needs no page
@@ -231,7 +239,17 @@ pub ready_always : (e : PageEvent) (f : Formatter) → ((h : PageHistory) → ne
 ready_always e f needless = record {
   page = λ l h stood is. absurd (let wrong = begins-needless h e (needless h) in cc);
   stays = λ l h stood is. (refl, refl);
+  others = refl;
 }
+
+-- a formatter that is ready has the same open word
+pub ready-open : (e : PageEvent) (old mid : Formatter) (name : Option ShortName) → ReadyFor e old mid name → open_weight mid.composer ≡ open_weight old.composer
+ready-open e old mid name ready = ap (λ (f : Formatter). open_weight f.composer) ready.others
+
+-- so where the first page's beginning sprang a macro, that moved on
+pub moves-before : (e : PageEvent) (old mid : Formatter) (name : ShortName) → ReadyFor e old mid (Some name)
+    → MovesOn old (with_sprung name mid) (Ok (Some sprung_before))
+moves-before e old mid name ready = omega (arith, ready-open e old mid (Some name) ready)
 
 -- and where text is taken
 pub ready_taking : (e : PageEvent) (f : Formatter) → ((l : Limits) (h : PageHistory) → StandFor l h f.composer → takes_text (layout_of h) ≡ true)
@@ -239,6 +257,7 @@ pub ready_taking : (e : PageEvent) (f : Formatter) → ((l : Limits) (h : PageHi
 ready_taking e f takes = record {
   page = λ l h stood is. absurd (let wrong = begins-taken h e (takes l h stood) in cc);
   stays = λ l h stood is. (refl, refl);
+  others = refl;
 }
 
 -- where it isn't, the page begins if the event needs it
@@ -247,6 +266,7 @@ pub ready_needing : (e : PageEvent) (old new : Formatter) (name : Option ShortNa
 ready_needing e old new name takes needs = record {
   page = λ l h stood is. needs.page l h stood (needs-where (takes_text (layout_of h)) (needs_page h e) is).1;
   stays = λ l h stood is. needs.stays l h stood (by (takes_text (layout_of h)) (needs_page h e) (takes l h stood) is);
+  others = needs.others;
 }
   where
     by : (takes needs : Bool) → takes ≡ false → (not takes && needs) ≡ false → needs ≡ false
@@ -259,6 +279,7 @@ pub begins_always : (e : PageEvent) (old new : Formatter) (name : Option ShortNa
 begins_always e old new name needs page = record {
   page = λ l h stood is. page;
   stays = λ l h stood is. absurd (let wrong = needs h in cc);
+  others = page.others;
 }
 
 -- the history behind an event and what comes before it: the page's beginning, where no word end does

@@ -5,10 +5,13 @@ pub mod Placed
 pub mod FirstPages
 pub mod Ejects
 pub mod Quiet
+pub mod DueTexts
 pub mod DoneFirst
+pub mod DonePut
 pub mod DoneEvents
 pub mod Springing
 pub mod Telling
 pub mod TitleNumbers
 pub mod Titling
+pub mod Diverting
 pub mod Unfilled

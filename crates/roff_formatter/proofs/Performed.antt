@@ -11,11 +11,12 @@ use Rattle.roff_formatter.specs.declared.sprung.Sprung.{Sprung}
 use Rattle.roff_formatter.specs.Reaching.{Beginning, Reaches}
 use Rattle.roff_sinks.specs.Devices.{Seen, AppendsBetween, NoSinkFault, seen}
 use Rattle.roff_formatter.specs.Formatter.Performing.{AllPerformed, StoppedAt, FailedAt, OverAt, Performs, PerformsEvents, SprungAt, acting, behind_event, behind_events}
-use Rattle.roff_formatter.specs.Formatter.Sprung.{HasFew, further, further_by, left_behind}
+use Rattle.roff_formatter.specs.Formatter.Sprung.{HasFew, MovesOn, StopsBehind, following_of, further, further_by, is_going_on, left_behind, unsprung_weight, word_weight}
 use Rattle.roff_run.specs.Output.{PageHistory, layout_of, written, written_by}
 use Rattle.roff_run.specs.PageEvents.{PageEvent, PastEvent}
-use Rattle.roff_run.specs.Run.{State, done_if, initial, output, performed, sprung_at, step, unless_refused}
-use Rattle.roff_run.specs.Springs.{springs}
+use Rattle.roff_layout.specs.DueTexts.{TextDue}
+use Rattle.roff_run.specs.Following.{following}
+use Rattle.roff_run.specs.Run.{State, Following, done_if, followed_by, initial, output, performed, step, unless_refused, with_left}
 use Rattle.roff_run.specs.Run.Counts.{refusal}
 use Rattle.roff_sinks.specs.Sinks.{Sunk, Writes, AppendsFront, Fails}
 use Rattle.roff_sinks.proofs.Appending.{Appends-append}
@@ -45,21 +46,24 @@ pub faults_of_err : (before : Seen) (failures : ℕ) (out old new : Sunk) → ne
 faults_of_err before failures out old new same faults = record { source = faults.source; out = faults.out; err = same ∙ faults.err }
 
 -- what was written where an event was performed, whatever it sprang, and whether the last page ended with it
-output-sprung : (sprung : Option ShortName) (left : List PageEvent) (behind : State) → output (sprung_at sprung left behind) ≡ output behind
-output-sprung None left behind = refl
-output-sprung (Some name) left behind = refl
+output-left : (sprung : Option ShortName) (left : List PageEvent) (behind : State) → output (with_left sprung left behind) ≡ output behind
+output-left None left behind = refl
+output-left (Some name) left behind = refl
 
-output-performed : (over : Bool) (sprung : Option ShortName) (left : List PageEvent) (behind : State)
-    → output (done_if over behind (sprung_at sprung left behind)) ≡ output behind
-output-performed true sprung left behind = refl
-output-performed false sprung left behind = output-sprung sprung left behind
+output-performed : (over : Bool) (f : Following) (left : List PageEvent) (behind : State)
+    → output (done_if over behind (followed_by f left behind)) ≡ output behind
+output-performed true f left behind = refl
+output-performed false f left behind = output-left f.sprung left (record behind { follows = f })
 
 -- no message is told then
-messages-performed : (over : Bool) (sprung : Option ShortName) (left : List PageEvent) (behind : State)
-    → (done_if over behind (sprung_at sprung left behind)).messages ≡ behind.messages
-messages-performed true sprung left behind = refl
-messages-performed false None left behind = refl
-messages-performed false (Some name) left behind = refl
+messages-left : (sprung : Option ShortName) (left : List PageEvent) (behind : State) → (with_left sprung left behind).messages ≡ behind.messages
+messages-left None left behind = refl
+messages-left (Some name) left behind = refl
+
+messages-performed : (over : Bool) (f : Following) (left : List PageEvent) (behind : State)
+    → (done_if over behind (followed_by f left behind)).messages ≡ behind.messages
+messages-performed true f left behind = refl
+messages-performed false f left behind = messages-left f.sprung left (record behind { follows = f })
 
 -- A step at an event in front of others, at a state of a run: in it this happens, the event or what comes before it, and these are
 -- left.
@@ -72,31 +76,36 @@ module _ (l : Limits) (t : Beginning) (before : Seen) (failures : ℕ) (err : Su
   step-performed allowed = steps ∙ ap (λ r. unless_refused l r (acting s (e ∷ rest) h) (performed happens left (acting s (e ∷ rest) h))) allowed
 
   -- where the last page doesn't end with it the others are left
-  step-event : (sprung : Option ShortName) → springs h happens ≡ sprung → refusal l h happens ≡ None → (layout_of (happens ∷ h)).is_over ≡ false
-      → step l (acting s (e ∷ rest) h) ≡ sprung_at sprung left (acting s (e ∷ rest) (happens ∷ h))
-  step-event sprung is allowed goes =
+  step-event : (f : Following) → following h happens ≡ f → refusal l h happens ≡ None → (layout_of (happens ∷ h)).is_over ≡ false
+      → step l (acting s (e ∷ rest) h) ≡ followed_by f left (acting s (e ∷ rest) (happens ∷ h))
+  step-event f is allowed goes =
       step-performed allowed
-      ∙ ap (λ (over : Bool). done_if over (acting s (e ∷ rest) (happens ∷ h)) (sprung_at (springs h happens) left (acting s (e ∷ rest) (happens ∷ h)))) goes
-      ∙ ap (λ (o : Option ShortName). sprung_at o left (acting s (e ∷ rest) (happens ∷ h))) is
+      ∙ ap (λ (over : Bool). done_if over (acting s (e ∷ rest) (happens ∷ h)) (followed_by (following h happens) left (acting s (e ∷ rest) (happens ∷ h)))) goes
+      ∙ ap (λ (f : Following). followed_by f left (acting s (e ∷ rest) (happens ∷ h))) is
 
   -- it is performed, and what it writes is written
-  pub event_performed : (sprung : Option ShortName) → springs h happens ≡ sprung → (new : Sunk) → refusal l h happens ≡ None
+  event_followed : (text : Option TextDue) (sprung : Option ShortName) → let f : Following = record { text = text; sprung = sprung } in
+      following h happens ≡ f → (new : Sunk) → refusal l h happens ≡ None → (layout_of (happens ∷ h)).is_over ≡ false
+      → Writes old new (written_by h happens) → Reaches l t before (seen failures new err) (followed_by f left (acting s [] (happens ∷ h)))
+  event_followed text None is new allowed goes writes = record {
+    comes = Leads-to l (initial l t.start t.tape) _ _ reached.comes (step-event (record { text = text; sprung = None }) is allowed goes);
+    text = Appends-append _ _ _ _ _ reached.text writes.written;
+    messages = reached.messages;
+    faults = faults_of_out before failures err old new writes.failures reached.faults;
+    room = reached.room;
+  }
+  event_followed text (Some name) is new allowed goes writes = record {
+    comes = Leads-to l (initial l t.start t.tape) _ _ reached.comes (step-event (record { text = text; sprung = Some name }) is allowed goes);
+    text = Appends-append _ _ _ _ _ reached.text writes.written;
+    messages = reached.messages;
+    faults = faults_of_out before failures err old new writes.failures reached.faults;
+    room = reached.room;
+  }
+
+  pub event_performed : (f : Following) → following h happens ≡ f → (new : Sunk) → refusal l h happens ≡ None
       → (layout_of (happens ∷ h)).is_over ≡ false → Writes old new (written_by h happens)
-      → Reaches l t before (seen failures new err) (sprung_at sprung left (acting s [] (happens ∷ h)))
-  event_performed None is new allowed goes writes = record {
-    comes = Leads-to l (initial l t.start t.tape) _ _ reached.comes (step-event None is allowed goes);
-    text = Appends-append _ _ _ _ _ reached.text writes.written;
-    messages = reached.messages;
-    faults = faults_of_out before failures err old new writes.failures reached.faults;
-    room = reached.room;
-  }
-  event_performed (Some name) is new allowed goes writes = record {
-    comes = Leads-to l (initial l t.start t.tape) _ _ reached.comes (step-event (Some name) is allowed goes);
-    text = Appends-append _ _ _ _ _ reached.text writes.written;
-    messages = reached.messages;
-    faults = faults_of_out before failures err old new writes.failures reached.faults;
-    room = reached.room;
-  }
+      → Reaches l t before (seen failures new err) (followed_by f left (acting s [] (happens ∷ h)))
+  event_performed f is = event_followed f.text f.sprung is
 
   -- and the last page ends with it
   pub event_over : (new : Sunk) → refusal l h happens ≡ None → (layout_of (happens ∷ h)).is_over ≡ true → Writes old new (written_by h happens)
@@ -106,7 +115,7 @@ module _ (l : Limits) (t : Beginning) (before : Seen) (failures : ℕ) (err : Su
     history = happens ∷ h;
     reaches = record {
       comes = Leads-to l (initial l t.start t.tape) _ _ reached.comes (step-performed allowed
-          ∙ ap (λ (b : Bool). done_if b (acting s (e ∷ rest) (happens ∷ h)) (sprung_at (springs h happens) left (acting s (e ∷ rest) (happens ∷ h)))) over);
+          ∙ ap (λ (b : Bool). done_if b (acting s (e ∷ rest) (happens ∷ h)) (followed_by (following h happens) left (acting s (e ∷ rest) (happens ∷ h)))) over);
       text = Appends-append _ _ _ _ _ reached.text writes.written;
       messages = reached.messages;
       faults = faults_of_out before failures err old new writes.failures reached.faults;
@@ -125,11 +134,11 @@ module _ (l : Limits) (t : Beginning) (before : Seen) (failures : ℕ) (err : Su
       comes = reached.comes;
       goes_on = refl;
       text = subst (λ (bytes : List ℕ). AppendsBetween before.out.contents new.contents (written h) bytes)
-          (sym (ap output (step-performed allowed) ∙ output-performed (layout_of (happens ∷ h)).is_over (springs h happens) left (acting s (e ∷ rest) (happens ∷ h))))
+          (sym (ap output (step-performed allowed) ∙ output-performed (layout_of (happens ∷ h)).is_over (following h happens) left (acting s (e ∷ rest) (happens ∷ h))))
           (between _ _ _ _ _ reached.text fails.written);
       fault = rw (sym reached.faults.out) fails.fault;
       quiet = ap (λ (s : State). s.messages) (step-performed allowed)
-          ∙ messages-performed (layout_of (happens ∷ h)).is_over (springs h happens) left (acting s (e ∷ rest) (happens ∷ h));
+          ∙ messages-performed (layout_of (happens ∷ h)).is_over (following h happens) left (acting s (e ∷ rest) (happens ∷ h));
       room = reached.room;
     };
     messages = reached.messages;
@@ -152,11 +161,12 @@ module _ (l : Limits) (t : Beginning) (before now : Seen) (s : State) (first : P
       → SprungAt l t before now s (first ∷ others) h (further 1 sprung) rest es
   sprang_behind sprung p = record {
     history = p.history;
-    reaches = subst (λ (left : List PageEvent). Reaches l t before now (sprung_at (Some sprung.name) (left ++ rest) (acting s [] p.history)))
+    reaches = subst (λ (left : List PageEvent). Reaches l t before now (followed_by (following_of es sprung s.registers) (left ++ rest) (acting s [] p.history)))
         (sym (left-further sprung first others)) p.reaches;
     stands = p.stands;
     lines = omega (arith, p.lines, more_left s.registers first others h);
-    among = omega (arith, reach-further sprung.goes_on sprung.left 1 (length others) p.among);
+    among = omega (arith, reach-further (is_going_on sprung.why) sprung.left 1 (length others) p.among);
+    named = p.named;
     few = λ more. omega (arith, ap length (left-further sprung first (others ++ more)), p.few more, most-behind first (others ++ more));
   }
 
@@ -165,11 +175,12 @@ module _ (l : Limits) (t : Beginning) (before now : Seen) (s : State) (first : P
       → SprungAt l t before now s (first ∷ others) h sprung rest es
   sprang_first sprung p = record {
     history = p.history;
-    reaches = subst (λ (left : List PageEvent). Reaches l t before now (sprung_at (Some sprung.name) left (acting s [] p.history)))
+    reaches = subst (λ (left : List PageEvent). Reaches l t before now (followed_by (following_of es sprung s.registers) left (acting s [] p.history)))
         (sym (append_assoc (left_behind sprung (first ∷ [])) others rest) ∙ ap (λ (left : List PageEvent). left ++ rest) (sym (left-front sprung (first ∷ []) others p.among))) p.reaches;
     stands = p.stands;
     lines = omega (arith, p.lines);
     among = omega (arith, p.among);
+    named = p.named;
     few = λ more. p.few (others ++ more);
   }
 
@@ -180,23 +191,40 @@ module _ (l : Limits) (t : Beginning) (before now : Seen) (s : State) (first : P
   behind_first (Ok None) result short is p =
       subst (λ (r : Result (Option Sprung) Halt). Performs l t before now s (first ∷ others) h (behind_events s.registers (first ∷ others) h) rest r es) (sym (is tt)) p
   behind_first (Ok (Some sprung)) result short is p =
-      let few : sprung.left + 1 ≤ 255 = omega (arith, short, p.among, reach-least sprung.goes_on sprung.left) in
+      let few : sprung.left + 1 ≤ 255 = omega (arith, short, p.among, reach-least (is_going_on sprung.why) sprung.left) in
       subst (λ (r : Result (Option Sprung) Halt). Performs l t before now s (first ∷ others) h (behind_events s.registers (first ∷ others) h) rest r es) (sym (is few))
       (sprang_behind sprung p)
   behind_first (Err halt) result short is p =
       subst (λ (r : Result (Option Sprung) Halt). Performs l t before now s (first ∷ others) h (behind_events s.registers (first ∷ others) h) rest r es) (sym (is tt)) p
 
+-- what is still to come counts little
+pub word-least : (is_open : Bool) → word_weight is_open ≤ 2
+word-least false = omega arith
+word-least true = omega arith
+
+pub sprung-least : (name : Option ShortName) → unsprung_weight name ≤ 1
+sprung-least None = omega arith
+sprung-least (Some name) = omega arith
+
+-- so one that is done moved on
+pub moves-behind : (old new : Formatter) (r : Result (Option Sprung) Halt) → StopsBehind r → MovesOn old new r
+moves-behind old new (Ok None) stops = tt
+moves-behind old new (Ok (Some sprung)) stops =
+    omega (arith, stops, word-least new.composer.environments.in_force.lines.is_open, sprung-least new.composer.due.sprung)
+moves-behind old new (Err halt) stops = tt
+
 -- an event and others behind it, of which the first was performed
 pub performs_both : (first : PageEvent) (others : List PageEvent) (old mid new : Formatter) (told told_mid told_new : Sunk) (done r result : Result (Option Sprung) Halt)
     → done ≡ Ok None → PerformsEvents (first ∷ []) old mid told told_mid done → PerformsEvents others mid new told_mid told_new r
-    → length others ≤ 99 → (HasFew r 1 → result ≡ further_by 1 r)
+    → length others ≤ 99 → (HasFew r 1 → result ≡ further_by 1 r) → StopsBehind result
     → PerformsEvents (first ∷ others) old new told told_new result
-performs_both first others old mid new told told_mid told_new done r result quiet ended more short is =
+performs_both first others old mid new told told_mid told_new done r result quiet ended more short is stops =
     let one : PerformsEvents (first ∷ []) old mid told told_mid (Ok None) = subst (λ (r : Result (Option Sprung) Halt). PerformsEvents (first ∷ []) old mid told told_mid r) quiet ended in record {
       performs = λ l t before failures err s h rest stood flows reached.
           let now = one.performs l t before failures err s h (others ++ rest) stood (flows.0, tt) reached in
           behind_first l t before (seen failures told_new err) s first others h rest new.composer r result short is
           (more.performs l t before failures err s (behind_event s.registers first h) rest now.stands flows.1 now.reaches);
+      moves = moves-behind old new result stops;
     }
 
 -- or sprang something
@@ -207,6 +235,7 @@ performs_first_sprung first others old new told told_new sprung done found ended
       performs = λ l t before failures err s h rest stood flows reached.
           sprang_first l t before (seen failures told_new err) s first others h rest new.composer sprung
           (one.performs l t before failures err s h (others ++ rest) stood (flows.0, tt) reached);
+      moves = one.moves;
     }
 
 -- or in which the code halted
@@ -215,6 +244,7 @@ pub performs_first_halted : (first : PageEvent) (others : List PageEvent) (old n
 performs_first_halted first others old new told told_new halt one = record {
   performs = λ l t before failures err s h rest stood flows reached.
       one.performs l t before failures err s h (others ++ rest) stood (flows.0, tt) reached;
+  moves = tt;
 }
 
 -- what was performed where the answer is that nothing sprang, or this
@@ -230,4 +260,5 @@ performed_sprung l t before now s events h behind rest r sprung es is p = subst 
 pub performs_nothing : (f : Formatter) (out : Sunk) → PerformsEvents [] f f out out (Ok None)
 performs_nothing f out = record {
   performs = λ l t before failures err s h rest stood flows reached. record { reaches = reached; stands = stood };
+  moves = tt;
 }

@@ -10,18 +10,19 @@ use Rattle.roff_num.specs.declared.limits.Limits.{Limits}
 use Rattle.roff_layout.specs.Lines.{pending_length}
 use Rattle.roff_layout.specs.declared.event.Event.{Event}
 use Rattle.roff_layout.specs.DeviceText.{device_lines, device_text}
-use Rattle.roff_layout.specs.Happenings.{Happening, Does}
+use Rattle.roff_layout.specs.Happenings.{Happening, Does, Places, Titles}
 use Rattle.roff_layout.specs.declared.layout_event.LayoutEvent.{LayoutEvent}
 use Rattle.roff_layout.specs.declared.layout_event.LayoutEvent.TheVariants.{ListPages, Begin, Close, Space, Need, Eject, EjectTo, EjectOn, EjectLast, Length, Offset, Next, Number, NoSpace, Plant, Uproot, MoveTrap, RemoveTrap, DiversionTrap, NoDiversionTrap, Divert, EndDivert}
 use Rattle.roff_layout.specs.Layout.{Box, Layout}
 use Rattle.roff_pages.specs.Pages.Kept.{Kept}
 use Rattle.roff_pages.specs.Pages.Stands.{SameLimits, StandsAs, kept_diversion}
-use Rattle.roff_layout.specs.Puts.{boxes_put, puts}
+use Rattle.roff_layout.specs.Puts.{Put, appended, boxes_put, puts}
 use Rattle.roff_layout.specs.Stops.{is_diverted, target}
-use Rattle.roff_layout.specs.Turning.{with_event, with_trap}
+use Rattle.roff_layout.specs.Turning.{behind_put, next_behind, turned_unless, unput, with_boxes, with_event, with_trap, without_put}
 use Rattle.roff_composer.specs.Composer.Standing.{StandFor}
 use Rattle.roff_composer.specs.Environments.Standing.{StandBy}
 use Rattle.roff_composer.specs.declared.composer.Composer.{Composer as ComposerOf}
+use Rattle.roff_composer.specs.declared.due_text.Due.{Due}
 use Rattle.roff_formatter.specs.Formatter.Setting.{HasRoomFor, IsPastItsLimit, may_put}
 use Rattle.roff_run.specs.Environments.{PageHistory, environments, text_of}
 use Rattle.roff_run.specs.Layouts.{laid_out}
@@ -271,3 +272,55 @@ switch_allowed l h number few = passes-first l.environments (length (environment
 pub switch_refused : (l : Limits) (h : PageHistory) (number : EnvironmentNumber) → l.environments < length (environments h).left + 1
     → refusal l h (Environment number) ≡ Some EnvironmentsLimit
 switch_refused l h number more = stops-first l.environments (length (environments h).left + 1) EnvironmentsLimit None more
+
+-- whatever is due, they stand for the same
+pub stands-due : (l : Limits) (h : PageHistory) (es : ComposerOf) (due : Due) → StandFor l h es → StandFor l h (record es { due = due })
+stands-due l h es due stood = record {
+  environments = stood.environments;
+  pages = stood.pages;
+  written = stood.written;
+  within = stood.within;
+  output = stood.output;
+  traps = stood.traps;
+  diversions = stood.diversions;
+  goes_on = stood.goes_on;
+}
+
+-- what is put in a diversion writes nothing
+pub diverted_nothing : (x : Happening) (L : Layout) → is_diverted x L ≡ true → device_text x L ≡ []
+diverted_nothing x L is = ap (λ (b : Bool). if b || not L.is_listed then [] else device_lines L.offset (appended x L)) is
+
+-- and ends no page
+diverted_put : (x : Happening) (p : Option Put) (boxes : List Box) (L : Layout) → is_diverted x L ≡ true → (unput x L).is_over ≡ L.is_over → (behind_put x p boxes L).is_over ≡ L.is_over
+diverted_put x None boxes L is stays = stays
+diverted_put x (Some p) boxes L is stays =
+    ap (λ (b : Bool). (turned_unless b (with_boxes x boxes (record L { next = next_behind x L.next }))).is_over) is
+
+diverted_unput : (e : LayoutEvent) (L : Layout) → is_diverted (Does e) L ≡ true → (without_put e L).is_over ≡ L.is_over
+diverted_unput (ListPages first last) L is = refl
+diverted_unput Begin L is = refl
+diverted_unput Close L is = refl
+diverted_unput (Space k) L is = refl
+diverted_unput (Need k) L is = refl
+diverted_unput (Eject asked) L is = refl
+diverted_unput (EjectTo asked number) L is = refl
+diverted_unput (EjectOn asked) L is = refl
+diverted_unput EjectLast L is = cc
+diverted_unput (Length k) L is = refl
+diverted_unput (Offset k) L is = refl
+diverted_unput (Next n) L is = refl
+diverted_unput (Number n) L is = refl
+diverted_unput (NoSpace on) L is = refl
+diverted_unput (Plant trap) L is = refl
+diverted_unput (Uproot place) L is = refl
+diverted_unput (MoveTrap name place) L is = refl
+diverted_unput (RemoveTrap name) L is = refl
+diverted_unput (DiversionTrap trap) L is = refl
+diverted_unput NoDiversionTrap L is = refl
+diverted_unput (Divert name appends) L is = refl
+diverted_unput EndDivert L is = refl
+
+pub diverted_goes : (x : Happening) (L : Layout) → is_diverted x L ≡ true → (with_event x L).is_over ≡ L.is_over
+diverted_goes (Does e) L is = diverted_put (Does e) (puts (Does e) L) (appended (Does e) L) L is (diverted_unput e L is)
+diverted_goes (Places line) L is = diverted_put (Places line) (puts (Places line) L) (appended (Places line) L) L is refl
+diverted_goes (Titles t) L is = diverted_put (Titles t) (puts (Titles t) L) (appended (Titles t) L) L is refl

@@ -1,22 +1,27 @@
 -- What is set of the pages springs nothing, but for a page's beginning.
 use Rattle.std.proofs.Common.{◌≡◌, ◌<◌, ◌≤◌, ℕ, ◌+◌, Bool, true, false, not, List, [], ◌∷◌, length, Option, Some, None, Result, Ok, Err, ap, arith, refl, sym, ◌∙◌, if◌then◌else◌, ◌==◌}
-use Rattle.std.specs.Prelude.{IfErr, OnOk, nat_le, nat_lt}
+use Rattle.std.specs.Prelude.{IfErr, IsSome, OnOk, nat_le, nat_lt}
 use Rattle.std.proofs.lemmas.Bool.{and_parts, eq-eqb, leb-true, ltb-true}
 use Rattle.roff_num.specs.declared.limit.Limit.{Limit}
-use Rattle.roff_num.specs.declared.limit.Limit.TheVariants.{Traps, Diversions}
+use Rattle.roff_num.specs.declared.limit.Limit.TheVariants.{Traps}
 use Rattle.roff_num.specs.declared.short_name.ShortName.{ShortName}
+use Rattle.roff_layout.specs.DueTexts.{text_due}
 use Rattle.roff_layout.specs.Happenings.{Does}
 use Rattle.roff_layout.specs.Layout.{Diversion, Layout}
 use Rattle.roff_pages.specs.Pages.Kept.{Kept}
-use Rattle.roff_pages.specs.Pages.Stands.{Happens}
+use Rattle.roff_pages.specs.Pages.Stands.{Happens, StandsAs}
+use Rattle.roff_composer.specs.Composer.Due.{text_told}
+use Rattle.roff_composer.specs.declared.composer.Composer.{Composer as ComposerOf}
+use Rattle.roff_composer.specs.declared.due_text.Due.{Due}
+use Rattle.roff_run.specs.Registers.{AllRegisters}
 use Rattle.roff_layout.specs.Springs.{diversion_trap_passed, first_met, is_passed, passed_in, springs}
 use Rattle.roff_layout.specs.Stops.{innermost, page_target, place_of, stop_at}
 use Rattle.roff_layout.specs.Turning.{with_trap}
 use Rattle.roff_layout.specs.declared.layout_event.LayoutEvent.{LayoutEvent}
 use Rattle.roff_layout.specs.declared.layout_event.LayoutEvent.TheVariants.{ListPages, Begin, Close, Space, Need, Eject, EjectTo, EjectOn, EjectLast, Length, Offset, Next, Number, NoSpace, Plant, Uproot, MoveTrap, RemoveTrap, DiversionTrap, NoDiversionTrap, Divert, EndDivert}
 use Rattle.roff_layout.specs.declared.trap.Trap.{Trap}
-use Rattle.roff_formatter.specs.Formatter.Setting.{HasRoomFor, SetsOnPage, halted_within, is_quiet}
-use Rattle.roff_formatter.specs.Formatter.Sprung.{sprung_by}
+use Rattle.roff_formatter.specs.Formatter.Setting.{HasRoomFor, SetSpringing, SetText, SetsOnPage, halted_within, is_of_texts, is_quiet}
+use Rattle.roff_formatter.specs.Formatter.Sprung.{diverting, noted, sprung_by}
 
 -- on no way nothing is passed
 unpassed : (place : ℕ) (trap : Option ℕ) → is_passed place (place + 0) trap ≡ false
@@ -78,19 +83,40 @@ springs-none NoDiversionTrap L is = unsprung L L.is_over _
 springs-none (Divert name appends) L is = unsprung L L.is_over _
 springs-none EndDivert L is = unsprung L L.is_over _
 
--- so such an event was set, and sprang nothing
-pub sets_quietly : (e : LayoutEvent) (old new : Kept) → is_quiet e ≡ true → Happens (Does e) old new → HasRoomFor e old → SetsOnPage e old new (Ok None)
-sets_quietly e old new is happens room = (happens, room, λ L stands. ap sprung_by (sym (springs-none e L is)))
+-- and, but for those of diversions, changes no text
+untold-quiet : (e : LayoutEvent) (L : Layout) → is_quiet e ≡ true → is_of_texts e ≡ false → text_due (Does e) L ≡ None
+untold-quiet Close L is other = absurd (cc)
+untold-quiet (Space k) L is other = absurd (cc)
+untold-quiet (Need k) L is other = absurd (cc)
+untold-quiet (Divert name appends) L is other = absurd (cc)
+untold-quiet EndDivert L is other = absurd (cc)
+untold-quiet (_) L is other = refl
+
+-- so such an event was set, and nothing follows
+pub sets_quietly : (e : LayoutEvent) (old new : Kept) (due : Due) → is_quiet e ≡ true → is_of_texts e ≡ false → Happens (Does e) old new → HasRoomFor e old
+    → SetsOnPage e old new due (Ok None)
+sets_quietly e old new due is other happens room =
+    (happens, room, record { untold = λ L stands. untold-quiet e L is other; springs = λ L stands. springs-none e L is })
+
+-- a page began, and sprang this, if anything
+pub begins_by : (old new : Kept) (due_old due_new : Due) (name : Option ShortName) → Happens (Does Begin) old new
+    → ((L : Layout) → StandsAs L old → name ≡ springs (Does Begin) L) → due_new ≡ noted name due_old → SetsOnPage Begin old new due_new (Ok (sprung_by name))
+begins_by old new due_old due_new None happens sprang due = (happens, tt, record { untold = λ L stands. refl; springs = λ L stands. sym (sprang L stands) })
+begins_by old new due_old due_new (Some name) happens sprang due =
+    let is : due_new.sprung ≡ Some name = ap (λ (d : Due). d.sprung) due in
+    (happens, tt, record { so = SetSpringing name is; text = λ L es rs stands. refl; springs = λ L stands. is ∙ sprang L stands })
+
+-- the text of a diversion begins, ends, or is dropped
+pub sets_text : (e : LayoutEvent) (old new : Kept) (due : Due) → is_quiet e ≡ true → Happens (Does e) old new → HasRoomFor e old → due.sprung ≡ None
+    → ((L : Layout) → StandsAs L old → IsSome (text_due (Does e) L))
+    → ((L : Layout) (es : ComposerOf) (rs : AllRegisters) → StandsAs L old → text_told due.text es rs ≡ text_due (Does e) L)
+    → SetsOnPage e old new due (Ok (Some diverting))
+sets_text e old new due is happens room unsprung some told =
+    (happens, room, record { so = SetText some; text = told; springs = λ L stands. unsprung ∙ sym (springs-none e L is) })
 
 -- or a limit refused it
-pub plants_within : (trap : Trap) (old new : Kept) (r : Result (Unit {0}) Limit) → OnOk r (Happens (Does (Plant trap)) old new)
+pub plants_within : (trap : Trap) (old new : Kept) (due : Due) (r : Result (Unit {0}) Limit) → OnOk r (Happens (Does (Plant trap)) old new)
     → OnOk r (length (with_trap trap old.traps) ≤ old.most_traps) → IfErr r (λ l. l ≡ Traps) → IfErr r (λ l. new ≡ old)
-    → IfErr r (λ l. old.most_traps < length (with_trap trap old.traps)) → SetsOnPage (Plant trap) old new (halted_within r)
-plants_within trap old new (Ok done) happens room limit same full = sets_quietly (Plant trap) old new refl happens room
-plants_within trap old new (Err l) happens room limit same full = ((limit, full), same)
-
-pub diverts_within : (name : ShortName) (appends : Bool) (old new : Kept) (r : Result (Unit {0}) Limit) → OnOk r (Happens (Does (Divert name appends)) old new)
-    → OnOk r (length old.diversions + 1 ≤ old.most_diversions) → IfErr r (λ l. l ≡ Diversions) → IfErr r (λ l. new ≡ old)
-    → IfErr r (λ l. old.most_diversions ≤ length old.diversions) → SetsOnPage (Divert name appends) old new (halted_within r)
-diverts_within name appends old new (Ok done) happens room limit same full = sets_quietly (Divert name appends) old new refl happens room
-diverts_within name appends old new (Err l) happens room limit same full = ((limit, full), same)
+    → IfErr r (λ l. old.most_traps < length (with_trap trap old.traps)) → SetsOnPage (Plant trap) old new due (halted_within r)
+plants_within trap old new due (Ok done) happens room limit same full = sets_quietly (Plant trap) old new due refl refl happens room
+plants_within trap old new due (Err l) happens room limit same full = ((limit, full), same)

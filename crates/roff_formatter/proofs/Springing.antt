@@ -12,14 +12,15 @@ use Rattle.roff_formatter.specs.declared.sprung.Sprung.{Sprung}
 use Rattle.roff_formatter.specs.Reaching.{Beginning}
 use Rattle.roff_sinks.specs.Devices.{Seen, seen}
 use Rattle.roff_formatter.specs.Formatter.Performing.{AllPerformed, EndsBefore, EndsOpenWord, EndsWordFirst, Performs, PerformsOne, PerformsEvents, behind_event, behind_word}
-use Rattle.roff_formatter.specs.Formatter.Sprung.{first_left, sprung_by}
+use Rattle.roff_formatter.specs.Formatter.Sprung.{MovesOn, first_left, noted, open_weight, sprung_by}
 use Rattle.roff_run.specs.Environments.{environments, interrupted_line}
 use Rattle.roff_run.specs.Output.{PageHistory, text_of}
 use Rattle.roff_run.specs.PageEvents.{PageEvent}
 use Rattle.roff_run.specs.declared.event.PageEvent.TheVariants.{Text, Page}
 use Rattle.roff_layout.specs.declared.layout_event.LayoutEvent.TheVariants.{Begin}
 use Rattle.roff_run.specs.Registers.{AllRegisters}
-use Rattle.roff_run.specs.Run.{State}
+use Rattle.roff_num.specs.declared.short_name.ShortName.{ShortName}
+use Rattle.roff_run.specs.Run.{State, only_sprung}
 use Rattle.roff_run.specs.Springs.{begins, own_word_end, springs, word_end_of}
 use Rattle.roff_run.specs.Titles.{told}
 use Rattle.roff_run.specs.TurnsToCome.{lines_left, most_left}
@@ -35,21 +36,22 @@ pub one_alone : (e : PageEvent) (old new : Formatter) (out out_new : Sunk) (r : 
     → PerformsEvents (e ∷ []) old new out out_new r → PerformsOne e old new out out_new r
 one_alone e old new out out_new r none only = record {
   one = λ l t before failures err s h rest stood reached. only.performs l t before failures err s h rest stood (none h, tt) reached;
+  moves = λ l h stood. only.moves;
 }
 
 -- a text line counts, and springs this
-pub counts_only : (old new : Formatter) (out : Sunk) (sprung : Option Sprung)
+pub counts_only : (old new : Formatter) (out : Sunk) (name : Option ShortName)
     → ((l : Limits) (h : PageHistory) → StandFor l h old.composer → StandBy l (environments (Text Count ∷ h)) new.composer.environments)
-    → new.composer.pages ≡ old.composer.pages
-    → ((l : Limits) (h : PageHistory) → StandFor l h old.composer → sprung ≡ sprung_by (springs h (Text Count)))
-    → PerformsEvents (Text Count ∷ []) old new out out (Ok sprung)
-counts_only old new out sprung stands same is =
-    only_first (Text Count) (Text Count) old new out out (Ok sprung) (λ rs. refl) (λ g. refl) (λ sprung is. refl)
-    (ready_then (Text Count) (Text Count) old old new out out (Ok sprung) (ready_always (Text Count) old (λ h. refl))
-    (springs_here (Text Count) old new out sprung
+    → new.composer.pages ≡ old.composer.pages → new.composer.due ≡ noted name old.composer.due
+    → ((l : Limits) (h : PageHistory) → StandFor l h old.composer → name ≡ springs h (Text Count))
+    → PerformsEvents (Text Count ∷ []) old new out out (Ok (sprung_by name))
+counts_only old new out name stands same due is =
+    only_first (Text Count) (Text Count) old new out out (Ok (sprung_by name)) (λ rs. refl) (λ g. refl) (λ sprung is. refl)
+    (ready_then (Text Count) (Text Count) old old new out out (Ok (sprung_by name)) (ready_always (Text Count) old (λ h. refl))
+    (springs_here (Text Count) (Text Count) old new out name
     (λ l h stood. text_allowed l h Count (stands l h stood).in_force.lines.within refl)
     (λ l h stood. stands_quietly l h (Text Count) old.composer new.composer stood refl (stands l h stood) same)
-    (λ l h stood. refl) is))
+    (λ l h stood. refl) (λ l h stood. ap only_sprung (sym (is l h stood))) due))
 
 -- no word was open
 pub none_open : (f : Formatter) (out : Sunk) → ((l : Limits) (h : PageHistory) → StandFor l h f.composer → has_open_word (text_of h) ≡ false)
@@ -58,7 +60,15 @@ none_open f out closed = record {
   ends = λ l t before failures err s h e rest stood own reached.
       subst (λ (b : Bool). EndsBefore l t before (seen failures out err) s e h (behind_word s.registers b h) rest (Ok None) f.composer) (sym (closed l h stood))
       (record { reaches = reached; stands = stood });
+  closes = λ is l h stood. omega arith;
+  moves = λ l h stood. tt;
 }
+
+-- nothing stopped in front of an event
+quiet_before : (r : Result (Option Sprung) Halt) → first_left r ≡ Ok None → r ≡ Ok None
+quiet_before (Ok None) is = refl
+quiet_before (Ok (Some sprung)) is = absurd (cc)
+quiet_before (Err halt) is = absurd (cc)
 
 -- one was
 pub one_open : (old new : Formatter) (out out_new : Sunk) (r result : Result (Option Sprung) Halt) → first_left r ≡ result
@@ -70,6 +80,8 @@ one_open old new out out_new r result answers found ends = record {
       subst (λ (result : Result (Option Sprung) Halt). EndsBefore l t before (seen failures out_new err) s e h (behind_word s.registers (has_open_word (text_of h)) h) rest result new.composer) answers
       (subst (λ (b : Bool). EndsBefore l t before (seen failures out_new err) s e h (behind_word s.registers b h) rest (first_left r) new.composer) (sym is)
       (ends.first l t before failures err s h e rest stood (own ∙ ap own_word_end is) reached));
+  closes = λ none l h stood. omega (arith, ends.closes (quiet_before r (answers ∙ none)) l h stood);
+  moves = λ l h stood. subst (λ (result : Result (Option Sprung) Halt). MovesOn old new result) answers (ends.moves l h stood (found l h stood));
 }
 
 -- What was performed of events behind a history was performed behind an earlier one, behind which as many interrupted lines are left
@@ -87,6 +99,7 @@ performs_from l t before now s events h there behind behind_it rest (Ok (Some sp
       stands = p.stands;
       lines = omega (arith, few, lines);
       among = p.among;
+      named = p.named;
       few = p.few;
     }
 performs_from l t before now s events h there behind behind_it rest (Err halt) es fewer is p = p
@@ -103,6 +116,12 @@ lines-begun rs e h = by (begins h e)
 lines-word : (rs : AllRegisters) (b : Bool) (h : PageHistory) → lines_left (interrupted_line (behind_word rs b h)) ≤ lines_left (interrupted_line h)
 lines-word rs false h = omega arith
 lines-word rs true h = omega (arith, lines_left-behind rs (Text WordEnd) h)
+
+-- what moved on behind an end of a word did so in all
+moves_from : (old mid new : Formatter) (r : Result (Option Sprung) Halt) → open_weight mid.composer ≤ open_weight old.composer → MovesOn mid new r → MovesOn old new r
+moves_from old mid new (Ok None) fewer moves = tt
+moves_from old mid new (Ok (Some sprung)) fewer moves = omega (arith, fewer, moves)
+moves_from old mid new (Err halt) fewer moves = tt
 
 -- an event before which the end of the open word comes, if one is open
 module _ (e : PageEvent) (own : (h : PageHistory) → word_end_of h e ≡ own_word_end (has_open_word (text_of h))) where
@@ -130,6 +149,7 @@ module _ (e : PageEvent) (own : (h : PageHistory) → word_end_of h e ≡ own_wo
             let now = ends.ends l t before failures err s h e rest stood (own h) reached in
             behind_own l t before (seen failures out_new err) s h rest r new.composer
             (only.performs l t before failures err s (behind_word s.registers b h) rest now.stands (word_ended s.registers h b refl, tt) now.reaches);
+        moves = λ l h stood. moves_from old mid new r (ends.closes refl l h stood) only.moves;
       }
 
   -- or where the end of that sprang something, and the event is left
@@ -137,10 +157,12 @@ module _ (e : PageEvent) (own : (h : PageHistory) → word_end_of h e ≡ own_wo
   own_sprung old new out out_new sprung done found ended =
       let ends : EndsOpenWord old new out out_new (Ok (Some sprung)) = subst (λ (r : Result (Option Sprung) Halt). EndsOpenWord old new out out_new r) found ended in record {
         one = λ l t before failures err s h rest stood reached. ends.ends l t before failures err s h e rest stood (own h) reached;
+        moves = ends.moves;
       }
 
   -- or halted
   pub own_halted : (old new : Formatter) (out out_new : Sunk) (halt : Halt) → EndsOpenWord old new out out_new (Err halt) → PerformsOne e old new out out_new (Err halt)
   own_halted old new out out_new halt ends = record {
     one = λ l t before failures err s h rest stood reached. ends.ends l t before failures err s h e rest stood (own h) reached;
+    moves = λ l h stood. tt;
   }

@@ -1,7 +1,9 @@
 -- Bytes of a text line that stand in front are told to the environment in force.
-use Rattle.std.proofs.Common.{◌≡◌, ℕ, zero, suc, ◌+◌, ◌<◌, ◌≤◌, true, false, List, [], ◌∷◌, length, length-take, take, take-take, sym, ap, subst, ◌∙◌, arith}
-use Rattle.std.specs.Prelude.{cond, min, take_while}
+use Rattle.std.proofs.Common.{◌≡◌, ◌↔◌, Bool, Result, Ok, Err, IsErr, refl, ℕ, zero, suc, ◌+◌, ◌<◌, ◌≤◌, true, false, List, [], ◌∷◌, length, length-take, take, take-take, sym, ap, subst, ◌∙◌, arith}
+use Rattle.std.specs.Prelude.{cond, min, nat_lt, take_while}
+use Rattle.std.proofs.lemmas.Bool.{ltb-false, ltb-true}
 use Rattle.std.proofs.lemmas.Bool.Decides.{nat_tests}
+use Rattle.std.proofs.lemmas.List.{append-nil}
 use Rattle.std.proofs.lemmas.List.Folds.{length-prefix_len}
 use Rattle.std.proofs.lemmas.List.Sums.{prefix_len-le-length, take_while-cons}
 use Rattle.std.specs.List.{AllByRecursion, prefix_len}
@@ -9,6 +11,7 @@ use Rattle.roff_layout.specs.Events.{History}
 use Rattle.roff_lines.specs.Env.Stands.{Stands}
 use Rattle.roff_layout.specs.Telling.{QuietlyTold, bytes_told}
 use Rattle.roff_lines.specs.declared.env.Env.{Env}
+use Rattle.roff_num.specs.declared.limit.Limit.{Limit}
 use Rattle.roff_num.specs.declared.limits.Limits.{Limits}
 use Rattle.roff_layout.specs.Layout.{Layout}
 use Rattle.roff_pages.specs.Pages.Stands.{StandsAs}
@@ -19,7 +22,10 @@ use Rattle.roff_run.specs.Environments.{Environments, environments, text_of}
 use Rattle.roff_composer.specs.Composer.Standing.{StandFor}
 use Rattle.roff_composer.specs.Environments.Standing.{StandBy}
 use Rattle.roff_composer.specs.declared.environments.Environments.{Environments as EnvironmentsOf}
-use Rattle.roff_run.specs.Output.{PageHistory, layout_of}
+use Rattle.roff_layout.specs.declared.event.Event.TheVariants.{Print}
+use Rattle.roff_layout.specs.declared.glyph.Glyph.{Glyph}
+use Rattle.roff_run.specs.Output.{PageHistory, layout_of, written}
+use Rattle.roff_run.specs.declared.event.PageEvent.TheVariants.{Text}
 use Rattle.roff_run.specs.Telling.{page_told}
 use Rattle.roff_composer.specs.declared.composer.Composer.{Composer as ComposerOf}
 use Rattle.roff_formatter.specs.declared.formatter.Formatter.{Formatter}
@@ -58,6 +64,30 @@ stand-told l bytes h coded lines stood quiet stands =
       diversions = stood.diversions;
       goes_on = ap (λ (L : Layout). L.is_over) same ∙ stood.goes_on;
     }
+
+-- what isn't refused is no longer than it may be
+by_test : (above : Bool) (most size : ℕ) → nat_lt most size ≡ above → (most < size → ⊥) → size ≤ most
+by_test false most size is none = ltb-false most size is
+by_test true most size is none = absurd (none (ltb-true most size is))
+
+pub short_enough : (r : Result (Unit {0}) Limit) (done : Unit {0}) (most size : ℕ) → r ≡ Ok done → IsErr r ↔ (most < size) → size ≤ most
+short_enough (Ok done) _ most size is refused = by_test (nat_lt most size) most size refl (λ above. let wrong : false ≡ true = refused.1 above in cc)
+short_enough (Err limit) done most size is refused = absurd (cc)
+
+-- and so they stand where a glyph was printed there
+pub stand-glyph : (l : Limits) (glyph : Glyph) (h : PageHistory) (coded : ComposerOf) (lines : Env) → StandFor l h coded
+    → Stands l.line (Print glyph ∷ text_of h) lines
+    → StandFor l (Text (Print glyph) ∷ h) (record coded { environments = with_lines coded.environments lines })
+stand-glyph l glyph h coded lines stood stands = record {
+  environments = stand-with_text l (Print glyph ∷ text_of h) (environments h) coded.environments lines stood.environments stands;
+  pages = stood.pages;
+  written = stood.written ∙ sym (ap length (append-nil (written h)));
+  within = stood.within;
+  output = stood.output;
+  traps = stood.traps;
+  diversions = stood.diversions;
+  goes_on = stood.goes_on;
+}
 
 -- what is so of each of these bytes, where something else is
 pub all_by : (P Q : ℕ → Type 0) → ((b : ℕ) → P b → Q b) → (bytes : List ℕ) → AllByRecursion P bytes → AllByRecursion Q bytes

@@ -17,7 +17,7 @@ use Rattle.roff_composer.specs.declared.environments.Environments.{Environments 
 use Rattle.roff_run.specs.Environments.{PageHistory, environments}
 use Rattle.roff_run.specs.Layouts.{happens, layout_of}
 use Rattle.roff_run.specs.PageEvents.{PageEvent, PastEvent}
-use Rattle.roff_run.specs.Run.Counts.{first_passed, written_counted}
+use Rattle.roff_run.specs.Run.Counts.{first_passed, refusal, written_counted}
 use Rattle.roff_run.specs.TitleTexts.{TitleText, TitleTold}
 use Rattle.roff_run.specs.Titles.{title_told, told}
 use Rattle.roff_run.specs.declared.event.PageEvent.TheVariants.{Title}
@@ -25,16 +25,19 @@ use Rattle.roff_run.specs.declared.title.WhichTitle.{WhichTitle}
 use Rattle.roff_formatter.specs.declared.formatter.Formatter.{Formatter}
 use Rattle.roff_formatter.specs.declared.halt.Halt.{Halt}
 use Rattle.roff_formatter.specs.Formatter.Paging.{PutsOnPage, ReadyFor}
-use Rattle.roff_formatter.specs.Formatter.Performing.{PerformsTitle, PlacesTitle, acting, behind_event}
+use Rattle.roff_formatter.specs.Formatter.Performing.{PerformsEvents, PerformsTitle, PlacesTitle, acting, behind_event}
 use Rattle.roff_sinks.specs.Devices.{seen}
 use Rattle.roff_formatter.specs.declared.sprung.Sprung.{Sprung}
 use Rattle.roff_run.proofs.LinesLeft.{lines_left-event}
-use Rattle.roff_run.specs.Run.{performing}
-use Rattle.roff_formatter.specs.Formatter.Sprung.{sprung_before}
-use Rattle.roff_formatter.specs.Formatter.Titling.{title_at}
+use Rattle.roff_run.specs.Run.{performed, performing, unless_refused}
+use Rattle.roff_formatter.specs.Formatter.Sprung.{sprung_before, with_sprung}
+use Rattle.roff_formatter.specs.Formatter.Titling.{title_at, title_due}
 use Rattle.roff_num.specs.declared.short_name.ShortName.{ShortName}
-use Rattle.roff_formatter.proofs.DoneFirst.{PerformsHere, only_page, one_here, put_here}
+use Rattle.roff_formatter.proofs.DoneFirst.{PerformsHere, only_page, one_here}
+use Rattle.roff_formatter.proofs.DonePut.{put_here}
+use Rattle.roff_formatter.proofs.DueTexts.{same_behind, title_tells}
 use Rattle.roff_formatter.proofs.FirstPages.{begun, begun_for, behind-alone, next-alone}
+use Rattle.roff_formatter.proofs.Performed.{moves-behind}
 use Rattle.roff_formatter.proofs.Springing.{lines-begun, performs_from}
 use Rattle.roff_formatter.proofs.TitleNumbers.{part-width}
 
@@ -48,6 +51,10 @@ pub width-within : (number left centre right : List ℕ) (columns : ℕ) → len
 width-within number left centre right columns short few small =
     omega (arith, few, small, part-within number left short, part-within number centre short, part-within number right short)
 
+-- a title as it happened says which text and format it has
+title-injective : (s t : TitleTold) → Title s ≡ Title t → s ≡ t
+title-injective s t is = cc
+
 -- what happens with a title, where its number is the page's
 title-happens : (f : Formatter) (text : TitleText) (format : Format) (number : List ℕ)
     → ((L : Layout) → StandsAs L f.composer.pages → number ≡ register_text format L.number.0)
@@ -60,46 +67,51 @@ title-happens f text format number is l h stood =
     ∙ ap (made f.composer.environments.in_force.lines.settings.title_length) (sym (is (layout_of h) stood.pages))
 
 -- it is placed where no page begins in front of it
-pub title_here : (text : TitleText) (format : Format) (number : List ℕ) (old new : Formatter) (out out_new : Sunk) (r : Result (Option Sprung) Halt)
+pub title_here : (which : WhichTitle) (text : TitleText) (format : Format) (number : List ℕ) (old new : Formatter) (out out_new : Sunk) (r : Result (Option Sprung) Halt)
     → ((L : Layout) → StandsAs L old.composer.pages → number ≡ register_text format L.number.0)
-    → PutsOnPage (Titles (title_at old text number)) old.composer.pages new.composer.pages out out_new r
-    → new ≡ record old { composer = record old.composer { pages = new.composer.pages } }
-    → PlacesTitle text format old new out out_new r
-title_here text format number old new out out_new r is put others =
+    → PutsOnPage (Titles (title_at old text number)) (title_due which old) old.composer.pages new.composer.pages old.composer.due new.composer.due out out_new r
+    → new ≡ record old { composer = record old.composer { pages = new.composer.pages; due = new.composer.due } }
+    → PlacesTitle which text format old new out out_new r
+title_here which text format number old new out out_new r is put others =
     let x : PastEvent = Title (record { text = text; format = format }) in
-    let performs : PerformsHere x old new out out_new r =
-    put_here x (Titles (title_at old text number)) old new out out_new r put (title-happens old text format number is) (λ h. refl)
+    let y : Happening = Titles (title_at old text number) in
+    let performs : PerformsHere (Title which) x old new out out_new r =
+    put_here (Title which) x y (title_due which old) old new out out_new r (title-happens old text format number is) (λ h. refl)
     (λ l h stood. ap (λ (o : Option Happening). first_passed l (written_counted h o)) (title-happens old text format number is l h stood))
-    (λ l h stood. subst (λ (es : EnvironmentsOf). StandBy l (environments h) es) (sym (ap (λ (f : Formatter). f.composer.environments) others)) stood.environments) in record {
-      places = λ l t before failures err s h rest which stood told_so none reached.
-          let there : PerformsHere (Title (title_told s.registers which)) old new out out_new r =
-          subst (λ (told : TitleTold). PerformsHere (Title told) old new out out_new r) (sym told_so) performs in
-          one_here l t before (seen failures out_new err) s (Title which) h h (Title (title_told s.registers which)) rest r new.composer
-          (Title (title_told s.registers which) ∷ h) (λ sprung is. refl) refl (lines_left-event s.registers (Title which) h)
-          (there.here l t before failures err s h (Title which) rest rest stood
-          (ap (λ (first : Option PageEvent). performing l first (Title which) rest (acting s (Title which ∷ rest) h)) none) reached);
+    (λ l h stood. subst (λ (es : EnvironmentsOf). StandBy l (environments h) es) (sym (ap (λ (f : Formatter). f.composer.environments) others)) stood.environments)
+    (λ l h rs stood now told_so diverts some due. title_tells which text format number old (layout_of h) new.composer rs diverts (title-injective _ _ told_so)
+    (is (layout_of h) stood.pages) (same_behind l h x y new.composer now (title-happens old text format number is l h stood) diverts refl) due) put in record {
+      places = λ l t before failures err s h rest stood told_so none reached.
+          one_here l t before (seen failures out_new err) s (Title which) h h x rest r new.composer
+          (Title (title_told s.registers which) ∷ h) (λ sprung is. refl) (ap (λ (told : TitleTold). Title told ∷ h) (sym told_so)) (lines_left-event s.registers (Title which) h)
+          (performs.here l t before failures err s h (Title which) rest rest stood (ap Title told_so)
+          (ap (λ (first : Option PageEvent). performing l first (Title which) rest (acting s (Title which ∷ rest) h)) none
+          ∙ ap (λ (x : PastEvent). unless_refused l (refusal l h x) (acting s (Title which ∷ rest) h) (performed x rest (acting s (Title which ∷ rest) h))) (ap Title told_so)) reached);
+      stops = performs.stops;
     }
 
 -- so it is performed by a formatter that was ready for it
-pub title_placed : (text : TitleText) (format : Format) (old mid new : Formatter) (out out_new : Sunk) (r : Result (Option Sprung) Halt)
-    → ((which : WhichTitle) → ReadyFor (Title which) old mid None)
-    → PlacesTitle text format mid new out out_new r → PerformsTitle text format old new out out_new r
-title_placed text format old mid new out out_new r readies placed = record {
-  title = λ l t before failures err s h rest which stood told_so reached.
+pub title_placed : (which : WhichTitle) (text : TitleText) (format : Format) (old mid new : Formatter) (out out_new : Sunk) (r : Result (Option Sprung) Halt)
+    → ReadyFor (Title which) old mid None
+    → PlacesTitle which text format mid new out out_new r → PerformsTitle which text format old new out out_new r
+title_placed which text format old mid new out out_new r ready placed = record {
+  title = λ l t before failures err s h rest stood told_so reached.
       let x : PageEvent = Title which in
-      let ready : ReadyFor x old mid None = readies which in
       let g : PageHistory = begun_for x h in
       let now = begun l t before failures err s h x x rest out (λ is. next-alone h x true refl is) old mid None ready stood reached refl in
       performs_from l t before (seen failures out_new err) s (x ∷ []) h g (told s.registers x ∷ g) (behind_event s.registers x h) rest r new.composer
       (lines-begun s.registers x h) (ap (λ (g : PageHistory). told s.registers x ∷ g) (sym (behind-alone s.registers x h refl)))
-      (placed.places l t before failures err s g rest which now.stands told_so
+      (placed.places l t before failures err s g rest now.stands told_so
       (next-alone g x false refl now.none) now.reaches);
+  moves = moves-behind old new r placed.stops;
 }
 
 -- or the page begins in front of it, and springs something
-pub title_page : (text : TitleText) (format : Format) (old new : Formatter) (out : Sunk) (name : ShortName) → ((which : WhichTitle) → ReadyFor (Title which) old new (Some name))
-    → PerformsTitle text format old new out out (Ok (Some (sprung_before name)))
-title_page text format old new out name readies = record {
-  title = λ l t before failures err s h rest which stood told_so reached.
-      (only_page (Title which) old new out name refl (readies which)).performs l t before failures err s h rest stood (refl, tt) reached;
-}
+pub title_page : (which : WhichTitle) (text : TitleText) (format : Format) (old mid new : Formatter) (out : Sunk) (name : ShortName) (r : Result (Option Sprung) Halt)
+    → ReadyFor (Title which) old mid (Some name) → new ≡ with_sprung name mid → r ≡ Ok (Some sprung_before)
+    → PerformsTitle which text format old new out out r
+title_page which text format old mid new out name r ready there is =
+    let only : PerformsEvents (Title which ∷ []) old new out out r = only_page (Title which) old mid new out name r refl ready there is in record {
+      title = λ l t before failures err s h rest stood told_so reached. only.performs l t before failures err s h rest stood (refl, tt) reached;
+      moves = only.moves;
+    }

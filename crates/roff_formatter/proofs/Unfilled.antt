@@ -15,7 +15,7 @@ use Rattle.roff_sinks.specs.Sinks.{Sunk}
 use Rattle.roff_formatter.specs.declared.formatter.Formatter.{Formatter}
 use Rattle.roff_formatter.specs.declared.halt.Halt.{Halt}
 use Rattle.roff_formatter.specs.declared.sprung.Sprung.{Sprung}
-use Rattle.roff_formatter.specs.Formatter.Paging.{PutsOnPage}
+use Rattle.roff_formatter.specs.Formatter.Paging.{PutsOnPage, line_due}
 use Rattle.roff_formatter.specs.Formatter.Performing.{PerformsEvents}
 use Rattle.roff_formatter.specs.Formatter.Telling.{TellsFront}
 use Rattle.roff_formatter.specs.Formatter.Unfilled.{PutsBehind, StandsNear}
@@ -50,12 +50,12 @@ module _ (near : List ℕ) (count gaps : ℕ) (old : Formatter) (stands : Stands
       (ready_taking (Text WordEnd) (with at_once.told) (λ l h stood. stands.takes (layout_of h) stood.pages))
       (text_put_here WordEnd None (with at_once.told) (with at_once.ended) out out (Ok None) (λ h. refl)
       (λ l h stood. at_once.quiet l.line (text_of h) stood.environments.in_force.lines)
-      (lines_behind WordEnd (with at_once.told).composer at_once.ended (λ trap. refl) at_once.word_end) (refl, refl, refl)))
+      (lines_behind WordEnd (with at_once.told).composer at_once.ended (λ trap. refl) at_once.word_end) (refl, refl, refl, refl)))
 
   -- the bytes were told, and the line that ended was placed
   pub puts_near : (new : Formatter) (out out_new : Sunk) (r : Result (Option Sprung) Halt) (line : Finished) → line ≡ line_of text kept
       → new.composer.environments ≡ (with (with_line_put text kept)).composer.environments
-      → PutsOnPage (Places line) old.composer.pages new.composer.pages out out_new r
+      → PutsOnPage (Places line) (line_due line) old.composer.pages new.composer.pages old.composer.due new.composer.due out out_new r
       → PutsBehind (Text LineEnd ∷ []) near count old new out out_new r
   puts_near new out out_new r line is stay put = record {
     told = with at_once.told;
@@ -70,5 +70,5 @@ module _ (near : List ℕ) (count gaps : ℕ) (old : Formatter) (stands : Stands
         (λ l h stood. at_once.finishes l.line (text_of h) stood.environments.in_force.lines)
         (λ l h stood. subst (λ (es : EnvironmentsOf). StandBy l (environments (Text LineEnd ∷ h)) es) (sym stay)
         (lines_behind LineEnd (with at_once.ended).composer (with_line_put text kept) (λ trap. refl) at_once.line_end l h stood))
-        (subst (λ (line : Finished). PutsOnPage (Places line) old.composer.pages new.composer.pages out out_new r) is put)));
+        (subst (λ (line : Finished). PutsOnPage (Places line) (line_due line) old.composer.pages new.composer.pages old.composer.due new.composer.due out out_new r) is put)));
   }

@@ -3,6 +3,7 @@
 ghost use Rattle.std.specs.Prelude.{IfOk};
 ghost use Rattle.roff_formatter.specs.Clauses.{StandFor, pages_given};
 
+mod diverting;
 mod events;
 mod first_page;
 mod fronts;
@@ -19,8 +20,8 @@ use std::alloc::{AllocError, Global};
 /// The environments and pages, to which events happen.
 ///
 /// An event is performed with what comes before it: the end of a word, and the first page's
-/// beginning. What is performed answers which macro it sprang, if it sprang one, and what of it is
-/// left; or what halts.
+/// beginning. What is performed answers where it stopped, if it sprang a macro or the text of a
+/// diversion is to be changed first; or what halts.
 #[derive(Drop)]
 pub struct Formatter {
     /// The environments and the pages.

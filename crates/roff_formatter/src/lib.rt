@@ -8,4 +8,4 @@ mod sprung;
 
 pub use formatter::Formatter;
 pub use halt::Halt;
-pub use sprung::Sprung;
+pub use sprung::{Left, Sprung};

@@ -1,55 +1,89 @@
-//! What an event sprang.
+//! What stopped a list of events.
 
 ghost use Rattle.std.specs.Prelude.{◌≡◌, ◌+◌, ◌<◌, ◌≤◌};
+ghost use Rattle.roff_formatter.specs.Formatter.Sprung.{diverting, left_before, noted};
 ghost use Rattle.roff_formatter.specs.Formatter.Sprung.{sprung_before, sprung_behind, sprung_by};
-ghost use Rattle.roff_formatter.specs.Formatter.Sprung.{HasFew, further, further_by};
+ghost use Rattle.roff_formatter.specs.Formatter.Sprung.{HasFew, StopsBehind, further, further_by};
 ghost use Rattle.roff_formatter.specs.Formatter.Sprung.{going_on, left_going_on};
 
 use crate::halt::Halt;
+use roff_composer::Due;
 use roff_num::ShortName;
 
-/// The macro that one of some events sprang, and which of them are left behind it.
+/// Why some events are left.
+#[derive(Clone, Copy, PartialEq, Eq)]
+pub enum Left {
+    /// A macro was sprung.
+    Springs,
+    /// The same, and the first of them is an eject that goes on.
+    GoesOn,
+    /// The text of a diversion is to be changed first.
+    Diverts,
+}
+
+/// Which of some events are left behind the one that stopped the list, and why. The macro that it
+/// sprang, and what becomes of a text, stand in the composer.
 #[derive(Clone, Copy)]
 pub struct Sprung {
-    /// The macro's name.
-    pub name: ShortName,
     /// The index of the first of them.
     pub left: u8,
-    /// Whether that is an eject that goes on.
-    pub goes_on: bool,
+    /// Why they are left.
+    pub why: Left,
 }
 
 impl Sprung {
-    /// A macro that what came before an event sprang: the event itself is left.
-    pub(crate) fn in_front(name: ShortName) -> Sprung
-        ensures { result ≡ sprung_before name }
+    /// What came before an event sprang a macro: the event itself is left.
+    pub(crate) fn in_front() -> Sprung
+        ensures { result ≡ sprung_before }
     {
         Sprung {
-            name,
             left: 0,
-            goes_on: false,
+            why: Left::Springs,
         }
     }
 
-    /// A macro that an event sprang.
-    pub(crate) fn behind(name: ShortName) -> Sprung
-        ensures { result ≡ sprung_behind name }
+    /// An event sprang a macro.
+    pub(crate) fn behind() -> Sprung
+        ensures { result ≡ sprung_behind }
     {
         Sprung {
-            name,
             left: 1,
-            goes_on: false,
+            why: Left::Springs,
         }
     }
 
-    /// The macro that an event sprang, if it sprang one.
+    /// An event is done but for the text of a diversion.
+    pub(crate) fn diverting() -> Sprung
+        ensures { result ≡ diverting }
+    {
+        Sprung {
+            left: 1,
+            why: Left::Diverts,
+        }
+    }
+
+    /// The macro that an event sprang, if it sprang one, is due.
     #[inline(always)]
-    pub(crate) fn by(name: Option<ShortName>) -> Option<Sprung>
-        ensures { result ≡ sprung_by name }
+    pub(crate) fn by(due: &mut Due, name: Option<ShortName>) -> Option<Sprung>
+        ensures sprung { result ≡ sprung_by name }
+        ensures noted { due.new ≡ noted name due.old }
     {
         match name {
             None => None,
-            Some(name) => Some(Sprung::behind(name)),
+            Some(name) => {
+                due.sprung = Some(name);
+                Some(Sprung::behind())
+            }
+        }
+    }
+
+    /// What came before an event stopped here: the event itself is left.
+    pub(crate) fn before_event(self) -> Sprung
+        ensures { result ≡ left_before self }
+    {
+        Sprung {
+            left: 0,
+            why: self.why,
         }
     }
 
@@ -58,9 +92,8 @@ impl Sprung {
         ensures { result ≡ going_on self }
     {
         Sprung {
-            name: self.name,
             left: 0,
-            goes_on: true,
+            why: Left::GoesOn,
         }
     }
 
@@ -70,9 +103,8 @@ impl Sprung {
         ensures most { 255 < self.left + count → result ≡ record self { left = 255 } }
     {
         Sprung {
-            name: self.name,
             left: self.left.saturating_add(count),
-            goes_on: self.goes_on,
+            why: self.why,
         }
     }
 }
@@ -81,7 +113,8 @@ impl Sprung {
 /// can be told.
 #[inline(always)]
 pub(crate) fn further(done: Result<Option<Sprung>, Halt>, count: u8) -> Result<Option<Sprung>, Halt>
-    ensures { HasFew done count → result ≡ further_by count done }
+    ensures told { HasFew done count → result ≡ further_by count done }
+    ensures least { 1 ≤ count → StopsBehind result }
 {
     match done {
         Ok(None) => Ok(None),

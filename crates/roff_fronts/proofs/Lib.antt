@@ -31,3 +31,5 @@ pub mod OtherBranches
 pub mod SteppedNames
 pub mod SteppingRuns
 pub mod SteppedText
+pub mod LettersRead
+pub mod LinesBegun

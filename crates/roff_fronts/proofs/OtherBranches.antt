@@ -29,7 +29,7 @@ use Rattle.roff_run.specs.Reading.Ends.{due}
 use Rattle.roff_run.specs.Reading.Items.{PageInput, PageUnread, Taking, going_on}
 use Rattle.roff_run.specs.Registers.{Known}
 use Rattle.roff_run.specs.Requests.{called_by}
-use Rattle.roff_run.specs.Run.{Leads, State, after, known, made, step, taken_as, unless_refused}
+use Rattle.roff_run.specs.Run.{Leads, State, nothing_follows, after, known, made, step, taken_as, unless_refused}
 use Rattle.roff_run.specs.Run.Counts.{counts_in, first_passed}
 use Rattle.roff_run.specs.Stages.{Here, Onward, Stage, Turned, held_at, input_at, stage_of}
 use Rattle.roff_run.specs.declared.line_state.LineState.{LineState}
@@ -78,7 +78,7 @@ module _ (change : PageInput → PageInput) (there : PageInput → LineState) wh
       ∙ ap (λ (r : Option Limit). unless_refused l r before (record taken { input = change behind; reading = there behind })) fits
 
   -- a run leads over bytes of which the last one does so, where no count is above its limit in front of them and behind them
-  pub leads-changed : (l : Limits) (s : State) (from : Origin) (front : List ℕ) (b : ℕ) (q : Stage) → s.ended ≡ None → s.to_do ≡ [] → s.sprung ≡ None → IsOpenFor from s.is_closed
+  pub leads-changed : (l : Limits) (s : State) (from : Origin) (front : List ℕ) (b : ℕ) (q : Stage) → s.ended ≡ None → s.to_do ≡ [] → s.follows ≡ nothing_follows → IsOpenFor from s.is_closed
       → Turned s.input.names (stage_of s.reading s.input) front q → Changes s.input.names q b change there → held_at q ≤ held_at (stage_of s.reading s.input) → q.texts ≡ s.input.open_texts
       → s.input.ahead ≡ ahead_at from (front ++ b ∷ []) → s.tape ≡ tape_at from (front ++ b ∷ []) s.tape → s.input.charge + length (front ++ b ∷ []) ≤ l.bytes
       → first_passed l (counts_in s.registers s.input) ≡ None

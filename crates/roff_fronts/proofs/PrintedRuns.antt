@@ -12,7 +12,7 @@ use Rattle.roff_layout.specs.declared.event.Event.TheVariants.{Print, WordEnd, G
 use Rattle.roff_layout.specs.Lines.{Finished, finished, pending_length}
 use Rattle.roff_layout.specs.Telling.{QuietlyTold, bytes_told, finished_by_byte}
 use Rattle.roff_layout.specs.declared.glyph.Glyph.TheVariants.{Printed}
-use Rattle.roff_layout.specs.Happenings.{Places}
+use Rattle.roff_layout.specs.Happenings.{Happening, Places}
 use Rattle.roff_layout.specs.Layout.{Layout}
 use Rattle.roff_layout.specs.Queries.{takes_text}
 use Rattle.roff_escape.specs.OpenEscape.{OpenEscape}
@@ -32,9 +32,9 @@ use Rattle.roff_run.specs.Reading.Items.{PageInput, Taking, meaning_events}
 use Rattle.roff_run.specs.Registers.{AllRegisters}
 use Rattle.roff_run.specs.PageEvents.{PageEvent}
 use Rattle.roff_run.specs.declared.event.PageEvent.TheVariants.{Text}
-use Rattle.roff_run.specs.Run.{State, Leads, byte_taken, known_at, done_if, made, performed, performing, sprung_at, step, taken_as, unless_refused}
-use Rattle.roff_run.specs.Springs.{begins, needs_page, next, page_begin_or, springs, sprung_on}
-use Rattle.roff_num.specs.declared.short_name.ShortName.{ShortName}
+use Rattle.roff_run.specs.Run.{Following, State, nothing_follows, Leads, byte_taken, known_at, done_if, followed_by, made, performed, performing, step, taken_as, unless_refused}
+use Rattle.roff_run.specs.Following.{following, text_behind}
+use Rattle.roff_run.specs.Springs.{begins, needs_page, next, page_begin_or, sprung_on}
 use Rattle.roff_run.specs.Run.Counts.{counts_in, first_passed, refusal, written_counted}
 use Rattle.roff_run.specs.TurnsToCome.{turns_within}
 use Rattle.roff_run.specs.Telling.{Prints, byte_events, byte_told, page_told}
@@ -65,9 +65,11 @@ allowed l h e quiet within =
     (le-ltb l.line (pending_length (e ∷ text_of h)) within)
     ∙ ap (λ (line : Option Finished). first_passed l (written_counted h (option_map Places line))) quiet
 
--- a word end that finishes no line springs nothing
-unsprung_end : (h : PageHistory) → finished (text_of h) WordEnd ≡ None → springs h (Text WordEnd) ≡ None
-unsprung_end h quiet = ap (λ (line : Option Finished). sprung_on (option_map Places line) (layout_of h)) quiet
+-- nothing follows a word end that finishes no line
+unfollowed_end : (h : PageHistory) → finished (text_of h) WordEnd ≡ None → following h (Text WordEnd) ≡ nothing_follows
+unfollowed_end h quiet =
+    let of : Option Happening → Following = λ x. record { text = text_behind x (layout_of h); sprung = sprung_on x (layout_of h) } in
+    ap (λ (line : Option Finished). of (option_map Places line)) quiet
 
 -- a run that reads this on, with these registers and messages
 module _ (l : Limits) (reading : LineState) (rs : AllRegisters) (messages : List ℕ) (phase : Phase) (closed : Bool) where
@@ -79,7 +81,7 @@ module _ (l : Limits) (reading : LineState) (rs : AllRegisters) (messages : List
     reading = reading;
     registers = rs;
     to_do = to_do;
-    sprung = None;
+    follows = nothing_follows;
     history = h;
     messages = messages;
     phase = phase;
@@ -88,16 +90,16 @@ module _ (l : Limits) (reading : LineState) (rs : AllRegisters) (messages : List
     last_message = [];
   }
 
-  -- a step at an event that no limit refuses, before which nothing comes, and which springs nothing and ends no run
-  step-event : (tape : Tape) (input : PageInput) (h : PageHistory) (e : Event) (rest : List PageEvent) → next h (Text e) ≡ None → springs h (Text e) ≡ None
+  -- a step at an event that no limit refuses, before which nothing comes and behind which nothing follows, and which ends no run
+  step-event : (tape : Tape) (input : PageInput) (h : PageHistory) (e : Event) (rest : List PageEvent) → next h (Text e) ≡ None → following h (Text e) ≡ nothing_follows
       → refusal l h (Text e) ≡ None → (layout_of (Text e ∷ h)).is_over ≡ false → step l (told_at tape input h (Text e ∷ rest)) ≡ told_at tape input (Text e ∷ h) rest
-  step-event tape input h e rest none unsprung may goes_on =
+  step-event tape input h e rest none unfollowed may goes_on =
       let before : State = told_at tape input h (Text e ∷ rest) in
       let behind : State = record before { history = Text e ∷ h } in
       ap (λ (own : Option PageEvent). performing l own (Text e) rest before) none
       ∙ ap (λ (r : Option Limit). unless_refused l r before (performed (Text e) rest before)) may
-      ∙ ap (λ (is_over : Bool). done_if is_over behind (sprung_at (springs h (Text e)) rest behind)) goes_on
-      ∙ ap (λ (sprung : Option ShortName). sprung_at sprung rest behind) unsprung
+      ∙ ap (λ (is_over : Bool). done_if is_over behind (followed_by (following h (Text e)) rest behind)) goes_on
+      ∙ ap (λ (f : Following). followed_by f rest behind) unfollowed
 
   -- the steps at the events of a byte
   pub leads-events : (is_blank : Bool) (b : ℕ) (tape : Tape) (input : PageInput) (h : PageHistory)
@@ -111,7 +113,7 @@ module _ (l : Limits) (reading : LineState) (rs : AllRegisters) (messages : List
       record {
         steps = 2;
         there = ap (step l)
-            (step-event tape input h WordEnd (Text (Gap 1) ∷ []) (unbegun h (Text WordEnd) takes) (unsprung_end h quiet) (allowed l h WordEnd quiet within) behind.goes_on)
+            (step-event tape input h WordEnd (Text (Gap 1) ∷ []) (unbegun h (Text WordEnd) takes) (unfollowed_end h quiet) (allowed l h WordEnd quiet within) behind.goes_on)
             ∙ step-event tape input ended (Gap 1) [] (unbegun ended (Text (Gap 1)) behind) refl (allowed l ended (Gap 1) refl within) behind.goes_on;
       }
   leads-events false b tape input h within quiet takes =

@@ -20,7 +20,7 @@ use Rattle.roff_run.specs.Reading.Items.{PageInput, Taking, going_on}
 use Rattle.roff_run.specs.Reading.Units.{interrupted, settled_for}
 use Rattle.roff_run.specs.Registers.{Known}
 use Rattle.roff_run.specs.PageEvents.{PageEvent}
-use Rattle.roff_run.specs.Run.{Leads, State, after, known, known_at, made, step, taken_as, unless_refused}
+use Rattle.roff_run.specs.Run.{Leads, State, nothing_follows, after, known, known_at, made, step, taken_as, unless_refused}
 use Rattle.roff_run.specs.Run.Counts.{counts_in, first_passed}
 use Rattle.roff_run.specs.Stages.{Stage, held_at, input_at, stage_of}
 use Rattle.roff_run.specs.declared.line_state.LineState.{LineState}
@@ -137,7 +137,7 @@ abbrev pub input_put : LineState → List ℕ → Origin → List ℕ → PageIn
 input_put reading text from bytes i = pushing text (interrupted reading (counted from bytes i))
 
 -- a run leads over the escape, where no count is above its limit in front of it and behind it
-pub leads-put : (purpose : Asked) (l : Limits) (s : State) (from : Origin) (bytes name text : List ℕ) → s.ended ≡ None → s.to_do ≡ [] → s.sprung ≡ None → IsOpenFor from s.is_closed
+pub leads-put : (purpose : Asked) (l : Limits) (s : State) (from : Origin) (bytes name text : List ℕ) → s.ended ≡ None → s.to_do ≡ [] → s.follows ≡ nothing_follows → IsOpenFor from s.is_closed
     → AsksText purpose s.input.names (stage_of s.reading s.input) bytes name → s.input.ahead ≡ ahead_at from bytes → s.tape ≡ tape_at from bytes s.tape
     → s.input.charge + length bytes ≤ l.bytes → first_passed l (counts_in s.registers s.input) ≡ None
     → text ≡ text_asked purpose (known_at s.history s.registers (counted from bytes s.input)) (interrupted s.reading (counted from bytes s.input)) name

@@ -22,7 +22,7 @@ use Rattle.roff_run.specs.Reading.Items.{PageInput, Taking}
 use Rattle.roff_run.specs.Registers.{AllRegisters, Known, StepBy, changed_by, is_page, known_behind, number_in_range, numbered, page_register, page_stepped, step_messages, text_of_register}
 use Rattle.roff_run.specs.Requests.Effects.{page_numbered}
 use Rattle.roff_run.specs.PageEvents.{PageEvent}
-use Rattle.roff_run.specs.Run.{Leads, State, after, known, known_at, made, step, taken_as, unless_refused}
+use Rattle.roff_run.specs.Run.{Leads, State, nothing_follows, after, known, known_at, made, step, taken_as, unless_refused}
 use Rattle.roff_run.specs.Run.Counts.{counts_in, first_passed}
 use Rattle.roff_run.specs.Stages.{Stage, input_at, stage_of}
 use Rattle.roff_run.specs.declared.line_state.LineState.{LineState}
@@ -104,7 +104,7 @@ module _ (direction : Direction) (name : List ℕ) where
       ∙ ap (λ (r : Option Limit). unless_refused l r before (behind text)) fits
 
   -- a run leads over the escape on a text line, where no count is above its limit in front of it and behind it
-  pub leads-stepped : (l : Limits) (s : State) (line : TextLine) (from : Origin) (bytes text : List ℕ) → s.ended ≡ None → s.to_do ≡ [] → s.sprung ≡ None → IsOpenFor from s.is_closed
+  pub leads-stepped : (l : Limits) (s : State) (line : TextLine) (from : Origin) (bytes text : List ℕ) → s.ended ≡ None → s.to_do ≡ [] → s.follows ≡ nothing_follows → IsOpenFor from s.is_closed
       → s.reading ≡ InText line → AsksStep direction s.input.names (stage_of s.reading s.input) bytes name → IsQuiet s.registers → is_page name ≡ false
       → s.input.ahead ≡ ahead_at from bytes → s.tape ≡ tape_at from bytes s.tape
       → s.input.charge + length bytes ≤ l.bytes → first_passed l (counts_in s.registers s.input) ≡ None

@@ -19,7 +19,7 @@ use Rattle.roff_run.specs.Reading.Ends.{due}
 use Rattle.roff_run.specs.Reading.Items.{PageInput, Taking}
 use Rattle.roff_run.specs.Registers.{AllRegisters, Known}
 use Rattle.roff_run.specs.PageEvents.{PageEvent}
-use Rattle.roff_run.specs.Run.{State, after, known, made, step, taken_as, unless_refused}
+use Rattle.roff_run.specs.Run.{State, nothing_follows, after, known, made, step, taken_as, unless_refused}
 use Rattle.roff_run.specs.Run.Counts.{counts_in, first_passed}
 use Rattle.roff_run.specs.Stages.{Growing, Here, Onward, Stage, TextsGrow, Turned, Turns, held_at, input_at, stage_of}
 use Rattle.roff_scan.specs.Unread.Runs.{with_stage_of}
@@ -39,7 +39,7 @@ pub record IsGoing (from : Origin) (s : State) : Type 0 where
   pub going : s.ended ≡ None
   pub is_open : IsOpenFor from s.is_closed
   pub idle : s.to_do ≡ []
-  pub unsprung : s.sprung ≡ None
+  pub unsprung : s.follows ≡ nothing_follows
 
 -- behind a byte that stood ahead no more is counted than in front of it, but for the bytes of texts in the making
 NoMore-ahead : (names : Named Entry) (p q : Stage) (rest : List (Ahead PageEvent)) (b : ℕ) (bytes : List ℕ) (i : PageInput) → held_at q ≤ held_at p + 1

@@ -11,3 +11,4 @@ pub mod Answered
 pub mod Compared
 pub mod SteppedNames
 pub mod Stepped
+pub mod Glyphs

@@ -1,8 +1,8 @@
 -- What the code has come to is a state of the run whose messages are bounded: so many are told as the limit lets be.
-use Rattle.std.proofs.Common.{◌≡◌, ℕ, ◌+◌, ◌≤◌, List, [], ◌++◌, length, None, Result, Ok, Err, refl, ap, arith, ◌∙◌, length-append}
+use Rattle.std.proofs.Common.{◌≡◌, ℕ, ◌+◌, ◌≤◌, List, [], length, None, Result, Ok, Err, refl, ap, arith, length-append}
 use Rattle.roff_num.specs.declared.limits.Limits.{Limits}
 use Rattle.roff_interpreter.specs.Outcome.{Arrives, Beginning, OutputStops, Reaches, Seen}
-use Rattle.roff_run.specs.Run.{State, Leads, ToldLeads, initial, step, told_step, reported}
+use Rattle.roff_run.specs.Run.{State, ToldLeads, initial, step, told_step, reported}
 use Rattle.roff_run.proofs.Leads.{told_step-within}
 use Rattle.roff_sinks.specs.Sinks.{Fails, Puts, Sunk, Writes, with_room}
 use Rattle.roff_sinks.proofs.Appending.{Writes-nothing}

@@ -39,6 +39,7 @@ reads_on_taking j next old reader before behind told m takes = record {
         stands = stood;
         lines = omega arith;
         few = omega arith;
+        keeps = tt;
       };
 }
 

@@ -31,6 +31,7 @@ pub event_done : (e : PageEvent) (old new : Interpreter) (out out_new : Sunk) (r
 event_done e old new out out_new r done reader = record {
   one = λ l t before failures err s h rest stood same reached. done.one l t before failures err s h rest stood reached;
   reader = reader;
+  moves = done.moves;
 }
 
 -- so was one before which no word end comes
@@ -39,16 +40,18 @@ pub event_alone : (e : PageEvent) (old new : Interpreter) (out out_new : Sunk) (
 event_alone e old new out out_new r none only reader = record {
   one = λ l t before failures err s h rest stood same reached. only.performs l t before failures err s h rest stood (none h, tt) reached;
   reader = reader;
+  moves = λ l h stood. only.moves;
 }
 
 -- and a title with the text that the registers keep
 pub title_done : (which : WhichTitle) (text : TitleText) (format : Format) (old new : Interpreter) (out out_new : Sunk) (r : Result (Option Sprung) Halt)
     → title_told old.reader.registers.all which ≡ record { text = text; format = format }
-    → PerformsTitle text format old.formatter new.formatter out out_new r → new.reader ≡ old.reader → DoesEvent (Title which) old new out out_new r
+    → PerformsTitle which text format old.formatter new.formatter out out_new r → new.reader ≡ old.reader → DoesEvent (Title which) old new out out_new r
 title_done which text format old new out out_new r is placed reader = record {
   one = λ l t before failures err s h rest stood same reached.
-      placed.title l t before failures err s h rest which stood (ap (λ (rs : AllRegisters). title_told rs which) same ∙ is) reached;
+      placed.title l t before failures err s h rest stood (ap (λ (rs : AllRegisters). title_told rs which) same ∙ is) reached;
   reader = reader;
+  moves = λ l h stood. placed.moves;
 }
 
 -- events were performed that sprang nothing, and stood one behind another
@@ -63,6 +66,7 @@ all_quietly events old new out out_new done flows quiet ended same_reader =
             stands = did.stands;
             lines = lines_left-all s.registers events h;
             few = omega arith;
+            keeps = tt;
           };
       reader = record { reading = ap (λ (r : ReaderState). r.reading) same_reader; registers = ap (λ (r : ReaderState). r.registers) same_reader };
     }
@@ -72,13 +76,14 @@ module _ (events kept rest : List PageEvent) (l : Limits) (t : Beginning) (befor
   pub came_sprung : events ≡ kept → SprungAt l t before now s events h sprung rest es → ComesTo l t before now s events h kept rest (Ok (Some sprung)) es
   came_sprung is p = record {
     history = p.history;
-    reaches = subst (λ (events : List PageEvent). Reaches l t before now (behind_sprung (Some sprung) events rest (acting s [] p.history))) is p.reaches;
+    reaches = subst (λ (events : List PageEvent). Reaches l t before now (behind_sprung es (Some sprung) events rest (acting s [] p.history))) is p.reaches;
     stands = p.stands;
     lines = p.lines;
     few =
         let whole : events ++ [] ≡ events = append-nil events in
         subst (λ (kept : List PageEvent). length (left_behind sprung kept) ≤ most_back events) is
         (subst (λ (events : List PageEvent). length (left_behind sprung events) ≤ most_back events) whole (p.few []));
+    keeps = (sym is, p.named);
   }
 
 pub all_sprung : (events : List PageEvent) (old mid : Interpreter) (reader : ReaderState) (out out_new : Sunk) (sprung : Sprung) (done : Result (Option Sprung) Halt) → ((rs : AllRegisters) (h : PageHistory) → Flows rs events h)
@@ -114,6 +119,7 @@ one_quietly e old new out out_new done quiet ended =
             stands = did.stands;
             lines = lines_left-all s.registers (e ∷ []) h;
             few = omega arith;
+            keeps = tt;
           };
       reader = record { reading = ap (λ (r : ReaderState). r.reading) one.reader; registers = ap (λ (r : ReaderState). r.registers) one.reader };
     }

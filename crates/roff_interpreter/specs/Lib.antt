@@ -7,3 +7,4 @@ pub mod Halting
 pub mod Ending
 pub mod Unfilled
 pub mod Clauses
+pub mod Diverting

@@ -1,5 +1,5 @@
 -- How far an interpreter does what an item of the input means, over the states of the definition.
-use Rattle.std.specs.Prelude.{◌≡◌, ◌≤◌, drop, ℕ, Bool, List, [], ◌∷◌, ◌++◌, Option, None, Result, Ok, Err, OnOk, length}
+use Rattle.std.specs.Prelude.{◌≡◌, ◌≤◌, drop, ℕ, ◌+◌, ◌-◌, ◌*◌, Bool, List, [], ◌∷◌, ◌++◌, Option, Some, None, Result, Ok, Err, OnOk, length}
 use Rattle.std.specs.Io.KnownBytes.{Appends}
 use Rattle.roff_num.specs.declared.limit.Limit.{Limit}
 use Rattle.roff_num.specs.declared.limits.Limits.{Limits}
@@ -13,7 +13,7 @@ use Rattle.roff_interpreter.specs.Outcome.{Beginning, Seen, AppendsBetween, Reac
 use Rattle.roff_run.specs.Messages.{message_lines}
 use Rattle.roff_run.specs.Output.{written}
 use Rattle.roff_run.specs.Environments.{interrupted_line}
-use Rattle.roff_formatter.specs.Formatter.Sprung.{behind_sprung, most_back, rest_left}
+use Rattle.roff_formatter.specs.Formatter.Sprung.{GoesOnNamed, MovesOn, behind_sprung, most_back, open_weight, rest_left, weight}
 use Rattle.roff_run.specs.TurnsToCome.{most_left}
 use Rattle.roff_formatter.specs.declared.sprung.Sprung.{Sprung}
 use Rattle.roff_run.specs.TurnsToCome.{lines_left}
@@ -23,7 +23,7 @@ use Rattle.roff_run.specs.PageEvents.{PageEvent, PageHistory}
 use Rattle.roff_run.specs.declared.message.Message.{Message}
 use Rattle.roff_run.specs.declared.line_state.LineState.{LineState}
 use Rattle.roff_run.specs.declared.phase.Phase.{Phase}
-use Rattle.roff_run.specs.Run.{State, ToldLeads, initial, step, told_step, stopped_by, made, taken_as, known_at, output, reported}
+use Rattle.roff_run.specs.Run.{State, nothing_follows, ToldLeads, initial, step, told_step, stopped_by, made, taken_as, known_at, output, reported}
 use Rattle.roff_reader.specs.Reader.Taken.{CameTo, IsReady}
 use Rattle.roff_run.specs.Reading.Items.{PageUnread}
 use Rattle.roff_sinks.specs.Sinks.{CountsFault, Sunk}
@@ -37,16 +37,23 @@ pub record DoesEvent (e : PageEvent) (old new : Interpreter) (out_old out_new : 
       → Reaches l t before (seen failures out_old err) (acting s (e ∷ rest) h)
       → Performs l t before (seen failures out_new err) s (e ∷ []) h (behind_event s.registers e h) rest result new.formatter.composer
   pub reader : new.reader ≡ old.reader
+  pub moves : (l : Limits) (h : PageHistory) → StandFor l h old.formatter.composer → MovesOn old.formatter new.formatter result
 
--- The events in front were performed up to one that sprang this, or all of them; what is left of those that are kept is put
--- back, with what was to be done behind them. No more interrupted lines are left than any of them leaves, and no more is put back
--- than may be.
+-- where one of these events stopped them the reader keeps all of them, and an eject among them goes on behind a macro alone
+abbrev pub KeepsThem : Option Sprung → List PageEvent → List PageEvent → ComposerOf → Type 0
+KeepsThem None kept events es = Unit {0}
+KeepsThem (Some sprung) kept events es = (kept ≡ events) × GoesOnNamed sprung.why es.due.sprung
+
+-- The events in front were performed up to one that stopped here, or all of them; what is left of those that are kept is to be
+-- done, or put back, with what was to be done behind them. No more interrupted lines are left than any of them leaves, and no more is
+-- put back than may be.
 pub record CameBehind (l : Limits) (t : Beginning) (before now : Seen) (s : State) (events : List PageEvent) (h : PageHistory) (kept rest : List PageEvent) (sprung : Option Sprung) (es : ComposerOf) : Type 0 where
   pub history : PageHistory
-  pub reaches : Reaches l t before now (behind_sprung sprung kept rest (acting s [] history))
+  pub reaches : Reaches l t before now (behind_sprung es sprung kept rest (acting s [] history))
   pub stands : StandFor l history es
   pub lines : lines_left (interrupted_line history) ≤ most_left events (lines_left (interrupted_line h))
   pub few : length (rest_left sprung kept) ≤ most_back events
+  pub keeps : KeepsThem sprung kept events es
 
 -- how far the code came with these events, by its answer
 abbrev pub ComesTo : Limits → Beginning → Seen → Seen → State → List PageEvent → PageHistory → List PageEvent → List PageEvent → Result (Option Sprung) Halt → ComposerOf → Type 0
@@ -74,7 +81,14 @@ pub record CameSoFar (l : Limits) (t : Beginning) (before now : Seen) (s : State
   pub stands : StandFor l history es
   pub few : most_left left (lines_left (interrupted_line history)) ≤ most_left events (lines_left (interrupted_line h))
 
--- An interpreter performed those of the events that it keeps from this index on, or those up to one that sprang something: for each state
+-- where the events from this index on stopped they moved on: fewer are left, or a macro is due, or the open word has ended
+abbrev pub LeftOn : ℕ → Interpreter → Interpreter → Result (Option Sprung) Halt → Type 0
+LeftOn n old new (Ok None) = Unit {0}
+LeftOn n old new (Ok (Some sprung)) =
+    4 * (255 - sprung.left) + weight new.formatter.composer ≤ 4 * (255 - n) + open_weight old.formatter.composer
+LeftOn n old new (Err halt) = Unit {0}
+
+-- An interpreter performed those of the events that it keeps from this index on, or those up to one that stopped them: for each state
 -- of a run that has performed the others.
 pub record PerformsLeft (n : ℕ) (old new : Interpreter) (out_old out_new : Sunk) (result : Result (Option Sprung) Halt) : Type 0 where
   pub all : (l : Limits) (t : Beginning) (before : Seen) (failures : ℕ) (err : Sunk) (s : State) (h : PageHistory) (rest : List PageEvent)
@@ -82,6 +96,7 @@ pub record PerformsLeft (n : ℕ) (old new : Interpreter) (out_old out_new : Sun
       → CameSoFar l t before (seen failures out_old err) s old.reader.meaning.events h (drop n old.reader.meaning.events) rest old.formatter.composer
       → ComesTo l t before (seen failures out_new err) s old.reader.meaning.events h new.reader.meaning.events rest result new.formatter.composer
   pub reader : KeepsReading old new
+  pub moves : (l : Limits) (h : PageHistory) → StandFor l h old.formatter.composer → LeftOn n old new result
 
 -- One step from a state takes an item that means these messages, which are told on this line, and these events,
 -- which stand in front of others to do, behind this history.
@@ -139,7 +154,7 @@ going tape i reading rs h messages phase is_closed to_do = record {
   reading = reading;
   registers = rs;
   to_do = to_do;
-  sprung = None;
+  follows = nothing_follows;
   history = h;
   messages = messages;
   phase = phase;

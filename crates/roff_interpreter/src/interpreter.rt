@@ -3,6 +3,7 @@
 ghost use Rattle.std.specs.Prelude.{◌≡◌, IfOk};
 ghost use Rattle.roff_interpreter.specs.Clauses.{fresh_reader, Gives, StandFor, pages_given};
 
+mod diverting;
 mod ending;
 mod line_ends;
 mod performing;

@@ -14,6 +14,8 @@ use Rattle.roff_run.specs.PageEvents.{PageEvent}
 use Rattle.roff_run.specs.Registers.{AllRegisters}
 use Rattle.roff_run.specs.Titles.{title_told, told}
 use Rattle.roff_run.specs.declared.event.PageEvent.TheVariants.{Text, Page, Interrupt, Environment, Back, InputTrap as SetsTrap, Title}
+use Rattle.roff_laws.proofs.PutHolds.{put-holds}
+use Rattle.roff_layout.specs.Stops.{is_diverted}
 
 -- nothing that is put
 closing-turned : (full closing : Bool) (N : Layout)
@@ -28,7 +30,8 @@ closing-put : (x : Happening) (p : Option Put) (boxes : List Box) (L : Layout) �
 closing-put x None boxes L unput is = unput
 closing-put x (Some p) boxes L unput is =
     let N : Layout = with_boxes x boxes (record L { next = next_behind x L.next }) in
-    closing-turned (nat_le N.length (page_place N)) N.is_closing N ∙ is
+    put-holds (λ (M : Layout). M.is_closing ≡ true) (is_diverted x L) N is
+    (closing-turned (nat_le N.length (page_place N)) N.is_closing N ∙ is)
 
 closing-text : (x : Option Finished) (L : Layout) → L.is_closing ≡ true → (laid_out (option_map Places x) L).is_closing ≡ true
 closing-text None L is = is

@@ -1,4 +1,4 @@
--- How many events come before another one at the most: the end of an open word, and the first page's beginning.
+-- How many steps come before an event at the most: those of the end of an open word, and of the first page's beginning.
 use Rattle.std.proofs.Common.{◌≡◌, ◌≤◌, ◌+◌, ℕ, Bool, true, false, not, ◌||◌, List, [], ◌∷◌, Option, Some, None, refl, ◌∙◌, ap, arith}
 use Rattle.std.specs.Prelude.{◌&&◌, nat_le, if◌then◌else◌, ◌==◌}
 use Rattle.std.proofs.lemmas.Bool.{ne_eqb}
@@ -17,22 +17,23 @@ use Rattle.roff_run.specs.Layouts.{laid_out, layout_of}
 use Rattle.roff_run.specs.Springs.{begins, needs_page, next, own_word_end, page_begin_or, word_end_of}
 use Rattle.roff_run.specs.PageEvents.{PageEvent}
 use Rattle.roff_run.specs.declared.event.PageEvent.TheVariants.{Text, Page, Interrupt, Environment, Back, InputTrap as SetsTrap, Title}
+use Rattle.roff_laws.proofs.PutHolds.{put-holds}
 
--- an event that comes before takes a step
+-- an event that comes before takes a step, and the change of a diversion's text behind it one
 abbrev pub own_steps : Option PageEvent → ℕ
 own_steps None = 0
-own_steps (Some own) = 1
+own_steps (Some own) = 2
 
--- and so may the first page's beginning, where none was begun
+-- the first page's beginning takes one, where none was begun
 abbrev pub page_steps : Bool → ℕ
 page_steps true = 0
 page_steps false = 1
 
--- how many events come before one at the most
+-- how many steps come before an event at the most
 abbrev pub steps_in_front : PageHistory → PageEvent → ℕ
 steps_in_front h e = own_steps (word_end_of h e) + page_steps (takes_text (layout_of h))
 
-own_steps-few : (own : Option PageEvent) → own_steps own ≤ 1
+own_steps-few : (own : Option PageEvent) → own_steps own ≤ 2
 own_steps-few None = omega arith
 own_steps-few (Some own) = omega arith
 
@@ -40,7 +41,7 @@ page_steps-few : (takes : Bool) → page_steps takes ≤ 1
 page_steps-few true = omega arith
 page_steps-few false = omega arith
 
-pub steps_in_front-few : (h : PageHistory) (e : PageEvent) → steps_in_front h e ≤ 2
+pub steps_in_front-few : (h : PageHistory) (e : PageEvent) → steps_in_front h e ≤ 3
 steps_in_front-few h e = omega (arith, own_steps-few (word_end_of h e), page_steps-few (takes_text (layout_of h)))
 
 -- where a page was begun text is taken
@@ -71,7 +72,9 @@ takes-laid (Some line) L takes =
     let x : Happening = Places line in
     let boxes : List Box = appended x L in
     let M : Layout = with_boxes x boxes L in
-    takes-turned (nat_le M.length (page_place M)) M.is_closing M (takes-put L.begun (is_diverted x L) boxes L.diversions ∙ takes)
+    let put : takes_text M ≡ true = takes-put L.begun (is_diverted x L) boxes L.diversions ∙ takes in
+    put-holds (λ (N : Layout). takes_text N ≡ true) (is_diverted x L) M put
+    (takes-turned (nat_le M.length (page_place M)) M.is_closing M put)
 
 -- fewer steps
 fewer-page_steps : (b c : Bool) → (b ≡ true → c ≡ true) → page_steps c ≤ page_steps b
@@ -79,11 +82,12 @@ fewer-page_steps true true same = omega arith
 fewer-page_steps true false same = let wrong = same refl in absurd (cc)
 fewer-page_steps false c same = page_steps-few c
 
--- what comes before an event is the end of an open word, or the first page's beginning, where none was begun; and fewer come before
--- it behind that
+-- what comes before an event is the end of an open word, or the first page's beginning, where none was begun; and fewer steps
+-- come before it behind that
 pub data ComesBefore (h : PageHistory) (e : PageEvent) : Option PageEvent → Type 0 where
   NothingComes : begins h e ≡ false → ComesBefore h e None
-  WordEndComes : begins h (Text WordEnd) ≡ false → steps_in_front (Text WordEnd ∷ h) e + 1 ≤ steps_in_front h e → ComesBefore h e (Some (Text WordEnd))
+  WordEndComes : begins h (Text WordEnd) ≡ false → steps_in_front (Text WordEnd ∷ h) e + 2 ≤ steps_in_front h e
+      → ComesBefore h e (Some (Text WordEnd))
   PageComes : takes_text (layout_of h) ≡ false → steps_in_front (Page Begin ∷ h) e + 1 ≤ steps_in_front h e → ComesBefore h e (Some (Page Begin))
 
 -- a word end of an event's own, behind which it has none
@@ -137,7 +141,7 @@ none_begun : (takes needs : Bool) → (not takes && needs) ≡ true → takes �
 none_begun true needs begins = absurd (cc)
 none_begun false needs begins = refl
 
--- and fewer events come before the same one behind it
+-- and fewer steps come before the same event behind it
 begun-fewer : (h : PageHistory) (e own : PageEvent) → begins h own ≡ true → steps_in_front (Page Begin ∷ h) e + 1 ≤ steps_in_front h e
 begun-fewer h e own is =
     let before : page_steps (takes_text (layout_of h)) ≡ 1 = ap page_steps (none_begun (takes_text (layout_of h)) (needs_page h own) is) in
@@ -148,9 +152,9 @@ begun-fewer h e own is =
 
 -- behind the end of the open word too
 word_end-fewer : (h : PageHistory) (e : PageEvent) → word_end_of h e ≡ Some (Text WordEnd) → word_end_of (Text WordEnd ∷ h) e ≡ None
-    → steps_in_front (Text WordEnd ∷ h) e + 1 ≤ steps_in_front h e
+    → steps_in_front (Text WordEnd ∷ h) e + 2 ≤ steps_in_front h e
 word_end-fewer h e is none =
-    let before : own_steps (word_end_of h e) ≡ 1 = ap own_steps is in
+    let before : own_steps (word_end_of h e) ≡ 2 = ap own_steps is in
     let behind : own_steps (word_end_of (Text WordEnd ∷ h) e) ≡ 0 = ap own_steps none in
     let pages = fewer-page_steps (takes_text (layout_of h)) (takes_text (layout_of (Text WordEnd ∷ h))) (takes-laid (finished (text_of h) WordEnd) (layout_of h)) in
     omega (arith, before, behind, pages)

@@ -8,25 +8,27 @@ use Rattle.roff_layout.specs.Happenings.{Happening, Does, is_eject, is_eject_eve
 use Rattle.roff_layout.specs.Layout.{Box, Layout, page_place}
 use Rattle.roff_layout.specs.Puts.{Put, appended, ejected_if, puts}
 use Rattle.roff_layout.specs.Springs.{goes_on}
-use Rattle.roff_layout.specs.Stops.{Target, page_target}
+use Rattle.roff_layout.specs.Stops.{Target, page_target, is_diverted}
 use Rattle.roff_layout.specs.Turning.{behind_put, next_behind, page_begun, with_boxes, with_event}
 use Rattle.roff_layout.specs.declared.layout_event.LayoutEvent.{LayoutEvent}
 use Rattle.roff_layout.specs.declared.layout_event.LayoutEvent.TheVariants.{ListPages, Begin, Close, Space, Need, Eject, EjectTo, EjectOn, EjectLast, Length, Offset, Next, Number, NoSpace, Plant, Uproot, MoveTrap, RemoveTrap, DiversionTrap, NoDiversionTrap, Divert, EndDivert}
 use Rattle.roff_run.specs.Layouts.{layout_of}
 use Rattle.roff_run.specs.PageEvents.{PageEvent, PageHistory}
-use Rattle.roff_run.specs.Run.{Leads, State, after, step, step_with}
+use Rattle.roff_run.specs.Run.{Leads, State, after, step, step_behind, step_with}
 use Rattle.roff_run.specs.Springs.{going_on, left_if, left_of, next, page_begin_or}
 use Rattle.roff_run.specs.Titles.{told}
 use Rattle.roff_run.specs.declared.event.PageEvent.TheVariants.{Text, Page}
 use Rattle.roff_run.proofs.Leads.{Leads-refl, Leads-step, Leads-to, Leads-trans}
-use Rattle.roff_run.proofs.Readings.{ReadsOn-with_sprung}
+use Rattle.roff_run.proofs.Readings.{ReadsOn-with_sprung, ReadsOn-text}
 use Rattle.roff_laws.specs.TrapLaws.{EjectsEndTheirPage, GoesOn, HasCome, InputLeft, IsAmong, IsPutBack, PageEnded, RunEnded, Waits}
 use Rattle.roff_laws.proofs.ComesBefore.{ComesBefore, NothingComes, PageComes, WordEndComes, comes_before}
 use Rattle.roff_laws.proofs.Endings.{ended_or_not, not-ended, step-ended, step-going}
 use Rattle.roff_laws.proofs.PagesBegun.{begun-event}
 use Rattle.roff_laws.proofs.PerformedOrStopped.{PerformedOrStopped, Performed, Sprang, EndsOver, StoppedAt, first_of, left_behind, performed_or_stopped}
 use Rattle.roff_laws.proofs.Stages.{history-read}
-use Rattle.roff_laws.proofs.WaitingEvents.{IsLost, RunEnds, StillWaits, WaitsStill, among-behind, among-front, waits-performed, waits-read}
+use Rattle.roff_laws.proofs.WaitingEvents.{IsLost, RunEnds, StillWaits, WaitsStill, among-behind, among-front, waits-performed, waits-read, waits-text}
+use Rattle.roff_laws.proofs.PutHolds.{put-holds}
+use Rattle.roff_layout.specs.DueTexts.{TextDue}
 
 -- what is put by an eject that doesn't go on ended its page, or the layout is over
 ends-turned : (full closing : Bool) (begun : ℕ) (N : Layout) → N.begun ≡ begun
@@ -46,7 +48,9 @@ ends-put : (x : Happening) (p : Option Put) (boxes : List Box) (L : Layout) → 
 ends-put x None boxes L some stops = absurd (cc)
 ends-put x (Some p) boxes L some stops =
     let N : Layout = with_boxes x boxes (record L { next = next_behind x L.next }) in
-    ends-turned (nat_le N.length (page_place N)) N.is_closing L.begun N refl stops
+    put-holds (λ (M : Layout). ((M.begun == L.begun) && not M.is_over) ≡ false → (L.begun < M.begun) ⊎ (M.is_over ≡ true))
+    (is_diverted x L) N
+    (ends-turned false N.is_closing L.begun N refl) (ends-turned (nat_le N.length (page_place N)) N.is_closing L.begun N refl) stops
 
 ends-eject : (x : Happening) (L : Layout) → is_eject x ≡ true → is_some (puts x L) ≡ true → goes_on x L ≡ false
     → (L.begun < (with_event x L).begun) ⊎ ((with_event x L).is_over ≡ true)
@@ -203,7 +207,7 @@ waiting-step_with l from e count (x ∷ es) s leads goes to_do asks begun waits 
     to_come (inl among) = inl (subst (IsAmong (Page (going_on e))) to_do among)
     to_come (inr back) = inr back
 waiting-step_with l from e count [] s leads goes to_do asks begun waits =
-    let reads = ReadsOn-with_sprung l s.sprung s refl in
+    let reads = ReadsOn-with_sprung l s.follows.sprung s refl in
     come-read l from e count s _ leads goes (waits-read (Page (going_on e)) l s _ reads to_do waits) (history-read l s _ reads) begun
 
 -- no step takes a page back
@@ -220,18 +224,37 @@ begun-step_with l (x ∷ es) s =
     let own : Option PageEvent = next s.history x in
     begun-performed l (first_of own x) (left_behind own x es s) s _ (performed_or_stopped l own x es s)
 begun-step_with l [] s =
-    let same : (step_with l [] s).history ≡ s.history = history-read l s _ (ReadsOn-with_sprung l s.sprung s refl) in
+    let same : (step_with l [] s).history ≡ s.history = history-read l s _ (ReadsOn-with_sprung l s.follows.sprung s refl) in
     omega (arith, ap (λ (h : PageHistory). (layout_of h).begun) same)
+
+begun-step_behind : (l : Limits) (due : Option TextDue) (s : State) → s.follows.text ≡ due
+    → (layout_of s.history).begun ≤ (layout_of (step_behind l due s).history).begun
+begun-step_behind l None s none = begun-step_with l s.to_do s
+begun-step_behind l (Some due) s some =
+    omega (arith, ap (λ (h : PageHistory). (layout_of h).begun) (history-read l s _ (ReadsOn-text l due s some)))
+
+-- a change of the text of a diversion comes first, if there is one
+waiting-step_behind : (l : Limits) (from : State) (e : LayoutEvent) (count : ℕ) (due : Option TextDue) (s : State)
+    → Leads l from s → Leads l s (step_behind l due s) → s.follows.text ≡ due
+    → GoesOnFor (going_on e) count
+    → (layout_of s.history).begun ≡ count → Waits (Page (going_on e)) s → HasCome l from e count (step_behind l due s)
+waiting-step_behind l from e count None s leads goes none asks begun waits =
+    waiting-step_with l from e count s.to_do s leads goes refl asks begun waits
+waiting-step_behind l from e count (Some due) s leads goes some asks begun waits =
+    let reads = ReadsOn-text l due s some in
+    come-read l from e count s _ leads goes (waits-text (Page (going_on e)) l due s waits) (history-read l s _ reads) begun
 
 -- a step
 come-going : (l : Limits) (from : State) (e : LayoutEvent) (count : ℕ) (s : State) → Leads l from s
-    → Leads l s (step_with l s.to_do s) → s.ended ≡ None → GoesOnFor (going_on e) count
-    → HasCome l from e count s → HasCome l from e count (step_with l s.to_do s)
-come-going l from e count s leads goes going asks (PageEnded ended) = PageEnded (omega (arith, ended, begun-step_with l s.to_do s))
-come-going l from e count s leads goes going asks (GoesOn begun waits) = waiting-step_with l from e count s.to_do s leads goes refl asks begun waits
+    → Leads l s (step_behind l s.follows.text s) → s.ended ≡ None → GoesOnFor (going_on e) count
+    → HasCome l from e count s → HasCome l from e count (step_behind l s.follows.text s)
+come-going l from e count s leads goes going asks (PageEnded ended) =
+    PageEnded (omega (arith, ended, begun-step_behind l s.follows.text s refl))
+come-going l from e count s leads goes going asks (GoesOn begun waits) =
+    waiting-step_behind l from e count s.follows.text s leads goes refl asks begun waits
 come-going l from e count s leads goes going asks (RunEnded ended) = absurd (not-ended s.ended going ended)
 come-going l from e count s leads goes going asks (InputLeft at to_it leaves behind) =
-    InputLeft at to_it leaves (Leads-trans l at s (step_with l s.to_do s) behind goes)
+    InputLeft at to_it leaves (Leads-trans l at s (step_behind l s.follows.text s) behind goes)
 
 come-step : (l : Limits) (from : State) (e : LayoutEvent) (count : ℕ) (s : State) → Leads l from s
     → GoesOnFor (going_on e) count → HasCome l from e count s
@@ -240,7 +263,8 @@ come-step l from e count s leads asks come = elim (ended_or_not s.ended) [
   | inl ended ↦ subst (HasCome l from e count) (sym (step-ended l s ended)) come
   | inr going ↦
       subst (HasCome l from e count) (sym (step-going l s going))
-      (come-going l from e count s leads (Leads-to l s s (step_with l s.to_do s) (Leads-refl l s) (step-going l s going)) going asks come)
+      (come-going l from e count s leads
+      (Leads-to l s s (step_behind l s.follows.text s) (Leads-refl l s) (step-going l s going)) going asks come)
 ]
 
 come-after : (l : Limits) (from : State) (e : LayoutEvent) (count : ℕ) (n : ℕ) (s : State) → Leads l from s
@@ -320,5 +344,6 @@ ejects_end_their_page l e s n begins =
     (performed_or_stopped l own (Page e) begins.rest s) in
     let stepped : HasCome l s e count (step l s) =
     subst (HasCome l s e count) (sym (step-going l s begins.going))
-    (subst (λ (es : List PageEvent). HasCome l s e count (step_with l es s)) (sym begins.first) first) in
+    (subst (λ (due : Option TextDue). HasCome l s e count (step_behind l due s)) (sym begins.no_text)
+    (subst (λ (es : List PageEvent). HasCome l s e count (step_with l es s)) (sym begins.first) first)) in
     come-after l s e count n (step l s) (Leads-step l s s (Leads-refl l s)) (goes_on-asks e (layout_of s.history) begins.is_eject begins.puts_some) stepped

@@ -3,7 +3,7 @@ use Rattle.std.proofs.Common.{◌≡◌, ◌⊎◌, inl, inr, ℕ, zero, suc, Op
 use Rattle.std.specs.Prelude.{IsSome}
 use Rattle.roff_num.specs.declared.limits.Limits.{Limits}
 use Rattle.roff_run.specs.declared.status.Status.{Status}
-use Rattle.roff_run.specs.Run.{State, after, step, step_with, told_after}
+use Rattle.roff_run.specs.Run.{State, after, step, step_behind, told_after}
 use Rattle.roff_run.proofs.Leads.{told_step-ended}
 
 -- a run has ended, or it hasn't
@@ -19,13 +19,13 @@ not-ended (Some status) none some = cc
 -- a run that has ended stays as it is
 pub step-ended : (l : Limits) (s : State) → IsSome s.ended → step l s ≡ s
 step-ended l s ended =
-    elim s.ended as (λ o. IsSome o → elim o [ None ↦ step_with l s.to_do s | Some status ↦ s ] ≡ s) [
+    elim s.ended as (λ o. IsSome o → elim o [ None ↦ step_behind l s.follows.text s | Some status ↦ s ] ≡ s) [
       | None ↦ λ none. absurd (cc)
       | Some status ↦ λ some. refl
     ] ended
 
 -- and one that hasn't ended makes a step
-pub step-going : (l : Limits) (s : State) → s.ended ≡ None → step l s ≡ step_with l s.to_do s
+pub step-going : (l : Limits) (s : State) → s.ended ≡ None → step l s ≡ step_behind l s.follows.text s
 step-going l s going = rw going refl
 
 -- a run that has ended stays as it is, however many steps are made

@@ -6,7 +6,7 @@ use Rattle.roff_run.specs.declared.status.Status.{Status}
 use Rattle.roff_run.specs.PageEvents.{PageEvent}
 use Rattle.roff_run.specs.Results.{turn, turns, last_state}
 use Rattle.roff_laws.specs.ResultLaws.{EveryRunEnds, StepsLeadToTheLastState, NoOtherStateIsLast}
-use Rattle.roff_run.specs.Run.{State, ToldLeads, grown, initial, paged_state, performing, sprung_read, unless_refused, with_registers, with_sprung, step_with, step, after, told_after}
+use Rattle.roff_run.specs.Run.{Following, State, ToldLeads, grown, initial, paged_state, performing, sprung_read, text_done, unless_refused, with_registers, with_sprung, step_behind, step_with, step, after, told_after}
 use Rattle.roff_source.specs.Tape.{Tape}
 use Rattle.roff_run.specs.TurnsToCome.{left_by, lines_left, most_left, phases_left, unended}
 use Rattle.roff_layout.specs.declared.event.Event.TheVariants.{Print, Tab, WordEnd, Gap, LineEnd, Count, Break as PageBreak, Interrupt as Interrupted, Resume, Set}
@@ -43,32 +43,15 @@ use Rattle.roff_run.proofs.LinesLeft.{lines_left-event, lines_left-few, most_lef
 use Rattle.roff_run.proofs.PutBack.{free_ahead-back}
 use Rattle.roff_laws.proofs.PerformedOrStopped.{left_of-none, PerformedOrStopped, Performed, Sprang, EndsOver, StoppedAt, performed_or_stopped}
 use Rattle.roff_run.proofs.Readings.{ReadsOn-reading_on}
-use Rattle.roff_laws.proofs.ComesBefore.{ComesBefore, NothingComes, PageComes, WordEndComes, comes_before, steps_in_front, steps_in_front-few}
+use Rattle.roff_laws.proofs.ComesBefore.{ComesBefore, NothingComes, PageComes, WordEndComes, comes_before, steps_in_front}
 use Rattle.roff_laws.proofs.Told.{ToldOrStopped, AllTold, StopsBefore, nothing_told, told_or_stopped, within-told}
 use Rattle.roff_run.proofs.Leads.{ToldLeads-refl, ToldLeads-trans, told_after-add}
-use Rattle.roff_laws.proofs.TurnsNeeded.{EndsWithin, EndsWithin-read, turns_needed}
+use Rattle.roff_laws.proofs.TurnsNeeded.{EndsWithin, EndsWithin-read, turns_needed, unended-in_sprung}
+use Rattle.roff_layout.specs.DueTexts.{TextDue}
+use Rattle.roff_laws.proofs.TextsChanged.{text-holds, follows-nothing}
+use Rattle.roff_run.specs.Following.{following}
+use Rattle.roff_laws.proofs.StepsBefore.{sprung_steps-few, steps_before-few, steps_of, steps_of-few, text_steps, text_steps-few}
 pub use Rattle.roff_laws.proofs.Ended.{after-ended, ended_or_not, not-ended, step-ended, step-going, told_after-ended}
-
--- what sprang takes one step, and an event one, beside what comes before it and what it springs
-abbrev sprung_steps : Option ShortName → ℕ
-sprung_steps None = 0
-sprung_steps (Some name) = 1
-
--- how many steps there are at the most before something is read
-abbrev steps_before : List PageEvent → Option ShortName → PageHistory → ℕ
-steps_before [] sprung h = sprung_steps sprung
-steps_before (e ∷ es) sprung h = 3 * length es + steps_in_front h e + 2
-
-abbrev steps_of : State → ℕ
-steps_of s = steps_before s.to_do s.sprung s.history
-
-sprung_steps-few : (sprung : Option ShortName) → sprung_steps sprung ≤ 1
-sprung_steps-few None = omega arith
-sprung_steps-few (Some name) = omega arith
-
-steps_before-few : (es : List PageEvent) (sprung : Option ShortName) (h : PageHistory) → steps_before es sprung h ≤ 3 * length es + 1
-steps_before-few [] sprung h = omega (arith, sprung_steps-few sprung)
-steps_before-few (e ∷ es) sprung h = omega (arith, steps_in_front-few h e)
 
 -- a step that read nothing leaves fewer before one that does, and as many turns are enough
 record IsNearer (l : Limits) (s t : State) : Type 0 where
@@ -90,14 +73,16 @@ event-nearer l n e es left s t to_do same (Performed allowed on none) =
     let lines = lines_left-event s.registers e s.history in
     let before : ℕ = lines_left (interrupted_line s.history) in
     let fewer = most_left-fewer es (lines_left (interrupted_line h)) (left_by e before) lines in
+    let f : Following = following s.history (told s.registers e) in
     HasNeared (record {
-      steps = rw (to_do, others) (omega (arith, steps_before-few es s.sprung h));
+      steps = rw (to_do, others) (omega (arith, text_steps-few f.text, steps_before-few es f.sprung h));
       turns = rw (to_do, others) (omega (arith, fewer));
     })
 event-nearer l n e es left s t to_do same (Sprang name allowed on some) =
     let lines = lines_left-event s.registers e s.history in
+    let f : Following = following s.history (told s.registers e) in
     HasNeared (record {
-      steps = rw to_do (omega arith);
+      steps = rw to_do (omega (arith, text_steps-few f.text, sprung_steps-few f.sprung));
       turns = rw to_do (omega (arith, lines, free_ahead-back (map put_back left) s.input.ahead));
     })
 event-nearer l n e es left s t to_do same (EndsOver allowed over) = HasEnded refl
@@ -131,7 +116,8 @@ lines-stay h (Title which) own lines is few = omega arith
 own-nearer : (l : Limits) (n : ℕ) (own e : PageEvent) (es : List PageEvent) (s t : State) → s.to_do ≡ e ∷ es
     → lines_left (interrupted_line (told s.registers own ∷ s.history)) ≤ lines_left (interrupted_line s.history)
     → lines_left (interrupted_line s.history) ≤ left_by e (lines_left (interrupted_line s.history))
-    → steps_in_front (told s.registers own ∷ s.history) e + 1 ≤ steps_in_front s.history e
+    → text_steps (following s.history (told s.registers own)).text + steps_in_front
+    (told s.registers own ∷ s.history) e + 1 ≤ steps_in_front s.history e
     → PerformedOrStopped l own (e ∷ es) s t → Stepped l n s t
 own-nearer l n own e es s t to_do lines stay near (Performed allowed on unsprung) =
     let h : PageHistory = told s.registers own ∷ s.history in
@@ -141,8 +127,9 @@ own-nearer l n own e es s t to_do lines stay near (Performed allowed on unsprung
       turns = rw to_do (omega (arith, fewer));
     })
 own-nearer l n own e es s t to_do lines stay near (Sprang name allowed on some) =
+    let f : Following = following s.history (told s.registers own) in
     HasNeared (record {
-      steps = rw to_do (omega arith);
+      steps = rw to_do (omega (arith, text_steps-few f.text, sprung_steps-few f.sprung));
       turns = rw to_do (omega (arith, lines, stay, free_ahead-back (map put_back (e ∷ es)) s.input.ahead));
     })
 own-nearer l n own e es s t to_do lines stay near (EndsOver allowed over) = HasEnded refl
@@ -156,32 +143,19 @@ performing-nearer l n e es s own to_do is (NothingComes none_begins) =
     (λ none. ap (λ (front : List PageEvent). front ++ es) (left_of-none s.registers e s.history none)) (performed_or_stopped l None e es s)
 performing-nearer l n e es s own to_do is (WordEndComes none_begins near) =
     own-nearer l n (Text WordEnd) e es s _ to_do (lines_left-event s.registers (Text WordEnd) s.history)
-    (lines-stay s.history e (Text WordEnd) (lines_left (interrupted_line s.history)) is (lines_left-few (interrupted_line s.history))) near
+    (lines-stay s.history e (Text WordEnd) (lines_left (interrupted_line s.history)) is (lines_left-few (interrupted_line s.history)))
+    (omega (arith, near, text_steps-few (following s.history (told s.registers (Text WordEnd))).text))
     (performed_or_stopped l (Some (Text WordEnd)) e es s)
 performing-nearer l n e es s own to_do is (PageComes none_begun near) =
+    let none : text_steps (following s.history (told s.registers (Page Begin))).text ≡ 0 = refl in
     own-nearer l n (Page Begin) e es s _ to_do (lines_left-event s.registers (Page Begin) s.history)
-    (lines-stay s.history e (Page Begin) (lines_left (interrupted_line s.history)) is (lines_left-few (interrupted_line s.history))) near
+    (lines-stay s.history e (Page Begin) (lines_left (interrupted_line s.history)) is (lines_left-few (interrupted_line s.history)))
+    (omega (arith, near, none))
     (performed_or_stopped l (Some (Page Begin)) e es s)
 
--- what is read of a macro is no line yet
-unended-in_sprung : (reading : LineState) → unended (in_sprung reading) ≤ unended reading
-unended-in_sprung LineStart = omega arith
-unended-in_sprung Branch = omega arith
-unended-in_sprung Braced = omega arith
-unended-in_sprung (InText line) = omega arith
-unended-in_sprung (Control breaks) = omega arith
-unended-in_sprung (Name breaks first) = omega arith
-unended-in_sprung (Collecting purpose) = omega arith
-unended-in_sprung (Deciding keeping) = omega arith
-unended-in_sprung (Skipping opened closed behind) = omega arith
-unended-in_sprung Dropped = omega arith
-unended-in_sprung (Told aborts) = omega arith
-unended-in_sprung Exiting = omega arith
-unended-in_sprung TitleFront = omega arith
-unended-in_sprung (InTitle delimiter) = omega arith
-
 -- a macro that sprang is put in front
-sprung-nearer : (l : Limits) (called : Called) (name : ShortName) (s : State) → s.to_do ≡ [] → s.sprung ≡ Some name → IsNearer l s (sprung_read called s)
+sprung-nearer : (l : Limits) (called : Called) (name : ShortName) (s : State) → s.to_do ≡ [] → s.follows.sprung ≡ Some name
+    → IsNearer l s (sprung_read called s)
 sprung-nearer l (ABody body) name s to_do sprung =
     let text : List ℕ = called_text (body_named (name_bytes body) s.input) in record {
       steps = rw (to_do, sprung) (omega arith);
@@ -201,25 +175,41 @@ Stepped-within l n s t (inl ended) = HasEnded ended
 Stepped-within l n s t (inr enough) = HasRead enough
 
 -- one with nothing to do
-Stepped-with_sprung : (l : Limits) (n : ℕ) (s : State) (sprung : Option ShortName) → s.to_do ≡ [] → s.sprung ≡ sprung → turns_needed l s ≤ suc n
+Stepped-with_sprung : (l : Limits) (n : ℕ) (s : State) (sprung : Option ShortName) → s.to_do ≡ [] → s.follows.text ≡ None
+    → s.follows.sprung ≡ sprung
+    → turns_needed l s ≤ suc n
     → Stepped l n s (with_sprung l sprung s)
-Stepped-with_sprung l n s None to_do is enough = Stepped-within l n s _ (EndsWithin-read l n s _ (ReadsOn-reading_on l s) to_do is enough)
-Stepped-with_sprung l n s (Some name) to_do is enough =
+Stepped-with_sprung l n s None to_do none is enough =
+    Stepped-within l n s _ (EndsWithin-read l n s _ (ReadsOn-reading_on l s) to_do (follows-nothing s.follows none is) enough)
+Stepped-with_sprung l n s (Some name) to_do none is enough =
     let called : Called = called_by name s.input.names in
     Stepped-unless_refused l n (first_passed l (grown (sprung_read called s))) s _ (HasNeared (sprung-nearer l called name s to_do is))
 
 -- one of a run that hasn't ended
-Stepped-step_with : (l : Limits) (n : ℕ) (s : State) (es : List PageEvent) → s.to_do ≡ es → turns_needed l s ≤ suc n → Stepped l n s (step_with l es s)
-Stepped-step_with l n s [] to_do enough = Stepped-with_sprung l n s s.sprung to_do refl enough
-Stepped-step_with l n s (e ∷ es) to_do enough =
+Stepped-step_with : (l : Limits) (n : ℕ) (s : State) (es : List PageEvent) → s.to_do ≡ es → s.follows.text ≡ None → turns_needed l s ≤ suc n
+    → Stepped l n s (step_with l es s)
+Stepped-step_with l n s [] to_do none enough = Stepped-with_sprung l n s s.follows.sprung to_do none refl enough
+Stepped-step_with l n s (e ∷ es) to_do none enough =
     performing-nearer l n e es s (next s.history e) to_do refl (comes_before s.history e)
+
+-- a text that has changed is nearer
+text-nearer : (l : Limits) (due : TextDue) (s : State) → s.follows.text ≡ Some due → IsNearer l s (text_done due s)
+text-nearer l due s is =
+    text-holds (λ (t : State). IsNearer l s t) due s (λ names texts. record { steps = rw is (omega arith); turns = omega arith })
+
+Stepped-step_behind : (l : Limits) (n : ℕ) (s : State) (text : Option TextDue) → s.follows.text ≡ text → turns_needed l s ≤ suc n
+    → Stepped l n s (step_behind l text s)
+Stepped-step_behind l n s None none enough = Stepped-step_with l n s s.to_do refl none enough
+Stepped-step_behind l n s (Some due) is enough =
+    Stepped-unless_refused l n (first_passed l (grown (text_done due s))) s _ (HasNeared (text-nearer l due s is))
 
 -- a step
 Stepped-step : (l : Limits) (n : ℕ) (s : State) → turns_needed l s ≤ suc n → Stepped l n s (step l s)
 Stepped-step l n s enough =
     elim (ended_or_not s.ended) [
       | inl ended ↦ HasEnded (rw (step-ended l s ended) ended)
-      | inr going ↦ subst (λ (t : State). Stepped l n s t) (sym (step-going l s going)) (Stepped-step_with l n s s.to_do refl enough)
+      | inr going ↦ subst (λ (t : State). Stepped l n s t) (sym (step-going l s going))
+          (Stepped-step_behind l n s s.follows.text refl enough)
     ]
 
 -- some phase is left
@@ -266,9 +256,9 @@ EndsWithin-steps l (suc k) n s few enough =
     steps_on l k n s (step l s) few enough (Stepped-step l n s enough) (EndsWithin-steps l k n (step l s))
 
 -- a turn is so many steps whose messages are bounded
-turn-told_after : (l : Limits) (s : State) → turn l s ≡ told_after l (suc (3 * length s.to_do + 1)) s
+turn-told_after : (l : Limits) (s : State) → turn l s ≡ told_after l (suc (5 * length s.to_do + 2)) s
 turn-told_after l s =
-    let k : ℕ = 3 * length s.to_do + 1 in
+    let k : ℕ = 5 * length s.to_do + 2 in
     let more : k + 1 ≡ suc k = omega arith in
     sym (told_after-add l k 1 s) ∙ ap (λ (n : ℕ). told_after l n s) more
 
@@ -280,18 +270,18 @@ EndsWithin-told l n k s t (StopsBefore m few going within beyond) ends = inl ref
 -- a turn leaves one fewer
 EndsWithin-turn : (l : Limits) (n : ℕ) (s : State) → length s.messages ≤ l.messages → EndsWithin l (suc n) s → EndsWithin l n (turn l s)
 EndsWithin-turn l n s within (inl ended) =
-    let stays : turn l s ≡ s = turn-told_after l s ∙ told_after-ended l (suc (3 * length s.to_do + 1)) s ended in
+    let stays : turn l s ≡ s = turn-told_after l s ∙ told_after-ended l (suc (5 * length s.to_do + 2)) s ended in
     inl (subst (λ (t : State). IsSome t.ended) (sym stays) ended)
 EndsWithin-turn l n s within (inr enough) =
-    let k : ℕ = 3 * length s.to_do + 1 in
-    let few : steps_of s ≤ k = steps_before-few s.to_do s.sprung s.history in
+    let k : ℕ = 5 * length s.to_do + 2 in
+    let few : steps_of s ≤ k = steps_of-few s in
     subst (λ (t : State). EndsWithin l n t) (sym (turn-told_after l s))
     (EndsWithin-told l n (suc k) s _ (told_or_stopped l (suc k) s within) (EndsWithin-steps l k n s few enough))
 
 -- and its messages stay within the limit
 messages-turn : (l : Limits) (s : State) → length s.messages ≤ l.messages → length (turn l s).messages ≤ l.messages
 messages-turn l s within =
-    let k : ℕ = suc (3 * length s.to_do + 1) in
+    let k : ℕ = suc (5 * length s.to_do + 2) in
     subst (λ (t : State). length t.messages ≤ l.messages) (sym (turn-told_after l s)) (within-told l k s _ (told_or_stopped l k s within))
 
 -- turns of a run that has ended
@@ -354,7 +344,7 @@ ToldLeads-turns : (l : Limits) (n : ℕ) (s : State) → ToldLeads l s (turns l 
 ToldLeads-turns l zero s = ToldLeads-refl l s
 ToldLeads-turns l (suc n) s =
     let Goal : State → Type 0 = λ t. ToldLeads l s t in
-    let to_turn : ToldLeads l s (turn l s) = record { steps = suc (3 * length s.to_do + 1); there = sym (turn-told_after l s) } in
+    let to_turn : ToldLeads l s (turn l s) = record { steps = suc (5 * length s.to_do + 2); there = sym (turn-told_after l s) } in
     elim (ended_or_not s.ended) [
       | inl ended ↦ subst Goal (sym (turns-ended l (suc n) s ended)) (ToldLeads-refl l s)
       | inr going ↦

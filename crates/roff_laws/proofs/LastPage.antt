@@ -62,7 +62,6 @@ so_far-eject_by h false is so_far writes goes =
       unended = λ goes. absurd (cc);
       ended = λ over. inl none;
       unbegun = so_far.unbegun;
-      diversions = so_far.diversions;
     }
 
 pub so_far-eject_last : (h : PageHistory) → (layout_of h).is_over ≡ false → IsSoFar h → IsSoFar (Page EjectLast ∷ h)

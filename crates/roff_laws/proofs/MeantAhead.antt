@@ -1,5 +1,5 @@
 -- Events that an item may mean are so as a run closes, and where they are put back.
-use Rattle.std.proofs.Common.{◌++◌, Bool, false, List, [], ◌∷◌, map, Option, Some, None}
+use Rattle.std.proofs.Common.{◌++◌, Bool, true, false, List, [], ◌∷◌, map, Option, Some, None}
 use Rattle.roff_input.specs.Input.{Ahead, ByteAhead, FreeAhead, EndAhead, ReturnAhead, DoAhead}
 use Rattle.roff_input.specs.Input.Calls.{called_text}
 use Rattle.roff_input.specs.Input.Names.{body_named}
@@ -9,14 +9,19 @@ use Rattle.roff_layout.specs.declared.layout_event.LayoutEvent.{LayoutEvent}
 use Rattle.roff_layout.specs.declared.layout_event.LayoutEvent.TheVariants.{ListPages, Begin, Close, Space, Need, Eject, EjectTo, EjectOn, EjectLast, Length, Offset, Next, Number, NoSpace, Plant, Uproot, MoveTrap, RemoveTrap, DiversionTrap, NoDiversionTrap, Divert, EndDivert}
 use Rattle.roff_run.specs.Reading.Calls.{called_last, last_called}
 use Rattle.roff_run.specs.Reading.Items.{PageInput}
-use Rattle.roff_run.specs.PageEvents.{PageEvent}
+use Rattle.roff_run.specs.PageEvents.{PageEvent, PageHistory}
 use Rattle.roff_run.specs.Requests.{called_by}
-use Rattle.roff_run.specs.Titles.{put_back}
+use Rattle.roff_run.specs.Titles.{put_back, told}
 use Rattle.roff_run.specs.declared.event.PageEvent.TheVariants.{Text, Page, Interrupt, Environment, Back, InputTrap as SetsTrap, Title}
 use Rattle.roff_run.specs.declared.request.Called.{Called}
 use Rattle.roff_run.specs.declared.request.Called.TheVariants.{Request as ARequest, Body as ABody, Nothing as Unknown}
 use Rattle.roff_run.proofs.GrowingAhead.{Grows, Stays, WithByte, WithEnd, WithFree, WithReturn, ahead-called}
 use Rattle.roff_run.proofs.MeantEvents.{AllMeant, AreMeant, IsMeant, MayBe}
+use Rattle.roff_run.specs.Springs.{left_if, left_of}
+use Rattle.roff_layout.specs.Springs.{goes_on}
+use Rattle.roff_layout.specs.Happenings.{Does}
+use Rattle.roff_run.specs.Layouts.{layout_of}
+use Rattle.roff_run.specs.Registers.{AllRegisters}
 
 -- what is meant at any time is so as a run closes
 meant-closing : (closing : Bool) (e : LayoutEvent) → IsMeant false e → IsMeant closing e
@@ -38,10 +43,10 @@ meant-closing closing (RemoveTrap name) meant = meant
 meant-closing closing (ListPages first last) meant = absurd meant
 meant-closing closing Begin meant = absurd meant
 meant-closing closing Close meant = absurd meant
-meant-closing closing (DiversionTrap trap) meant = absurd meant
-meant-closing closing NoDiversionTrap meant = absurd meant
-meant-closing closing (Divert name appends) meant = absurd meant
-meant-closing closing EndDivert meant = absurd meant
+meant-closing closing (DiversionTrap trap) meant = meant
+meant-closing closing NoDiversionTrap meant = meant
+meant-closing closing (Divert name appends) meant = meant
+meant-closing closing EndDivert meant = meant
 
 may-closing : (closing : Bool) (e : PageEvent) → MayBe false e → MayBe closing e
 may-closing closing (Page e) may = meant-closing closing e may
@@ -101,3 +106,39 @@ ahead-called_last Unknown i = Stays
 pub ahead-last_called : (name : Option ShortName) (i : PageInput) → Grows i.ahead (last_called name i).ahead
 ahead-last_called None i = Stays
 ahead-last_called (Some name) i = ahead-called_last (called_by name i.names) i
+
+-- what goes on of an eject is meant where that was
+meant-left_if : (closing goes : Bool) (e : LayoutEvent) → AllMeant closing (Page e ∷ []) → AllMeant closing (left_if goes e)
+meant-left_if closing false e meant = tt
+meant-left_if closing true (Eject asked) meant = meant
+meant-left_if closing true (EjectTo asked number) meant = meant
+meant-left_if closing true (EjectOn asked) meant = meant
+meant-left_if closing true EjectLast meant = meant
+meant-left_if closing true (Space k) meant = meant
+meant-left_if closing true (Need k) meant = meant
+meant-left_if closing true (Length k) meant = meant
+meant-left_if closing true (Offset k) meant = meant
+meant-left_if closing true (Next n) meant = meant
+meant-left_if closing true (Number n) meant = meant
+meant-left_if closing true (NoSpace on) meant = meant
+meant-left_if closing true (Plant trap) meant = meant
+meant-left_if closing true (Uproot place) meant = meant
+meant-left_if closing true (MoveTrap name place) meant = meant
+meant-left_if closing true (RemoveTrap name) meant = meant
+meant-left_if closing true (ListPages first last) meant = meant
+meant-left_if closing true Begin meant = meant
+meant-left_if closing true Close meant = meant
+meant-left_if closing true (DiversionTrap trap) meant = meant
+meant-left_if closing true NoDiversionTrap meant = meant
+meant-left_if closing true (Divert name appends) meant = meant
+meant-left_if closing true EndDivert meant = meant
+
+pub meant-left_of : (closing : Bool) (rs : AllRegisters) (h : PageHistory) (e : PageEvent) → AllMeant closing (e ∷ [])
+    → AllMeant closing (left_of h (told rs e))
+meant-left_of closing rs h (Page e) meant = meant-left_if closing (goes_on (Does e) (layout_of h)) e meant
+meant-left_of closing rs h (Text e) meant = tt
+meant-left_of closing rs h (Interrupt untold) meant = tt
+meant-left_of closing rs h (Environment number) meant = tt
+meant-left_of closing rs h Back meant = tt
+meant-left_of closing rs h (SetsTrap trap) meant = tt
+meant-left_of closing rs h (Title which) meant = tt

@@ -17,7 +17,7 @@ use Rattle.roff_layout.specs.Queries.{takes_text}
 use Rattle.roff_layout.specs.Springs.{goes_on}
 use Rattle.roff_layout.specs.Turning.{with_event}
 use Rattle.roff_layout.specs.declared.layout_event.LayoutEvent.{LayoutEvent}
-use Rattle.roff_layout.specs.declared.layout_event.LayoutEvent.TheVariants.{ListPages, Begin, Close, Space, Need, Eject, EjectTo, EjectOn, EjectLast, Length, Offset, Next, Number, NoSpace, Plant, Uproot, MoveTrap, RemoveTrap, DiversionTrap, NoDiversionTrap, Divert, EndDivert}
+use Rattle.roff_layout.specs.declared.layout_event.LayoutEvent.TheVariants.{Begin, Close, EjectLast}
 use Rattle.roff_run.specs.Environments.{PageHistory}
 use Rattle.roff_run.specs.Events.Lines.{closing_events}
 use Rattle.roff_run.specs.Layouts.{layout_of}
@@ -25,21 +25,21 @@ use Rattle.roff_run.specs.Output.{written}
 use Rattle.roff_run.specs.Requests.{called_by}
 use Rattle.roff_run.specs.Requests.Effects.{page_numbered}
 use Rattle.roff_run.specs.Requests.Numbering.{number_of_page}
-use Rattle.roff_run.specs.Run.{State, initial, paged_state, performing, phase_ended, step, step_with, told_after, told_step, unless_refused, with_registers}
+use Rattle.roff_run.specs.Run.{State, grown, initial, paged_state, performing, phase_ended, step, step_behind, step_with, text_done, told_after, told_step, unless_refused, with_registers}
 use Rattle.roff_run.specs.Run.Counts.{first_passed, names_counted}
 use Rattle.roff_run.specs.Springs.{begins, left_if, left_of, next, page_begin_or}
 use Rattle.roff_run.specs.Starts.{history_given, pages_given, with_given}
 use Rattle.roff_run.specs.PageEvents.{PageEvent}
 use Rattle.roff_run.specs.Registers.{AllRegisters}
-use Rattle.roff_run.specs.Titles.{put_back, title_told, told}
-use Rattle.roff_run.specs.declared.event.PageEvent.TheVariants.{Text, Page, Interrupt, Environment, Back, InputTrap as SetsTrap, Title}
+use Rattle.roff_run.specs.Titles.{put_back, told}
+use Rattle.roff_run.specs.declared.event.PageEvent.TheVariants.{Text, Page}
 use Rattle.roff_run.specs.declared.phase.Phase.{Phase}
 use Rattle.roff_run.specs.declared.phase.Phase.TheVariants.{Reading, LastMacro, Closing}
 use Rattle.roff_run.specs.declared.status.Status.{Status}
 use Rattle.roff_run.specs.declared.status.Status.TheVariants.{Aborted, Done, Device, Limit as Limited}
 use Rattle.roff_run.specs.declared.start.Start.{Start}
 use Rattle.roff_run.proofs.GivenPages.{keeps-given}
-use Rattle.roff_run.proofs.Readings.{ReadsOn, LimitStops, AheadTaken, ByteTaken, NoteTaken, HalfEnds, InputLeft, LineEnds, PhaseEnds, MessageTold, RunAborts, SourceFails, SourceStops, SprungRead, ReadsOn-with_sprung}
+use Rattle.roff_run.proofs.Readings.{ReadsOn, LimitStops, AheadTaken, ByteTaken, NoteTaken, HalfEnds, InputLeft, LineEnds, PhaseEnds, MessageTold, RunAborts, SourceFails, SourceStops, SprungRead, ReadsOn-with_sprung, TextChanged}
 use Rattle.roff_run.proofs.Behind.{Behind-ahead_taken, Behind-sprung_read}
 use Rattle.roff_laws.specs.PageLaws.{WritesWholePages}
 use Rattle.roff_laws.specs.TrapLaws.{IsAmong, IsPutBack, Waits}
@@ -48,46 +48,18 @@ use Rattle.roff_laws.proofs.ComesBefore.{ComesBefore, NothingComes, PageComes, W
 use Rattle.roff_laws.proofs.Told.{told_step-holds}
 use Rattle.roff_laws.proofs.Endings.{at_last_state, not-ended, step-ended, step-going}
 use Rattle.roff_laws.proofs.InputLeaving.{IsLeft-left_in}
-use Rattle.roff_run.proofs.MeantEvents.{AllMeant, AreMeant, MayBe}
+use Rattle.roff_run.proofs.MeantEvents.{AllMeant, AreMeant}
 use Rattle.roff_laws.proofs.MeantAhead.{AllMeantAhead, ahead-back, meant-back}
-use Rattle.roff_laws.proofs.LastPage.{IsWhole, eject-over, is_whole, so_far-eject_last}
-use Rattle.roff_laws.proofs.PagesByRequests.{so_far-eject, so_far-eject_on, so_far-eject_to, so_far-move, so_far-need, so_far-no_space, so_far-plant, so_far-remove, so_far-space, so_far-uproot}
-use Rattle.roff_laws.proofs.PagesSoFar.{IsSoFar, so_far-begin, so_far-blank, so_far-close, so_far-length, so_far-listed, so_far-next, so_far-nothing, so_far-number, so_far-offset, so_far-text, so_far-title}
+use Rattle.roff_laws.proofs.LastPage.{IsWhole, eject-over, is_whole}
+use Rattle.roff_laws.proofs.PagesByRequests.{so_far-event}
+use Rattle.roff_laws.proofs.PagesSoFar.{IsSoFar, so_far-begin, so_far-blank, so_far-close, so_far-listed, so_far-next, so_far-number, so_far-text}
 use Rattle.roff_laws.proofs.PerformedOrStopped.{PerformedOrStopped, Performed, Sprang, EndsOver, StoppedAt, first_of, left_behind, performed_or_stopped}
 use Rattle.roff_laws.proofs.Stages.{Goes, HasMeant, LaidOpen, Stage, Closes as StageCloses, Stage-given, Stage-paged, history-read, meant-last_called, meant-left, meant-performed, meant-read, open-first}
 use Rattle.roff_laws.proofs.WaitingEvents.{IsLost, RunEnds, StillWaits, WaitsStill, among-behind, among-front, back-among, back-behind, none_back, put_back_where_idle, waits-read}
-
--- behind an event that requests mean, with nothing before it
-so_far-event : (closing : Bool) (rs : AllRegisters) (h : PageHistory) (e : PageEvent) → MayBe closing e → begins h e ≡ false
-    → (layout_of h).is_over ≡ false → IsSoFar h → IsSoFar (told rs e ∷ h)
-so_far-event closing rs h (Text e) meant none goes so_far = so_far-text h e none goes so_far
-so_far-event closing rs h (Interrupt untold) meant none goes so_far = λ keeps writes. so_far-nothing h (so_far keeps.1 writes.1)
-so_far-event closing rs h (Environment number) meant none goes so_far = λ keeps writes. so_far-nothing h (so_far keeps.1 writes.1)
-so_far-event closing rs h Back meant none goes so_far = λ keeps writes. so_far-nothing h (so_far keeps.1 writes.1)
-so_far-event closing rs h (SetsTrap trap) meant none goes so_far = λ keeps writes. so_far-nothing h (so_far keeps.1 writes.1)
-so_far-event closing rs h (Title which) meant none goes so_far = so_far-title h (title_told rs which) none goes so_far
-so_far-event closing rs h (Page (Space k)) meant none goes so_far = so_far-space h k none goes so_far
-so_far-event closing rs h (Page (Need k)) meant none goes so_far = so_far-need h k none goes so_far
-so_far-event closing rs h (Page (Eject asked)) meant none goes so_far = so_far-eject h asked meant goes so_far
-so_far-event closing rs h (Page (EjectTo asked number)) meant none goes so_far = so_far-eject_to h asked number meant goes so_far
-so_far-event closing rs h (Page (EjectOn asked)) meant none goes so_far = so_far-eject_on h asked meant goes so_far
-so_far-event closing rs h (Page EjectLast) meant none goes so_far = so_far-eject_last h goes so_far
-so_far-event closing rs h (Page (Length k)) meant none goes so_far = so_far-length h k meant goes so_far
-so_far-event closing rs h (Page (Number n)) meant none goes so_far = so_far-number h n so_far
-so_far-event closing rs h (Page (Offset k)) meant none goes so_far = so_far-offset h k so_far
-so_far-event closing rs h (Page (Next n)) meant none goes so_far = so_far-next h n so_far
-so_far-event closing rs h (Page (NoSpace on)) meant none goes so_far = so_far-no_space h on so_far
-so_far-event closing rs h (Page (Plant trap)) meant none goes so_far = so_far-plant h trap so_far
-so_far-event closing rs h (Page (Uproot place)) meant none goes so_far = so_far-uproot h place so_far
-so_far-event closing rs h (Page (MoveTrap name place)) meant none goes so_far = so_far-move h name place so_far
-so_far-event closing rs h (Page (RemoveTrap name)) meant none goes so_far = so_far-remove h name so_far
-so_far-event closing rs h (Page (ListPages first last)) meant none goes so_far = absurd meant
-so_far-event closing rs h (Page Begin) meant none goes so_far = absurd meant
-so_far-event closing rs h (Page Close) meant none goes so_far = absurd meant
-so_far-event closing rs h (Page (DiversionTrap trap)) meant none goes so_far = absurd meant
-so_far-event closing rs h (Page NoDiversionTrap) meant none goes so_far = absurd meant
-so_far-event closing rs h (Page (Divert name appends)) meant none goes so_far = absurd meant
-so_far-event closing rs h (Page EndDivert) meant none goes so_far = absurd meant
+use Rattle.roff_layout.specs.DueTexts.{TextDue}
+use Rattle.roff_laws.proofs.TextsChanged.{text-holds, with_texts_done}
+use Rattle.roff_store.specs.Named.{Named}
+use Rattle.roff_store.specs.Texts.{Entry}
 
 -- where no text is taken no page was begun
 unbegun : (begun : ℕ) (diverting : Bool) → (not (begun == 0) || diverting) ≡ false → begun ≡ 0
@@ -260,6 +232,8 @@ Writes-read l s t (InputLeft leaves is_made) idle going reads meant laid so_far 
 Writes-read l s t (SprungRead name sprung is_made) idle going reads meant laid so_far =
     let read = Behind-sprung_read (called_by name s.input.names) s in
     reads-on l s t (SprungRead name sprung is_made) read.phase read.ended idle going reads meant laid so_far
+Writes-read l s t (TextChanged due text is_made) idle going reads meant laid so_far =
+    text-holds Written due s (λ names texts. Reads going reads (record { to_do = meant.to_do; ahead = meant.ahead }) laid so_far)
 Writes-read l s t (SourceFails is_open fails) idle going reads meant laid so_far = Over Device refl (λ done. absurd (cc))
 Writes-read l s t (SourceStops limit is_open stops) idle going reads meant laid so_far = Over (Limited limit) refl (λ done. absurd (cc))
 
@@ -286,6 +260,16 @@ closes-on l s t read phase ended idle is so_far =
       | inr passed ↦ absurd (none_back (Page EjectLast) s.input.ahead passed.none (put_back_where_idle (Page EjectLast) s idle is.waits))
     ]
 
+closing-texts : (s : State) (names : Named Entry) (texts : List (List ℕ)) → IsClosing s → IsClosing (with_texts_done names texts s)
+closing-texts s names texts is = record {
+  going = is.going;
+  phase = is.phase;
+  meant = record { to_do = is.meant.to_do; ahead = is.meant.ahead };
+  waits = is.waits;
+  closing = is.closing;
+  over = is.over;
+}
+
 Closes-read : (l : Limits) (s t : State) → ReadsOn l s t → s.to_do ≡ [] → IsClosing s → IsSoFar s.history → Written t
 Closes-read l s t (LimitStops limit) idle is so_far = Over (Limited limit) refl (λ done. absurd (cc))
 Closes-read l s t (AheadTaken item behind ahead charge is_made) idle is so_far =
@@ -305,6 +289,8 @@ Closes-read l s t (InputLeft leaves is_made) idle is so_far =
 Closes-read l s t (SprungRead name sprung is_made) idle is so_far =
     let read = Behind-sprung_read (called_by name s.input.names) s in
     closes-on l s t (SprungRead name sprung is_made) read.phase read.ended idle is so_far
+Closes-read l s t (TextChanged due text is_made) idle is so_far =
+    text-holds Written due s (λ names texts. Closes (closing-texts s names texts is) so_far)
 Closes-read l s t (SourceFails is_open fails) idle is so_far = Over Device refl (λ done. absurd (cc))
 Closes-read l s t (SourceStops limit is_open stops) idle is so_far = Over (Limited limit) refl (λ done. absurd (cc))
 
@@ -322,24 +308,47 @@ Writes-reading l (e ∷ es) s to_do going reads is laid so_far =
     (meant-performed false l (first_of own e) (left_behind own e es s) s _ done (meant-left false own e es s meant) is)
     (open-first s.registers h e own (comes_before h e) meant.0 laid) written_on
 Writes-reading l [] s to_do going reads is laid so_far =
-    Writes-read l s _ (ReadsOn-with_sprung l s.sprung s refl) to_do going reads is laid so_far
+    Writes-read l s _ (ReadsOn-with_sprung l s.follows.sprung s refl) to_do going reads is laid so_far
 
 -- one of a run that closes
 Writes-closing : (l : Limits) (es : List PageEvent) (s : State) → s.to_do ≡ es → IsClosing s → IsSoFar s.history → Written (step_with l es s)
 Writes-closing l (e ∷ es) s to_do is so_far =
     let own : Option PageEvent = next s.history e in
     closes-by l own e es s _ to_do (comes_before s.history e) (performed_or_stopped l own e es s) is so_far
-Writes-closing l [] s to_do is so_far = Closes-read l s _ (ReadsOn-with_sprung l s.sprung s refl) to_do is so_far
+Writes-closing l [] s to_do is so_far = Closes-read l s _ (ReadsOn-with_sprung l s.follows.sprung s refl) to_do is so_far
+
+-- the text of a diversion changes, and what was written stays; or a limit stops the run
+written-texts : (names : Named Entry) (texts : List (List ℕ)) (s : State) → Written s → Written (with_texts_done names texts s)
+written-texts names texts s (Reads going reads is laid so_far) =
+    Reads going reads (record { to_do = is.to_do; ahead = is.ahead }) laid so_far
+written-texts names texts s (ClosesAt going phase to_do none goes so_far) = ClosesAt going phase to_do none goes so_far
+written-texts names texts s (Closes is so_far) = Closes (closing-texts s names texts is) so_far
+written-texts names texts s (Over status ended whole) = Over status ended whole
+
+Writes-unless_refused : (l : Limits) (r : Option Limit) (s done : State) → Written done → Written (unless_refused l r s done)
+Writes-unless_refused l None s done written = written
+Writes-unless_refused l (Some limit) s done written = Over (Limited limit) refl (λ done. absurd (cc))
+
+Writes-step_behind : (l : Limits) (due : Option TextDue) (s : State) → Written s → Written (step_with l s.to_do s)
+    → Written (step_behind l due s)
+Writes-step_behind l None s written others = others
+Writes-step_behind l (Some due) s written others =
+    Writes-unless_refused l (first_passed l (grown (text_done due s))) s (text_done due s)
+    (text-holds Written due s (λ names texts. written-texts names texts s written))
 
 -- a step
 Writes-step : (l : Limits) (s : State) → Written s → Written (step l s)
 Writes-step l s (Reads going reads is laid so_far) =
-    subst Written (sym (step-going l s going)) (Writes-reading l s.to_do s refl going reads is laid so_far)
+    subst Written (sym (step-going l s going))
+    (Writes-step_behind l s.follows.text s (Reads going reads is laid so_far) (Writes-reading l s.to_do s refl going reads is laid so_far))
 Writes-step l s (ClosesAt going phase to_do none goes so_far) =
     let first : Written (step_with l closing_events s) = begins-closing l s going phase none so_far in
-    subst Written (sym (step-going l s going)) (subst (λ (es : List PageEvent). Written (step_with l es s)) (sym to_do) first)
+    subst Written (sym (step-going l s going))
+    (Writes-step_behind l s.follows.text s (ClosesAt going phase to_do none goes so_far)
+    (subst (λ (es : List PageEvent). Written (step_with l es s)) (sym to_do) first))
 Writes-step l s (Closes is so_far) =
-    subst Written (sym (step-going l s is.going)) (Writes-closing l s.to_do s refl is so_far)
+    subst Written (sym (step-going l s is.going))
+    (Writes-step_behind l s.follows.text s (Closes is so_far) (Writes-closing l s.to_do s refl is so_far))
 Writes-step l s (Over status ended whole) =
     subst Written (sym (step-ended l s (ap is_some ended))) (Over status ended whole)
 
@@ -352,10 +361,6 @@ Writes-told_after l (suc n) s written =
 so_far-numbered : (n : Option Num) (h : PageHistory) → IsSoFar h → IsSoFar (page_numbered n ++ h)
 so_far-numbered None h so_far = so_far
 so_far-numbered (Some n) h so_far = so_far-number h n so_far
-
-Writes-unless_refused : (l : Limits) (r : Option Limit) (s done : State) → Written done → Written (unless_refused l r s done)
-Writes-unless_refused l None s done written = written
-Writes-unless_refused l (Some limit) s done written = Over (Limited limit) refl (λ done. absurd (cc))
 
 written-stage : (s : State) → Stage s → s.ended ≡ None → s.phase ≡ Reading → IsSoFar s.history → Written s
 written-stage s (Goes is laid) going reads so_far = Reads going (λ closing. let wrong : Reading ≡ Closing = sym reads ∙ closing in absurd (cc)) is laid so_far

@@ -14,6 +14,8 @@ use Rattle.roff_run.specs.PageEvents.{PageEvent, PageHistory}
 use Rattle.roff_run.specs.Registers.{AllRegisters}
 use Rattle.roff_run.specs.Titles.{title_told, told}
 use Rattle.roff_run.specs.declared.event.PageEvent.TheVariants.{Text, Page, Interrupt, Environment, Back, InputTrap as SetsTrap, Title}
+use Rattle.roff_laws.proofs.PutHolds.{put-holds}
+use Rattle.roff_layout.specs.Stops.{is_diverted}
 
 -- behind what is put
 begun-turned : (full closing : Bool) (N : Layout)
@@ -26,7 +28,9 @@ begun-put : (x : Happening) (p : Option Put) (boxes : List Box) (L : Layout) →
     → L.begun ≤ (behind_put x p boxes L).begun
 begun-put x None boxes L unput = unput
 begun-put x (Some p) boxes L unput =
-    let N : Layout = with_boxes x boxes (record L { next = next_behind x L.next }) in begun-turned (nat_le N.length (page_place N)) N.is_closing N
+    let N : Layout = with_boxes x boxes (record L { next = next_behind x L.next }) in
+    put-holds (λ (M : Layout). L.begun ≤ M.begun) (is_diverted x L) N (omega arith)
+    (begun-turned (nat_le N.length (page_place N)) N.is_closing N)
 
 begun-text : (x : Option Finished) (L : Layout) → L.begun ≤ (laid_out (option_map Places x) L).begun
 begun-text None L = omega arith

@@ -9,12 +9,12 @@ use Rattle.roff_layout.specs.declared.event.Event.{Event}
 use Rattle.roff_layout.specs.declared.event.Event.TheVariants.{Print, Tab, WordEnd, Gap, LineEnd, Count, Break, Interrupt as Interrupted, Resume, Set}
 use Rattle.roff_num.specs.declared.num.Num.{Num}
 use Rattle.roff_layout.specs.DeviceText.{box_line, device_lines, device_text}
-use Rattle.roff_layout.specs.Happenings.{Happening, Does, Places, Titles}
-use Rattle.roff_layout.specs.Layout.{Box, Diversion, Layout, page_place}
+use Rattle.roff_layout.specs.Happenings.{Happening, Does, Places, Titles, is_eject}
+use Rattle.roff_layout.specs.Layout.{Box, Layout, page_place}
 use Rattle.roff_layout.specs.Puts.{Put, appended, puts}
 use Rattle.roff_layout.specs.Queries.{takes_text}
 use Rattle.roff_layout.specs.Stops.{is_diverted}
-use Rattle.roff_layout.specs.Turning.{behind_put, in_innermost, next_behind, page_begun, turned_if_full, with_boxes, with_event, with_range}
+use Rattle.roff_layout.specs.Turning.{behind_put, next_behind, page_begun, turned_if_full, turned_unless, with_boxes, with_event, without_put}
 use Rattle.roff_pages.specs.WholePages.{ends_page, keeps_length, page_boxes, sizes_behind}
 use Rattle.roff_layout.specs.declared.layout_event.LayoutEvent.TheVariants.{Begin, Close, Length, ListPages, Next, Number, Offset}
 use Rattle.roff_pages.proofs.WholePages.{all_full}
@@ -27,8 +27,9 @@ use Rattle.roff_run.specs.declared.event.PageEvent.TheVariants.{Page, Text, Titl
 use Rattle.roff_run.specs.declared.title.WhichTitle.TheVariants.{Read}
 use Rattle.roff_laws.specs.PageLaws.{KeepsLength, PageLine, WritesEachPage, lines_text, pages_text}
 use Rattle.roff_laws.proofs.RunsStayWithin.{nothing_by_test}
+use Rattle.roff_layout.specs.declared.layout_event.LayoutEvent.{LayoutEvent}
 
--- whole pages, and the page in force: its lines, and that it is full where it was the last; no diversion is open
+-- whole pages, and the page in force: its lines, and that it is full where it was the last
 pub record SoFar (L : Layout) (text : List ℕ) : Type 0 where
   pub pages : List (List PageLine)
   pub page : List PageLine
@@ -39,7 +40,6 @@ pub record SoFar (L : Layout) (text : List ℕ) : Type 0 where
   pub unended : L.is_over ≡ false → page_place L < L.length
   pub ended : L.is_over ≡ true → (length page ≡ 0) ⊎ (length page ≡ L.length)
   pub unbegun : L.begun ≡ 0 → (pages ≡ []) × (L.boxes ≡ [])
-  pub diversions : L.diversions ≡ []
 
 -- lines of these boxes, behind this offset
 abbrev lines_at : ℕ → List Box → List PageLine
@@ -61,7 +61,6 @@ record HasPut (L N : Layout) (more : List Box) : Type 0 where
   length : N.length ≡ L.length
   begun : N.begun ≡ L.begun
   over : N.is_over ≡ false
-  diversions : N.diversions ≡ []
   full : nat_le N.length (page_place N) ≡ true → page_place N ≡ N.length
 
 -- the page has these lines then: it is in force still, or it was a whole one
@@ -79,7 +78,6 @@ so_far-turned true true L N text boxes pages page put some begun full written si
   unended = λ goes. absurd (cc);
   ended = λ over. inr (size ∙ put.full is);
   unbegun = λ at_first. absurd (begun at_first);
-  diversions = put.diversions;
 }
 so_far-turned true false L N text boxes pages page put some begun full written size is = record {
   pages = page ∷ pages;
@@ -91,7 +89,6 @@ so_far-turned true false L N text boxes pages page put some begun full written s
   unended = λ goes. some;
   ended = λ over. let wrong : true ≡ false = sym over ∙ put.over in absurd (cc);
   unbegun = λ at_first. absurd (omega (arith, at_first));
-  diversions = put.diversions;
 }
 so_far-turned false closing L N text boxes pages page put some begun full written size is = record {
   pages = pages;
@@ -103,7 +100,6 @@ so_far-turned false closing L N text boxes pages page put some begun full writte
   unended = λ goes. leb-false N.length (page_place N) is;
   ended = λ over. let wrong : true ≡ false = sym over ∙ put.over in absurd (cc);
   unbegun = λ at_first. absurd (begun at_first);
-  diversions = put.diversions;
 }
 
 -- behind what is put
@@ -123,6 +119,41 @@ so_far-put L N text boxes so_far begun put =
     (omega (arith, so_far.some, put.length)) (λ at_first. begun (sym put.begun ∙ at_first))
     (subst (λ (n : ℕ). AllByRecursion (λ page. length page ≡ n) so_far.pages) (sym put.length) so_far.full) written size refl
 
+-- a layout that changed nothing of its page
+pub record IsAlike (L M : Layout) : Type 0 where
+  pub boxes : M.boxes ≡ L.boxes
+  pub length : M.length ≡ L.length
+  pub over : M.is_over ≡ L.is_over
+  pub begun : M.begun ≡ L.begun
+
+pub so_far-alike : (L M : Layout) (text more : List ℕ) → more ≡ [] → IsAlike L M → SoFar L text → SoFar M (text ++ more)
+so_far-alike L M text more silent alike so_far = record {
+  pages = so_far.pages;
+  page = so_far.page;
+  full = subst (λ (n : ℕ). AllByRecursion (λ page. length page ≡ n) so_far.pages) (sym alike.length) so_far.full;
+  written = ap (λ rest. text ++ rest) silent ∙ append-nil text ∙ so_far.written;
+  size = so_far.size ∙ sym (ap (λ (all : List Box). length all) alike.boxes);
+  some = omega (arith, so_far.some, alike.length);
+  unended =
+      λ goes.
+      let before = so_far.unended (sym alike.over ∙ goes) in
+      let place : page_place M ≡ page_place L = ap (λ (all : List Box). length all) alike.boxes in
+      omega (arith, before, place, alike.length);
+  ended =
+      λ over. subst (λ (n : ℕ). (length so_far.page ≡ 0) ⊎ (length so_far.page ≡ n)) (sym alike.length)
+      (so_far.ended (sym alike.over ∙ over));
+  unbegun = λ at_first. let none = so_far.unbegun (sym alike.begun ∙ at_first) in (none.0, alike.boxes ∙ none.1);
+}
+
+-- an event that puts nothing, and changes nothing of the page
+pub so_far-quiet : (h : PageHistory) (e : LayoutEvent) → IsAlike (layout_of h) (without_put e (layout_of h))
+    → SoFar (layout_of h) (written h)
+    → let L : Layout = layout_of h in
+    SoFar (without_put e L) (written h ++ (if is_diverted (Does e) L || not L.is_listed then [] else device_lines L.offset []))
+so_far-quiet h e alike so_far =
+    let L : Layout = layout_of h in
+    so_far-alike L (without_put e L) (written h) _ (nothing_by_test (is_diverted (Does e) L || not L.is_listed) L.offset) alike so_far
+
 -- what fills a page fills it just so
 size_of : (ended over : Bool) (size length : ℕ) → ended ≡ true → AllByRecursion (λ n. n ≡ length) (sizes_behind ended over size []) → size ≡ length
 size_of true true size length is all = all.0
@@ -139,7 +170,9 @@ fills : (x : Happening) (L : Layout) → keeps_length x ≡ true → is_diverted
 fills x L keeps on_page some before full =
     let boxes : page_boxes x L ≡ appended x L ++ L.boxes = ap (λ (diverted : Bool). if diverted then L.boxes else appended x L ++ L.boxes) on_page in
     let ends : ends_page x L ≡ true =
-    both_true (is_some (puts x L)) (nat_le L.length (length (page_boxes x L))) some (ap (λ (all : List Box). nat_le L.length (length all)) boxes ∙ full) in
+    both_true (is_some (puts x L)) (not (is_diverted x L) && nat_le L.length (length (page_boxes x L))) some
+    (both_true (not (is_diverted x L)) (nat_le L.length (length (page_boxes x L))) (ap not on_page)
+    (ap (λ (all : List Box). nat_le L.length (length all)) boxes ∙ full)) in
     ap (λ (all : List Box). length all) (sym boxes)
     ∙ size_of (ends_page x L) (with_event x L).is_over (length (page_boxes x L)) L.length ends (all_full (x ∷ []) L before (keeps, tt))
 
@@ -175,11 +208,24 @@ so_far-happening x (Some p) L text is some so_far on =
       length = refl;
       begun = refl;
       over = on.goes;
-      diversions = ap (λ (diverted : Bool). if diverted then in_innermost boxes L.diversions else L.diversions) on.on_page ∙ so_far.diversions;
       full = fills_page;
     } in
-    subst (λ (more : List ℕ). SoFar (turned_if_full N) (text ++ more)) (sym (put-writes (is_diverted x L) L.is_listed L.offset boxes on.on_page on.listed))
-    (so_far-put L N text boxes so_far on.begun put)
+    subst (λ (diverted : Bool). SoFar (turned_unless diverted N) (text ++ device_text x L)) (sym on.on_page)
+    (subst (λ (more : List ℕ). SoFar (turned_if_full N) (text ++ more))
+    (sym (put-writes (is_diverted x L) L.is_listed L.offset boxes on.on_page on.listed))
+    (so_far-put L N text boxes so_far on.begun put))
+
+-- what is put in a diversion leaves the page, and nothing is written of it
+so_far-diverted : (x : Happening) (p : Option Put) (L : Layout) (text : List ℕ) → is_some p ≡ true → is_diverted x L ≡ true → SoFar L text
+    → SoFar (behind_put x p (appended x L) L) (text ++ device_text x L)
+so_far-diverted x None L text some diverted so_far = absurd (cc)
+so_far-diverted x (Some p) L text some diverted so_far =
+    let boxes : List Box = appended x L in
+    let N : Layout = with_boxes x boxes (record L { next = next_behind x L.next }) in
+    let silent : device_text x L ≡ [] = ap (λ (c : Bool). if c || not L.is_listed then [] else device_lines L.offset boxes) diverted in
+    let same : N.boxes ≡ L.boxes = ap (λ (c : Bool). if c then L.boxes else boxes ++ L.boxes) diverted in
+    subst (λ (c : Bool). SoFar (turned_unless c N) (text ++ device_text x L)) (sym diverted)
+    (so_far-alike L N text (device_text x L) silent (record { boxes = same; length = refl; over = refl; begun = refl }) so_far)
 
 -- what holds of a history that kept its page length and wrote each page
 abbrev pub IsSoFar : PageHistory → Type 0
@@ -191,10 +237,10 @@ listed [] writes begun = absurd (begun refl)
 listed (e ∷ h) writes begun = elim writes.0 [ inl none ↦ absurd (begun none) | inr is ↦ is ]
 
 -- and text goes on it, where no diversion is open
-some_begun : (L : Layout) → L.diversions ≡ [] → takes_text L ≡ true → L.begun ≡ 0 → ⊥
+some_begun : (L : Layout) → is_empty L.diversions ≡ true → takes_text L ≡ true → L.begun ≡ 0 → ⊥
 some_begun L none takes at_first =
     let first : (not (L.begun == 0) || not (is_empty L.diversions)) ≡ (not (L.begun == 0) || false) =
-    ap (λ (ds : List Diversion). not (L.begun == 0) || not (is_empty ds)) none in
+    ap (λ (c : Bool). not (L.begun == 0) || not c) none in
     let second : (not (L.begun == 0) || false) ≡ false = ap (λ (n : ℕ). not (n == 0) || false) at_first in
     let wrong : true ≡ false = sym takes ∙ first ∙ second in absurd (cc)
 
@@ -220,27 +266,37 @@ needs-finished h Interrupted is = is
 needs-finished h Resume is = is
 needs-finished h (Set param) is = is
 
--- a happening on the page in force
-pub on_page : (x : Happening) (h : PageHistory) → SoFar (layout_of h) (written h) → WritesEachPage h → (layout_of h).is_over ≡ false
-    → takes_text (layout_of h) ≡ true → is_diverted x (layout_of h) ≡ false → keeps_length x ≡ true → OnPage x (layout_of h)
-on_page x h so_far writes goes takes there keeps =
-    let begun : (layout_of h).begun ≡ 0 → ⊥ = some_begun (layout_of h) so_far.diversions takes in
-    record { goes = goes; begun = begun; listed = listed h writes begun; on_page = there; keeps = keeps }
+-- where something is put on the page that isn't an eject no diversion is open
+none_open : (eject empty : Bool) → eject ≡ false → not (eject || empty) ≡ false → empty ≡ true
+none_open true empty placed on_page = absurd (cc)
+none_open false true placed on_page = refl
+none_open false false placed on_page = absurd (cc)
 
--- nothing is diverted
-pub not_diverted : (x : Bool) (L : Layout) → L.diversions ≡ [] → not (x || is_empty L.diversions) ≡ false
-not_diverted true L none = refl
-not_diverted false L none = ap (λ (ds : List Diversion). not (is_empty ds)) none
+-- where text is taken something is put that isn't an eject: in a diversion, or on the page in force
+so_far-taken_by : (diverted : Bool) (x : Happening) (h : PageHistory) → is_diverted x (layout_of h) ≡ diverted → is_eject x ≡ false
+    → keeps_length x ≡ true
+    → is_some (puts x (layout_of h)) ≡ true → takes_text (layout_of h) ≡ true → SoFar (layout_of h) (written h) → WritesEachPage h
+    → (layout_of h).is_over ≡ false → SoFar (with_event x (layout_of h)) (written h ++ device_text x (layout_of h))
+so_far-taken_by true x h there placed keeps some takes so_far writes goes =
+    so_far-diverted x (puts x (layout_of h)) (layout_of h) (written h) some there so_far
+so_far-taken_by false x h there placed keeps some takes so_far writes goes =
+    let L : Layout = layout_of h in
+    let begun : L.begun ≡ 0 → ⊥ = some_begun L (none_open (is_eject x) (is_empty L.diversions) placed there) takes in
+    so_far-happening x (puts x L) L (written h) refl some so_far
+    (record { goes = goes; begun = begun; listed = listed h writes begun; on_page = there; keeps = keeps })
+
+pub so_far-taken : (x : Happening) (h : PageHistory) → is_eject x ≡ false → keeps_length x ≡ true → is_some (puts x (layout_of h)) ≡ true
+    → takes_text (layout_of h) ≡ true → SoFar (layout_of h) (written h) → WritesEachPage h
+    → (layout_of h).is_over ≡ false → SoFar (with_event x (layout_of h)) (written h ++ device_text x (layout_of h))
+so_far-taken x h placed keeps some takes so_far writes goes =
+    so_far-taken_by (is_diverted x (layout_of h)) x h refl placed keeps some takes so_far writes goes
 
 -- a line that an event finishes, if it finishes one
 so_far-line : (x : Option Finished) (h : PageHistory) → SoFar (layout_of h) (written h) → WritesEachPage h → (layout_of h).is_over ≡ false
     → (is_some x ≡ true → takes_text (layout_of h) ≡ true)
     → SoFar (laid_out (option_map Places x) (layout_of h)) (written h ++ text_laid (option_map Places x) (layout_of h))
 so_far-line None h so_far writes goes takes = subst (λ (text : List ℕ). SoFar (layout_of h) text) (sym (append-nil (written h))) so_far
-so_far-line (Some line) h so_far writes goes takes =
-    let x : Happening = Places line in
-    so_far-happening x (puts x (layout_of h)) (layout_of h) (written h) refl refl so_far
-    (on_page x h so_far writes goes (takes refl) (not_diverted false (layout_of h) so_far.diversions) refl)
+so_far-line (Some line) h so_far writes goes takes = so_far-taken (Places line) h refl refl refl (takes refl) so_far writes goes
 
 pub so_far-text : (h : PageHistory) (e : Event) → begins h (Text e) ≡ false → (layout_of h).is_over ≡ false → IsSoFar h → IsSoFar (Text e ∷ h)
 so_far-text h e none goes so_far keeps writes =
@@ -252,34 +308,7 @@ pub so_far-title : (h : PageHistory) (t : TitleTold) → begins h (Title Read) �
 so_far-title h t none goes so_far keeps writes =
     let x : Happening = Titles (placed t (text_of h) (layout_of h)) in
     let before : SoFar (layout_of h) (written h) = so_far keeps.1 writes.1 in
-    so_far-happening x (puts x (layout_of h)) (layout_of h) (written h) refl refl before
-    (on_page x h before writes.1 goes (finds_page (takes_text (layout_of h)) true none refl) (not_diverted false (layout_of h) before.diversions) refl)
-
--- a layout that changed nothing of its page
-pub record IsAlike (L M : Layout) : Type 0 where
-  pub boxes : M.boxes ≡ L.boxes
-  pub length : M.length ≡ L.length
-  pub over : M.is_over ≡ L.is_over
-  pub begun : M.begun ≡ L.begun
-  pub diversions : M.diversions ≡ []
-
-pub so_far-alike : (L M : Layout) (text more : List ℕ) → more ≡ [] → IsAlike L M → SoFar L text → SoFar M (text ++ more)
-so_far-alike L M text more silent alike so_far = record {
-  pages = so_far.pages;
-  page = so_far.page;
-  full = subst (λ (n : ℕ). AllByRecursion (λ page. length page ≡ n) so_far.pages) (sym alike.length) so_far.full;
-  written = ap (λ rest. text ++ rest) silent ∙ append-nil text ∙ so_far.written;
-  size = so_far.size ∙ sym (ap (λ (all : List Box). length all) alike.boxes);
-  some = omega (arith, so_far.some, alike.length);
-  unended =
-      λ goes.
-      let before = so_far.unended (sym alike.over ∙ goes) in
-      let place : page_place M ≡ page_place L = ap (λ (all : List Box). length all) alike.boxes in
-      omega (arith, before, place, alike.length);
-  ended = λ over. subst (λ (n : ℕ). (length so_far.page ≡ 0) ⊎ (length so_far.page ≡ n)) (sym alike.length) (so_far.ended (sym alike.over ∙ over));
-  unbegun = λ at_first. let none = so_far.unbegun (sym alike.begun ∙ at_first) in (none.0, alike.boxes ∙ none.1);
-  diversions = alike.diversions;
-}
+    so_far-taken x h refl refl refl (finds_page (takes_text (layout_of h)) true none refl) before writes.1 goes
 
 -- what isn't of pages, or puts nothing
 pub so_far-nothing : (h : PageHistory) → SoFar (layout_of h) (written h) → SoFar (layout_of h) (written h ++ [])
@@ -288,41 +317,25 @@ so_far-nothing h so_far = subst (λ (text : List ℕ). SoFar (layout_of h) text)
 -- the page's number
 pub so_far-number : (h : PageHistory) (n : Num) → IsSoFar h → IsSoFar (Page (Number n) ∷ h)
 so_far-number h n so_far keeps writes =
-    let L : Layout = layout_of h in
-    let before : SoFar L (written h) = so_far keeps.1 writes.1 in
-    so_far-alike L (record L { number = n }) (written h) _ (nothing_by_test (is_diverted (Does (Number n)) L || not L.is_listed) L.offset)
-    (record { boxes = refl; length = refl; over = refl; begun = refl; diversions = before.diversions }) before
+    so_far-quiet h (Number n) (record { boxes = refl; length = refl; over = refl; begun = refl }) (so_far keeps.1 writes.1)
 
 -- the next page's, the page offset, and the pages that are written
 pub so_far-next : (h : PageHistory) (n : Num) → IsSoFar h → IsSoFar (Page (Next n) ∷ h)
 so_far-next h n so_far keeps writes =
-    let L : Layout = layout_of h in
-    let before : SoFar L (written h) = so_far keeps.1 writes.1 in
-    so_far-alike L (record L { next = Some n }) (written h) _ (nothing_by_test (is_diverted (Does (Next n)) L || not L.is_listed) L.offset)
-    (record { boxes = refl; length = refl; over = refl; begun = refl; diversions = before.diversions }) before
+    so_far-quiet h (Next n) (record { boxes = refl; length = refl; over = refl; begun = refl }) (so_far keeps.1 writes.1)
 
 pub so_far-offset : (h : PageHistory) (columns : ℕ) → IsSoFar h → IsSoFar (Page (Offset columns) ∷ h)
 so_far-offset h columns so_far keeps writes =
-    let L : Layout = layout_of h in
-    let before : SoFar L (written h) = so_far keeps.1 writes.1 in
-    so_far-alike L (record L { offset = columns; previous_offset = L.offset }) (written h) _
-    (nothing_by_test (is_diverted (Does (Offset columns)) L || not L.is_listed) L.offset)
-    (record { boxes = refl; length = refl; over = refl; begun = refl; diversions = before.diversions }) before
+    so_far-quiet h (Offset columns) (record { boxes = refl; length = refl; over = refl; begun = refl }) (so_far keeps.1 writes.1)
 
 pub so_far-listed : (first last : Num) (h : PageHistory) → IsSoFar h → IsSoFar (Page (ListPages first last) ∷ h)
 so_far-listed first last h so_far keeps writes =
-    let L : Layout = layout_of h in
-    let before : SoFar L (written h) = so_far keeps.1 writes.1 in
-    so_far-alike L (record L { ranges = with_range (first, last) L.ranges }) (written h) _
-    (nothing_by_test (is_diverted (Does (ListPages first last)) L || not L.is_listed) L.offset)
-    (record { boxes = refl; length = refl; over = refl; begun = refl; diversions = before.diversions }) before
+    so_far-quiet h (ListPages first last) (record { boxes = refl; length = refl; over = refl; begun = refl }) (so_far keeps.1 writes.1)
 
 -- the beginning of the closing phase
 pub so_far-close : (h : PageHistory) → IsSoFar h → IsSoFar (Page Close ∷ h)
 so_far-close h so_far keeps writes =
-    let L : Layout = layout_of h in
-    so_far-alike L (record L { diversions = []; is_closing = true }) (written h) _ (nothing_by_test (is_diverted (Does Close) L || not L.is_listed) L.offset)
-    (record { boxes = refl; length = refl; over = refl; begun = refl; diversions = refl }) (so_far keeps.1 writes.1)
+    so_far-quiet h Close (record { boxes = refl; length = refl; over = refl; begun = refl }) (so_far keeps.1 writes.1)
 
 -- the page length, which is set before the first page
 pub so_far-length : (h : PageHistory) (k : ℕ) → 0 < k → (layout_of h).is_over ≡ false → IsSoFar h → IsSoFar (Page (Length k) ∷ h)
@@ -342,7 +355,6 @@ so_far-length h k some goes so_far keeps writes =
       unended = λ goes. omega (arith, place, some);
       ended = λ over. inl (before.size ∙ place);
       unbegun = λ at_first. (refl, none.1);
-      diversions = before.diversions;
     }
 
 -- the first page begins
@@ -362,7 +374,6 @@ so_far-begin h at_first goes so_far keeps writes =
       unended = λ goes. before.some;
       ended = λ over. inl (before.size ∙ place);
       unbegun = λ none. absurd (omega (arith, none));
-      diversions = before.diversions;
     }
 
 -- before anything happened nothing was written
@@ -377,5 +388,4 @@ so_far-blank keeps writes = record {
   unended = λ goes. omega arith;
   ended = λ over. inl refl;
   unbegun = λ none. (refl, refl);
-  diversions = refl;
 }

@@ -13,11 +13,12 @@ use Rattle.roff_num.specs.declared.short_name.ShortName.{ShortName}
 use Rattle.roff_input.specs.Input.{putting_all_back}
 use Rattle.roff_run.specs.PageEvents.{PageEvent, PageHistory}
 use Rattle.roff_run.specs.Output.{layout_of}
-use Rattle.roff_run.specs.Run.{State, done_if, ending_as, stopped_by, unless_refused, performed, performing, sprung_at}
+use Rattle.roff_run.specs.Run.{State, done_if, ending_as, followed_by, stopped_by, unless_refused, performed, performing, with_left}
 use Rattle.roff_run.specs.Run.Counts.{refusal}
 use Rattle.roff_run.specs.Springs.{left_if, left_of, springs}
 use Rattle.roff_run.specs.Titles.{keeping, put_back, told}
 use Rattle.roff_run.specs.declared.status.Status.TheVariants.{Done}
+use Rattle.roff_run.specs.Following.{following}
 pub use Rattle.roff_laws.specs.SpringLaws.{first_of, left_behind}
 
 -- An event was performed, which no limit refuses, and these are left; or it sprang a macro, and they are put back; or the last page
@@ -25,13 +26,17 @@ pub use Rattle.roff_laws.specs.SpringLaws.{first_of, left_behind}
 pub data PerformedOrStopped (l : Limits) (e : PageEvent) (left : List PageEvent) (s : State) : State → Type 0 where
   Performed : refusal l s.history (told s.registers e) ≡ None → (layout_of (told s.registers e ∷ s.history)).is_over ≡ false
       → springs s.history (told s.registers e) ≡ None
-      → PerformedOrStopped l e left s (record s { to_do = left; history = told s.registers e ∷ s.history })
+      → PerformedOrStopped l e left s (record s {
+        to_do = left;
+        follows = following s.history (told s.registers e);
+        history = told s.registers e ∷ s.history;
+      })
   Sprang : (name : ShortName) → refusal l s.history (told s.registers e) ≡ None
       → (layout_of (told s.registers e ∷ s.history)).is_over ≡ false
       → springs s.history (told s.registers e) ≡ Some name
       → PerformedOrStopped l e left s (record s {
         to_do = [];
-        sprung = Some name;
+        follows = following s.history (told s.registers e);
         registers = keeping left s.registers;
         history = told s.registers e ∷ s.history;
         input = putting_all_back (map put_back left) s.input;
@@ -44,7 +49,8 @@ pub data PerformedOrStopped (l : Limits) (e : PageEvent) (left : List PageEvent)
 by_spring : (l : Limits) (e : PageEvent) (left : List PageEvent) (s : State) (sprung : Option ShortName)
     → springs s.history (told s.registers e) ≡ sprung → refusal l s.history (told s.registers e) ≡ None
     → (layout_of (told s.registers e ∷ s.history)).is_over ≡ false
-    → PerformedOrStopped l e left s (sprung_at sprung left (record s { history = told s.registers e ∷ s.history }))
+    → PerformedOrStopped l e left s
+    (with_left sprung left (record s { history = told s.registers e ∷ s.history; follows = following s.history (told s.registers e) }))
 by_spring l e left s None none allowed on = Performed allowed on none
 by_spring l e left s (Some name) some allowed on = Sprang name allowed on some
 
@@ -52,7 +58,7 @@ by_spring l e left s (Some name) some allowed on = Sprang name allowed on some
 by_end : (l : Limits) (e : PageEvent) (left : List PageEvent) (s : State) (over : Bool)
     → (layout_of (told s.registers e ∷ s.history)).is_over ≡ over → refusal l s.history (told s.registers e) ≡ None
     → let behind : State = record s { history = told s.registers e ∷ s.history } in
-    PerformedOrStopped l e left s (done_if over behind (sprung_at (springs s.history (told s.registers e)) left behind))
+    PerformedOrStopped l e left s (done_if over behind (followed_by (following s.history (told s.registers e)) left behind))
 by_end l e left s true over allowed = EndsOver allowed over
 by_end l e left s false on allowed = by_spring l e left s (springs s.history (told s.registers e)) refl allowed on
 

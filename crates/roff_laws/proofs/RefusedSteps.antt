@@ -4,7 +4,7 @@ use Rattle.roff_num.specs.declared.limit.Limit.{Limit}
 use Rattle.roff_num.specs.declared.limit.Limit.TheVariants.{Messages}
 use Rattle.roff_num.specs.declared.limits.Limits.{Limits}
 use Rattle.roff_input.specs.Input.{item_taken}
-use Rattle.roff_run.specs.Run.{State, aborted, ending_as, ending_with, phase_ended, step, step_with, stopped_by}
+use Rattle.roff_run.specs.Run.{State, aborted, ending_as, ending_with, phase_ended, step, step_with, stopped_by, step_behind}
 use Rattle.roff_run.specs.Requests.{called_by}
 use Rattle.roff_run.specs.Springs.{next}
 use Rattle.roff_run.specs.declared.message.Message.TheVariants.{ReadFailed}
@@ -13,13 +13,15 @@ use Rattle.roff_run.specs.declared.phase.Phase.TheVariants.{Reading, LastMacro, 
 use Rattle.roff_run.specs.PageEvents.{PageEvent}
 use Rattle.roff_run.specs.declared.status.Status.{Status}
 use Rattle.roff_run.specs.declared.status.Status.TheVariants.{Device, Done, Limit as Limited}
-use Rattle.roff_run.proofs.Readings.{ReadsOn, LimitStops, AheadTaken, ByteTaken, NoteTaken, HalfEnds, InputLeft, LineEnds, MessageTold, PhaseEnds, RunAborts, SourceFails, SourceStops, SprungRead, ReadsOn-with_sprung}
+use Rattle.roff_run.proofs.Readings.{ReadsOn, LimitStops, AheadTaken, ByteTaken, NoteTaken, HalfEnds, InputLeft, LineEnds, MessageTold, PhaseEnds, RunAborts, SourceFails, SourceStops, SprungRead, ReadsOn-with_sprung, TextChanged, ReadsOn-text}
 use Rattle.roff_run.proofs.Behind.{Behind-ahead_taken, Behind-sprung_read}
 use Rattle.roff_laws.specs.Refusals.{DoesNothing, RefusedStepsDoNothing}
 use Rattle.roff_laws.proofs.Ended.{step-going}
 use Rattle.roff_laws.proofs.InputLeaving.{IsLeft-left_in}
 use Rattle.roff_laws.proofs.PerformedOrStopped.{PerformedOrStopped, Performed, Sprang, EndsOver, StoppedAt, first_of, left_behind, performed_or_stopped}
 use Rattle.roff_laws.proofs.Told.{told_step-holds}
+use Rattle.roff_layout.specs.DueTexts.{TextDue}
+use Rattle.roff_laws.proofs.TextsChanged.{text-holds}
 
 -- The run goes on behind a step; or a limit refused the step, one of the run or one of the source's own; or the source failed; or a
 -- message ended the run; or it is done.
@@ -51,6 +53,8 @@ StepEnds-read l s t (MessageTold told is_made) going = GoesOn t going
 StepEnds-read l s t (RunAborts told) going = Aborted
 StepEnds-read l s t (InputLeft leaves is_made) going = GoesOn t ((IsLeft-left_in s.phase s).ended ∙ going)
 StepEnds-read l s t (SprungRead name sprung is_made) going = GoesOn t ((Behind-sprung_read (called_by name s.input.names) s).ended ∙ going)
+StepEnds-read l s t (TextChanged due text is_made) going =
+    GoesOn t (text-holds (λ (u : State). u.ended ≡ None) due s (λ names texts. going))
 StepEnds-read l s t (SourceFails is_open fails) going = SourceFailed
 StepEnds-read l s t (SourceStops limit is_open stops) going = SourceRefused limit
 
@@ -66,10 +70,17 @@ StepEnds-step_with : (l : Limits) (es : List PageEvent) (s : State) → s.ended 
 StepEnds-step_with l (e ∷ es) s going =
     let own : Option PageEvent = next s.history e in
     StepEnds-event l (first_of own e) (left_behind own e es s) s _ (performed_or_stopped l own e es s) going
-StepEnds-step_with l [] s going = StepEnds-read l s _ (ReadsOn-with_sprung l s.sprung s refl) going
+StepEnds-step_with l [] s going = StepEnds-read l s _ (ReadsOn-with_sprung l s.follows.sprung s refl) going
+
+-- the text of a diversion changes first, if one does
+StepEnds-step_behind : (l : Limits) (due : Option TextDue) (s : State) → s.follows.text ≡ due → s.ended ≡ None
+    → StepEnds l s (step_behind l due s)
+StepEnds-step_behind l None s none going = StepEnds-step_with l s.to_do s going
+StepEnds-step_behind l (Some due) s some going = StepEnds-read l s _ (ReadsOn-text l due s some) going
 
 StepEnds-step : (l : Limits) (s : State) → s.ended ≡ None → StepEnds l s (step l s)
-StepEnds-step l s going = subst (λ (t : State). StepEnds l s t) (sym (step-going l s going)) (StepEnds-step_with l s.to_do s going)
+StepEnds-step l s going =
+    subst (λ (t : State). StepEnds l s t) (sym (step-going l s going)) (StepEnds-step_behind l s.follows.text s refl going)
 
 -- a step that a limit refuses does nothing
 refused-ends : (l : Limits) (limit : Limit) (s t : State) → StepEnds l s t → t.ended ≡ Some (Limited limit) → DoesNothing l limit s t

@@ -7,7 +7,6 @@ use Rattle.std.specs.Prelude.{bytes_eq, ◌&&◌, if◌then◌else◌}
 use Rattle.roff_num.specs.Ranges.{is_in_range}
 use Rattle.roff_num.specs.RegisterText.{register_text}
 use Rattle.roff_num.specs.declared.format.Format.{Format}
-use Rattle.roff_num.specs.declared.format.Format.TheVariants.{Decimal}
 use Rattle.roff_num.specs.declared.num.Num.{Num}
 use Rattle.roff_store.proofs.Entries.{bytes_eq_tells, entry_of-with_entry, entry_of-without_entry}
 use Rattle.roff_store.specs.Named.{entry_of, with_entry, without_entry}
@@ -18,10 +17,10 @@ use Rattle.roff_store.specs.declared.register.Register.{Register}
 use Rattle.roff_run.specs.declared.message.Message.{Message}
 use Rattle.roff_run.specs.declared.message.Message.TheVariants.{BadNumber}
 use Rattle.roff_run.specs.declared.query.Query.{Query}
-use Rattle.roff_run.specs.declared.query.Query.TheVariants.{Newlines, Indent, LineLength, LastWidth, Filling, LineSpacing, ColumnWidth, Arguments, PagePlace, PageLength, PageOffset, WayToTrap, Later}
+use Rattle.roff_run.specs.declared.query.Query.TheVariants.{Newlines, Indent, LineLength, LastWidth, Filling, LineSpacing, ColumnWidth, Arguments, PagePlace, PageLength, PageOffset, WayToTrap, TextPlace, DiversionHeight, DiversionWidth, DiversionName}
 use Rattle.roff_layout.specs.Layout.{Layout}
 use Rattle.roff_laws.specs.RegisterLaws.{known_set, ValuesReadBack, FormatsReadBack, FormatsStay, UndefinedReadAsZero, ReadingMakesNone, ReadingIsSilent, ReadOnlyStay, ReadOnlyAreLeftAlone, RemovedReadAsZero}
-use Rattle.roff_run.specs.Registers.{AllRegisters, Known, SetTo, FormatAs, Remove, StepBy, answer, changed_by, is_page, is_read_only, known_behind, number_in_range, numbered, page_register, query_of, settable, text_asked}
+use Rattle.roff_run.specs.Registers.{AllRegisters, Known, SetTo, FormatAs, Remove, StepBy, changed_by, is_page, is_read_only, known_behind, number_in_range, numbered, page_register, query_of, settable, text_answered, text_asked}
 
 -- the page number's register, where the page has this number
 abbrev page_by : Num → AllRegisters → Register
@@ -164,26 +163,30 @@ reading_is_silent k name (Some direction) undefined =
     ∙ unset-in_range direction)
 
 -- what a read-only register asks for isn't a register
-answer-same : (query : Query) (k : Known) (rs : AllRegisters) → answer (record k { registers = rs }) query ≡ answer k query
-answer-same Newlines k rs = refl
-answer-same Indent k rs = refl
-answer-same LineLength k rs = refl
-answer-same LastWidth k rs = refl
-answer-same Filling k rs = refl
-answer-same LineSpacing k rs = refl
-answer-same ColumnWidth k rs = refl
-answer-same Arguments k rs = refl
-answer-same PagePlace k rs = refl
-answer-same PageLength k rs = refl
-answer-same PageOffset k rs = refl
-answer-same WayToTrap k rs = refl
-answer-same Later k rs = refl
+text_answered-same : (query : Query) (k : Known) (rs : AllRegisters)
+    → text_answered (record k { registers = rs }) query ≡ text_answered k query
+text_answered-same Newlines k rs = refl
+text_answered-same Indent k rs = refl
+text_answered-same LineLength k rs = refl
+text_answered-same LastWidth k rs = refl
+text_answered-same Filling k rs = refl
+text_answered-same LineSpacing k rs = refl
+text_answered-same ColumnWidth k rs = refl
+text_answered-same Arguments k rs = refl
+text_answered-same PagePlace k rs = refl
+text_answered-same PageLength k rs = refl
+text_answered-same PageOffset k rs = refl
+text_answered-same WayToTrap k rs = refl
+text_answered-same TextPlace k rs = refl
+text_answered-same DiversionHeight k rs = refl
+text_answered-same DiversionWidth k rs = refl
+text_answered-same DiversionName k rs = refl
 
 -- nor is its text that of one
 text_asked-same : (asked : Option Query) (k : Known) (rs : AllRegisters) (name : List ℕ) → is_some asked ≡ true
     → text_asked asked (record k { registers = rs }) name ≡ text_asked asked k name
 text_asked-same None k rs name read_only = cc
-text_asked-same (Some query) k rs name read_only = ap (register_text (Decimal 1)) (answer-same query k rs)
+text_asked-same (Some query) k rs name read_only = text_answered-same query k rs
 
 pub read_only_stay : ReadOnlyStay
 read_only_stay k name changes read_only = text_asked-same (query_of name) k (known_behind changes k).registers name read_only

@@ -11,12 +11,9 @@ use Rattle.roff_run.specs.declared.environment_number.EnvironmentNumber.{Environ
 use Rattle.roff_laws.specs.Laws.{NoLimitIsPassed}
 use Rattle.roff_run.specs.Within.{EnvironmentsWithin, IsWithin}
 use Rattle.roff_run.specs.PageEvents.{PageEvent, PastEvent}
-use Rattle.roff_run.specs.Registers.{AllRegisters, is_page, is_read_only}
-use Rattle.roff_run.specs.TitleTexts.{TitleText, title_length}
-use Rattle.roff_run.specs.Titles.{keeping, put_back, told, with_title_kept}
+use Rattle.roff_run.specs.Titles.{put_back, told}
 use Rattle.roff_run.specs.declared.event.PageEvent.TheVariants.{Text, Page, Interrupt, Environment, Back, InputTrap as SetsTrap, Title}
-use Rattle.roff_run.specs.declared.title.WhichTitle.TheVariants.{Read, Kept}
-use Rattle.roff_run.specs.Run.{State, initial, paged_state, grown, moved, stopped_by, unless_refused, with_registers, step_with, step, told_after, told_step}
+use Rattle.roff_run.specs.Run.{State, initial, paged_state, grown, moved, stopped_by, unless_refused, with_registers, step_with, step, told_after, told_step, step_behind}
 use Rattle.roff_run.specs.Layouts.{placed}
 use Rattle.roff_run.specs.Output.{happens, layout_of, text_laid, text_of, written}
 use Rattle.roff_run.specs.Run.Counts.{counts, first_passed, names_counted, placed_counted, refusal, written_counted}
@@ -25,7 +22,7 @@ use Rattle.roff_laws.proofs.CountsWithin.{AllWithin, counts_within, last_within}
 use Rattle.roff_laws.proofs.InputLeaving.{IsLeft-left_in}
 use Rattle.roff_laws.proofs.Told.{told_step-holds}
 use Rattle.roff_laws.proofs.PerformedOrStopped.{PerformedOrStopped, Performed, Sprang, EndsOver, StoppedAt, first_of, left_behind, performed_or_stopped}
-use Rattle.roff_run.proofs.Readings.{IsMade, ReadsOn, LimitStops, AheadTaken, ByteTaken, NoteTaken, HalfEnds, InputLeft, LineEnds, PhaseEnds, MessageTold, RunAborts, SourceFails, SourceStops, SprungRead, ReadsOn-with_sprung, within}
+use Rattle.roff_run.proofs.Readings.{IsMade, ReadsOn, LimitStops, AheadTaken, ByteTaken, NoteTaken, HalfEnds, InputLeft, LineEnds, PhaseEnds, MessageTold, RunAborts, SourceFails, SourceStops, SprungRead, ReadsOn-with_sprung, TextChanged, ReadsOn-text}
 use Rattle.roff_run.proofs.Behind.{Behind-byte_taken, Behind-sprung_read, Behind-ahead_taken, Behind-escape_ends, Behind-line_ends, Passed-phase_ended}
 use Rattle.roff_input.specs.Input.{counting, item_taken}
 use Rattle.roff_num.specs.declared.num.Num.{Num}
@@ -48,6 +45,9 @@ use Rattle.roff_run.specs.declared.start.Start.{Start}
 use Rattle.roff_run.proofs.GivenPages.{environments-given_pages, keeps-given, written-given_pages}
 use Rattle.roff_run.proofs.PutBack.{bytes_ahead-back, ends_ahead-back}
 use Rattle.roff_source.specs.Tape.{Tape}
+use Rattle.roff_layout.specs.DueTexts.{TextDue}
+use Rattle.roff_laws.proofs.TextsChanged.{text-holds}
+pub use Rattle.roff_laws.proofs.KeptTitles.{named-keeping, title-given, title-keeping}
 
 -- a state of the same input, registers and history
 IsWithin-same : (l : Limits) (s t : State) → t.input ≡ s.input → t.registers ≡ s.registers → t.history ≡ s.history → IsWithin l s → IsWithin l t
@@ -185,29 +185,6 @@ IsWithin-happened l e s allowed is = record {
   traps = traps_within l s.history e is.traps allowed;
 }
 
--- events that are put back leave the names of registers, and a title within its limit
-pub named-keeping : (events : List PageEvent) (rs : AllRegisters) → (keeping events rs).named ≡ rs.named
-named-keeping [] rs = refl
-named-keeping (Title Read ∷ events) rs = named-keeping events (with_title_kept rs)
-named-keeping (Title Kept ∷ events) rs = named-keeping events rs
-named-keeping (Text e ∷ events) rs = named-keeping events rs
-named-keeping (Page e ∷ events) rs = named-keeping events rs
-named-keeping (Interrupt untold ∷ events) rs = named-keeping events rs
-named-keeping (Environment number ∷ events) rs = named-keeping events rs
-named-keeping (Back ∷ events) rs = named-keeping events rs
-named-keeping (SetsTrap trap ∷ events) rs = named-keeping events rs
-
-pub title-keeping : (l : Limits) (events : List PageEvent) (rs : AllRegisters) → title_length rs.title ≤ l.line → title_length (keeping events rs).title ≤ l.line
-title-keeping l [] rs within = within
-title-keeping l (Title Read ∷ events) rs within = title-keeping l events (with_title_kept rs) (omega arith)
-title-keeping l (Title Kept ∷ events) rs within = title-keeping l events rs within
-title-keeping l (Text e ∷ events) rs within = title-keeping l events rs within
-title-keeping l (Page e ∷ events) rs within = title-keeping l events rs within
-title-keeping l (Interrupt untold ∷ events) rs within = title-keeping l events rs within
-title-keeping l (Environment number ∷ events) rs within = title-keeping l events rs within
-title-keeping l (Back ∷ events) rs within = title-keeping l events rs within
-title-keeping l (SetsTrap trap ∷ events) rs within = title-keeping l events rs within
-
 -- an event is performed, or the run ends at it
 IsWithin-event : (l : Limits) (e : PageEvent) (left : List PageEvent) (s t : State) → PerformedOrStopped l e left s t → IsWithin l s → IsWithin l t
 IsWithin-event l e left s t (Performed allowed on none) is =
@@ -275,6 +252,9 @@ IsWithin-read l s t (InputLeft leaves is_made) is =
 IsWithin-read l s t (SprungRead name sprung is_made) is =
     let read = Behind-sprung_read (called_by name s.input.names) s in
     IsWithin-made l s t (rw read.input.charge is.bytes) read.history is_made is
+IsWithin-read l s t (TextChanged due text is_made) is =
+    let bytes : t.input.charge ≤ l.bytes = text-holds (λ (u : State). u.input.charge ≤ l.bytes) due s (λ names texts. is.bytes) in
+    IsWithin-made l s t bytes (text-holds (λ (u : State). u.history ≡ s.history) due s (λ names texts. refl)) is_made is
 IsWithin-read l s t (SourceFails is_open fails) is = IsWithin-same l s t refl refl refl is
 IsWithin-read l s t (SourceStops limit is_open stops) is = IsWithin-same l s t refl refl refl is
 
@@ -283,13 +263,19 @@ IsWithin-step_with : (l : Limits) (es : List PageEvent) (s : State) → IsWithin
 IsWithin-step_with l (e ∷ rest) s is =
     let own : Option PageEvent = next s.history e in
     IsWithin-event l (first_of own e) (left_behind own e rest s) s _ (performed_or_stopped l own e rest s) is
-IsWithin-step_with l [] s is = IsWithin-read l s _ (ReadsOn-with_sprung l s.sprung s refl) is
+IsWithin-step_with l [] s is = IsWithin-read l s _ (ReadsOn-with_sprung l s.follows.sprung s refl) is
+
+-- the text of a diversion changes first, if one does
+IsWithin-step_behind : (l : Limits) (due : Option TextDue) (s : State) → s.follows.text ≡ due → IsWithin l s
+    → IsWithin l (step_behind l due s)
+IsWithin-step_behind l None s none is = IsWithin-step_with l s.to_do s is
+IsWithin-step_behind l (Some due) s some is = IsWithin-read l s _ (ReadsOn-text l due s some) is
 
 -- a step
 pub IsWithin-step : (l : Limits) (s : State) → IsWithin l s → IsWithin l (step l s)
 IsWithin-step l s is =
-    elim s.ended as (λ o. IsWithin l (elim o [ None ↦ step_with l s.to_do s | Some status ↦ s ])) [
-      | None ↦ IsWithin-step_with l s.to_do s is
+    elim s.ended as (λ o. IsWithin l (elim o [ None ↦ step_behind l s.follows.text s | Some status ↦ s ])) [
+      | None ↦ IsWithin-step_behind l s.follows.text s refl is
       | Some status ↦ is
     ]
 
@@ -342,18 +328,6 @@ written-numbered (Some n) h =
 traps-numbered : (n : Option Num) (h : PageHistory) → (layout_of (page_numbered n ++ h)).traps ≡ (layout_of h).traps
 traps-numbered None h = refl
 traps-numbered (Some n) h = refl
-
--- a register that is set changes no title
-pub title-chosen : (title : AllRegisters → TitleText) (read_only of_page : Bool) (paged others rs : AllRegisters)
-    → title paged ≡ title rs → title others ≡ title rs
-    → title (if read_only then rs else if of_page then paged else others) ≡ title rs
-title-chosen title true of_page paged others rs first second = refl
-title-chosen title false true paged others rs first second = first
-title-chosen title false false paged others rs first second = second
-
-pub title-given : (given : ℕ × Num) (rs : AllRegisters) → (with_given given rs).title ≡ rs.title
-title-given given rs =
-    let name : List ℕ = given.0 ∷ [] in title-chosen (λ r. r.title) (is_read_only name) (is_page name) _ _ rs refl refl
 
 -- a register that is given is set, or the limit on names refuses it
 IsWithin-given : (l : Limits) (given : ℕ × Num) (s done : State) (r : Option Limit)

@@ -1,5 +1,5 @@
 -- The laws over macros that spring, and over the input-line trap.
-use Rattle.std.proofs.Common.{◌≡◌, ◌≢◌, ◌∙◌, ℕ, zero, suc, ◌+◌, ◌-◌, ◌≤◌, Bool, true, false, List, ◌∷◌, Option, Some, None, refl, ap, arith}
+use Rattle.std.proofs.Common.{◌≡◌, ◌≢◌, ◌∙◌, ℕ, zero, suc, ◌+◌, ◌-◌, ◌≤◌, Bool, true, false, List, [], ◌∷◌, Option, Some, None, refl, ap, arith}
 use Rattle.std.specs.Prelude.{nat_lt, if◌then◌else◌}
 use Rattle.std.proofs.lemmas.Bool.{le-ltb}
 use Rattle.std.proofs.lemmas.Bool.Decides.{nat_tests}
@@ -18,7 +18,7 @@ use Rattle.roff_run.specs.Layouts.{layout_of}
 use Rattle.roff_run.specs.Run.Counts.{refusal}
 use Rattle.roff_run.specs.Springs.{next, springs}
 use Rattle.roff_run.specs.Titles.{told}
-use Rattle.roff_run.specs.Run.{State, after, ahead_taken, done_if, in_front_taken, made, performed, performing, read_waiting, going_back_to, sprung_at, sprung_read, step, step_with, stopped_by, unless_refused}
+use Rattle.roff_run.specs.Run.{State, after, ahead_taken, done_if, followed_by, in_front_taken, made, only_sprung, performed, performing, read_waiting, going_back_to, sprung_read, step, step_behind, step_with, stopped_by, text_done, unless_refused, with_left}
 use Rattle.roff_run.specs.declared.environment_number.EnvironmentNumber.{EnvironmentNumber}
 use Rattle.roff_run.specs.declared.environment_number.EnvironmentNumber.TheVariants.{Zero, One, Two}
 use Rattle.roff_run.specs.PageEvents.{PageEvent, PastEvent}
@@ -29,50 +29,79 @@ use Rattle.roff_run.specs.declared.request.Called.{Called}
 use Rattle.roff_run.specs.declared.request.Called.TheVariants.{Body as ABody, Nothing as Unknown}
 use Rattle.roff_run.proofs.ItemsTaken.{step-TakesItems}
 use Rattle.roff_laws.proofs.Endings.{step-going}
-use Rattle.roff_laws.specs.SpringLaws.{EachLineCounts, LinesGoOnAsTheyWere, MacrosAreReadFirst, MayBeInterrupted, NamesWithoutABodyReadNothing, OthersKeepTheirTraps, Springs, TheLastLineSprings, first_of, left_behind, with_rest_back}
+use Rattle.roff_laws.specs.SpringLaws.{EachLineCounts, LinesGoOnAsTheyWere, MacrosAreReadFirst, MayBeInterrupted, NamesWithoutABodyReadNothing, OthersKeepTheirTraps, IsAllowedText, Springs, TheLastLineSprings, before_macro, first_of, input_with, left_behind, steps_to_macro, text_with, with_rest_back}
+use Rattle.roff_layout.specs.DueTexts.{TextDue}
+use Rattle.roff_run.specs.Following.{following}
 
 -- an event that springs a macro, or what comes before one
 performed-springs : (l : Limits) (s : State) (x : PastEvent) (left : List PageEvent) (name : ShortName) → refusal l s.history x ≡ None
     → (layout_of (x ∷ s.history)).is_over ≡ false → springs s.history x ≡ Some name
-    → unless_refused l (refusal l s.history x) s (performed x left s) ≡ sprung_at (Some name) left (record s { history = x ∷ s.history })
+    → unless_refused l (refusal l s.history x) s (performed x left s)
+    ≡ with_left (Some name) left
+    (record s { history = x ∷ s.history; follows = record { text = (following s.history x).text; sprung = Some name } })
 performed-springs l s x left name allowed goes_on sprung =
     let happened : State = record s { history = x ∷ s.history } in
+    let left_by : Option ShortName → State =
+    λ sprung. with_left sprung left (record happened { follows = record { text = (following s.history x).text; sprung = sprung } }) in
     ap (λ (r : Option Limit). unless_refused l r s (performed x left s)) allowed
-    ∙ ap (λ (over : Bool). done_if over happened (sprung_at (springs s.history x) left happened)) goes_on
-    ∙ ap (λ (sprung : Option ShortName). sprung_at sprung left happened) sprung
+    ∙ ap (λ (over : Bool). done_if over happened (followed_by (following s.history x) left happened)) goes_on
+    ∙ ap left_by sprung
 
 performing-springs : (l : Limits) (s : State) (own : Option PageEvent) (e : PageEvent) (rest : List PageEvent) (name : ShortName)
     → let x : PastEvent = told s.registers (first_of own e) in
     refusal l s.history x ≡ None → (layout_of (x ∷ s.history)).is_over ≡ false → springs s.history x ≡ Some name
-    → performing l own e rest s ≡ sprung_at (Some name) (left_behind own e rest s) (record s { history = x ∷ s.history })
+    → performing l own e rest s
+    ≡ with_left (Some name) (left_behind own e rest s)
+    (record s { history = x ∷ s.history; follows = record { text = (following s.history x).text; sprung = Some name } })
 performing-springs l s None e rest name allowed goes_on sprung =
     performed-springs l s (told s.registers e) (left_behind None e rest s) name allowed goes_on sprung
 performing-springs l s (Some own) e rest name allowed goes_on sprung =
     performed-springs l s (told s.registers own) (e ∷ rest) name allowed goes_on sprung
 
+-- where a macro sprang, and this becomes of a text first
+abbrev pub springing : Option TextDue → ShortName → State → State
+springing text name s = record s { follows = record { text = text; sprung = Some name } }
+
 -- the step at the event
 pub springing-step : (l : Limits) (s : State) (e : PageEvent) (rest : List PageEvent) (name : ShortName) → Springs l s e rest name
-    → step l s ≡ record (with_rest_back e rest s) { sprung = Some name }
+    → step l s ≡ springing (text_with e s) name (with_rest_back e rest s)
 springing-step l s e rest name does =
     step-going l s does.going
+    ∙ ap (λ (due : Option TextDue). step_behind l due s) does.no_text
     ∙ ap (λ (es : List PageEvent). step_with l es s) does.first
     ∙ performing-springs l s (next s.history e) e rest name does.allowed does.goes_on does.sprung
 
--- and the one behind it, by what the name stands for
-sprung-step : (l : Limits) (s : State) (e : PageEvent) (rest : List PageEvent) (name : ShortName) (called : Called) → Springs l s e rest name
-    → called_by name s.input.names ≡ called
-    → let before : State = record (with_rest_back e rest s) { sprung = Some name } in after l 2 s ≡ made l before (sprung_read called before)
-sprung-step l s e rest name called does is =
-    let before : State = record (with_rest_back e rest s) { sprung = Some name } in
-    ap (step l) (springing-step l s e rest name does)
-    ∙ step-going l before does.going
+-- and those behind it, by what the name stands for: a text that is to change changes first
+sprung-step : (l : Limits) (text : Option TextDue) (name : ShortName) (s : State) (called : Called) → s.ended ≡ None → s.to_do ≡ []
+    → let before : State = record s { follows = only_sprung (Some name); input = input_with text s.input } in
+    IsAllowedText l text before → called_by name before.input.names ≡ called
+    → after l (steps_to_macro text) (springing text name s) ≡ made l before (sprung_read called before)
+sprung-step l None name s called going idle allowed is =
+    let before : State = record s { follows = only_sprung (Some name) } in
+    step-going l before going
+    ∙ ap (λ (es : List PageEvent). step_with l es before) idle
+    ∙ ap (λ (c : Called). made l before (sprung_read c before)) is
+sprung-step l (Some due) name s called going idle allowed is =
+    let first : State = springing (Some due) name s in
+    let before : State = text_done due first in
+    ap (step l) (step-going l first going ∙ ap (λ (r : Option Limit). unless_refused l r first before) allowed)
+    ∙ step-going l before going
+    ∙ ap (λ (es : List PageEvent). step_with l es before) idle
     ∙ ap (λ (c : Called). made l before (sprung_read c before)) is
 
+macro-read : (l : Limits) (s : State) (e : PageEvent) (rest : List PageEvent) (name : ShortName) (called : Called) → Springs l s e rest name
+    → let before : State = before_macro e rest name s in
+    IsAllowedText l (text_with e s) before → called_by name before.input.names ≡ called
+    → after l (suc (steps_to_macro (text_with e s))) s ≡ made l before (sprung_read called before)
+macro-read l s e rest name called does allowed is =
+    ap (after l (steps_to_macro (text_with e s))) (springing-step l s e rest name does)
+    ∙ sprung-step l (text_with e s) name (with_rest_back e rest s) called does.going refl allowed is
+
 pub macros_are_read_first : MacrosAreReadFirst
-macros_are_read_first l s e rest name does is = sprung-step l s e rest name (ABody name) does is
+macros_are_read_first l s e rest name does allowed is = macro-read l s e rest name (ABody name) does allowed is
 
 pub names_without_a_body_read_nothing : NamesWithoutABodyReadNothing
-names_without_a_body_read_nothing l s e rest name does is = sprung-step l s e rest name Unknown does is
+names_without_a_body_read_nothing l s e rest name does allowed is = macro-read l s e rest name Unknown does allowed is
 
 -- what may be interrupted is gone back to
 gone_back-text : (glyph other brace : Bool) (leading : ℕ) → leading ≤ 1 → (glyph ≡ true → leading ≡ 0)

@@ -30,8 +30,7 @@ use Rattle.roff_run.specs.Requests.{called_by}
 use Rattle.roff_run.specs.Requests.Effects.{page_numbered}
 use Rattle.roff_run.specs.Requests.Numbering.{number_of_page}
 use Rattle.roff_run.specs.Run.{State, ahead_taken, known, left_in, moved, paged_state, phase_ended, going_back_to, sprung_read, taken_as}
-use Rattle.roff_run.specs.Springs.{left_if, left_of, next}
-use Rattle.roff_layout.specs.Springs.{goes_on}
+use Rattle.roff_run.specs.Springs.{left_of, next}
 use Rattle.roff_run.specs.Reading.Calls.{last_called}
 use Rattle.roff_run.specs.Starts.{history_given, with_given}
 use Rattle.roff_run.specs.PageEvents.{PageEvent}
@@ -44,15 +43,18 @@ use Rattle.roff_run.specs.declared.start.Start.{Start}
 use Rattle.roff_run.proofs.GoingBack.{going_back-by}
 use Rattle.roff_run.proofs.GivenPages.{keeps-given}
 use Rattle.roff_run.specs.declared.request.Called.TheVariants.{Request as ARequest, Body as ABody, Nothing as Unknown}
-use Rattle.roff_run.proofs.Readings.{ReadsOn, LimitStops, AheadTaken, ByteTaken, HasEnded, NoteTaken, HalfEnds, InputLeft, LineEnds, PhaseEnds, MessageTold, RunAborts, SourceFails, SourceStops, SprungRead}
+use Rattle.roff_run.proofs.Readings.{ReadsOn, LimitStops, AheadTaken, ByteTaken, HasEnded, NoteTaken, HalfEnds, InputLeft, LineEnds, PhaseEnds, MessageTold, RunAborts, SourceFails, SourceStops, SprungRead, TextChanged}
 use Rattle.roff_run.proofs.Behind.{Behind-ahead_taken, Behind-sprung_read, Passed-phase_ended}
 use Rattle.roff_laws.proofs.ComesBefore.{ComesBefore, NothingComes, PageComes, WordEndComes, comes_before}
 use Rattle.roff_laws.proofs.InputLeaving.{IsLeft-left_in}
 use Rattle.roff_run.proofs.GrowingAhead.{ahead-called, ahead-interrupted, ahead-same}
 use Rattle.roff_run.proofs.MeantEvents.{AllMeant, AreMeant, MayBe, meant-append, meant-events}
-use Rattle.roff_laws.proofs.MeantAhead.{AllMeantAhead, ahead-back, ahead-last_called, all-meant, meant-back, meant-grown}
+use Rattle.roff_laws.proofs.MeantAhead.{AllMeantAhead, ahead-back, ahead-last_called, all-meant, meant-back, meant-grown, meant-left_of}
 use Rattle.roff_laws.proofs.PerformedOrStopped.{PerformedOrStopped, Performed, Sprang, EndsOver, StoppedAt, first_of, left_behind}
 use Rattle.roff_run.proofs.ReadEvents.{Means, Means-end_taking, Means-escape_ended, Means-taking}
+use Rattle.roff_laws.proofs.PutHolds.{put-holds}
+use Rattle.roff_layout.specs.Stops.{is_diverted}
+use Rattle.roff_laws.proofs.TextsChanged.{text-holds}
 
 -- the closing phase hasn't begun, and the layout isn't over
 pub record LaidOpen (L : Layout) : Type 0 where
@@ -71,7 +73,8 @@ open-put : (x : Happening) (p : Option Put) (boxes : List Box) (L : Layout) → 
 open-put x None boxes L unput is = unput
 open-put x (Some p) boxes L unput is =
     let M : Layout = with_boxes x boxes (record L { next = next_behind x L.next }) in
-    open-turned (nat_le M.length (page_place M)) M.is_closing M is.closing (record { closing = is.closing; over = is.over })
+    let opens : LaidOpen M = record { closing = is.closing; over = is.over } in
+    put-holds LaidOpen (is_diverted x L) M opens (open-turned (nat_le M.length (page_place M)) M.is_closing M is.closing opens)
 
 -- behind a line that is placed
 open-laid : (x : Option Finished) (L : Layout) → LaidOpen L → LaidOpen (laid_out (option_map Places x) L)
@@ -113,10 +116,10 @@ open-event rs h (Page (RemoveTrap name)) meant is = record { closing = is.closin
 open-event rs h (Page (ListPages first last)) meant is = absurd meant
 open-event rs h (Page Begin) meant is = absurd meant
 open-event rs h (Page Close) meant is = absurd meant
-open-event rs h (Page (DiversionTrap trap)) meant is = absurd meant
-open-event rs h (Page NoDiversionTrap) meant is = absurd meant
-open-event rs h (Page (Divert name appends)) meant is = absurd meant
-open-event rs h (Page EndDivert) meant is = absurd meant
+open-event rs h (Page (DiversionTrap trap)) meant is = record { closing = is.closing; over = is.over }
+open-event rs h (Page NoDiversionTrap) meant is = record { closing = is.closing; over = is.over }
+open-event rs h (Page (Divert name appends)) meant is = record { closing = is.closing; over = is.over }
+open-event rs h (Page EndDivert) meant is = record { closing = is.closing; over = is.over }
 
 -- behind what comes before one
 pub open-first : (rs : AllRegisters) (h : PageHistory) (e : PageEvent) (own : Option PageEvent) → ComesBefore h e own
@@ -153,41 +156,6 @@ ended-over s e es to_do (Goes is opens) over =
     let laid = open-first s.registers s.history e (next s.history e) (comes_before s.history e) meant.0 opens in
     let wrong : true ≡ false = sym over ∙ laid.over in absurd (cc)
 ended-over s e es to_do (Closes phase ended) over = ended
-
--- what goes on of an eject is meant where that was
-meant-left_if : (closing goes : Bool) (e : LayoutEvent) → AllMeant closing (Page e ∷ []) → AllMeant closing (left_if goes e)
-meant-left_if closing false e meant = tt
-meant-left_if closing true (Eject asked) meant = meant
-meant-left_if closing true (EjectTo asked number) meant = meant
-meant-left_if closing true (EjectOn asked) meant = meant
-meant-left_if closing true EjectLast meant = meant
-meant-left_if closing true (Space k) meant = meant
-meant-left_if closing true (Need k) meant = meant
-meant-left_if closing true (Length k) meant = meant
-meant-left_if closing true (Offset k) meant = meant
-meant-left_if closing true (Next n) meant = meant
-meant-left_if closing true (Number n) meant = meant
-meant-left_if closing true (NoSpace on) meant = meant
-meant-left_if closing true (Plant trap) meant = meant
-meant-left_if closing true (Uproot place) meant = meant
-meant-left_if closing true (MoveTrap name place) meant = meant
-meant-left_if closing true (RemoveTrap name) meant = meant
-meant-left_if closing true (ListPages first last) meant = meant
-meant-left_if closing true Begin meant = meant
-meant-left_if closing true Close meant = meant
-meant-left_if closing true (DiversionTrap trap) meant = meant
-meant-left_if closing true NoDiversionTrap meant = meant
-meant-left_if closing true (Divert name appends) meant = meant
-meant-left_if closing true EndDivert meant = meant
-
-meant-left_of : (closing : Bool) (rs : AllRegisters) (h : PageHistory) (e : PageEvent) → AllMeant closing (e ∷ []) → AllMeant closing (left_of h (told rs e))
-meant-left_of closing rs h (Page e) meant = meant-left_if closing (goes_on (Does e) (layout_of h)) e meant
-meant-left_of closing rs h (Text e) meant = tt
-meant-left_of closing rs h (Interrupt untold) meant = tt
-meant-left_of closing rs h (Environment number) meant = tt
-meant-left_of closing rs h Back meant = tt
-meant-left_of closing rs h (SetsTrap trap) meant = tt
-meant-left_of closing rs h (Title which) meant = tt
 
 -- what is left behind an event, or what comes before it
 pub meant-left : (closing : Bool) (own : Option PageEvent) (e : PageEvent) (es : List PageEvent) (s : State) → AllMeant closing (e ∷ es)
@@ -312,6 +280,8 @@ meant-read closing l s t (MessageTold told is_made) is = inl (record { to_do = i
 meant-read closing l s t (RunAborts told) is = inl (record { to_do = is.to_do; ahead = is.ahead })
 meant-read closing l s t (InputLeft leaves is_made) is = inl (meant-left_in closing s.phase s is)
 meant-read closing l s t (SprungRead name sprung is_made) is = inl (meant-sprung_read closing (called_by name s.input.names) s is)
+meant-read closing l s t (TextChanged due text is_made) is =
+    inl (text-holds (HasMeant closing) due s (λ names texts. record { to_do = is.to_do; ahead = is.ahead }))
 meant-read closing l s t (SourceFails is_open fails) is = inl (record { to_do = is.to_do; ahead = is.ahead })
 meant-read closing l s t (SourceStops limit is_open stops) is = inl (record { to_do = is.to_do; ahead = is.ahead })
 
@@ -328,6 +298,7 @@ history-read l s t (MessageTold told is_made) = refl
 history-read l s t (RunAborts told) = refl
 history-read l s t (InputLeft leaves is_made) = (IsLeft-left_in s.phase s).history
 history-read l s t (SprungRead name sprung is_made) = (Behind-sprung_read (called_by name s.input.names) s).history
+history-read l s t (TextChanged due text is_made) = text-holds (λ (u : State). u.history ≡ s.history) due s (λ names texts. refl)
 history-read l s t (SourceFails is_open fails) = refl
 history-read l s t (SourceStops limit is_open stops) = refl
 
@@ -371,6 +342,7 @@ closes-read l s t (RunAborts told) phase ended = Closes phase ended
 closes-read l s t (InputLeft leaves is_made) phase ended = closes-left_in s.phase s phase phase ended
 closes-read l s t (SprungRead name sprung is_made) phase ended =
     let read = Behind-sprung_read (called_by name s.input.names) s in Closes (read.phase ∙ phase) (HasEnded-same s t read.tape read.is_closed ended)
+closes-read l s t (TextChanged due text is_made) phase ended = text-holds Stage due s (λ names texts. Closes phase ended)
 closes-read l s t (SourceFails is_open fails) phase ended = Closes phase ended
 closes-read l s t (SourceStops limit is_open stops) phase ended = Closes phase ended
 

@@ -5,7 +5,7 @@ use Rattle.std.proofs.Common.{◌≡◌, ◌⊎◌, inl, inr, ℕ, zero, suc, tr
 use Rattle.roff_num.specs.declared.limits.Limits.{Limits}
 use Rattle.roff_run.specs.PageEvents.{PageEvent}
 use Rattle.roff_run.specs.Output.{layout_of}
-use Rattle.roff_run.specs.Run.{State, initial, paged_state, phase_ended, unless_refused, with_registers, step_with, step, told_after, told_step}
+use Rattle.roff_run.specs.Run.{State, initial, paged_state, phase_ended, unless_refused, with_registers, step_with, step, told_after, told_step, step_behind}
 use Rattle.roff_run.specs.Run.Counts.{first_passed, names_counted}
 use Rattle.roff_run.specs.Requests.{called_by}
 use Rattle.roff_run.specs.Springs.{next}
@@ -26,8 +26,10 @@ use Rattle.roff_laws.proofs.Endings.{at_last_state, ended_or_not, step-ended, st
 use Rattle.roff_laws.proofs.InputLeaving.{IsLeft-left_in}
 use Rattle.roff_laws.proofs.Told.{told_step-holds}
 use Rattle.roff_laws.proofs.PerformedOrStopped.{PerformedOrStopped, Performed, Sprang, EndsOver, StoppedAt, first_of, left_behind, performed_or_stopped}
-use Rattle.roff_run.proofs.Readings.{ReadsOn, LimitStops, AheadTaken, ByteTaken, HasEnded, NoteTaken, HalfEnds, InputLeft, LineEnds, PhaseEnds, MessageTold, RunAborts, SourceFails, SourceStops, SprungRead, ReadsOn-with_sprung}
+use Rattle.roff_run.proofs.Readings.{ReadsOn, LimitStops, AheadTaken, ByteTaken, HasEnded, NoteTaken, HalfEnds, InputLeft, LineEnds, PhaseEnds, MessageTold, RunAborts, SourceFails, SourceStops, SprungRead, ReadsOn-with_sprung, TextChanged, ReadsOn-text}
 use Rattle.roff_run.proofs.Behind.{Behind, Behind-ahead_taken, Behind-sprung_read}
+use Rattle.roff_layout.specs.DueTexts.{TextDue}
+use Rattle.roff_laws.proofs.TextsChanged.{text-holds}
 
 -- what is known of a run while it goes on: it has no last message yet, and nothing closes it before its input has ended
 pub record GoesOn (s : State) : Type 0 where
@@ -99,6 +101,9 @@ IsTold-read l s t (InputLeft leaves is_made) going quiet stage =
     let left = IsLeft-left_in s.phase s in IsTold-going l t (left.ended ∙ going) (record { quiet = left.last_message ∙ quiet; stage = stage })
 IsTold-read l s t (SprungRead name sprung is_made) going quiet stage =
     IsTold-behind l _ s t (Behind-sprung_read (called_by name s.input.names) s) going quiet stage
+IsTold-read l s t (TextChanged due text is_made) going quiet stage =
+    IsTold-going l t (text-holds (λ (u : State). u.ended ≡ None) due s (λ names texts. going))
+    (record { quiet = text-holds (λ (u : State). u.last_message ≡ []) due s (λ names texts. quiet); stage = stage })
 IsTold-read l s t (SourceFails is_open fails) going quiet stage = (HasMet-front s.tape.items s.tape.ending Failed fails, refl)
 IsTold-read l s t (SourceStops limit is_open stops) going quiet stage = inl (HasMet-front s.tape.items s.tape.ending (Stopped limit) stops, quiet)
 
@@ -109,14 +114,23 @@ IsTold-step_with l (e ∷ es) s to_do going goes =
     let done = performed_or_stopped l own e es s in
     IsTold-event l (first_of own e) (left_behind own e es s) s _ going goes.quiet (ended-over s e es to_do goes.stage) (Stage-event l e es s _ to_do done goes.stage) done
 IsTold-step_with l [] s to_do going goes =
-    let reads = ReadsOn-with_sprung l s.sprung s refl in IsTold-read l s _ reads going goes.quiet (Stage-read l s _ reads goes.stage)
+    let reads = ReadsOn-with_sprung l s.follows.sprung s refl in IsTold-read l s _ reads going goes.quiet
+    (Stage-read l s _ reads goes.stage)
+
+-- the text of a diversion changes first, if one does
+IsTold-step_behind : (l : Limits) (due : Option TextDue) (s : State) → s.follows.text ≡ due → s.ended ≡ None → GoesOn s
+    → IsTold l (step_behind l due s)
+IsTold-step_behind l None s none going goes = IsTold-step_with l s.to_do s refl going goes
+IsTold-step_behind l (Some due) s some going goes =
+    let reads = ReadsOn-text l due s some in IsTold-read l s _ reads going goes.quiet (Stage-read l s _ reads goes.stage)
 
 -- a step
 IsTold-step : (l : Limits) (s : State) → IsTold l s → IsTold l (step l s)
 IsTold-step l s told =
     elim (ended_or_not s.ended) [
       | inl ended ↦ subst (λ (t : State). IsTold l t) (sym (step-ended l s ended)) told
-      | inr going ↦ subst (λ (t : State). IsTold l t) (sym (step-going l s going)) (IsTold-step_with l s.to_do s refl going (GoesOn-told l s going told))
+      | inr going ↦ subst (λ (t : State). IsTold l t) (sym (step-going l s going))
+          (IsTold-step_behind l s.follows.text s refl going (GoesOn-told l s going told))
     ]
 
 pub IsTold-told_step : (l : Limits) (s : State) → IsTold l s → IsTold l (told_step l s)

@@ -22,7 +22,7 @@ use Rattle.roff_run.specs.declared.line_state.Due.{Due}
 use Rattle.roff_run.specs.declared.line_state.Due.TheVariants.{Leaves, Tells as TellsText}
 use Rattle.roff_run.specs.PageEvents.{PageEvent, PastEvent}
 use Rattle.roff_run.specs.Output.{PageHistory, layout_of, written}
-use Rattle.roff_run.specs.Run.{read_waiting, State, done_if, performing, unless_refused, grown, made, moved, byte_taken, escape_ends, ahead_taken, taking_ahead, taking_byte, ending_input, answered, in_front_taken, front_seen, awaited_of_source, awaited, item_read, input_ended, message_told, left_in, reading_by, step_with, step, known, performed, phase_ended, source_answer, sprung_at, sprung_read, with_registers, with_sprung}
+use Rattle.roff_run.specs.Run.{read_waiting, State, done_if, performing, unless_refused, grown, made, moved, byte_taken, escape_ends, ahead_taken, taking_ahead, taking_byte, ending_input, answered, in_front_taken, front_seen, awaited_of_source, awaited, item_read, input_ended, message_told, left_in, reading_by, step_with, step, known, performed, phase_ended, source_answer, sprung_read, step_behind, text_done, with_left, with_registers, with_sprung}
 use Rattle.roff_run.specs.Run.Counts.{passes_bytes, refusal, first_passed, names_counted}
 use Rattle.roff_num.specs.declared.num.Num.{Num}
 use Rattle.roff_run.specs.Requests.{called_by}
@@ -37,6 +37,9 @@ use Rattle.roff_num.specs.declared.short_name.ShortName.{ShortName}
 use Rattle.roff_run.specs.declared.phase.Phase.{Phase}
 use Rattle.roff_run.specs.declared.phase.Phase.TheVariants.{Reading, LastMacro, Closing}
 use Rattle.roff_laws.proofs.Beginnings.{IsBeginning-same, IsBeginning-append, IsBeginning-trans}
+use Rattle.roff_run.specs.Following.{following}
+use Rattle.roff_layout.specs.DueTexts.{TextDue}
+use Rattle.roff_laws.proofs.TextsChanged.{text-holds}
 
 -- a state of the same history and messages
 pub OnlyCuts-same : (s t : State) → t.history ≡ s.history → t.messages ≡ s.messages → OnlyCuts s t
@@ -91,9 +94,9 @@ OnlyCuts-with_registers l (first ∷ others) s =
     (OnlyCuts-trans (OnlyCuts-given first s) (OnlyCuts-with_registers l others behind))
 
 -- these are left to do, or put back
-OnlyCuts-sprung_at : (sprung : Option ShortName) (left : List PageEvent) (s t : State) → OnlyCuts s t → OnlyCuts s (sprung_at sprung left t)
-OnlyCuts-sprung_at None left s t cuts = record { text = cuts.text; messages = cuts.messages }
-OnlyCuts-sprung_at (Some name) left s t cuts = record { text = cuts.text; messages = cuts.messages }
+OnlyCuts-with_left : (sprung : Option ShortName) (left : List PageEvent) (s t : State) → OnlyCuts s t → OnlyCuts s (with_left sprung left t)
+OnlyCuts-with_left None left s t cuts = record { text = cuts.text; messages = cuts.messages }
+OnlyCuts-with_left (Some name) left s t cuts = record { text = cuts.text; messages = cuts.messages }
 
 -- the run is done, or it goes on
 OnlyCuts-done_if : (over : Bool) (s behind goes_on : State) → OnlyCuts s behind → OnlyCuts s goes_on → OnlyCuts s (done_if over behind goes_on)
@@ -105,7 +108,9 @@ pub OnlyCuts-performed : (e : PastEvent) (left : List PageEvent) (s : State) →
 OnlyCuts-performed e left s =
     let behind : State = record s { history = e ∷ s.history } in
     let cuts : OnlyCuts s behind = OnlyCuts-event s behind e refl refl in
-    OnlyCuts-done_if (layout_of behind.history).is_over s behind _ cuts (OnlyCuts-sprung_at (springs s.history e) left s behind cuts)
+    let followed : State = record behind { follows = following s.history e } in
+    OnlyCuts-done_if (layout_of behind.history).is_over s behind _ cuts
+    (OnlyCuts-with_left (springs s.history e) left s followed (OnlyCuts-event s followed e refl refl))
 
 -- an event is performed, or what comes before it
 pub OnlyCuts-performing : (l : Limits) (own : Option PageEvent) (e : PageEvent) (rest : List PageEvent) (s : State) → OnlyCuts s (performing l own e rest s)
@@ -248,12 +253,21 @@ OnlyCuts-with_sprung l (Some name) s = OnlyCuts-made l s _ (OnlyCuts-sprung_read
 -- a step of a run that hasn't ended
 pub OnlyCuts-step_with : (l : Limits) (es : List PageEvent) (s : State) → OnlyCuts s (step_with l es s)
 OnlyCuts-step_with l (e ∷ rest) s = OnlyCuts-performing l (next s.history e) e rest s
-OnlyCuts-step_with l [] s = OnlyCuts-with_sprung l s.sprung s
+OnlyCuts-step_with l [] s = OnlyCuts-with_sprung l s.follows.sprung s
+
+-- the text of a diversion changes
+pub OnlyCuts-text_done : (due : TextDue) (s : State) → OnlyCuts s (text_done due s)
+OnlyCuts-text_done due s = text-holds (λ (t : State). OnlyCuts s t) due s (λ names texts. OnlyCuts-same s _ refl refl)
+
+-- if one does
+OnlyCuts-step_behind : (l : Limits) (due : Option TextDue) (s : State) → OnlyCuts s (step_behind l due s)
+OnlyCuts-step_behind l None s = OnlyCuts-step_with l s.to_do s
+OnlyCuts-step_behind l (Some due) s = OnlyCuts-made l s _ (OnlyCuts-text_done due s)
 
 -- a step
 pub OnlyCuts-step : (l : Limits) (s : State) → OnlyCuts s (step l s)
 OnlyCuts-step l s =
-    elim s.ended as (λ o. OnlyCuts s (elim o [ None ↦ step_with l s.to_do s | Some status ↦ s ])) [
-      | None ↦ OnlyCuts-step_with l s.to_do s
+    elim s.ended as (λ o. OnlyCuts s (elim o [ None ↦ step_behind l s.follows.text s | Some status ↦ s ])) [
+      | None ↦ OnlyCuts-step_behind l s.follows.text s
       | Some status ↦ OnlyCuts-same s s refl refl
     ]

@@ -27,10 +27,10 @@ use Rattle.roff_run.specs.declared.line_state.Due.{Due}
 use Rattle.roff_run.specs.declared.line_state.Due.TheVariants.{Leaves, Tells as TellsText}
 use Rattle.roff_run.specs.PageEvents.{PageEvent, PastEvent}
 use Rattle.roff_run.specs.Output.{layout_of}
-use Rattle.roff_run.specs.Run.{read_waiting, State, done_if, ending_with, unless_refused, stopped_by, performing, grown, made, escape_ends, taking_ahead, taking_byte, ending_input, answered, in_front_taken, front_seen, awaited_of_source, awaited, item_read, input_ended, left_in, performed, reading_by, sprung_at, sprung_read, step_with, step, known, phase_ended, with_registers, with_sprung}
+use Rattle.roff_run.specs.Run.{read_waiting, Following, State, done_if, followed_by, ending_with, unless_refused, stopped_by, performing, grown, made, escape_ends, taking_ahead, taking_byte, ending_input, answered, in_front_taken, front_seen, awaited_of_source, awaited, item_read, input_ended, left_in, performed, reading_by, sprung_read, step_behind, step_with, step, known, phase_ended, text_done, with_left, with_registers, with_sprung}
 use Rattle.roff_run.specs.Run.Counts.{counts, first_passed, passes_bytes, names_counted, refusal}
 use Rattle.roff_run.specs.Requests.{called_by}
-use Rattle.roff_run.specs.Springs.{left_of, next, springs}
+use Rattle.roff_run.specs.Springs.{left_of, next}
 use Rattle.roff_run.specs.Titles.{told}
 use Rattle.roff_run.specs.declared.request.Called.{Called}
 use Rattle.roff_run.specs.declared.request.Called.TheVariants.{Request as ARequest, Body as ABody, Nothing as Unknown}
@@ -42,7 +42,9 @@ use Rattle.roff_run.specs.declared.phase.Phase.TheVariants.{Reading, LastMacro, 
 use Rattle.roff_run.specs.declared.message.Message.TheVariants.{ReadFailed}
 use Rattle.roff_run.specs.declared.status.Status.{Status}
 use Rattle.roff_run.specs.declared.status.Status.TheVariants.{Device, Limit as Limited}
-use Rattle.roff_laws.proofs.StepsAppend.{OnlyCuts-same, OnlyCuts-given, OnlyCuts-performed, OnlyCuts-sprung_read, OnlyCuts-trans, OnlyCuts-if, OnlyCuts-unless_refused, OnlyCuts-made, OnlyCuts-escape_ends, OnlyCuts-phase_ended, OnlyCuts-with_registers, OnlyCuts-input_ended, OnlyCuts-message_told, OnlyCuts-left_in, ahead_done, OnlyCuts-ahead_done, byte_done, OnlyCuts-byte_done, OnlyCuts-answered, OnlyCuts-awaited_of_source}
+use Rattle.roff_laws.proofs.StepsAppend.{OnlyCuts-same, OnlyCuts-given, OnlyCuts-performed, OnlyCuts-sprung_read, OnlyCuts-text_done, OnlyCuts-trans, OnlyCuts-if, OnlyCuts-unless_refused, OnlyCuts-made, OnlyCuts-escape_ends, OnlyCuts-phase_ended, OnlyCuts-with_registers, OnlyCuts-input_ended, OnlyCuts-message_told, OnlyCuts-left_in, ahead_done, OnlyCuts-ahead_done, byte_done, OnlyCuts-byte_done, OnlyCuts-answered, OnlyCuts-awaited_of_source}
+use Rattle.roff_run.specs.Following.{following}
+use Rattle.roff_layout.specs.DueTexts.{TextDue}
 
 -- what passes a larger limit passes a smaller one
 abbrev pub IsMonotone : (Limits → Bool) → Type 0
@@ -80,23 +82,25 @@ sprung_read-tape (ARequest request) s = refl
 sprung_read-tape Unknown s = refl
 
 -- and what an event leaves is left alike
-sprung_at-over : (sprung : Option ShortName) (left : List PageEvent) (s : State) (tape : Tape) → sprung_at sprung left (over tape s) ≡ over tape (sprung_at sprung left s)
-sprung_at-over None left s tape = refl
-sprung_at-over (Some name) left s tape = refl
+with_left-over : (sprung : Option ShortName) (left : List PageEvent) (s : State) (tape : Tape)
+    → with_left sprung left (over tape s) ≡ over tape (with_left sprung left s)
+with_left-over None left s tape = refl
+with_left-over (Some name) left s tape = refl
 
-sprung_at-tape : (sprung : Option ShortName) (left : List PageEvent) (s : State) → (sprung_at sprung left s).tape ≡ s.tape
-sprung_at-tape None left s = refl
-sprung_at-tape (Some name) left s = refl
+with_left-tape : (sprung : Option ShortName) (left : List PageEvent) (s : State) → (with_left sprung left s).tape ≡ s.tape
+with_left-tape None left s = refl
+with_left-tape (Some name) left s = refl
 
 -- and so where the last page has ended the run
-done_if-over : (is_over : Bool) (sprung : Option ShortName) (left : List PageEvent) (s : State) (tape : Tape)
-    → done_if is_over (over tape s) (sprung_at sprung left (over tape s)) ≡ over tape (done_if is_over s (sprung_at sprung left s))
-done_if-over true sprung left s tape = refl
-done_if-over false sprung left s tape = sprung_at-over sprung left s tape
+done_if-over : (is_over : Bool) (f : Following) (left : List PageEvent) (s : State) (tape : Tape)
+    → done_if is_over (over tape s) (followed_by f left (over tape s)) ≡ over tape (done_if is_over s (followed_by f left s))
+done_if-over true f left s tape = refl
+done_if-over false f left s tape = with_left-over f.sprung left (record s { follows = f }) tape
 
-done_if-tape : (is_over : Bool) (sprung : Option ShortName) (left : List PageEvent) (s : State) → (done_if is_over s (sprung_at sprung left s)).tape ≡ s.tape
-done_if-tape true sprung left s = refl
-done_if-tape false sprung left s = sprung_at-tape sprung left s
+done_if-tape : (is_over : Bool) (f : Following) (left : List PageEvent) (s : State)
+    → (done_if is_over s (followed_by f left s)).tape ≡ s.tape
+done_if-tape true f left s = refl
+done_if-tape false f left s = with_left-tape f.sprung left (record s { follows = f })
 
 -- a step that a limit refuses, or else the limits behind it
 unless_refused-if : (l : Limits) (b : Bool) (limit : Limit) (r : Option Limit) (s t : State)
@@ -171,8 +175,9 @@ module _ (Beside : Tape → Tape → Type 0) (IsCause : Status → Type 0) where
     Cut-performed e left s tape beside =
         let behind : State = record s { history = e ∷ s.history } in
         Cut-unless_refused (counts s.history e) s _ _ tape beside (OnlyCuts-performed e left (over tape s))
-        (Same tape (subst (λ (t : Tape). Beside t tape) (sym (done_if-tape (layout_of behind.history).is_over (springs s.history e) left behind)) beside)
-        (done_if-over (layout_of behind.history).is_over (springs s.history e) left behind tape))
+        (Same tape (subst (λ (t : Tape). Beside t tape)
+        (sym (done_if-tape (layout_of behind.history).is_over (following s.history e) left behind)) beside)
+        (done_if-over (layout_of behind.history).is_over (following s.history e) left behind tape))
 
     -- both perform an event, or what comes before it
     pub Cut-performing : (own : Option PageEvent) (e : PageEvent) (rest : List PageEvent) (s : State) (tape : Tape) → Beside s.tape tape
@@ -331,12 +336,20 @@ module _ (Beside : Tape → Tape → Type 0) (IsCause : Status → Type 0) where
     -- both make a step, and haven't ended
     pub Cut-step_with : (es : List PageEvent) (s : State) (tape : Tape) → Beside s.tape tape → Cut (step_with small es s) (step_with large es (over tape s))
     Cut-step_with (e ∷ rest) s tape beside = Cut-performing (next s.history e) e rest s tape beside
-    Cut-step_with [] s tape beside = Cut-with_sprung s.sprung s tape beside
+    Cut-step_with [] s tape beside = Cut-with_sprung s.follows.sprung s tape beside
+
+    -- both change the text of a diversion, if one changes
+    Cut-step_behind : (due : Option TextDue) (s : State) (tape : Tape) → Beside s.tape tape
+        → Cut (step_behind small due s) (step_behind large due (over tape s))
+    Cut-step_behind None s tape beside = Cut-step_with s.to_do s tape beside
+    Cut-step_behind (Some due) s tape beside =
+        Cut-made s (text_done due s) (text_done due (over tape s)) tape tape beside beside refl (OnlyCuts-text_done due (over tape s))
 
     -- both make a step from the same state
     pub Cut-step_over : (s : State) (tape : Tape) → Beside s.tape tape → Cut (step small s) (step large (over tape s))
     Cut-step_over s tape beside =
-        elim s.ended as (λ o. Cut (elim o [ None ↦ step_with small s.to_do s | Some status ↦ s ]) (elim o [ None ↦ step_with large s.to_do (over tape s) | Some status ↦ over tape s ])) [
-          | None ↦ Cut-step_with s.to_do s tape beside
+        elim s.ended as (λ o. Cut (elim o [ None ↦ step_behind small s.follows.text s | Some status ↦ s ])
+        (elim o [ None ↦ step_behind large s.follows.text (over tape s) | Some status ↦ over tape s ])) [
+          | None ↦ Cut-step_behind s.follows.text s tape beside
           | Some status ↦ Same tape beside refl
         ]

@@ -13,7 +13,7 @@ use Rattle.roff_run.specs.Reading.Ends.{end_taking}
 use Rattle.roff_run.specs.Reading.Items.{Taking}
 use Rattle.roff_run.specs.Reading.Returns.{behind_return, gone_back_to, line_of}
 use Rattle.roff_run.specs.Requests.{called_by}
-use Rattle.roff_run.specs.Run.{State, initial, known, left_in, moved, paged_state, phase_ended, sprung_read, step, step_with, taken_as, told_after, told_step, unless_refused, with_registers}
+use Rattle.roff_run.specs.Run.{State, initial, known, left_in, moved, paged_state, phase_ended, sprung_read, step, step_with, taken_as, told_after, told_step, unless_refused, with_registers, step_behind}
 use Rattle.roff_run.specs.Run.Counts.{first_passed, names_counted}
 use Rattle.roff_run.specs.Springs.{next}
 use Rattle.roff_run.specs.Starts.{history_given, with_given}
@@ -32,7 +32,9 @@ use Rattle.roff_laws.proofs.Told.{told_step-holds}
 use Rattle.roff_run.proofs.HeldBytes.{held-interrupted, held-last_called, held_of}
 use Rattle.roff_run.proofs.OneMessage.{Brief-more, most_held, Brief, NamesRequest, TellsOne, length-line, length-short}
 use Rattle.roff_run.proofs.OneMessageRead.{Brief-end_taking, Brief-escape_ended, Brief-taking}
-use Rattle.roff_run.proofs.Readings.{ReadsOn, LimitStops, AheadTaken, ByteTaken, NoteTaken, HalfEnds, InputLeft, LineEnds, PhaseEnds, MessageTold, RunAborts, SourceFails, SourceStops, SprungRead, ReadsOn-with_sprung, behind_ahead}
+use Rattle.roff_run.proofs.Readings.{ReadsOn, LimitStops, AheadTaken, ByteTaken, NoteTaken, HalfEnds, InputLeft, LineEnds, PhaseEnds, MessageTold, RunAborts, SourceFails, SourceStops, SprungRead, ReadsOn-with_sprung, behind_ahead, TextChanged, ReadsOn-text}
+use Rattle.roff_layout.specs.DueTexts.{TextDue}
+use Rattle.roff_laws.proofs.TextsChanged.{text-holds}
 
 -- a step tells little, what is read behind it names a request of the table, if it names one, and two bytes more are held at the most
 abbrev pub TellsLittle : State → State → Type 0
@@ -126,6 +128,8 @@ TellsLittle-read l s t (MessageTold told is_made) named = (TextTold refl refl, t
 TellsLittle-read l s t (RunAborts told) named = (NothingTold refl, named, omega arith)
 TellsLittle-read l s t (InputLeft leaves is_made) named = TellsLittle-left_in s.phase s
 TellsLittle-read l s t (SprungRead name sprung is_made) named = TellsLittle-sprung_read (called_by name s.input.names) s named
+TellsLittle-read l s t (TextChanged due text is_made) named =
+    text-holds (λ (u : State). TellsLittle s u) due s (λ names texts. (NothingTold refl, named, omega arith))
 TellsLittle-read l s t (SourceFails is_open fails) named = (NothingTold refl, named, omega arith)
 TellsLittle-read l s t (SourceStops limit is_open stops) named = (NothingTold refl, named, omega arith)
 
@@ -142,13 +146,19 @@ TellsLittle-step_with : (l : Limits) (es : List PageEvent) (s : State) → Names
 TellsLittle-step_with l (e ∷ es) s named =
     let own : Option PageEvent = next s.history e in
     TellsLittle-event l (first_of own e) (left_behind own e es s) s _ (performed_or_stopped l own e es s) named
-TellsLittle-step_with l [] s named = TellsLittle-read l s _ (ReadsOn-with_sprung l s.sprung s refl) named
+TellsLittle-step_with l [] s named = TellsLittle-read l s _ (ReadsOn-with_sprung l s.follows.sprung s refl) named
+
+-- the text of a diversion changes first, if one does
+TellsLittle-step_behind : (l : Limits) (due : Option TextDue) (s : State) → s.follows.text ≡ due → NamesRequest s.reading
+    → TellsLittle s (step_behind l due s)
+TellsLittle-step_behind l None s none named = TellsLittle-step_with l s.to_do s named
+TellsLittle-step_behind l (Some due) s some named = TellsLittle-read l s _ (ReadsOn-text l due s some) named
 
 -- a step
 pub TellsLittle-step : (l : Limits) (s : State) → NamesRequest s.reading → TellsLittle s (step l s)
 TellsLittle-step l s named =
-    elim s.ended as (λ o. TellsLittle s (elim o [ None ↦ step_with l s.to_do s | Some status ↦ s ])) [
-      | None ↦ TellsLittle-step_with l s.to_do s named
+    elim s.ended as (λ o. TellsLittle s (elim o [ None ↦ step_behind l s.follows.text s | Some status ↦ s ])) [
+      | None ↦ TellsLittle-step_behind l s.follows.text s refl named
       | Some status ↦ (NothingTold refl, named, omega arith)
     ]
 

@@ -18,7 +18,7 @@ use Rattle.roff_run.specs.Within.{IsWithin}
 use Rattle.roff_run.specs.Reading.Items.{PageInput}
 use Rattle.roff_run.specs.PageEvents.{PageEvent}
 use Rattle.roff_run.specs.Results.{last_state}
-use Rattle.roff_run.specs.Run.{State, initial, moved, paged_state, stopped_by, unless_refused, with_registers, step_with, step, told_after, told_step}
+use Rattle.roff_run.specs.Run.{State, initial, moved, paged_state, stopped_by, unless_refused, with_registers, step_with, step, told_after, told_step, step_behind}
 use Rattle.roff_laws.specs.Taken.{bytes_of, newlines_in, line_of_last, Takes, EachItemIsTakenOnce, EachRunLeavesItsRest}
 use Rattle.roff_source.specs.Bytes.{newline}
 use Rattle.roff_input.specs.Input.{Ahead, counting, item_taken}
@@ -26,10 +26,12 @@ use Rattle.roff_source.specs.Tape.{Tape, Item, Ending, OneByte, OneNote, Gives, 
 use Rattle.roff_laws.proofs.Endings.{at_last_state}
 use Rattle.roff_laws.proofs.InputLeaving.{IsLeft-left_in}
 use Rattle.roff_laws.proofs.PerformedOrStopped.{PerformedOrStopped, Performed, Sprang, EndsOver, StoppedAt, first_of, left_behind, performed_or_stopped}
-use Rattle.roff_run.proofs.Readings.{ReadsOn, LimitStops, AheadTaken, ByteTaken, NoteTaken, HalfEnds, InputLeft, LineEnds, PhaseEnds, MessageTold, RunAborts, SourceFails, SourceStops, SprungRead, ReadsOn-with_sprung, behind_note}
+use Rattle.roff_run.proofs.Readings.{ReadsOn, LimitStops, AheadTaken, ByteTaken, NoteTaken, HalfEnds, InputLeft, LineEnds, PhaseEnds, MessageTold, RunAborts, SourceFails, SourceStops, SprungRead, ReadsOn-with_sprung, behind_note, TextChanged, ReadsOn-text}
 use Rattle.roff_run.proofs.Behind.{Behind, Behind-sprung_read, Behind-byte_taken, Behind-ahead_taken, Behind-escape_ends, Behind-line_ends, Passed-phase_ended}
 use Rattle.roff_laws.proofs.RunsStayWithin.{no_limit_is_passed}
 use Rattle.roff_laws.proofs.Told.{told_step-holds}
+use Rattle.roff_layout.specs.DueTexts.{TextDue}
+use Rattle.roff_laws.proofs.TextsChanged.{text-holds}
 
 -- the bytes of two lists of items
 bytes_of-append : (xs ys : List Item) → bytes_of (xs ++ ys) ≡ bytes_of xs ++ bytes_of ys
@@ -149,6 +151,8 @@ Takes-read tape l s t (InputLeft leaves is_made) takes =
     let left = IsLeft-left_in s.phase s in Takes-same tape s t left.tape (rw left.charge (omega arith)) left.newlines left.line takes
 Takes-read tape l s t (SprungRead name sprung is_made) takes =
     Takes-behind tape _ s t (Behind-sprung_read (called_by name s.input.names) s) takes
+Takes-read tape l s t (TextChanged due text is_made) takes =
+    text-holds (λ (u : State). Takes tape u) due s (λ names texts. Takes-same tape s _ refl (omega arith) refl refl takes)
 Takes-read tape l s t (SourceFails is_open fails) takes = Takes-unread tape s t refl refl takes
 Takes-read tape l s t (SourceStops limit is_open stops) takes = Takes-unread tape s t refl refl takes
 
@@ -157,13 +161,19 @@ Takes-step_with : (tape : Tape) (l : Limits) (es : List PageEvent) (s : State) �
 Takes-step_with tape l (e ∷ es) s takes =
     let own : Option PageEvent = next s.history e in
     Takes-event tape l (first_of own e) (left_behind own e es s) s _ (performed_or_stopped l own e es s) takes
-Takes-step_with tape l [] s takes = Takes-read tape l s _ (ReadsOn-with_sprung l s.sprung s refl) takes
+Takes-step_with tape l [] s takes = Takes-read tape l s _ (ReadsOn-with_sprung l s.follows.sprung s refl) takes
+
+-- the text of a diversion changes first, if one does
+Takes-step_behind : (tape : Tape) (l : Limits) (due : Option TextDue) (s : State) → s.follows.text ≡ due → Takes tape s
+    → Takes tape (step_behind l due s)
+Takes-step_behind tape l None s none takes = Takes-step_with tape l s.to_do s takes
+Takes-step_behind tape l (Some due) s some takes = Takes-read tape l s _ (ReadsOn-text l due s some) takes
 
 -- a step
 pub Takes-step : (tape : Tape) (l : Limits) (s : State) → Takes tape s → Takes tape (step l s)
 Takes-step tape l s takes =
-    elim s.ended as (λ o. Takes tape (elim o [ None ↦ step_with l s.to_do s | Some status ↦ s ])) [
-      | None ↦ Takes-step_with tape l s.to_do s takes
+    elim s.ended as (λ o. Takes tape (elim o [ None ↦ step_behind l s.follows.text s | Some status ↦ s ])) [
+      | None ↦ Takes-step_behind tape l s.follows.text s refl takes
       | Some status ↦ takes
     ]
 

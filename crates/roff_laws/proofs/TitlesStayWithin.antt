@@ -17,7 +17,7 @@ use Rattle.roff_run.specs.Registers.{AllRegisters, Change, SetTo, FormatAs, Remo
 use Rattle.roff_run.specs.Requests.{called_by}
 use Rattle.roff_run.specs.Requests.Effects.{page_numbered}
 use Rattle.roff_run.specs.Requests.Numbering.{number_of_page}
-use Rattle.roff_run.specs.Run.{State, ahead_taken, initial, known, moved, paged_state, phase_ended, sprung_read, step, step_with, told_after, told_step, unless_refused, with_registers}
+use Rattle.roff_run.specs.Run.{State, ahead_taken, initial, known, moved, paged_state, phase_ended, sprung_read, step, step_with, told_after, told_step, unless_refused, with_registers, step_behind}
 use Rattle.roff_run.specs.Run.Counts.{first_passed, names_counted}
 use Rattle.roff_run.specs.Springs.{next}
 use Rattle.roff_run.specs.Starts.{given_change, history_given, with_given}
@@ -30,13 +30,16 @@ use Rattle.roff_run.specs.declared.request.Called.{Called}
 use Rattle.roff_run.specs.declared.request.Called.TheVariants.{Request as ARequest, Body as ABody, Nothing as Unknown}
 use Rattle.roff_run.specs.declared.status.Status.{Status}
 use Rattle.roff_run.proofs.GivenPages.{keeps-given}
-use Rattle.roff_run.proofs.Readings.{ReadsOn, LimitStops, AheadTaken, ByteTaken, NoteTaken, HalfEnds, InputLeft, LineEnds, PhaseEnds, MessageTold, RunAborts, SourceFails, SourceStops, SprungRead, ReadsOn-with_sprung}
+use Rattle.roff_run.proofs.Readings.{ReadsOn, LimitStops, AheadTaken, ByteTaken, NoteTaken, HalfEnds, InputLeft, LineEnds, PhaseEnds, MessageTold, RunAborts, SourceFails, SourceStops, SprungRead, ReadsOn-with_sprung, TextChanged, ReadsOn-text}
 use Rattle.roff_run.proofs.Behind.{Behind-ahead_taken, Behind-sprung_read, Passed-phase_ended}
 use Rattle.roff_laws.specs.Laws.{HasTitlesWithin, NoTitleIsLonger, TitlesAreWithin}
 use Rattle.roff_laws.proofs.InputLeaving.{IsLeft-left_in}
 use Rattle.roff_laws.proofs.PerformedOrStopped.{PerformedOrStopped, Performed, Sprang, EndsOver, StoppedAt, first_of, left_behind, performed_or_stopped}
-use Rattle.roff_laws.proofs.RunsStayWithin.{IsWithin-initial, IsWithin-step, IsWithin-told_step, title-chosen, title-given}
+use Rattle.roff_laws.proofs.RunsStayWithin.{IsWithin-initial, IsWithin-step, IsWithin-told_step, title-given}
 use Rattle.roff_laws.proofs.Told.{told_step-holds}
+use Rattle.roff_layout.specs.DueTexts.{TextDue}
+use Rattle.roff_laws.proofs.TextsChanged.{text-holds}
+use Rattle.roff_laws.proofs.KeptTitles.{title-chosen}
 
 -- the titles that were placed behind an event
 placed-event : (most : ℕ) (rs : AllRegisters) (e : PageEvent) (h : PageHistory) → title_length rs.title ≤ most
@@ -143,6 +146,9 @@ titles-read l s t (InputLeft leaves is_made) within is =
 titles-read l s t (SprungRead name sprung is_made) within is =
     let called : Called = called_by name s.input.names in
     titles-same l s t (kept-sprung_read called s) (Behind-sprung_read called s).history within is
+titles-read l s t (TextChanged due text is_made) within is =
+    titles-same l s t (text-holds (λ (u : State). u.registers.kept_title ≡ s.registers.kept_title) due s (λ names texts. refl))
+    (text-holds (λ (u : State). u.history ≡ s.history) due s (λ names texts. refl)) within is
 titles-read l s t (SourceFails is_open fails) within is = titles-same l s t refl refl within is
 titles-read l s t (SourceStops limit is_open stops) within is = titles-same l s t refl refl within is
 
@@ -152,14 +158,21 @@ titles-step_with : (l : Limits) (es : List PageEvent) (s : State) → IsWithin l
 titles-step_with l (e ∷ rest) s within is =
     let own : Option PageEvent = next s.history e in
     titles-event l (first_of own e) (left_behind own e rest s) s _ (performed_or_stopped l own e rest s) within is
-titles-step_with l [] s within is = titles-read l s _ (ReadsOn-with_sprung l s.sprung s refl) within is
+titles-step_with l [] s within is = titles-read l s _ (ReadsOn-with_sprung l s.follows.sprung s refl) within is
+
+-- the text of a diversion changes first, if one does
+titles-step_behind : (l : Limits) (due : Option TextDue) (s : State) → s.follows.text ≡ due → IsWithin l (step_behind l due s)
+    → HasTitlesWithin l.line s
+    → HasTitlesWithin l.line (step_behind l due s)
+titles-step_behind l None s none within is = titles-step_with l s.to_do s within is
+titles-step_behind l (Some due) s some within is = titles-read l s _ (ReadsOn-text l due s some) within is
 
 -- a step
 titles-step : (l : Limits) (s : State) → IsWithin l (step l s) → HasTitlesWithin l.line s → HasTitlesWithin l.line (step l s)
 titles-step l s within is =
-    let of : Option Status → State = λ o. elim o [ None ↦ step_with l s.to_do s | Some status ↦ s ] in
+    let of : Option Status → State = λ o. elim o [ None ↦ step_behind l s.follows.text s | Some status ↦ s ] in
     elim s.ended as (λ o. IsWithin l (of o) → HasTitlesWithin l.line (of o)) [
-      | None ↦ λ within. titles-step_with l s.to_do s within is
+      | None ↦ λ within. titles-step_behind l s.follows.text s refl within is
       | Some status ↦ λ within. is
     ] within
 

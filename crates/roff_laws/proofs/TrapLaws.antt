@@ -12,7 +12,7 @@ use Rattle.roff_layout.specs.Puts.{Put, appended, boxes_put, ejected_if, puts}
 use Rattle.roff_pages.specs.Reach.{IsMetAtEnd}
 use Rattle.roff_layout.specs.Springs.{first_met, is_on_top, is_passed, passed, passed_in, springs as springs_on_page}
 use Rattle.roff_layout.specs.Stops.{Target, is_diverted, page_target, place_of, target}
-use Rattle.roff_layout.specs.Turning.{behind_put, next_behind, page_begun, unput, with_boxes, with_event}
+use Rattle.roff_layout.specs.Turning.{behind_put, next_behind, page_begun, turned_if_full, turned_unless, unput, with_boxes, with_event}
 use Rattle.roff_layout.specs.declared.layout_event.LayoutEvent.{LayoutEvent}
 use Rattle.roff_layout.specs.declared.layout_event.LayoutEvent.TheVariants.{ListPages, Begin, Close, Space, Need, Eject, EjectTo, EjectOn, EjectLast, Length, Offset, Next, Number, NoSpace, Plant, Uproot, MoveTrap, RemoveTrap, DiversionTrap, NoDiversionTrap, Divert, EndDivert}
 use Rattle.roff_layout.specs.declared.trap.Trap.{Trap}
@@ -22,6 +22,7 @@ use Rattle.roff_run.specs.PageEvents.{PageHistory, PastEvent}
 use Rattle.roff_run.specs.Springs.{springs, sprung_on}
 use Rattle.roff_run.specs.declared.event.PageEvent.TheVariants.{Text, Page, Interrupt, Environment, Back, InputTrap as SetsTrap, Title}
 use Rattle.roff_laws.specs.TrapLaws.{EjectsOfOtherPagesDoNothing, IsReached, MacrosFindTheRestOfThePage, OneEventSpringsOneMacro}
+use Rattle.roff_laws.proofs.PutHolds.{put-holds}
 
 -- all traps that are met on a page lie where its boxes end
 met : (x : Happening) (L : Layout) → is_diverted x L ≡ false
@@ -135,7 +136,8 @@ reached-put x None L M name none is on_page goes same found =
 reached-put x (Some p) L M name some is on_page goes same found =
     let boxes : List Box = appended x L in
     let N : Layout = with_boxes x boxes (record L { next = next_behind x L.next }) in
-    let there : M ≡ N = page-turned (nat_le N.length (page_place N)) N.is_closing M N is goes same in
+    let on : M ≡ turned_if_full N = is ∙ ap (λ (diverted : Bool). turned_unless diverted N) on_page in
+    let there : M ≡ N = page-turned (nat_le N.length (page_place N)) N.is_closing M N on goes same in
     let place : (target x L).place ≡ page_place L = ap (λ (t : Target). t.place) (sym (on_the_page (is_eject x) L.diversions (page_target L) on_page)) in
     let all : N.boxes ≡ boxes ++ L.boxes = ap (λ (diverted : Bool). if diverted then L.boxes else boxes ++ L.boxes) on_page in
     let size : page_place N ≡ (target x L).place + length boxes =
@@ -195,7 +197,8 @@ begun-put : (x : Happening) (p : Option Put) (boxes : List Box) (L : Layout)
 begun-put x None boxes L began = begun-happening x L began
 begun-put x (Some p) boxes L began =
     let N : Layout = with_boxes x boxes (record L { next = next_behind x L.next }) in
-    begun-turned (nat_le N.length (page_place N)) N.is_closing N began
+    put-holds (λ (M : Layout). (M.begun == L.begun) ≡ false → page_place M ≡ 0) (is_diverted x L) N (none_began L.begun _)
+    (begun-turned (nat_le N.length (page_place N)) N.is_closing N) began
 
 -- what sprang, by whether the layout is over, and whether a page began
 reached-by : (x : Happening) (L : Layout) (name : ShortName) (over same : Bool) → is_diverted x L ≡ false

@@ -8,6 +8,8 @@ use Rattle.roff_layout.specs.Puts.{Put, appended}
 use Rattle.roff_layout.specs.Turning.{behind_put, next_behind, page_begun, unput, with_boxes, with_first, without_first}
 use Rattle.roff_layout.specs.declared.trap.Trap.{Trap}
 use Rattle.roff_run.specs.Layouts.{laid_out}
+use Rattle.roff_laws.proofs.PutHolds.{put-holds}
+use Rattle.roff_layout.specs.Stops.{is_diverted}
 
 -- a page that ends leaves them as they are
 pub traps-turned : (full closing : Bool) (N : Layout)
@@ -23,7 +25,8 @@ pub traps-put : (most : ℕ) (x : Happening) (p : Option Put) (boxes : List Box)
 traps-put most x None boxes L put unput = unput
 traps-put most x (Some p) boxes L put unput =
     let N : Layout = with_boxes x boxes (record L { next = next_behind x L.next }) in
-    subst (λ (traps : List Trap). length traps ≤ most) (sym (traps-turned (nat_le N.length (page_place N)) N.is_closing N)) put
+    put-holds (λ (M : Layout). length M.traps ≤ most) (is_diverted x L) N put
+    (subst (λ (traps : List Trap). length traps ≤ most) (sym (traps-turned (nat_le N.length (page_place N)) N.is_closing N)) put)
 
 -- and a line that is placed
 pub traps-placed : (x : Option Finished) (L : Layout) → (laid_out (option_map Places x) L).traps ≡ L.traps
@@ -31,7 +34,7 @@ traps-placed None L = refl
 traps-placed (Some line) L =
     let x : Happening = Places line in
     let N : Layout = with_boxes x (appended x L) (record L { next = next_behind x L.next }) in
-    traps-turned (nat_le N.length (page_place N)) N.is_closing N
+    put-holds (λ (M : Layout). M.traps ≡ L.traps) (is_diverted x L) N refl (traps-turned (nat_le N.length (page_place N)) N.is_closing N)
 
 -- as many where one changes, and one fewer where one goes
 changed-if : (c : Bool) (t u : Trap) (traps others : List Trap) → length others ≡ length traps

@@ -1,18 +1,18 @@
 -- How many turns of a run are enough, and that what is read leaves fewer.
-use Rattle.std.proofs.Common.{◌≡◌, ◌⊎◌, inl, inr, ◌≤◌, ◌+◌, ◌-◌, ◌*◌, ℕ, suc, true, false, List, [], ◌∷◌, ◌++◌, length, None, refl, ap, arith}
+use Rattle.std.proofs.Common.{◌≡◌, ◌⊎◌, inl, inr, ◌≤◌, ◌+◌, ◌-◌, ◌*◌, ℕ, suc, true, false, List, [], ◌∷◌, ◌++◌, length, refl, ap, arith}
 use Rattle.std.specs.Prelude.{IsSome}
 use Rattle.roff_num.specs.declared.limits.Limits.{Limits}
 use Rattle.roff_run.specs.PageEvents.{PageEvent}
 use Rattle.roff_run.specs.Events.Lines.{closing_events}
-use Rattle.roff_run.specs.Run.{State, input_left, known, left_in, moved, phase_ended}
-use Rattle.roff_run.specs.Reading.Returns.{gone_back_to}
+use Rattle.roff_run.specs.Run.{State, nothing_follows, input_left, known, left_in, moved, phase_ended}
+use Rattle.roff_run.specs.Reading.Returns.{gone_back_to, in_sprung}
 use Rattle.roff_input.specs.Input.{Ahead, ByteAhead, FreeAhead, EndAhead, ReturnAhead, DoAhead, cost, item_taken, counting, outermost_back}
 use Rattle.roff_source.specs.Tape.{Tape, Item, Gives, OneByte, OneNote, front, behind_front}
-use Rattle.roff_run.specs.TurnsToCome.{begun, endings_of, free_ahead, lines_left, most_left, phases_left, turns_of}
+use Rattle.roff_run.specs.TurnsToCome.{begun, endings_of, free_ahead, lines_left, most_left, phases_left, turns_of, unended}
 use Rattle.roff_run.specs.Environments.{interrupted_line}
 use Rattle.roff_run.specs.Reading.Ends.{is_unfinished}
 use Rattle.roff_run.specs.declared.line_state.LineState.{LineState}
-use Rattle.roff_run.specs.declared.line_state.LineState.TheVariants.{LineStart, Braced, Told, Exiting}
+use Rattle.roff_run.specs.declared.line_state.LineState.TheVariants.{LineStart, Braced, Told, Exiting, Branch, Text as InText, Control, Name, Deciding, Skipping, Dropped, TitleFront, Title as InTitle, Collecting}
 use Rattle.roff_run.specs.declared.phase.Phase.{Phase}
 use Rattle.roff_run.specs.declared.phase.Phase.TheVariants.{Reading, LastMacro, Closing}
 use Rattle.roff_run.proofs.EscapeCounts.{some_ending}
@@ -20,7 +20,8 @@ use Rattle.roff_run.proofs.LinesLeft.{left-few, left_behind}
 use Rattle.roff_run.proofs.Keeping.{Keeps-end_taking, Keeps-last_called}
 use Rattle.roff_run.proofs.LinesEnded.{AtBrace, AtStart, LineEnded, Within, line_ended, unended-few}
 use Rattle.roff_run.proofs.Behind.{Behind-byte_taken, Behind-ahead_taken, Behind-escape_ends, begun-behind_return}
-use Rattle.roff_run.proofs.Readings.{ReadsOn, LimitStops, AheadTaken, ByteTaken, NoteTaken, HalfEnds, InputLeft, LineEnds, PhaseEnds, MessageTold, RunAborts, SourceFails, SourceStops, SprungRead, line_ends}
+use Rattle.roff_run.proofs.Readings.{ReadsOn, LimitStops, AheadTaken, ByteTaken, NoteTaken, HalfEnds, InputLeft, LineEnds, PhaseEnds, MessageTold, RunAborts, SourceFails, SourceStops, SprungRead, line_ends, TextChanged}
+use Rattle.roff_laws.proofs.TextsChanged.{no_text, none_sprung}
 
 -- How many turns are enough. What is still to be charged may begin something that ends, and a line that ends behind that, and so
 -- may a free byte; an item of the source takes one. A condition takes two endings, and the escape that begins it one more: the
@@ -104,7 +105,7 @@ InputLeft-fewer l Closing s leaves =
     omega (arith, turns)
 
 -- what was read, or how the run ended
-pub EndsWithin-read : (l : Limits) (n : ℕ) (s t : State) → ReadsOn l s t → s.to_do ≡ [] → s.sprung ≡ None → turns_needed l s ≤ suc n → EndsWithin l n t
+pub EndsWithin-read : (l : Limits) (n : ℕ) (s t : State) → ReadsOn l s t → s.to_do ≡ [] → s.follows ≡ nothing_follows → turns_needed l s ≤ suc n → EndsWithin l n t
 EndsWithin-read l n s t (LimitStops limit) idle unsprung enough = inl refl
 EndsWithin-read l n s t (AheadTaken item behind ahead charge is_made) idle unsprung enough =
     let read = Behind-ahead_taken item (record s { input = item_taken item behind s.input }) in
@@ -136,6 +137,24 @@ EndsWithin-read l n s t (MessageTold told is_made) idle unsprung enough =
     fewer_needed l n s t enough (omega (arith, turns))
 EndsWithin-read l n s t (RunAborts told) idle unsprung enough = inl refl
 EndsWithin-read l n s t (InputLeft leaves is_made) idle unsprung enough = fewer_needed l n s t enough (InputLeft-fewer l s.phase s leaves)
-EndsWithin-read l n s t (SprungRead name sprung is_made) idle unsprung enough = absurd (cc)
+EndsWithin-read l n s t (SprungRead name sprung is_made) idle unsprung enough = absurd (none_sprung s.follows name unsprung sprung)
+EndsWithin-read l n s t (TextChanged due text is_made) idle unsprung enough = absurd (no_text s.follows due unsprung text)
 EndsWithin-read l n s t (SourceFails is_open fails) idle unsprung enough = inl refl
 EndsWithin-read l n s t (SourceStops limit is_open stops) idle unsprung enough = inl refl
+
+-- what is read of a macro is no line yet
+pub unended-in_sprung : (reading : LineState) → unended (in_sprung reading) ≤ unended reading
+unended-in_sprung LineStart = omega arith
+unended-in_sprung Branch = omega arith
+unended-in_sprung Braced = omega arith
+unended-in_sprung (InText line) = omega arith
+unended-in_sprung (Control breaks) = omega arith
+unended-in_sprung (Name breaks first) = omega arith
+unended-in_sprung (Collecting purpose) = omega arith
+unended-in_sprung (Deciding keeping) = omega arith
+unended-in_sprung (Skipping opened closed behind) = omega arith
+unended-in_sprung Dropped = omega arith
+unended-in_sprung (Told aborts) = omega arith
+unended-in_sprung Exiting = omega arith
+unended-in_sprung TitleFront = omega arith
+unended-in_sprung (InTitle delimiter) = omega arith

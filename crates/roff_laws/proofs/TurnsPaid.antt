@@ -9,7 +9,7 @@ use Rattle.roff_num.specs.declared.num.Num.{Num}
 use Rattle.roff_num.specs.declared.short_name.ShortName.{ShortName}
 use Rattle.roff_run.specs.PageEvents.{PageEvent}
 use Rattle.roff_run.specs.Requests.{called_by}
-use Rattle.roff_run.specs.Run.{State, grown, moved, sprung_read, step, step_with, unless_refused, with_registers, with_sprung}
+use Rattle.roff_run.specs.Run.{State, nothing_follows, grown, moved, sprung_read, step, step_with, unless_refused, with_registers, with_sprung, step_behind, text_done}
 use Rattle.roff_run.specs.Run.Counts.{first_passed, names_counted}
 use Rattle.roff_run.specs.Springs.{next}
 use Rattle.roff_run.specs.Starts.{history_given, with_given}
@@ -25,7 +25,9 @@ use Rattle.roff_laws.proofs.PerformedOrStopped.{PerformedOrStopped, Performed, S
 use Rattle.roff_laws.proofs.TurnsNeeded.{EndsWithin, EndsWithin-read, items-behind_front, turns_needed}
 use Rattle.roff_run.proofs.Behind.{Behind-ahead_taken, Behind-byte_taken, Behind-escape_ends, Behind-line_ends, Behind-sprung_read, Passed-phase_ended}
 use Rattle.roff_run.proofs.HeldBytes.{held_of}
-use Rattle.roff_run.proofs.Readings.{ReadsOn, LimitStops, AheadTaken, ByteTaken, NoteTaken, HalfEnds, InputLeft, LineEnds, PhaseEnds, MessageTold, RunAborts, SourceFails, SourceStops, SprungRead, ReadsOn-reading_on}
+use Rattle.roff_run.proofs.Readings.{ReadsOn, LimitStops, AheadTaken, ByteTaken, NoteTaken, HalfEnds, InputLeft, LineEnds, PhaseEnds, MessageTold, RunAborts, SourceFails, SourceStops, SprungRead, ReadsOn-reading_on, TextChanged}
+use Rattle.roff_laws.proofs.TextsChanged.{text-holds, follows-nothing}
+use Rattle.roff_layout.specs.DueTexts.{TextDue}
 
 -- four turns for all that may still be charged, and for each item of the source
 abbrev pub bytes_left : Limits → State → ℕ
@@ -58,7 +60,7 @@ record Waits (l : Limits) (s t : State) : Type 0 where
 -- what a step does: it waits, or reads on
 data StepReads (l : Limits) (s t : State) : Type 0 where
   ReadsNothing : Waits l s t → StepReads l s t
-  Reads : s.to_do ≡ [] → s.sprung ≡ None → ReadsOn l s t → StepReads l s t
+  Reads : s.to_do ≡ [] → s.follows ≡ nothing_follows → ReadsOn l s t → StepReads l s t
 
 Waits-event : (l : Limits) (e : PageEvent) (es : List PageEvent) (s t : State) → PerformedOrStopped l e es s t → Waits l s t
 Waits-event l e es s t (Performed allowed on none) = record { told = refl; left = refl }
@@ -75,20 +77,30 @@ Waits-sprung_read l (ABody name) s = record { told = refl; left = refl }
 Waits-sprung_read l (ARequest request) s = record { told = refl; left = refl }
 Waits-sprung_read l Unknown s = record { told = refl; left = refl }
 
-reads-with_sprung : (l : Limits) (s : State) (sprung : Option ShortName) → s.to_do ≡ [] → s.sprung ≡ sprung → StepReads l s (with_sprung l sprung s)
-reads-with_sprung l s None idle is = Reads idle is (ReadsOn-reading_on l s)
-reads-with_sprung l s (Some name) idle is =
+reads-with_sprung : (l : Limits) (s : State) (sprung : Option ShortName) → s.to_do ≡ [] → s.follows.text ≡ None → s.follows.sprung ≡ sprung
+    → StepReads l s (with_sprung l sprung s)
+reads-with_sprung l s None idle none is = Reads idle (follows-nothing s.follows none is) (ReadsOn-reading_on l s)
+reads-with_sprung l s (Some name) idle none is =
     let called : Called = called_by name s.input.names in
     ReadsNothing (Waits-unless_refused l (first_passed l (grown (sprung_read called s))) s _ (Waits-sprung_read l called s))
 
-reads-step_with : (l : Limits) (es : List PageEvent) (s : State) → s.to_do ≡ es → StepReads l s (step_with l es s)
-reads-step_with l (e ∷ es) s to_do =
+reads-step_with : (l : Limits) (es : List PageEvent) (s : State) → s.to_do ≡ es → s.follows.text ≡ None → StepReads l s (step_with l es s)
+reads-step_with l (e ∷ es) s to_do none =
     let own : Option PageEvent = next s.history e in
     ReadsNothing (Waits-event l (first_of own e) (left_behind own e es s) s _ (performed_or_stopped l own e es s))
-reads-step_with l [] s to_do = reads-with_sprung l s s.sprung to_do refl
+reads-step_with l [] s to_do none = reads-with_sprung l s s.follows.sprung to_do none refl
+
+-- a change of the text of a diversion
+Waits-text_done : (l : Limits) (due : TextDue) (s : State) → Waits l s (text_done due s)
+Waits-text_done l due s = text-holds (λ (t : State). Waits l s t) due s (λ names texts. record { told = refl; left = refl })
+
+reads-step_behind : (l : Limits) (due : Option TextDue) (s : State) → s.follows.text ≡ due → StepReads l s (step_behind l due s)
+reads-step_behind l None s none = reads-step_with l s.to_do s refl none
+reads-step_behind l (Some due) s some =
+    ReadsNothing (Waits-unless_refused l (first_passed l (grown (text_done due s))) s _ (Waits-text_done l due s))
 
 reads-step : (l : Limits) (s : State) → s.ended ≡ None → StepReads l s (step l s)
-reads-step l s going = subst (λ (t : State). StepReads l s t) (sym (step-going l s going)) (reads-step_with l s.to_do s refl)
+reads-step l s going = subst (λ (t : State). StepReads l s t) (sym (step-going l s going)) (reads-step_behind l s.follows.text s refl)
 
 -- what is read leaves no more
 fewer-left : (l : Limits) (s t : State) → ReadsOn l s t → bytes_left l t ≤ bytes_left l s
@@ -113,6 +125,7 @@ fewer-left l s t (RunAborts told) = omega arith
 fewer-left l s t (InputLeft leaves is_made) =
     let left = IsLeft-left_in s.phase s in omega (arith, left.charge, ap (λ (tape : Tape). length tape.items) left.tape)
 fewer-left l s t (SprungRead name sprung is_made) = omega (arith, (Waits-sprung_read l (called_by name s.input.names) s).left)
+fewer-left l s t (TextChanged due text is_made) = omega (arith, (Waits-text_done l due s).left)
 fewer-left l s t (SourceFails is_open fails) = omega arith
 fewer-left l s t (SourceStops limit is_open stops) = omega arith
 
@@ -141,6 +154,8 @@ fewer-notes l s t (RunAborts told) = omega arith
 fewer-notes l s t (InputLeft leaves is_made) = let left = IsLeft-left_in s.phase s in omega (arith, ap notes_left left.tape)
 fewer-notes l s t (SprungRead name sprung is_made) =
     let read = Behind-sprung_read (called_by name s.input.names) s in omega (arith, ap notes_left read.tape)
+fewer-notes l s t (TextChanged due text is_made) =
+    text-holds (λ (u : State). notes_left u.tape ≤ notes_left s.tape) due s (λ names texts. omega arith)
 fewer-notes l s t (SourceFails is_open fails) = omega arith
 fewer-notes l s t (SourceStops limit is_open stops) = omega arith
 

@@ -1,5 +1,5 @@
 -- Events that wait to be performed: they are to be done, or were put back.
-use Rattle.std.proofs.Common.{◌≡◌, ◌⊎◌, inl, inr, List, [], ◌∷◌, ◌++◌, map, refl, ◌∙◌, ap, subst}
+use Rattle.std.proofs.Common.{◌≡◌, ◌⊎◌, inl, inr, List, [], ◌∷◌, ◌++◌, map, Option, Some, None, refl, ◌∙◌, ap, subst}
 use Rattle.std.specs.Prelude.{IsSome}
 use Rattle.roff_num.specs.declared.limits.Limits.{Limits}
 use Rattle.roff_input.specs.Input.{Ahead, ByteAhead, FreeAhead, EndAhead, ReturnAhead, DoAhead, item_taken}
@@ -12,18 +12,22 @@ use Rattle.roff_run.specs.Reading.Ends.{end_taking}
 use Rattle.roff_run.specs.Reading.Items.{Taking}
 use Rattle.roff_run.specs.Reading.Returns.{back_of}
 use Rattle.roff_run.specs.Requests.{called_by}
-use Rattle.roff_run.specs.Run.{State, ahead_taken, known, left_in, sprung_read, taken_as}
+use Rattle.roff_run.specs.Run.{State, ahead_taken, known, left_in, sprung_read, taken_as, grown, made, text_done, unless_refused}
 use Rattle.roff_run.specs.Titles.{put_back}
 use Rattle.roff_run.specs.declared.line_state.LineState.TheVariants.{Exiting}
 use Rattle.roff_run.specs.declared.phase.Phase.{Phase}
 use Rattle.roff_run.specs.declared.phase.Phase.TheVariants.{Reading, LastMacro, Closing}
 use Rattle.roff_run.specs.declared.request.Called.{Called}
 use Rattle.roff_run.specs.declared.request.Called.TheVariants.{Request as ARequest, Body as ABody, Nothing as Unknown}
-use Rattle.roff_run.proofs.Readings.{ReadsOn, LimitStops, AheadTaken, ByteTaken, NoteTaken, HalfEnds, InputLeft, LineEnds, PhaseEnds, MessageTold, RunAborts, SourceFails, SourceStops, SprungRead}
+use Rattle.roff_run.proofs.Readings.{ReadsOn, LimitStops, AheadTaken, ByteTaken, NoteTaken, HalfEnds, InputLeft, LineEnds, PhaseEnds, MessageTold, RunAborts, SourceFails, SourceStops, SprungRead, TextChanged}
 use Rattle.roff_laws.specs.TrapLaws.{IsAmong, IsPutBack, Waits}
 use Rattle.roff_run.proofs.GrowingAhead.{Grows, Stays, WithByte, WithEnd, WithFree, WithReturn, ahead-called, ahead-interrupted, ahead-same}
 use Rattle.roff_laws.proofs.PerformedOrStopped.{PerformedOrStopped, Performed, Sprang, EndsOver, StoppedAt}
 use Rattle.roff_run.proofs.ReadEvents.{Means, Means-end_taking, Means-escape_ended, Means-taking}
+use Rattle.roff_laws.proofs.TextsChanged.{text-holds}
+use Rattle.roff_layout.specs.DueTexts.{TextDue}
+use Rattle.roff_num.specs.declared.limit.Limit.{Limit}
+use Rattle.roff_run.specs.Run.Counts.{first_passed}
 
 -- with others
 pub among-behind : (e : PageEvent) (front events : List PageEvent) → IsAmong e events → IsAmong e (front ++ events)
@@ -133,6 +137,7 @@ waits-read_back e l s t (MessageTold told is_made) back = WaitsStill (inr back)
 waits-read_back e l s t (RunAborts told) back = RunEnds refl
 waits-read_back e l s t (InputLeft leaves is_made) back = lost_or_not e s t leaves (waits-left_in e s.phase s back)
 waits-read_back e l s t (SprungRead name sprung is_made) back = WaitsStill (waits-sprung_read e (called_by name s.input.names) s back)
+waits-read_back e l s t (TextChanged due text is_made) back = WaitsStill (text-holds (Waits e) due s (λ names texts. inr back))
 waits-read_back e l s t (SourceFails is_open fails) back = RunEnds refl
 waits-read_back e l s t (SourceStops limit is_open stops) back = RunEnds refl
 
@@ -143,3 +148,14 @@ put_back_where_idle e s idle (inr back) = back
 
 pub waits-read : (e : PageEvent) (l : Limits) (s t : State) → ReadsOn l s t → s.to_do ≡ [] → Waits e s → StillWaits e s t
 waits-read e l s t reads idle waits = waits-read_back e l s t reads (put_back_where_idle e s idle waits)
+
+-- a change of the text of a diversion leaves it waiting, too, or a limit stops the run
+waits-unless_refused : (e : PageEvent) (l : Limits) (r : Option Limit) (s done : State) → Waits e done
+    → StillWaits e s (unless_refused l r s done)
+waits-unless_refused e l None s done waits = WaitsStill waits
+waits-unless_refused e l (Some limit) s done waits = RunEnds refl
+
+pub waits-text : (e : PageEvent) (l : Limits) (due : TextDue) (s : State) → Waits e s → StillWaits e s (made l s (text_done due s))
+waits-text e l due s waits =
+    waits-unless_refused e l (first_passed l (grown (text_done due s))) s (text_done due s)
+    (text-holds (Waits e) due s (λ names texts. waits))

@@ -1,5 +1,5 @@
 -- Laws over macros that spring, and over the input-line trap (manual, section 7.5).
-use Rattle.std.specs.Prelude.{◌≡◌, ◌≢◌, ◌-◌, ◌<◌, ◌≤◌, true, false, List, [], ◌∷◌, ◌++◌, map, Option, Some, None}
+use Rattle.std.specs.Prelude.{◌≡◌, ◌≢◌, ℕ, suc, ◌-◌, ◌<◌, ◌≤◌, true, false, List, [], ◌∷◌, ◌++◌, map, Option, Some, None}
 use Rattle.roff_layout.specs.declared.event.Event.TheVariants.{Count}
 use Rattle.roff_num.specs.ShortNames.{name_bytes}
 use Rattle.roff_num.specs.declared.limits.Limits.{Limits}
@@ -12,8 +12,8 @@ use Rattle.roff_run.specs.ItemsTaken.{TakesItems}
 use Rattle.roff_run.specs.Layouts.{layout_of}
 use Rattle.roff_run.specs.Reading.Returns.{back_of, in_sprung}
 use Rattle.roff_run.specs.Requests.{called_by}
-use Rattle.roff_run.specs.Run.{State, after, made, going_back_to, step}
-use Rattle.roff_run.specs.Run.Counts.{refusal}
+use Rattle.roff_run.specs.Run.{State, nothing_follows, only_sprung, after, grown, made, going_back_to, step}
+use Rattle.roff_run.specs.Run.Counts.{first_passed, refusal}
 use Rattle.roff_run.specs.Springs.{left_of, next, springs}
 use Rattle.roff_run.specs.declared.environment_number.EnvironmentNumber.{EnvironmentNumber}
 use Rattle.roff_run.specs.declared.event.InputTrap.{InputTrap}
@@ -24,6 +24,9 @@ use Rattle.roff_run.specs.declared.line_state.LineState.{LineState}
 use Rattle.roff_run.specs.declared.line_state.LineState.TheVariants.{LineStart, Branch, Braced, Text as InText}
 use Rattle.roff_run.specs.declared.request.Called.TheVariants.{Body as ABody, Nothing as Unknown}
 use Rattle.roff_laws.specs.EnvironmentLaws.{environment_of}
+use Rattle.roff_layout.specs.DueTexts.{TextDue}
+use Rattle.roff_run.specs.Following.{following, text_changed}
+use Rattle.roff_run.specs.Reading.Items.{PageInput}
 
 -- the event that is performed where one is the first to be done, told what comes before it
 abbrev pub first_of : Option PageEvent → PageEvent → PageEvent
@@ -39,10 +42,11 @@ left_behind (Some own) e rest s = e ∷ rest
 abbrev pub happening : PageEvent → State → PastEvent
 happening e s = told s.registers (first_of (next s.history e) e)
 
--- an event springs a macro, or what comes before it does: it is the first of those that are to be done, no limit refuses what
--- happens, and the last page doesn't end with it
+-- an event springs a macro, or what comes before it does: it is what is done first, as no text of a diversion is to change, no limit
+-- refuses what happens, and the last page doesn't end with it
 pub record Springs (l : Limits) (s : State) (e : PageEvent) (rest : List PageEvent) (name : ShortName) : Type 0 where
   pub going : s.ended ≡ None
+  pub no_text : s.follows.text ≡ None
   pub first : s.to_do ≡ e ∷ rest
   pub allowed : refusal l s.history (happening e s) ≡ None
   pub goes_on : (layout_of (happening e s ∷ s.history)).is_over ≡ false
@@ -59,29 +63,56 @@ with_rest_back e rest s =
       input = record s.input { ahead = map DoAhead (map put_back left) ++ s.input.ahead };
     }
 
+-- what becomes of the texts of diversions with the event, if something does: that is done first
+abbrev pub text_with : PageEvent → State → Option TextDue
+text_with e s = (following s.history (happening e s)).text
+
+-- the input behind that
+abbrev pub input_with : Option TextDue → PageInput → PageInput
+input_with None i = i
+input_with (Some due) i = text_changed due i
+
+-- the state in which the macro is to be read
+abbrev pub before_macro : PageEvent → List PageEvent → ShortName → State → State
+before_macro e rest name s =
+    let behind : State = with_rest_back e rest s in
+    record behind { follows = only_sprung (Some name); input = input_with (text_with e s) behind.input }
+
+-- no limit refuses the change of a text, if one changes
+abbrev pub IsAllowedText : Limits → Option TextDue → State → Type 0
+IsAllowedText l None s = Unit {0}
+IsAllowedText l (Some due) s = first_passed l (grown s) ≡ None
+
+-- how many steps lead from behind the event to behind the macro's reading: one, and one more where a text changes
+abbrev pub steps_to_macro : Option TextDue → ℕ
+steps_to_macro None = 1
+steps_to_macro (Some due) = 2
+
 -- Its body comes to stand in front, an end behind it that leads back to what was read, and behind that what is left of the events.
--- That takes two steps, and costs nothing. No arguments are in force in it.
+-- That takes two steps, or three where the event changes the text of a diversion too, and costs nothing. No arguments are in force in
+-- it.
 abbrev pub MacrosAreReadFirst : Type 0
 MacrosAreReadFirst =
-    (l : Limits) (s : State) (e : PageEvent) (rest : List PageEvent) (name : ShortName) → Springs l s e rest name
-    → called_by name s.input.names ≡ ABody name →
-    let before : State = record (with_rest_back e rest s) { sprung = Some name } in
-    after l 2 s ≡ made l before (record before {
-      sprung = None;
+    (l : Limits) (s : State) (e : PageEvent) (rest : List PageEvent) (name : ShortName) → Springs l s e rest name →
+    let before : State = before_macro e rest name s in
+    IsAllowedText l (text_with e s) before → called_by name before.input.names ≡ ABody name →
+    after l (suc (steps_to_macro (text_with e s))) s ≡ made l before (record before {
+      follows = nothing_follows;
       reading = in_sprung s.reading;
       input = record before.input {
-        ahead = map ByteAhead (called_text (body_named (name_bytes name) s.input)) ++ ReturnAhead (back_of s.reading) ∷ before.input.ahead;
-        calls = [] ∷ s.input.calls;
+        ahead =
+            map ByteAhead (called_text (body_named (name_bytes name) before.input)) ++ ReturnAhead (back_of s.reading) ∷ before.input.ahead;
+        calls = [] ∷ before.input.calls;
       };
     })
 
 -- a name that has no body springs nothing that is read: the rest of the events is put back, and no end stands there
 abbrev pub NamesWithoutABodyReadNothing : Type 0
 NamesWithoutABodyReadNothing =
-    (l : Limits) (s : State) (e : PageEvent) (rest : List PageEvent) (name : ShortName) → Springs l s e rest name
-    → called_by name s.input.names ≡ Unknown →
-    let before : State = record (with_rest_back e rest s) { sprung = Some name } in
-    after l 2 s ≡ made l before (record before { sprung = None })
+    (l : Limits) (s : State) (e : PageEvent) (rest : List PageEvent) (name : ShortName) → Springs l s e rest name →
+    let before : State = before_macro e rest name s in
+    IsAllowedText l (text_with e s) before → called_by name before.input.names ≡ Unknown →
+    after l (suc (steps_to_macro (text_with e s))) s ≡ made l before (record before { follows = nothing_follows })
 
 -- what is read where an event may spring a macro, but for control lines: of a text line no blanks are left to be told behind a
 -- glyph, and in front of it one at the most

@@ -70,9 +70,11 @@ IsPutBack e (item ∷ items) = (item ≡ DoAhead e) ⊎ IsPutBack e items
 abbrev pub Waits : PageEvent → State → Type 0
 Waits e s = IsAmong e s.to_do ⊎ IsPutBack e s.input.ahead
 
--- an eject begins in a state: it is the first event to be done there, for the page in force, and puts something
+-- an eject begins in a state: it is what is done there first, as no text of a diversion is to change, for the page in force, and puts
+-- something
 pub record BeginsToEject (e : LayoutEvent) (s : State) : Type 0 where
   pub going : s.ended ≡ None
+  pub no_text : s.follows.text ≡ None
   pub rest : List PageEvent
   pub first : s.to_do ≡ Page e ∷ rest
   pub is_eject : is_eject_event e ≡ true

@@ -8,7 +8,7 @@ ghost use Rattle.roff_laws.specs.Rows.{formatted, formatted_paged, gives};
 
 /// What a run writes that is done is whole pages, each of as many lines as the page length says,
 /// the last one too: where the page length wasn't changed once a page was begun, and each page was
-/// written.
+/// written. What was put in diversions is no line of a page, and ended none.
 pub fn full_pages()
     ensures { WritesWholePages }
 {}

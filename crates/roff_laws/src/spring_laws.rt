@@ -19,7 +19,8 @@ ghost use Rattle.roff_laws.specs.SpringLaws.{NamesWithoutABodyReadNothing, Other
 ghost use Rattle.roff_laws.specs.SpringLaws.{TheLastLineSprings};
 
 /// A macro that an event springs leads to where its body stands in front, an end behind it, and the
-/// rest of the events behind that, at no cost but what is then taken. Where its name has no body,
+/// rest of the events behind that, at no cost but what is then taken. Where the event changes the
+/// text of a diversion too, that is done before the macro is read. Where its name has no body,
 /// the rest alone is put back.
 pub fn sprung_macros()
     ensures read { MacrosAreReadFirst }

@@ -1,4 +1,4 @@
--- The width of the last finished line (manual, section 8: the register `.n`), in columns.
+-- The last finished line: its width (manual, section 8: the register `.n`), in columns, and its text.
 use Rattle.std.specs.Prelude.{◌≡◌, ℕ, ◌+◌, List, [], ◌∷◌, length}
 use Rattle.roff_layout.specs.Glyphs.{text_width}
 use Rattle.roff_layout.specs.Events.{History}
@@ -18,6 +18,15 @@ newest_width (line ∷ lines) = line_width line
 -- the width of the last line that a history finished
 abbrev pub last_width : History → ℕ
 last_width h = newest_width (finished_lines h)
+
+-- the text of the newest of some lines, none where there is none
+abbrev pub newest_text : List Finished → List ℕ
+newest_text [] = []
+newest_text (line ∷ lines) = line.text
+
+-- the text of the last line that a history finished
+abbrev pub last_text : History → List ℕ
+last_text h = newest_text (finished_lines h)
 
 -- a line whose text ends so far behind its lead
 abbrev pub EndsAtWidth : Finished → Type 0

@@ -21,4 +21,5 @@ pub mod Turning
 pub mod Springs
 pub mod DeviceText
 pub mod DivertedText
+pub mod DueTexts
 pub mod Queries

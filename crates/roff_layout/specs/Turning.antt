@@ -82,9 +82,13 @@ next_behind (Does e) next = next_of_event e next
 next_behind (Places line) next = next
 next_behind (Titles t) next = next
 
+-- a page ends where its place has come to its length, unless what was put is in a diversion: that ends no page
+abbrev pub turned_unless : Bool → Layout → Layout
+turned_unless diverted L = if diverted then L else turned_if_full L
+
 -- behind what is put
 abbrev pub with_put : Happening → List Box → Layout → Layout
-with_put x boxes L = turned_if_full (with_boxes x boxes (record L { next = next_behind x L.next }))
+with_put x boxes L = turned_unless (is_diverted x L) (with_boxes x boxes (record L { next = next_behind x L.next }))
 
 -- whether two names are the same
 abbrev pub same_second : Option ℕ → Option ℕ → Bool

@@ -10,7 +10,7 @@ use Rattle.roff_layout.specs.Places.{has_line_glyph}
 use Rattle.roff_layout.specs.Words.{has_open_word, last_word_glyphs, begun_gap, blanks}
 use Rattle.roff_lines.specs.Env.Kept.{Kept, begun_blanks}
 use Rattle.roff_lines.specs.Env.Stands.{Stands, StandsBehind}
-use Rattle.roff_lines.proofs.LastLine.{last_width-none}
+use Rattle.roff_lines.proofs.LastLine.{last_text-none, last_width-none}
 
 -- the blanks of a line's end, where there are none
 abbrev begun : ℕ → Bool → ℕ
@@ -113,5 +113,6 @@ StandsBehind-first_gap n k few bare o none line_cap h s =
       ends_sentence = s.ends_sentence;
       place = rw no_glyph s.place;
       is_interrupted = s.is_interrupted;
+      finished = s.finished ∙ sym (last_text-none h (Gap n) refl);
       last_width = s.last_width ∙ sym (last_width-none h (Gap n) refl);
     }

@@ -1,4 +1,4 @@
--- The width of the last finished line.
+-- The last finished line: its text and its width.
 use Rattle.std.proofs.Common.{◌≡◌, ℕ, zero, suc, Bool, true, false, ◌&&◌, not, List, ◌∷◌, Option, Some, None, refl, sym, ap, arith}
 use Rattle.std.specs.Prelude.{if◌then◌else◌, ◌==◌, IfSome}
 use Rattle.std.specs.List.{cons_option}
@@ -16,16 +16,22 @@ use Rattle.roff_layout.specs.Fitting.{fits, line_indent, line_text}
 use Rattle.roff_layout.specs.Settings.{fills}
 use Rattle.roff_layout.specs.Columns.{added_columns}
 use Rattle.roff_layout.specs.Paragraphs.{finished_lines}
-use Rattle.roff_layout.specs.LastLine.{line_width, newest_width, last_width, EndsAtWidth}
+use Rattle.roff_layout.specs.LastLine.{line_width, newest_width, last_width, newest_text, last_text, EndsAtWidth}
 
 module _ (h : History) (e : Event) where
   -- an event that finishes no line leaves it
   pub last_width-none : finished h e ≡ None → last_width (e ∷ h) ≡ last_width h
   last_width-none none = ap (λ (o : Option Finished). newest_width (cons_option o (finished_lines h))) none
 
+  pub last_text-none : finished h e ≡ None → last_text (e ∷ h) ≡ last_text h
+  last_text-none none = ap (λ (o : Option Finished). newest_text (cons_option o (finished_lines h))) none
+
   -- a line that is finished sets it
   pub last_width-some : (line : Finished) → finished h e ≡ Some line → last_width (e ∷ h) ≡ line_width line
   last_width-some line some = ap (λ (o : Option Finished). newest_width (cons_option o (finished_lines h))) some
+
+  pub last_text-some : (line : Finished) → finished h e ≡ Some line → last_text (e ∷ h) ≡ line.text
+  last_text-some line some = ap (λ (o : Option Finished). newest_text (cons_option o (finished_lines h))) some
 
 -- behind all gaps stand all columns that are spread, if none are where there is no gap
 added_behind_all : (none : Bool) (spare gaps : ℕ) → (gaps == 0) ≡ none → (none ≡ true → spare ≡ 0)

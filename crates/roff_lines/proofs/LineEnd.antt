@@ -8,11 +8,11 @@ use Rattle.roff_layout.specs.Settings.{fills, counted}
 use Rattle.roff_layout.specs.Places.{has_line_glyph}
 use Rattle.roff_layout.specs.Words.{is_empty, blanks, words}
 use Rattle.roff_layout.specs.Lines.{Finished, empty_line, finished, laid_out, line_laid_out, pending_line}
-use Rattle.roff_layout.specs.LastLine.{line_width, last_width}
+use Rattle.roff_layout.specs.LastLine.{line_width, last_text, last_width}
 use Rattle.roff_lines.specs.Env.Kept.{Kept, pending_width, with_input_line_ended, finished_by_line_end}
 use Rattle.roff_lines.specs.Env.Stands.{Stands}
 use Rattle.roff_lines.proofs.PendingLine.{pending_length-line_end}
-use Rattle.roff_lines.proofs.LastLine.{last_width-none, last_width-some}
+use Rattle.roff_lines.proofs.LastLine.{last_text-none, last_text-some, last_width-none, last_width-some}
 use Rattle.roff_lines.proofs.Stands.{laid_out-stands}
 
 module _ (line_cap : ℕ) (h : History) (k : Kept) (s : Stands line_cap h k) where
@@ -60,15 +60,29 @@ module _ (line_cap : ℕ) (h : History) (k : Kept) (s : Stands line_cap h k) whe
       else Some (empty_line k.settings)) s.settings
       ∙ ap (λ x. if fills (settings_after h) then None else x) laid_out-unfilled
 
-  -- where it finishes none, the last width stays
+  -- where it finishes none, the last one stays
+  finished-kept : finished_by_line_end k ≡ None → k.finished ≡ last_text (LineEnd ∷ h)
+  finished-kept none = s.finished ∙ sym (last_text-none h LineEnd (sym finished_by_line_end-stands ∙ none))
+
   last_width-kept : finished_by_line_end k ≡ None → k.last_width ≡ last_width (LineEnd ∷ h)
   last_width-kept none = s.last_width ∙ sym (last_width-none h LineEnd (sym finished_by_line_end-stands ∙ none))
 
-  -- where it finishes one, that one's width is the last
+  -- where it finishes one, that is the last
+  finished-set : (line : Finished) → finished_by_line_end k ≡ Some line → line.text ≡ last_text (LineEnd ∷ h)
+  finished-set line some = sym (last_text-some h LineEnd line (sym finished_by_line_end-stands ∙ some))
+
   last_width-set : (line : Finished) → finished_by_line_end k ≡ Some line → line_width line ≡ last_width (LineEnd ∷ h)
   last_width-set line some = sym (last_width-some h LineEnd line (sym finished_by_line_end-stands ∙ some))
 
   -- so it is where no empty line is finished
+  finished-unfilled : fills k.settings ≡ false → (k.has_line || k.settings.filling) ≡ true
+      → (if k.has_line then k.line else k.finished) ≡ last_text (LineEnd ∷ h)
+  finished-unfilled f some =
+      elim (cases_Bool k.has_line) [
+        | inl l ↦ rw l (finished-set (laid_out k.settings false k.indent k.line) (rw (f, l) refl))
+        | inr l ↦ rw l (let filling : k.settings.filling ≡ true = rw l at some in finished-kept (rw (f, l, filling) refl))
+      ]
+
   last_width-unfilled : fills k.settings ≡ false → (k.has_line || k.settings.filling) ≡ true
       → (if k.has_line then pending_width false k else k.last_width) ≡ last_width (LineEnd ∷ h)
   last_width-unfilled f some =
@@ -77,8 +91,9 @@ module _ (line_cap : ℕ) (h : History) (k : Kept) (s : Stands line_cap h k) whe
         | inr l ↦ rw l (let filling : k.settings.filling ≡ true = rw l at some in last_width-kept (rw (f, l, filling) refl))
       ]
 
-  -- where words aren't measured, nothing is pending behind it, whatever text was handed out last
-  Stands-unfilled : fills k.settings ≡ false → (text : List ℕ) (width : ℕ) → width ≡ last_width (LineEnd ∷ h)
+  -- where words aren't measured, nothing is pending behind it
+  Stands-unfilled : fills k.settings ≡ false → (text : List ℕ) (width : ℕ) → text ≡ last_text (LineEnd ∷ h)
+      → width ≡ last_width (LineEnd ∷ h)
       → Stands line_cap (LineEnd ∷ h) (record k {
         settings = counted k.settings;
         line = [];
@@ -90,7 +105,7 @@ module _ (line_cap : ℕ) (h : History) (k : Kept) (s : Stands line_cap h k) whe
         finished = text;
         last_width = width;
       })
-  Stands-unfilled f text width last = record {
+  Stands-unfilled f text width last_one last = record {
     small = s.small;
     within = omega (arith, pending_length-line_end h, s.within);
     cap = s.cap;
@@ -107,6 +122,7 @@ module _ (line_cap : ℕ) (h : History) (k : Kept) (s : Stands line_cap h k) whe
     ends_sentence = refl;
     place = refl;
     is_interrupted = s.is_interrupted;
+    finished = last_one;
     last_width = last;
   }
 
@@ -135,6 +151,7 @@ module _ (line_cap : ℕ) (h : History) (k : Kept) (s : Stands line_cap h k) whe
     ends_sentence = refl;
     place = refl;
     is_interrupted = s.is_interrupted;
+    finished = finished-kept (rw f refl);
     last_width = last_width-kept (rw f refl);
   }
 
@@ -154,5 +171,6 @@ module _ (line_cap : ℕ) (h : History) (k : Kept) (s : Stands line_cap h k) whe
       cond_both (fills k.settings) _ _ Goal Stands-filled
       (λ f. cond_both (k.has_line || k.settings.filling) _ _ Goal
       (λ some. Stands-unfilled f (if k.has_line then k.line else k.finished)
-      (if k.has_line then pending_width false k else k.last_width) (last_width-unfilled f some))
-      (λ none. Stands-unfilled f [] 0 (last_width-set (empty_line k.settings) (empty-unfilled f none))))
+      (if k.has_line then pending_width false k else k.last_width) (finished-unfilled f some) (last_width-unfilled f some))
+      (λ none. Stands-unfilled f [] 0 (finished-set (empty_line k.settings) (empty-unfilled f none))
+      (last_width-set (empty_line k.settings) (empty-unfilled f none))))

@@ -98,5 +98,6 @@ module _ (line_cap : ℕ) (h : History) (k : Kept) (s : Stands line_cap h k) (g 
     ends_sentence = ap (λ e. if is_closer g then e else is_sentence_mark g) ends_in_word-stands;
     place = ap (moved (glyph_width g)) s.place;
     is_interrupted = s.is_interrupted;
+    finished = s.finished;
     last_width = s.last_width;
   }

@@ -29,6 +29,7 @@ Stands-tab line_cap h k s = record {
   ends_sentence = s.ends_sentence;
   place = s.place;
   is_interrupted = s.is_interrupted;
+  finished = s.finished;
   last_width = s.last_width;
 }
 

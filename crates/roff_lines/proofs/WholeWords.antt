@@ -18,7 +18,7 @@ use Rattle.roff_lines.specs.Env.Stands.{StandsBehind}
 use Rattle.roff_lines.specs.Env.Tells.{HasRoom, IsOneCharacter, NoWord, OneMore, Tells, TellsFront, WholeWords}
 use Rattle.roff_lines.proofs.FirstLineOf.{text_width-gap_text}
 use Rattle.roff_lines.proofs.Gaps.{begun-same}
-use Rattle.roff_lines.proofs.LastLine.{last_width-none}
+use Rattle.roff_lines.proofs.LastLine.{last_text-none, last_width-none}
 use Rattle.roff_lines.proofs.PendingLine.{length-gap_text}
 use Rattle.roff_lines.proofs.Tells.{Tells-append}
 use Rattle.roff_lines.proofs.TextRuns.{Tells-blank}
@@ -141,6 +141,7 @@ Stands-gap n k o some line_cap h s =
       ends_sentence = s.ends_sentence;
       place = rw glyph (ap (moved n) s.place);
       is_interrupted = s.is_interrupted;
+      finished = s.finished ∙ sym (last_text-none h (Gap n) refl);
       last_width = s.last_width ∙ sym (last_width-none h (Gap n) refl);
     }
 

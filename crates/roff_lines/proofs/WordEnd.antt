@@ -6,11 +6,11 @@ use Rattle.roff_layout.specs.Events.{History}
 use Rattle.roff_layout.specs.Words.{has_open_word, open_word, temporary_indent, indent_by}
 use Rattle.roff_layout.specs.Fitting.{gap_text, begins_line}
 use Rattle.roff_layout.specs.Lines.{laid_out, finished, pending_line}
-use Rattle.roff_layout.specs.LastLine.{last_width}
+use Rattle.roff_layout.specs.LastLine.{last_text, last_width}
 use Rattle.roff_lines.specs.Env.Kept.{Kept, without_word, word_as_line, word_fits, pending_width, with_word_ended, finished_by_word}
 use Rattle.roff_lines.specs.Env.Stands.{Stands}
 use Rattle.roff_lines.proofs.PendingLine.{placed-full, begins_line-full, line_text-full, line_indent-full, word_text-closed, pending_length-word_end}
-use Rattle.roff_lines.proofs.LastLine.{last_width-none, last_width-some}
+use Rattle.roff_lines.proofs.LastLine.{last_text-none, last_text-some, last_width-none, last_width-some}
 use Rattle.roff_lines.proofs.Stands.{is_empty-pending_line, words-no_line, blanks-counted, word_fits-stands, laid_out-stands}
 
 module _ (line_cap : ℕ) (h : History) (k : Kept) (s : Stands line_cap h k) where
@@ -25,7 +25,10 @@ module _ (line_cap : ℕ) (h : History) (k : Kept) (s : Stands line_cap h k) whe
         | inr o ↦ rw (← s.is_open, o) refl
       ]
 
-  -- where it finishes none, the last width stays
+  -- where it finishes none, the last one stays
+  finished-kept : finished_by_word k ≡ None → k.finished ≡ last_text (WordEnd ∷ h)
+  finished-kept none = s.finished ∙ sym (last_text-none h WordEnd (sym finished_by_word-stands ∙ none))
+
   last_width-kept : finished_by_word k ≡ None → k.last_width ≡ last_width (WordEnd ∷ h)
   last_width-kept none = s.last_width ∙ sym (last_width-none h WordEnd (sym finished_by_word-stands ∙ none))
 
@@ -50,6 +53,7 @@ module _ (line_cap : ℕ) (h : History) (k : Kept) (s : Stands line_cap h k) whe
         ends_sentence = s.ends_sentence;
         place = s.place;
         is_interrupted = s.is_interrupted;
+        finished = finished-kept (rw o refl);
         last_width = last_width-kept (rw o refl);
       }
 
@@ -95,12 +99,17 @@ module _ (line_cap : ℕ) (h : History) (k : Kept) (s : Stands line_cap h k) whe
         let full = laid_out k.settings true k.indent k.line in
         sym (last_width-some h WordEnd full (sym finished_by_word-stands ∙ rw (o, l, f) refl))
 
-    -- the word begins a line, whatever text was handed out last
+    finished-full : k.has_line ≡ true → word_fits k ≡ false → k.line ≡ last_text (WordEnd ∷ h)
+    finished-full l f =
+        let full = laid_out k.settings true k.indent k.line in
+        sym (last_text-some h WordEnd full (sym finished_by_word-stands ∙ rw (o, l, f) refl))
+
+    -- the word begins a line
     Stands-beginning : (text : List ℕ) (width : ℕ)
         → begins_line (pending_line h) (open_word h) ≡ true
-        → pending_line (WordEnd ∷ h) ≡ open_word h ∷ [] → width ≡ last_width (WordEnd ∷ h)
+        → pending_line (WordEnd ∷ h) ≡ open_word h ∷ [] → text ≡ last_text (WordEnd ∷ h) → width ≡ last_width (WordEnd ∷ h)
         → Stands line_cap (WordEnd ∷ h) (without_word (word_as_line (record k { finished = text; last_width = width })))
-    Stands-beginning text width begins line last =
+    Stands-beginning text width begins line last_one last =
         let begun = ap (λ t. indent_by t k.settings) s.temporary_indent ∙ ap (indent_by (temporary_indent h)) s.settings in record {
           small = s.small;
           within = omega (arith, pending_length-word_end h, s.within);
@@ -118,6 +127,7 @@ module _ (line_cap : ℕ) (h : History) (k : Kept) (s : Stands line_cap h k) whe
           ends_sentence = s.ends_sentence;
           place = s.place;
           is_interrupted = s.is_interrupted;
+          finished = last_one;
           last_width = last;
         }
 
@@ -145,6 +155,7 @@ module _ (line_cap : ℕ) (h : History) (k : Kept) (s : Stands line_cap h k) whe
           ends_sentence = s.ends_sentence;
           place = s.place;
           is_interrupted = s.is_interrupted;
+          finished = finished-kept (rw (o, l, f) refl);
           last_width = last_width-kept (rw (o, l, f) refl);
         }
 
@@ -158,9 +169,9 @@ module _ (line_cap : ℕ) (h : History) (k : Kept) (s : Stands line_cap h k) whe
       cond_both (not k.has_line) _ _ Goal
       (λ e'. let l = not-true k.has_line e' in
       Stands-beginning o k.finished k.last_width (begins_line-first o l) (pending_line-first o l)
-      (last_width-kept (rw (o, l) refl)))
+      (finished-kept (rw (o, l) refl)) (last_width-kept (rw (o, l) refl)))
       (λ e'. let l = not-false k.has_line e' in
       cond_both (word_fits k) _ _ Goal
       (Stands-within o l)
       (λ f. Stands-beginning o k.line (pending_width true k) (begins_line-behind o l f) (pending_line-behind o l f)
-      (last_width-full o l f))))
+      (finished-full o l f) (last_width-full o l f))))

@@ -25,5 +25,5 @@ pub use Rattle.roff_lines.specs.Filling.{lines_of, FillsLines}
 pub use Rattle.roff_lines.specs.FirstLine.{MeasuredWord, width_with, first_line_count, TakesFirstLine}
 pub use Rattle.roff_layout.specs.Paragraphs.{finished_lines, until_break, full_lines, broken_lines, paragraph_lines, lines_written}
 pub use Rattle.roff_lines.specs.Interruptions.{uninterrupted, LeaveTheSame}
-pub use Rattle.roff_layout.specs.LastLine.{line_width, last_width, EndsAtWidth}
+pub use Rattle.roff_layout.specs.LastLine.{line_width, last_width, last_text, EndsAtWidth}
 pub use Rattle.roff_lines.specs.Shape.Shaped.{shaped}

@@ -2,8 +2,8 @@
 
 ghost use Rattle.std.specs.Prelude.{◌≡◌, ℕ, [], IfOk};
 ghost use Rattle.roff_lines.specs.Clauses.{Count, Interrupt, Resume, Set, History, settings_after};
-ghost use Rattle.roff_lines.specs.Clauses.{counted, last_width, input_place, is_interrupted};
-ghost use Rattle.roff_lines.specs.Clauses.{has_line_glyph, has_open_word};
+ghost use Rattle.roff_lines.specs.Clauses.{counted, last_text, last_width, input_place};
+ghost use Rattle.roff_lines.specs.Clauses.{has_line_glyph, has_open_word, is_interrupted};
 
 mod finishing;
 mod text;
@@ -33,7 +33,7 @@ pub struct Env {
     word: Stretch,
     is_open: bool,
     blanks: u64,
-    /// The line that was handed out last.
+    /// The text of the line that was finished last.
     finished: Stretch,
     /// The width of the line that was finished last, in columns.
     last_width: u32,
@@ -101,6 +101,16 @@ impl Env {
             → Stands line_cap h self.now → result ≡ last_width h }
     {
         self.last_width
+    }
+
+    /// The text of the line that was finished last, as its [`Line`](roff_layout::Line) has it: none
+    /// at first, and none of an empty line.
+    pub fn finished_text(&self) -> &[u8]
+        ensures kept { result.now ≡ self.now.finished }
+        ensures text { (line_cap : ℕ) (h : History)
+            → Stands line_cap h self.now → result.now ≡ last_text h }
+    {
+        self.finished.as_slice()
     }
 
     /// The place on the line of the input, in columns: the widths of its glyphs, gaps and tabs.

@@ -18,13 +18,13 @@ use Rattle.roff_layout.specs.Happenings.{Happening, Does, Places, Titles, is_eje
 use Rattle.roff_layout.specs.Titles.{Title, title_text}
 use Rattle.roff_layout.specs.Stops.{Target, innermost, is_diverted, page_target, target}
 use Rattle.roff_layout.specs.Puts.{Put, appended, blank_lines, boxes_put, needed, puts, within_stop}
-use Rattle.roff_layout.specs.Turning.{behind_put, greatest_width, in_diversion, in_innermost, next_behind, no_space_behind, turned_if_full, with_event, with_put}
-use Rattle.roff_layout.specs.Springs.{diversion_trap_passed, first_met, is_passed, passed_in, springs}
+use Rattle.roff_layout.specs.Turning.{behind_put, greatest_width, in_diversion, in_innermost, next_behind, no_space_behind, turned_unless, with_boxes, with_event, with_put}
+use Rattle.roff_layout.specs.Springs.{diversion_trap_passed, first_met, is_on_top, is_passed, passed_in, springs}
 use Rattle.roff_layout.specs.Queries.{place_now, text_target}
 use Rattle.roff_pages.specs.Pages.Kept.{Kept}
 use Rattle.roff_pages.specs.Pages.Counted.{counted}
 use Rattle.roff_pages.specs.Pages.Stands.{StandsAs, kept_diversion}
-use Rattle.roff_pages.specs.Pages.Advancing.{sprung_diverted, sprung_or, with_diverted}
+use Rattle.roff_pages.specs.Pages.Advancing.{sprung_diverted, with_diverted}
 use Rattle.roff_pages.proofs.PageBoxes.{sprung_with}
 use Rattle.roff_pages.proofs.Placing.{text_boxes}
 
@@ -47,11 +47,12 @@ into_diversion : (d e : Bool) (next : Option Num) (boxes : List Box) (L : Layout
 into_diversion true e next boxes L d n = ap (λ next. record L { next = next; diversions = in_innermost boxes L.diversions }) n
 into_diversion false e next boxes L d n = cc
 
-pub with_diverted_put : (x : Happening) (L : Layout) (boxes : List Box) → PutsDiverted x L boxes → with_event x L ≡ turned_if_full (with_diverted boxes L)
+pub with_diverted_put : (x : Happening) (L : Layout) (boxes : List Box) → PutsDiverted x L boxes → with_event x L ≡ with_diverted boxes L
 with_diverted_put x L boxes p =
     ap (λ (q : Option Put). behind_put x q (appended x L) L) p.puts_is
     ∙ (ap (λ (boxes : List Box). with_put x boxes L) p.boxes_are
-    ∙ ap turned_if_full (into_diversion (is_diverted x L) (is_eject x) (next_behind x L.next) boxes L p.into p.next_is))
+    ∙ (ap (λ (diverted : Bool). turned_unless diverted (with_boxes x boxes (record L { next = next_behind x L.next }))) p.into
+    ∙ into_diversion (is_diverted x L) (is_eject x) (next_behind x L.next) boxes L p.into p.next_is))
 
 target_by_test : (e : Bool) (L : Layout) → e ≡ false → (if e then page_target L else innermost L.diversions (page_target L)) ≡ text_target L
 target_by_test true L e = cc
@@ -63,12 +64,16 @@ passed_by_test false on_page within e = refl
 
 pub springs_diverted : (x : Happening) (L : Layout) (boxes : List Box) → PutsDiverted x L boxes → springs x L ≡ sprung_diverted boxes L
 springs_diverted x L boxes p =
-    let M : Layout = turned_if_full (with_diverted boxes L) in
+    let M : Layout = with_diverted boxes L in
     let from = place_now L in
+    let on_top : Option ShortName = first_met is_on_top L.length L.traps in
+    let within : Option ShortName = passed_in L.diversions from (from + length boxes) L in
     ap (λ (M : Layout). sprung_with x L M (target x L).place (appended x L)) (with_diverted_put x L boxes p)
     ∙ (ap (λ (t : Target). sprung_with x L M t.place (appended x L)) (target_by_test (is_eject x) L p.no_eject)
     ∙ (ap (λ (boxes : List Box). sprung_with x L M from boxes) p.boxes_are
-    ∙ ap (sprung_or L M) (passed_by_test (is_eject x) (first_met (is_passed from (from + length boxes)) L.length L.traps) (passed_in L.diversions from (from + length boxes) L) p.no_eject)))
+    ∙ (ap (λ (last : Option ShortName). if L.is_over then None else if not (L.begun == L.begun) then on_top else last)
+    (passed_by_test (is_eject x) (first_met (is_passed from (from + length boxes)) L.length L.traps) within p.no_eject)
+    ∙ ap (λ (same : Bool). if L.is_over then None else if not same then on_top else within) (eq-eqb L.begun L.begun refl))))
 
 -- open diversions that are kept are some
 kept_some : (ds : List Diversion) (os : List OpenDiversion) → os ≡ map kept_diversion ds → 0 < length os → is_empty ds ≡ false

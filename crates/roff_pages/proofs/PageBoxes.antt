@@ -12,7 +12,7 @@ use Rattle.roff_layout.specs.Layout.{Box, Empty, Layout, Diversion, page_place}
 use Rattle.roff_layout.specs.Happenings.{Happening, is_eject}
 use Rattle.roff_layout.specs.Stops.{Target, is_diverted, page_target, place_of, target}
 use Rattle.roff_layout.specs.Puts.{Put, appended, boxes_put, puts}
-use Rattle.roff_layout.specs.Turning.{behind_put, in_innermost, next_behind, no_space_behind, turned_if_full, unput, with_event, with_put}
+use Rattle.roff_layout.specs.Turning.{behind_put, in_innermost, next_behind, no_space_behind, turned_if_full, turned_unless, unput, with_boxes, with_event, with_put}
 use Rattle.roff_layout.specs.Springs.{first_met, is_on_top, is_passed, passed, passed_in, springs}
 use Rattle.roff_layout.specs.DeviceText.{box_line, device_lines, device_text}
 use Rattle.roff_layout.proofs.DeviceText.{either_none}
@@ -71,7 +71,8 @@ with_boxes_put : (x : Happening) (L : Layout) (boxes : List Box) (next : Option 
 with_boxes_put x L boxes next mode p =
     ap (λ (q : Option Put). behind_put x q (appended x L) L) p.puts_is
     ∙ (ap (λ (boxes : List Box). with_put x boxes L) (appended_boxes x L boxes next mode p)
-    ∙ ap turned_if_full (onto_page (is_diverted x L) (is_eject x) (next_behind x L.next) next mode boxes L p.on_page p.next_is p.mode_is))
+    ∙ (ap (λ (diverted : Bool). turned_unless diverted (with_boxes x boxes (record L { next = next_behind x L.next }))) p.on_page
+    ∙ ap turned_if_full (onto_page (is_diverted x L) (is_eject x) (next_behind x L.next) next mode boxes L p.on_page p.next_is p.mode_is)))
 
 passed_on_page : (e : Bool) (ds : List Diversion) (from to : ℕ) (L : Layout) → not (e || is_empty ds) ≡ false
     → (if e then first_met (is_passed from to) L.length L.traps else passed_in ds from to L) ≡ first_met (is_passed from to) L.length L.traps

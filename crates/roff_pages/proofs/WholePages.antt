@@ -11,7 +11,7 @@ use Rattle.roff_layout.specs.declared.layout_event.LayoutEvent.TheVariants.{Begi
 use Rattle.roff_layout.specs.Happenings.{Happening, Does, Places, Titles, is_eject}
 use Rattle.roff_layout.specs.Stops.{Target, next_stop, page_target, target, is_diverted}
 use Rattle.roff_layout.specs.Puts.{Put, boxes_put, puts, appended, ejected_if}
-use Rattle.roff_layout.specs.Turning.{page_begun, turned, with_boxes, next_behind, unput, without_put, behind_put, with_event}
+use Rattle.roff_layout.specs.Turning.{page_begun, turned, turned_if_full, turned_unless, with_boxes, next_behind, unput, without_put, behind_put, with_event}
 use Rattle.roff_layout.specs.Springs.{is_passed, is_on_top, first_met, springs, goes_on}
 use Rattle.roff_layout.specs.DeviceText.{box_line, device_lines, device_text}
 use Rattle.roff_pages.specs.Reach.{texts}
@@ -48,10 +48,12 @@ record Continues (L M : Layout) (all : List Box) : Type 0 where
   pub offset : M.offset ≡ L.offset
   pub is_listed : M.is_listed ≡ L.is_listed
 
--- a page that isn't full goes on
-turned-not : (full : Bool) (L N : Layout) (boxes : List Box) → full ≡ false → Continues L N boxes → Continues L (if full then turned N else N) boxes
-turned-not true L N boxes e kept = cc
-turned-not false L N boxes e kept = kept
+-- a page that isn't full goes on, and so does one on which nothing is put
+turned-not : (diverted full : Bool) (L N : Layout) (boxes : List Box) → (not diverted && full) ≡ false → Continues L N boxes
+    → Continues L (if diverted then N else (if full then turned N else N)) boxes
+turned-not true full L N boxes e kept = kept
+turned-not false true L N boxes e kept = cc
+turned-not false false L N boxes e kept = kept
 
 -- a happening that puts nothing leaves the page as it is
 unput-event : (e : LayoutEvent) (L : Layout) → keeps_page (Does e) ≡ true → Continues L (without_put e L) L.boxes
@@ -69,7 +71,7 @@ same_boxes true boxes = refl
 same_boxes false boxes = refl
 
 continues_by_put : (x : Happening) (L : Layout) (p : Option Put) (more : List Box) → keeps_page x ≡ true → (p ≡ None → more ≡ [])
-    → (is_some p && nat_le L.length (length (if is_diverted x L then L.boxes else more ++ L.boxes))) ≡ false
+    → (is_some p && (not (is_diverted x L) && nat_le L.length (length (if is_diverted x L then L.boxes else more ++ L.boxes)))) ≡ false
     → Continues L (behind_put x p more L) (if is_diverted x L then L.boxes else more ++ L.boxes)
 continues_by_put x L None more h none unended =
     let kept = unput-continues x L h in
@@ -80,7 +82,8 @@ continues_by_put x L None more h none unended =
     }
 continues_by_put x L (Some p) more h none unended =
     let N = with_boxes x more (record L { next = next_behind x L.next }) in
-    turned-not (nat_le L.length (length N.boxes)) L N N.boxes unended (record { boxes = refl; offset = refl; is_listed = refl })
+    turned-not (is_diverted x L) (nat_le L.length (length N.boxes)) L N N.boxes unended
+    (record { boxes = refl; offset = refl; is_listed = refl })
 
 none_appended : (t : Target) (p : Option Put) → p ≡ None → boxes_put t p ≡ []
 none_appended t None e = refl
@@ -133,12 +136,25 @@ turned_by_tests true true L N same some e c over = cc
 turned_by_tests true false L N same some e c over = record { length = same; unended = omega (arith, same) }
 turned_by_tests false closing L N same some e c over = record { length = same; unended = leb-false N.length (page_place N) e }
 
+-- what is put in a diversion leaves the page as it is
+stays_diverted : (diverted : Bool) (L : Layout) (more : List Box) → diverted ≡ true → page_place L < L.length
+    → length (if diverted then L.boxes else more ++ L.boxes) < L.length
+stays_diverted true L more e before = before
+stays_diverted false L more e before = cc
+
+stays_unless : (diverted : Bool) (L N : Layout) → (diverted ≡ true → StaysOpen L N)
+    → ((turned_if_full N).is_over ≡ false → StaysOpen L (turned_if_full N))
+    → (turned_unless diverted N).is_over ≡ false → StaysOpen L (turned_unless diverted N)
+stays_unless true L N stays turns over = stays refl
+stays_unless false L N stays turns over = turns over
+
 stays_by_put : (x : Happening) (L : Layout) (p : Option Put) (more : List Box) → keeps_length x ≡ true → page_place L < L.length
     → (is_some p ≡ true → (behind_put x p more L).is_over ≡ false) → StaysOpen L (behind_put x p more L)
 stays_by_put x L None more h before over = unput-stays x L h before
 stays_by_put x L (Some p) more h before over =
     let N = with_boxes x more (record L { next = next_behind x L.next }) in
-    turned_by_tests (nat_le N.length (page_place N)) N.is_closing L N refl (omega (arith, before)) refl refl (over refl)
+    stays_unless (is_diverted x L) L N (λ e. record { length = refl; unended = stays_diverted (is_diverted x L) L more e before })
+    (turned_by_tests (nat_le N.length (page_place N)) N.is_closing L N refl (omega (arith, before)) refl refl) (over refl)
 
 -- before the page's end the next stop lies beyond the place
 beyond_by : (L : Layout) → page_place L < L.length → page_place L < next_stop L.length (page_place L) L.traps
@@ -150,9 +166,9 @@ beyond_by L before =
 
 -- what ends a page fills it
 size_by_test : (x : Happening) (L : Layout) (diverted : Bool) → is_diverted x L ≡ diverted → page_place L < L.length
-    → nat_le L.length (length (if diverted then L.boxes else appended x L ++ L.boxes)) ≡ true
+    → (not diverted && nat_le L.length (length (if diverted then L.boxes else appended x L ++ L.boxes))) ≡ true
     → length (if diverted then L.boxes else appended x L ++ L.boxes) ≡ L.length
-size_by_test x L true d before full = absurd (omega (arith, leb-true L.length (page_place L) full))
+size_by_test x L true d before full = cc
 size_by_test x L false d before full =
     let stop = next_stop L.length (page_place L) L.traps in
     let beyond : page_place L < stop = beyond_by L before in
@@ -163,7 +179,8 @@ size_by_test x L false d before full =
 -- the page that ends is full
 ended_size : (x : Happening) (L : Layout) → page_place L < L.length → ends_page x L ≡ true → length (page_boxes x L) ≡ L.length
 ended_size x L before ended =
-    size_by_test x L (is_diverted x L) refl before (and_parts (is_some (puts x L)) (nat_le L.length (length (page_boxes x L))) ended).1
+    size_by_test x L (is_diverted x L) refl before
+    (and_parts (is_some (puts x L)) (not (is_diverted x L) && nat_le L.length (length (page_boxes x L))) ended).1
 
 sizes_on : (ended : Bool) (x : Happening) (L : Layout) → page_place L < L.length → ends_page x L ≡ ended → (rest : List ℕ)
     → AllByRecursion (λ n. n ≡ L.length) rest → AllByRecursion (λ n. n ≡ L.length) (sizes_behind ended false (length (page_boxes x L)) rest)

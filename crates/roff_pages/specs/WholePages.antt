@@ -1,5 +1,5 @@
 -- Whole pages: the boxes of a page up to its end, and what is written of it.
-use Rattle.std.specs.Prelude.{ℕ, Bool, true, false, ◌&&◌, List, [], ◌∷◌, ◌++◌, length, nat_le, is_some, if◌then◌else◌}
+use Rattle.std.specs.Prelude.{ℕ, Bool, true, false, ◌&&◌, List, [], ◌∷◌, ◌++◌, length, nat_le, not, is_some, if◌then◌else◌}
 use Rattle.roff_layout.specs.Layout.{Box, Layout}
 use Rattle.roff_layout.specs.declared.layout_event.LayoutEvent.TheVariants.{Begin, Close, Length, Offset, EndDivert}
 use Rattle.roff_layout.specs.Happenings.{Happening, Does}
@@ -12,9 +12,9 @@ use Rattle.roff_layout.specs.DeviceText.{device_text}
 abbrev pub page_boxes : Happening → Layout → List Box
 page_boxes x L = if is_diverted x L then L.boxes else appended x L ++ L.boxes
 
--- whether the page ends with a happening
+-- whether the page ends with a happening: one that puts something on it
 abbrev pub ends_page : Happening → Layout → Bool
-ends_page x L = is_some (puts x L) && nat_le L.length (length (page_boxes x L))
+ends_page x L = is_some (puts x L) && (not (is_diverted x L) && nat_le L.length (length (page_boxes x L)))
 
 -- the page's boxes behind what happened, up to its end
 abbrev pub boxes_of_page : List Happening → Layout → List Box

@@ -31,11 +31,15 @@ pub fn one_spring()
         (stop_at (place_before x L) t.place) }
 {}
 
-/// Behind each put the page's place is below its length, or the layout is over.
+/// Behind what is put on the page its place is below its length, or the layout is over. What is put
+/// in a diversion ends no page.
 pub fn page_ends()
-    ensures { (x : Happening) (L : Layout) → 0 < L.length → is_some (puts x L) ≡ true
-        → (with_event x L).is_over ≡ false
+    ensures on_page { (x : Happening) (L : Layout) → 0 < L.length → is_some (puts x L) ≡ true
+        → is_diverted x L ≡ false → (with_event x L).is_over ≡ false
         → page_place (with_event x L) < (with_event x L).length }
+    ensures in_diversion { (x : Happening) (L : Layout) → is_some (puts x L) ≡ true
+        → is_diverted x L ≡ true
+        → ((with_event x L).begun ≡ L.begun) × ((with_event x L).boxes ≡ L.boxes) }
 {}
 
 /// A page that ended has as many boxes as its length says, where the length stays while it is open.

@@ -4,6 +4,7 @@ ghost use Rattle.std.specs.Prelude.{◌≡◌, ◌-◌, [], IfOk, Some, None, no
 ghost use Rattle.roff_layout.specs.Layout.{Layout, first_layout, page_place};
 
 mod diverted;
+mod diverted_counts;
 mod diverting;
 mod placing;
 mod queries;

@@ -34,7 +34,7 @@ use Rattle.roff_run.specs.declared.request.LineReading.{LineReading}
 use Rattle.roff_run.specs.declared.request.LineReading.TheVariants.{ByArguments, ByCondition, ByElse, ByLastLine, ByMessage, ByString, ByLines, ByTitle}
 use Rattle.roff_run.specs.declared.request.LinesFor.TheVariants.{Macro, Nobody}
 use Rattle.roff_run.specs.declared.request.Request.{Request}
-use Rattle.roff_run.specs.declared.request.Request.TheVariants.{Abort, Adjust, AppendString, AssignFormat, BeginPage, Break, ChangeTrap, DefineString, Else, EndMacro, Exit, Fill, If, IfElse, Indent, LineLength, Need, NoAdjust, NoFill, NoSpace, NumberRegister, PageLength, PageNumber, PageOffset, PlantTrap, RemoveNames, RemoveRegisters, Rename, RestoreSpacing, Space as SpaceDown, TellMessage, WithoutEffect, LeftOut, AppendMacro, DefineMacro, Ignore, Centre, Environment as SwitchEnvironment, InputTrap, LineSpacing, TabStops, TemporaryIndent, PageCharacter, Title as TitleRequest, TitleLength}
+use Rattle.roff_run.specs.declared.request.Request.TheVariants.{Abort, Adjust, AppendDiversion, AppendString, AssignFormat, BeginPage, Break, ChangeTrap, DefineString, DiversionTrap, Divert, Else, EndMacro, Exit, Fill, If, IfElse, Indent, LineLength, Need, NoAdjust, NoFill, NoSpace, NumberRegister, PageLength, PageNumber, PageOffset, PlantTrap, RemoveNames, RemoveRegisters, Rename, RestoreSpacing, Space as SpaceDown, TellMessage, WithoutEffect, LeftOut, AppendMacro, DefineMacro, Ignore, Centre, Environment as SwitchEnvironment, InputTrap, LineSpacing, TabStops, TemporaryIndent, PageCharacter, Title as TitleRequest, TitleLength}
 
 -- what names stand for, how many did at first, and the texts in the making
 pub record NamesAndTexts : Type 0 where
@@ -88,6 +88,7 @@ CallsNothing-request : (k : Known) (breaks : Bool) (request : Request) → Calls
 CallsNothing-request k breaks Abort = record { calls = refl; registers = λ rs. refl }
 CallsNothing-request k breaks Adjust = record { calls = refl; registers = λ rs. refl }
 CallsNothing-request k breaks AssignFormat = record { calls = refl; registers = λ rs. refl }
+CallsNothing-request k breaks AppendDiversion = record { calls = refl; registers = λ rs. refl }
 CallsNothing-request k breaks AppendMacro = record { calls = refl; registers = λ rs. refl }
 CallsNothing-request k breaks AppendString = record { calls = refl; registers = λ rs. refl }
 CallsNothing-request k breaks BeginPage = CallsNothing-eject (breaks && true) (is_diverting k.layout) (page_ejected k.layout)
@@ -96,6 +97,8 @@ CallsNothing-request k breaks Centre = record { calls = refl; registers = λ rs.
 CallsNothing-request k breaks ChangeTrap = record { calls = refl; registers = λ rs. refl }
 CallsNothing-request k breaks DefineMacro = record { calls = refl; registers = λ rs. refl }
 CallsNothing-request k breaks DefineString = record { calls = refl; registers = λ rs. refl }
+CallsNothing-request k breaks DiversionTrap = record { calls = refl; registers = λ rs. refl }
+CallsNothing-request k breaks Divert = record { calls = refl; registers = λ rs. refl }
 CallsNothing-request k breaks Else = record { calls = refl; registers = λ rs. refl }
 CallsNothing-request k breaks EndMacro = record { calls = refl; registers = λ rs. refl }
 CallsNothing-request k breaks SwitchEnvironment = CallsNothing-switch (breaks && false) k.has_left

@@ -11,15 +11,17 @@ ghost use Rattle.roff_run.specs.declared.message.Message.TheVariants.{BadNumber}
 
 mod read_only;
 mod stepping;
+mod texts;
 mod titles;
 
 use read_only::{is_read_only, query_of};
 use roff_composer::{Composer, TitleText};
-use roff_num::{Direction, Format, Limit, Name, Num, NumText, ShortName, write_num};
+use roff_num::{Direction, Format, Limit, Name, Num, NumText, ShortName};
 use roff_run::Message;
 use roff_store::{RegTable, Register};
 use std::alloc::{AllocError, Global};
 use std::marker::Model;
+use texts::written;
 
 /// What is known of a run beside its registers.
 #[derive(Clone, Copy)]
@@ -151,7 +153,7 @@ impl RunRegisters {
             → result.items ≡ text_of_register k name.now }
     {
         match query_of(name) {
-            Some(query) => written(Num(facts.answer(query)), Format::Decimal(1)),
+            Some(query) => facts.text(query),
             None => {
                 let register = self.settable(name, facts);
                 written(register.value, register.format)
@@ -384,13 +386,4 @@ fn step_page(direction: Direction, page: Register) -> Interpolated
             number: None,
         },
     }
-}
-
-/// A value in a format.
-fn written(value: Num, format: Format) -> NumText
-    ensures { result.items ≡ register_text format value.0 }
-{
-    let mut text = NumText::new();
-    write_num(value, format, &mut text);
-    text
 }

@@ -6,6 +6,7 @@ ghost use Rattle.roff_requests.specs.Request.Coded.{GivesFirst, KnowsOf, respons
 ghost use Rattle.roff_run.specs.Requests.{row_of};
 
 mod adjustment;
+mod diverting;
 mod effects;
 mod lengths;
 mod naming;
@@ -46,6 +47,7 @@ pub fn response(request: Request, known: RequestFacts<'_>, given: Given<'_>) -> 
         Request::Abort => Response::nothing(),
         Request::Adjust => adjustment::adjust(given.first),
         Request::AssignFormat => numbering::assign_format(given.first, given.second),
+        Request::AppendDiversion => diverting::divert(true, given.first),
         Request::AppendMacro => Response::nothing(),
         Request::AppendString => Response::nothing(),
         Request::BeginPage => paging::begin_page(known.pages(), given.first),
@@ -54,6 +56,10 @@ pub fn response(request: Request, known: RequestFacts<'_>, given: Given<'_>) -> 
         Request::ChangeTrap => traps::change_trap(known.pages(), given.first, given.second),
         Request::DefineMacro => Response::nothing(),
         Request::DefineString => Response::nothing(),
+        Request::DiversionTrap => {
+            diverting::diversion_trap(known.pages(), given.first, given.second)
+        }
+        Request::Divert => diverting::divert(false, given.first),
         Request::Else => Response::nothing(),
         Request::EndMacro => naming::end_macro(given.first),
         Request::Environment => switching::switch(known.has_left(), given.first),

@@ -1,6 +1,8 @@
 -- Where a word's end springs a macro, a gap, a line's end or a break is put back first.
 use Rattle.std.proofs.Common.{◌≡◌, Bool, true, false, List, [], ◌∷◌, ◌++◌, map, Option, Some, None, inl, inr, refl, sym, ◌∙◌, ap, subst}
+use Rattle.roff_num.specs.declared.limit.Limit.{Limit}
 use Rattle.roff_num.specs.declared.limits.Limits.{Limits}
+use Rattle.roff_layout.specs.DueTexts.{TextDue}
 use Rattle.roff_input.specs.Input.{Ahead, DoAhead}
 use Rattle.roff_layout.specs.declared.event.Event.TheVariants.{Print, Tab, WordEnd, Gap, LineEnd, Count, Break, Interrupt as Interrupted, Resume, Set}
 use Rattle.roff_layout.specs.Happenings.{Does}
@@ -8,7 +10,8 @@ use Rattle.roff_layout.specs.Springs.{goes_on}
 use Rattle.roff_layout.specs.declared.layout_event.LayoutEvent.{LayoutEvent}
 use Rattle.roff_run.specs.Layouts.{layout_of}
 use Rattle.roff_run.specs.PageEvents.{PageEvent, PageHistory, PastEvent}
-use Rattle.roff_run.specs.Run.{State, step_with}
+use Rattle.roff_run.specs.Run.{State, grown, step_behind, step_with, text_done, unless_refused}
+use Rattle.roff_run.specs.Run.Counts.{first_passed}
 use Rattle.roff_run.specs.Springs.{begins, left_if, left_of, next, page_begin_or}
 use Rattle.roff_run.specs.Titles.{put_back, told}
 use Rattle.roff_run.specs.declared.event.PageEvent.TheVariants.{Text, Page, Interrupt, Environment, Back, InputTrap as SetsTrap, Title}
@@ -139,13 +142,27 @@ stay-performed l x left s t (Sprang name allowed on some) followed before = tt
 stay-performed l x left s t (EndsOver allowed over) followed before = before
 stay-performed l x left s t (StoppedAt limit) followed before = before
 
+-- what is left to do stays where the text of a diversion changes
+stay-refused : (l : Limits) (r : Option Limit) (due : TextDue) (s : State) → AreFollowed s.to_do
+    → AreFollowed (unless_refused l r s (text_done due s)).to_do
+stay-refused l None due s followed = followed
+stay-refused l (Some limit) due s followed = followed
+
+stay-behind : (l : Limits) (due : Option TextDue) (s : State) (e : PageEvent) (rest : List PageEvent) → s.to_do ≡ e ∷ rest
+    → AreFollowed (e ∷ rest) → AreFollowed s.to_do → AreFollowed (step_behind l due s).to_do
+stay-behind l None s e rest first followed before =
+    let own : Option PageEvent = next s.history e in
+    subst (λ (es : List PageEvent). AreFollowed (step_with l es s).to_do) (sym first)
+    (stay-performed l (first_of own e) (left_behind own e rest s) s _ (performed_or_stopped l own e rest s)
+    (left_followed own e rest s followed) before)
+stay-behind l (Some due) s e rest first followed before = stay-refused l (first_passed l (grown (text_done due s))) due s before
+
 pub word_ends_stay_followed : WordEndsStayFollowed
 word_ends_stay_followed l s e rest first followed =
     let before : AreFollowed s.to_do = subst AreFollowed (sym first) followed in
-    let own : Option PageEvent = next s.history e in
     elim (ended_or_not s.ended) [
       | inl ended ↦ subst (λ (t : State). AreFollowed t.to_do) (sym (step-ended l s ended)) before
       | inr going ↦
-          subst (λ (t : State). AreFollowed t.to_do) (sym (step-going l s going ∙ ap (λ (es : List PageEvent). step_with l es s) first))
-          (stay-performed l (first_of own e) (left_behind own e rest s) s _ (performed_or_stopped l own e rest s) (left_followed own e rest s followed) before)
+          subst (λ (t : State). AreFollowed t.to_do) (sym (step-going l s going))
+          (stay-behind l s.follows.text s e rest first followed before)
     ]

@@ -1,26 +1,30 @@
 -- A line that a macro interrupted between two words goes on with another word.
 use Rattle.std.proofs.Common.{◌≡◌, inl, inr, ℕ, zero, suc, false, List, [], ◌∷◌, Option, Some, None, refl, sym, ◌∙◌, ap, subst}
+use Rattle.roff_num.specs.declared.limit.Limit.{Limit}
 use Rattle.roff_num.specs.declared.limits.Limits.{Limits}
 use Rattle.roff_input.specs.Input.{Ahead, DoAhead, item_taken}
+use Rattle.roff_layout.specs.DueTexts.{TextDue}
 use Rattle.roff_layout.specs.Words.{has_open_word}
 use Rattle.roff_layout.specs.declared.event.Event.TheVariants.{Print, Tab, WordEnd, Gap, LineEnd, Count, Break, Interrupt as Interrupted, Resume, Set}
 use Rattle.roff_layout.specs.declared.layout_event.LayoutEvent.TheVariants.{Begin}
 use Rattle.roff_run.specs.Environments.{environments, text_of}
 use Rattle.roff_run.specs.PageEvents.{PageEvent, PageHistory}
-use Rattle.roff_run.specs.Run.{Leads, State, after, performing, step, step_with}
+use Rattle.roff_run.specs.Run.{Leads, State, after, grown, performing, step, step_behind, step_with, text_done, unless_refused}
+use Rattle.roff_run.specs.Run.Counts.{first_passed}
 use Rattle.roff_run.specs.Springs.{next, own_word_end, word_end_of}
 use Rattle.roff_run.specs.Titles.{put_back}
 use Rattle.roff_run.specs.declared.environment_number.EnvironmentNumber.{EnvironmentNumber}
 use Rattle.roff_run.specs.declared.event.PageEvent.TheVariants.{Text, Page, Interrupt, Environment, Back, InputTrap as SetsTrap, Title}
 use Rattle.roff_run.proofs.Leads.{Leads-refl, Leads-step, Leads-to}
-use Rattle.roff_run.proofs.Readings.{ReadsOn-with_sprung}
+use Rattle.roff_run.proofs.Readings.{ReadsOn-text, ReadsOn-with_sprung}
 use Rattle.roff_laws.specs.EnvironmentLaws.{text_in}
-use Rattle.roff_laws.specs.SpringLaws.{with_rest_back}
+use Rattle.roff_laws.specs.SpringLaws.{text_with, with_rest_back}
 use Rattle.roff_laws.proofs.ComesBefore.{ComesBefore, NothingComes, PageComes, WordEndComes, comes_before}
 use Rattle.roff_laws.proofs.Endings.{ended_or_not, step-ended, step-going}
 use Rattle.roff_run.proofs.GrowingAhead.{ahead-interrupted}
 use Rattle.roff_laws.proofs.PerformedOrStopped.{PerformedOrStopped, Performed, Sprang, EndsOver, StoppedAt, first_of, left_behind, performed_or_stopped}
-use Rattle.roff_laws.proofs.SpringLaws.{springing-step}
+use Rattle.roff_laws.proofs.SpringLaws.{springing, springing-step}
+use Rattle.roff_laws.proofs.TextsChanged.{text-holds}
 use Rattle.roff_rewriting.specs.WordsApart.{EndsOpenWord, HasGoneOn, InputLeft, IsNext, LinesGoOnWithAnotherWord, RunEnded, StandsThere, Waits, WaitsInFront, WentOn}
 use Rattle.roff_rewriting.proofs.StandsAhead.{EndWith, Ends, IsLost, IsTaken, Stands, StandsOrTaken, stands-performed, stands-read}
 use Rattle.roff_rewriting.proofs.WordsApart.{no_word_in_front, own-same, own-step, text_in-force}
@@ -78,17 +82,19 @@ next-performed l from x e behind s t ends others (StoppedAt limit) = RunEnded re
 
 -- where it is next
 next-step : (l : Limits) (from : State) (e : PageEvent) (behind : List (Ahead PageEvent)) (s : State) (own : Option PageEvent) → EndsOpenWord e
-    → Leads l from s → s.to_do ≡ e ∷ [] → s.input.ahead ≡ behind → next s.history e ≡ own → ComesBefore s.history e own
+    → Leads l from s → s.follows.text ≡ None → s.to_do ≡ e ∷ [] → s.input.ahead ≡ behind → next s.history e ≡ own
+    → ComesBefore s.history e own
     → step l s ≡ performing l own e [] s → HasGoneOn l from e behind (step l s)
-next-step l from e behind s own ends leads first others is (NothingComes none_begins) there =
+next-step l from e behind s own ends leads no_text first others is (NothingComes none_begins) there =
     let none : has_open_word (text_of s.history) ≡ false = no_word_in_front s.history e (own_end s.history e ends) is in
     let number : EnvironmentNumber = (environments s.history).number in
-    WentOn s leads (record { first = first; others = others; none_before = is; no_word = none }) (Leads-step l s s (Leads-refl l s))
+    WentOn s leads (record { first = first; no_text = no_text; others = others; none_before = is; no_word = none })
+    (Leads-step l s s (Leads-refl l s))
     (own-step number (text_in number s.history) l s (own-same (text_in number s.history) (ap has_open_word (text_in-force s.history) ∙ none)))
-next-step l from e behind s own ends leads first others is (WordEndComes none_begins fewer) there =
+next-step l from e behind s own ends leads no_text first others is (WordEndComes none_begins fewer) there =
     subst (HasGoneOn l from e behind) (sym there)
     (next-performed l from (Text WordEnd) e behind s _ ends others (performed_or_stopped l (Some (Text WordEnd)) e [] s))
-next-step l from e behind s own ends leads first others is (PageComes none_begun fewer) there =
+next-step l from e behind s own ends leads no_text first others is (PageComes none_begun fewer) there =
     subst (HasGoneOn l from e behind) (sym there)
     (next-performed l from (Page Begin) e behind s _ ends others (performed_or_stopped l (Some (Page Begin)) e [] s))
 
@@ -112,18 +118,40 @@ stands-step_with l from e behind (x ∷ es) s leads goes ends =
       | inr still ↦ Waits (stands_there e behind _ still)
     ]
 stands-step_with l from e behind [] s leads goes ends =
-    stands-read_on l from e behind s _ leads goes (stands-read (DoAhead e) behind l s _ (ReadsOn-with_sprung l s.sprung s refl) ends)
+    stands-read_on l from e behind s _ leads goes (stands-read (DoAhead e) behind l s _ (ReadsOn-with_sprung l s.follows.sprung s refl) ends)
+
+-- or the text of a diversion changes
+stands-step_behind : (l : Limits) (from : State) (e : PageEvent) (behind : List (Ahead PageEvent)) (due : Option TextDue) (s : State)
+    → Leads l from s → s.follows.text ≡ due → Leads l s (step_behind l due s) → EndWith (DoAhead e) behind s.input.ahead
+    → HasGoneOn l from e behind (step_behind l due s)
+stands-step_behind l from e behind None s leads is goes ends = stands-step_with l from e behind s.to_do s leads goes ends
+stands-step_behind l from e behind (Some due) s leads is goes ends =
+    stands-read_on l from e behind s _ leads goes (stands-read (DoAhead e) behind l s _ (ReadsOn-text l due s is) ends)
+
+-- where it is next it is so behind a change of that text, unless a limit refuses it
+next-text : (l : Limits) (from : State) (e : PageEvent) (behind : List (Ahead PageEvent)) (due : TextDue) (s : State) (r : Option Limit)
+    → s.to_do ≡ e ∷ [] → s.input.ahead ≡ behind → HasGoneOn l from e behind (unless_refused l r s (text_done due s))
+next-text l from e behind due s None first others = Waits (text-holds (WaitsInFront e behind) due s (λ names texts. IsNext first others))
+next-text l from e behind due s (Some limit) first others = RunEnded refl
+
+next-step_behind : (l : Limits) (from : State) (e : PageEvent) (behind : List (Ahead PageEvent)) (due : Option TextDue) (s : State)
+    → EndsOpenWord e → Leads l from s → s.follows.text ≡ due → s.to_do ≡ e ∷ [] → s.input.ahead ≡ behind → step l s ≡ step_behind l due s
+    → HasGoneOn l from e behind (step l s)
+next-step_behind l from e behind None s ends leads is first others goes =
+    next-step l from e behind s (next s.history e) ends leads is first others refl (comes_before s.history e)
+    (goes ∙ ap (λ (es : List PageEvent). step_with l es s) first)
+next-step_behind l from e behind (Some due) s ends leads is first others goes =
+    subst (HasGoneOn l from e behind) (sym goes) (next-text l from e behind due s (first_passed l (grown (text_done due s))) first others)
 
 -- a step where it waits
 waits-step : (l : Limits) (from : State) (e : PageEvent) (behind : List (Ahead PageEvent)) (s : State) → EndsOpenWord e → Leads l from s
     → s.ended ≡ None → WaitsInFront e behind s → HasGoneOn l from e behind (step l s)
 waits-step l from e behind s ends leads going (StandsThere front is) =
     subst (HasGoneOn l from e behind) (sym (step-going l s going))
-    (stands-step_with l from e behind s.to_do s leads (Leads-to l s s (step_with l s.to_do s) (Leads-refl l s) (step-going l s going))
-    (record { front = front; is = is }))
+    (stands-step_behind l from e behind s.follows.text s leads refl
+    (Leads-to l s s (step_behind l s.follows.text s) (Leads-refl l s) (step-going l s going)) (record { front = front; is = is }))
 waits-step l from e behind s ends leads going (IsNext first others) =
-    next-step l from e behind s (next s.history e) ends leads first others refl (comes_before s.history e)
-    (step-going l s going ∙ ap (λ (es : List PageEvent). step_with l es s) first)
+    next-step_behind l from e behind s.follows.text s ends leads refl first others (step-going l s going)
 
 -- and any step
 gone-step : (l : Limits) (from : State) (e : PageEvent) (behind : List (Ahead PageEvent)) (s : State) → EndsOpenWord e → Leads l from s
@@ -146,6 +174,6 @@ gone-after l from e behind (suc n) s ends leads gone =
 
 pub lines_go_on_with_another_word : LinesGoOnWithAnotherWord
 lines_go_on_with_another_word l s e rest name first behind n springs ends is =
-    let there : step l s ≡ record (with_rest_back e rest s) { sprung = Some name } = springing-step l s e rest name springs in
+    let there : step l s ≡ springing (text_with e s) name (with_rest_back e rest s) = springing-step l s e rest name springs in
     gone-after l s first behind n (step l s) ends (Leads-step l s s (Leads-refl l s))
     (subst (HasGoneOn l s first behind) (sym there) (Waits (StandsThere [] is)))

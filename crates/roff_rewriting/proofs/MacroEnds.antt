@@ -4,23 +4,27 @@ use Rattle.std.specs.Prelude.{IsSome}
 use Rattle.roff_num.specs.ShortNames.{name_bytes}
 use Rattle.roff_num.specs.declared.limits.Limits.{Limits}
 use Rattle.roff_num.specs.declared.limit.Limit.{Limit}
+use Rattle.roff_num.specs.declared.short_name.ShortName.{ShortName}
+use Rattle.roff_layout.specs.DueTexts.{TextDue}
 use Rattle.roff_input.specs.Input.{Ahead, ReturnAhead, ByteAhead}
 use Rattle.roff_input.specs.Input.Calls.{called_text}
 use Rattle.roff_input.specs.Input.Names.{body_named}
 use Rattle.roff_run.specs.PageEvents.{PageEvent}
-use Rattle.roff_run.specs.Reading.Returns.{back_of, behind_return, gone_back_to, in_sprung}
-use Rattle.roff_run.specs.Run.{Leads, State, after, made, step, step_with, grown, sprung_read, unless_refused}
+use Rattle.roff_run.specs.Reading.Returns.{back_of, behind_return, gone_back_to}
+use Rattle.roff_run.specs.Requests.{called_by}
+use Rattle.roff_run.specs.Run.{Leads, State, only_sprung, after, made, step, step_behind, step_with, stopped_by, grown, sprung_read, text_done, unless_refused}
 use Rattle.roff_run.specs.Springs.{next}
 use Rattle.roff_run.specs.declared.line_state.LineState.{LineState}
 use Rattle.roff_run.specs.declared.line_state.LineState.TheVariants.{LineStart, Branch, Braced, Text as InText, Control, Name, Deciding, Skipping, Dropped, Told, Exiting, TitleFront, Title as InTitle, Collecting}
 use Rattle.roff_run.specs.declared.request.Called.TheVariants.{Body as ABody}
 use Rattle.roff_run.specs.Run.Counts.{first_passed}
-use Rattle.roff_run.proofs.Leads.{Leads-refl, Leads-step, Leads-to}
-use Rattle.roff_run.proofs.Readings.{ReadsOn-with_sprung}
-use Rattle.roff_laws.specs.SpringLaws.{with_rest_back}
+use Rattle.roff_run.proofs.Leads.{Leads-refl, Leads-step, Leads-to, after-add}
+use Rattle.roff_run.proofs.Readings.{ReadsOn-text, ReadsOn-with_sprung}
+use Rattle.roff_laws.specs.SpringLaws.{IsAllowedText, Springs, before_macro, input_with, steps_to_macro, text_with, with_rest_back}
 use Rattle.roff_laws.proofs.Endings.{ended_or_not, step-ended, step-going}
 use Rattle.roff_laws.proofs.PerformedOrStopped.{first_of, left_behind, performed_or_stopped}
-use Rattle.roff_laws.proofs.SpringLaws.{gone_back, macros_are_read_first}
+use Rattle.roff_laws.proofs.SpringLaws.{gone_back, macros_are_read_first, springing, springing-step}
+use Rattle.roff_laws.proofs.TextsChanged.{text-holds}
 use Rattle.roff_rewriting.specs.MacroEnds.{EndTaken, HasBeenRead, InputLeft, IsRead, MacrosAreReadToTheirEnd, MacrosBeginALine, ReadsNoControlLine, RunEnded}
 use Rattle.roff_rewriting.proofs.StandsAhead.{EndWith, Ends, IsLost, IsTaken, Stands, StandsOrTaken, stands-performed, stands-read}
 
@@ -68,7 +72,15 @@ read-step_with l from reading behind (x ∷ es) s leads goes ends =
       | inr still ↦ IsRead still.front still.is
     ]
 read-step_with l from reading behind [] s leads goes ends =
-    read-on l from reading behind s _ leads goes (stands-read (ReturnAhead (back_of reading)) behind l s _ (ReadsOn-with_sprung l s.sprung s refl) ends)
+    read-on l from reading behind s _ leads goes (stands-read (ReturnAhead (back_of reading)) behind l s _ (ReadsOn-with_sprung l s.follows.sprung s refl) ends)
+
+-- or the text of a diversion changes
+read-step_behind : (l : Limits) (from : State) (reading : LineState) (behind : List (Ahead PageEvent)) (due : Option TextDue) (s : State)
+    → Leads l from s → s.follows.text ≡ due → step l s ≡ step_behind l due s → EndWith (ReturnAhead (back_of reading)) behind s.input.ahead
+    → HasBeenRead l from reading behind (step_behind l due s)
+read-step_behind l from reading behind None s leads is goes ends = read-step_with l from reading behind s.to_do s leads goes ends
+read-step_behind l from reading behind (Some due) s leads is goes ends =
+    read-on l from reading behind s _ leads goes (stands-read (ReturnAhead (back_of reading)) behind l s _ (ReadsOn-text l due s is) ends)
 
 read-step : (l : Limits) (from : State) (reading : LineState) (behind : List (Ahead PageEvent)) (s : State) → Leads l from s
     → HasBeenRead l from reading behind s → HasBeenRead l from reading behind (step l s)
@@ -76,7 +88,7 @@ read-step l from reading behind s leads (IsRead front is) = elim (ended_or_not s
   | inl ended ↦ subst (HasBeenRead l from reading behind) (sym (step-ended l s ended)) (RunEnded ended)
   | inr going ↦
       subst (HasBeenRead l from reading behind) (sym (step-going l s going))
-      (read-step_with l from reading behind s.to_do s leads (step-going l s going) (record { front = front; is = is }))
+      (read-step_behind l from reading behind s.follows.text s leads refl (step-going l s going) (record { front = front; is = is }))
 ]
 read-step l from reading behind s leads (EndTaken at to_it takes behind_it) = EndTaken at to_it takes (Leads-step l (step l at) s behind_it)
 read-step l from reading behind s leads (RunEnded ended) = subst (HasBeenRead l from reading behind) (sym (step-ended l s ended)) (RunEnded ended)
@@ -94,23 +106,71 @@ begun : (l : Limits) (from : State) (reading : LineState) (behind : List (Ahead 
 begun l from reading behind None before done read = read
 begun l from reading behind (Some limit) before done read = RunEnded refl
 
+-- the texts of diversions change nothing that stands ahead
+ahead-with : (text : Option TextDue) (s : State) → (input_with text s.input).ahead ≡ s.input.ahead
+ahead-with None s = refl
+ahead-with (Some due) s = text-holds (λ (u : State). u.input.ahead ≡ s.input.ahead) due s (λ names texts. refl)
+
+-- no limit refuses the change of a text behind the event, or the run has ended where the macro would be read
+allowed_or_ended : (l : Limits) (text : Option TextDue) (name : ShortName) (s : State) → s.ended ≡ None
+    → IsAllowedText l text (record s { follows = only_sprung (Some name); input = input_with text s.input })
+    ⊎ IsSome (after l (steps_to_macro text) (springing text name s)).ended
+allowed_or_ended l None name s going = inl tt
+allowed_or_ended l (Some due) name s going =
+    let first : State = springing (Some due) name s in
+    let done : State = text_done due first in
+    let goes : step l first ≡ made l first done = step-going l first going in
+    by_refusal first done (first_passed l (grown done)) refl goes
+  where
+    by_refusal : (first done : State) (r : Option Limit) → first_passed l (grown done) ≡ r
+        → step l first ≡ unless_refused l (first_passed l (grown done)) first done
+        → (first_passed l (grown done) ≡ None) ⊎ IsSome (step l (step l first)).ended
+    by_refusal first done None is goes = inl is
+    by_refusal first done (Some limit) is goes =
+        let stopped : State = stopped_by l limit first in
+        let there : step l first ≡ stopped = goes ∙ ap (λ (r : Option Limit). unless_refused l r first done) is in
+        inr (subst (λ (t : State). IsSome (step l t).ended) (sym there)
+        (subst (λ (t : State). IsSome t.ended) (sym (step-ended l stopped refl)) refl))
+
+-- so it is of the run from the event
+reads_or_ended : (l : Limits) (s : State) (e : PageEvent) (rest : List PageEvent) (name : ShortName) → Springs l s e rest name
+    → IsAllowedText l (text_with e s) (before_macro e rest name s) ⊎ IsSome (after l (suc (steps_to_macro (text_with e s))) s).ended
+reads_or_ended l s e rest name springs =
+    elim (allowed_or_ended l (text_with e s) name (with_rest_back e rest s) springs.going) [
+      | inl allowed ↦ inl allowed
+      | inr ended ↦
+          inr (subst (λ (t : State). IsSome (after l (steps_to_macro (text_with e s)) t).ended)
+          (sym (springing-step l s e rest name springs)) ended)
+    ]
+
+-- the state in which its first byte is read next
+abbrev body_first : PageEvent → List PageEvent → ShortName → State → State
+body_first e rest name s = sprung_read (ABody name) (before_macro e rest name s)
+
+-- where it was put in front
+put_in_front : (l : Limits) (s : State) (e : PageEvent) (rest : List PageEvent) (name : ShortName) → Springs l s e rest name
+    → called_by name (before_macro e rest name s).input.names ≡ ABody name
+    → HasBeenRead l s s.reading (with_rest_back e rest s).input.ahead (after l (suc (steps_to_macro (text_with e s))) s)
+put_in_front l s e rest name springs is =
+    let items : List (Ahead PageEvent) = (with_rest_back e rest s).input.ahead in
+    let before : State = before_macro e rest name s in
+    let done : State = body_first e rest name s in
+    let body : List (Ahead PageEvent) = map ByteAhead (called_text (body_named (name_bytes name) before.input)) in
+    let same : before.input.ahead ≡ items = ahead-with (text_with e s) (with_rest_back e rest s) in
+    elim (reads_or_ended l s e rest name springs) [
+      | inl allowed ↦
+          subst (HasBeenRead l s s.reading items) (sym (macros_are_read_first l s e rest name springs allowed is))
+          (begun l s s.reading items (first_passed l (grown done)) before done
+          (IsRead body (ap (λ (xs : List (Ahead PageEvent)). body ++ ReturnAhead (back_of s.reading) ∷ xs) same)))
+      | inr ended ↦ RunEnded ended
+    ]
+
 pub macros_are_read_to_their_end : MacrosAreReadToTheirEnd
 macros_are_read_to_their_end l s e rest name n springs is =
-    let back : State = with_rest_back e rest s in
-    let before : State = record back { sprung = Some name } in
-    let done : State = record before {
-      sprung = None;
-      reading = in_sprung s.reading;
-      input = record before.input {
-        ahead = map ByteAhead (called_text (body_named (name_bytes name) s.input)) ++ ReturnAhead (back_of s.reading) ∷ before.input.ahead;
-        calls = [] ∷ s.input.calls;
-      };
-    } in
-    let there : after l 2 s ≡ made l before done = macros_are_read_first l s e rest name springs is in
-    read-after l s s.reading back.input.ahead n (after l 2 s) (record { steps = 2; there = refl })
-    (subst (HasBeenRead l s s.reading back.input.ahead) (sym there)
-    (begun l s s.reading back.input.ahead (first_passed l (grown done)) before done
-    (IsRead (map ByteAhead (called_text (body_named (name_bytes name) s.input))) refl)))
+    let steps : ℕ = suc (steps_to_macro (text_with e s)) in
+    let items : List (Ahead PageEvent) = (with_rest_back e rest s).input.ahead in
+    subst (HasBeenRead l s s.reading items) (sym (after-add l steps n s))
+    (read-after l s s.reading items n (after l steps s) (record { steps = steps; there = refl }) (put_in_front l s e rest name springs is))
 
 -- so a line begins
 begins_line : (l : Limits) (r : Option Limit) (before done : State) → done.reading ≡ LineStart
@@ -120,7 +180,11 @@ begins_line l (Some limit) before done is = inl refl
 
 pub macros_begin_a_line : MacrosBeginALine
 macros_begin_a_line l s e rest name springs is none =
-    let before : State = record (with_rest_back e rest s) { sprung = Some name } in
-    let done : State = sprung_read (ABody name) before in
-    subst (λ (t : State). IsSome t.ended ⊎ (t.reading ≡ LineStart)) (sym (macros_are_read_first l s e rest name springs is))
-    (begins_line l (first_passed l (grown done)) before done (back_there 0 s.reading none))
+    let before : State = before_macro e rest name s in
+    let done : State = body_first e rest name s in
+    elim (reads_or_ended l s e rest name springs) [
+      | inl allowed ↦
+          subst (λ (t : State). IsSome t.ended ⊎ (t.reading ≡ LineStart)) (sym (macros_are_read_first l s e rest name springs allowed is))
+          (begins_line l (first_passed l (grown done)) before done (back_there 0 s.reading none))
+      | inr ended ↦ inl ended
+    ]

@@ -33,7 +33,7 @@ use Rattle.roff_run.specs.Reading.Escapes.{argument_named}
 use Rattle.roff_run.specs.Registers.{Known, known_stepped, text_of_register}
 use Rattle.roff_run.specs.declared.line_state.LineState.{LineState}
 use Rattle.roff_run.specs.Reading.Items.{PageInput}
-use Rattle.roff_run.specs.Run.{State, ahead_taken, after, known, made, message_told, step, stopped_by}
+use Rattle.roff_run.specs.Run.{State, nothing_follows, ahead_taken, after, known, made, message_told, step, stopped_by}
 use Rattle.roff_run.specs.Stages.{Stage}
 use Rattle.roff_run.specs.Within.{IsWithin}
 use Rattle.roff_run.specs.PageEvents.{PageEvent}
@@ -56,7 +56,7 @@ step-end l s names texts t items i on few within =
     ∙ made-Fits l u v (Fits-IsWithin l v within)
 
 -- the message is told behind its line
-pub step-told : (l : Limits) (u : State) → u.ended ≡ None → u.to_do ≡ [] → u.sprung ≡ None → u.reading ≡ Told false → step l u ≡ made l u (message_told u)
+pub step-told : (l : Limits) (u : State) → u.ended ≡ None → u.to_do ≡ [] → u.follows ≡ nothing_follows → u.reading ≡ Told false → step l u ≡ made l u (message_told u)
 step-told l u going idle unsprung reading = rw (going, idle, unsprung, reading) refl
 
 -- an escape that steps nothing changes nothing else

@@ -16,9 +16,10 @@ use Rattle.roff_run.specs.declared.phase.Phase.{Phase}
 use Rattle.roff_run.specs.declared.phase.Phase.TheVariants.{Reading, LastMacro, Closing}
 use Rattle.roff_run.specs.declared.request.Called.{Called}
 use Rattle.roff_run.specs.declared.request.Called.TheVariants.{Request as ARequest, Body as ABody, Nothing as Unknown}
-use Rattle.roff_run.proofs.Readings.{ReadsOn, LimitStops, AheadTaken, ByteTaken, NoteTaken, HalfEnds, InputLeft, LineEnds, PhaseEnds, MessageTold, RunAborts, SourceFails, SourceStops, SprungRead, behind_ahead}
+use Rattle.roff_run.proofs.Readings.{ReadsOn, LimitStops, AheadTaken, ByteTaken, NoteTaken, HalfEnds, InputLeft, LineEnds, PhaseEnds, MessageTold, RunAborts, SourceFails, SourceStops, SprungRead, TextChanged, behind_ahead}
 use Rattle.roff_run.proofs.GrowingAhead.{Grows, Stays, WithByte, WithEnd, WithFree, WithReturn, ahead-called, ahead-interrupted, ahead-same}
 use Rattle.roff_laws.proofs.PerformedOrStopped.{PerformedOrStopped, Performed, Sprang, EndsOver, StoppedAt}
+use Rattle.roff_laws.proofs.TextsChanged.{text-holds}
 use Rattle.roff_run.proofs.ReadEvents.{Means-end_taking, Means-escape_ended, Means-taking}
 
 -- items end with an item, and these behind it
@@ -109,6 +110,8 @@ stands-read item behind l s t (RunAborts told) ends = Ends refl
 stands-read item behind l s t (InputLeft leaves is_made) ends = left-stands item behind s.phase s refl leaves ends
 stands-read item behind l s t (SprungRead name sprung is_made) ends =
     Stands (ends-grown item behind s.input.ahead _ (grows-sprung (called_by name s.input.names) s) ends)
+stands-read item behind l s t (TextChanged due text is_made) ends =
+    Stands (text-holds (λ (u : State). EndWith item behind u.input.ahead) due s (λ names texts. ends))
 stands-read item behind l s t (SourceFails is_open fails) ends = Ends refl
 stands-read item behind l s t (SourceStops limit is_open stops) ends = Ends refl
 

@@ -36,7 +36,7 @@ use Rattle.roff_run.specs.Messages.{told_line}
 use Rattle.roff_run.specs.ItemsTaken.{TakesItems}
 use Rattle.roff_run.specs.Reading.Items.{PageInput}
 use Rattle.roff_run.specs.Registers.{Known}
-use Rattle.roff_run.specs.Run.{State, aborted, after, known, made, message_told, step}
+use Rattle.roff_run.specs.Run.{State, nothing_follows, aborted, after, known, made, message_told, step}
 use Rattle.roff_run.specs.Stages.{Stage}
 use Rattle.roff_run.specs.Within.{IsWithin}
 use Rattle.roff_run.specs.declared.line_state.LineState.{LineState}
@@ -287,7 +287,7 @@ told-with-texts l s from control name parts begins has may ahead tape has_room w
     ∙ made-Fits l u told (Fits-IsWithin l told within_told)
 
 -- or it ends the run
-step-ends : (l : Limits) (u : State) → u.ended ≡ None → u.to_do ≡ [] → u.sprung ≡ None → u.reading ≡ Told true → step l u ≡ aborted u
+step-ends : (l : Limits) (u : State) → u.ended ≡ None → u.to_do ≡ [] → u.follows ≡ nothing_follows → u.reading ≡ Told true → step l u ≡ aborted u
 step-ends l u going idle unsprung reading = rw (going, idle, unsprung, reading) refl
 
 ended-with-texts : (l : Limits) (s : State) (from : Origin) (control : ℕ) (name : ShortName) (parts : List Part)

@@ -20,7 +20,8 @@ use Rattle.roff_rewriting.proofs.PartRuns.{behind_bytes-append}
 use Rattle.roff_rewriting.proofs.PrintedNumbers.{printable-number}
 use Rattle.roff_rewriting.proofs.TitleColumns.{ArePrintable, not-byte, part-printed, printable-bounds, printable-numbered, stands-placed}
 use Rattle.roff_rewriting.proofs.TitleReading.{TitleStage, at, last_reading, path-title, title_kept, titled}
-use Rattle.roff_rewriting.proofs.TitleRuns.{after-TitlePath, title-placed, title_at, with_title}
+use Rattle.roff_rewriting.proofs.TitleRuns.{after-TitlePath, title_at, with_title}
+use Rattle.roff_rules.proofs.EventRuns.{perform-all}
 use Rattle.roff_rewriting.specs.TitleLaws.{IsDelimiter, IsPartByte, IsTitle, LeadsToTitle, NamesTitle, PartsStand, PlacesTitle, TitleOnLine, TitlesHaveThreeParts, TitlesOfTheSourceHaveThreeParts, is_printable, numbered, title_bytes, title_line, with_number}
 use Rattle.roff_rules.proofs.CalledArguments.{most_of}
 use Rattle.roff_rules.proofs.LineNames.{Allows, ReadsAs, ReadsName, onward, reads-name}
@@ -253,7 +254,7 @@ reads-title l s t line tape i begins is next =
       is_placed = λ allowed.
           after-add l (length line) (length events) s
           ∙ ap (after l (length events)) next
-          ∙ title-placed l u begins.takes.going allowed
+          ∙ perform-all l u (Title Read ∷ []) begins.takes.going begins.takes.unsprung allowed
           ∙ ap (λ (none : List PageEvent). record u { to_do = none; history = behind_all rs events s.history }) (sym begins.takes.idle);
     }
 

@@ -1,40 +1,24 @@
 -- Runs over the bytes of a title, and what comes of it.
-use Rattle.std.proofs.Common.{◌≡◌, ℕ, ◌+◌, ◌≤◌, Bool, true, false, List, [], ◌∷◌, ◌++◌, length, Option, Some, None, refl, ap, sym, subst, ◌∙◌, arith}
-use Rattle.std.specs.Prelude.{◌&&◌, ◌||◌, not, ◌==◌}
+use Rattle.std.proofs.Common.{◌≡◌, ℕ, ◌+◌, ◌≤◌, List, ◌∷◌, ◌++◌, length, None, refl, ap, ◌∙◌, arith}
 use Rattle.std.proofs.lemmas.List.{append-nil}
 use Rattle.roff_input.specs.Arguments.{no_arguments}
-use Rattle.roff_num.specs.declared.limit.Limit.{Limit}
 use Rattle.roff_num.specs.declared.limits.Limits.{Limits}
-use Rattle.roff_num.specs.declared.short_name.ShortName.{ShortName}
-use Rattle.roff_layout.specs.Layout.{Layout}
-use Rattle.roff_layout.specs.Queries.{is_diverting}
-use Rattle.roff_layout.specs.declared.layout_event.LayoutEvent.TheVariants.{Begin}
 use Rattle.roff_store.specs.Named.{Named}
 use Rattle.roff_store.specs.Texts.{Entry}
-use Rattle.roff_rewriting.proofs.TitleColumns.{not-byte}
 use Rattle.roff_rewriting.proofs.TitleReading.{Here, Onward, TitlePath, TitleStage, TitleTurns, changing_taking, titled}
-use Rattle.roff_rules.specs.TextLaws.{AllQuiet, all_performed, performed_with}
 use Rattle.roff_run.proofs.ItemsTaken.{Origin}
 use Rattle.roff_run.proofs.NameBytes.{stage}
 use Rattle.roff_run.proofs.PlainRuns.{HasRoom, HasRoom-behind, IsSmall, IsWithin-HasRoom, Most, behind_byte, behind_bytes, run_at, step-taken}
 use Rattle.roff_run.specs.ItemsTaken.{TakesItems}
-use Rattle.roff_run.specs.Layouts.{layout_of}
-use Rattle.roff_run.specs.PageEvents.{PageEvent, PageHistory, PastEvent}
 use Rattle.roff_run.specs.Reading.Ends.{due}
 use Rattle.roff_run.specs.Reading.Items.{PageInput, Taking}
 use Rattle.roff_run.specs.Registers.{AllRegisters, Change, changed_by_all}
-use Rattle.roff_run.specs.Run.{State, after, done_if, known, performed, performing, sprung_at, step, step_with, taken_as, unless_refused}
-use Rattle.roff_run.specs.Run.Counts.{refusal}
-use Rattle.roff_run.specs.Springs.{begins, next, page_begin_or, springs}
+use Rattle.roff_run.specs.Run.{State, after, known, step, taken_as}
+use Rattle.roff_run.specs.Springs.{next}
 use Rattle.roff_run.specs.Stages.{Stage}
 use Rattle.roff_run.specs.TitleTexts.{TitleText, title_length}
-use Rattle.roff_run.specs.Titles.{told}
-use Rattle.roff_run.specs.TurnsToCome.{behind_all}
 use Rattle.roff_run.specs.Within.{IsWithin}
-use Rattle.roff_run.specs.declared.event.PageEvent.TheVariants.{Page, Title}
 use Rattle.roff_run.specs.declared.line_state.LineState.{LineState}
-use Rattle.roff_run.specs.declared.status.Status.{Status}
-use Rattle.roff_run.specs.declared.title.WhichTitle.TheVariants.{Read}
 
 -- a run whose title is this
 abbrev pub with_title : TitleText → State → State
@@ -104,72 +88,3 @@ after-TitlePath l s names texts from most p q _ more i on small (Onward _ next _
           ∙ others.0,
       others.1,
     )
-
--- an event that no limit refuses, with which the last page doesn't end, and which springs no macro
-event-happens : (l : Limits) (u : State) (e : PageEvent) (left : List PageEvent)
-    → let happened : PastEvent = told u.registers e in
-    let h : PageHistory = u.history in
-    refusal l h happened ≡ None → (layout_of (happened ∷ h)).is_over ≡ false → springs h happened ≡ None
-    → unless_refused l (refusal l h happened) u (performed happened left u) ≡ record u { to_do = left; history = happened ∷ h }
-event-happens l u e left allowed goes_on none_sprung =
-    let happened : PastEvent = told u.registers e in
-    let behind : State = record u { history = happened ∷ u.history } in
-    ap (λ (refused : Option Limit). unless_refused l refused u (performed happened left u)) allowed
-    ∙ ap (λ (over : Bool). done_if over behind (sprung_at (springs u.history happened) left behind)) goes_on
-    ∙ ap (λ (name : Option ShortName). sprung_at name left behind) none_sprung
-
--- the events of a title, where this comes before it
-abbrev title_events : AllRegisters → PageHistory → Option PageEvent → List PageEvent
-title_events rs h own =
-    elim own [ None ↦ Title Read ∷ [] | Some first ↦ first ∷ performed_with rs 1 (told rs first ∷ h) (Title Read) (all_performed rs []) ]
-
--- a page that begins takes text
-takes-begun : (L : Layout) → (not (L.begun + 1 == 0) || is_diverting L) ≡ true
-takes-begun L = ap (λ (none : Bool). not none || is_diverting L) (not-byte (L.begun + 1) 0 (λ is. omega (arith, is)))
-
-none-begins : (h : PageHistory) → next (Page Begin ∷ h) (Title Read) ≡ None
-none-begins h = ap (λ (takes : Bool). page_begin_or (not takes && true) None) (takes-begun (layout_of h))
-
--- the title's own step
-title-happens : (l : Limits) (u : State) → u.ended ≡ None → next u.history (Title Read) ≡ None
-    → AllQuiet l u.registers u.history (Title Read ∷ [])
-    → step l (record u { to_do = Title Read ∷ [] }) ≡ record u { to_do = []; history = told u.registers (Title Read) ∷ u.history }
-title-happens l u going none allowed =
-    let before : State = record u { to_do = Title Read ∷ [] } in
-    ap (λ (ended : Option Status). elim ended [ None ↦ step_with l before.to_do before | Some status ↦ before ]) going
-    ∙ ap (λ (own : Option PageEvent). performing l own (Title Read) [] before) none
-    ∙ event-happens l before (Title Read) [] allowed.0.allowed allowed.0.goes_on allowed.0.none_sprung
-
--- by whether the first page begins in front of it
-title-placed_by : (l : Limits) (u : State) (c : Bool) → u.ended ≡ None → begins u.history (Title Read) ≡ c
-    → let events : List PageEvent = title_events u.registers u.history (page_begin_or c None) in
-    AllQuiet l u.registers u.history events
-    → after l (length events) (record u { to_do = Title Read ∷ [] }) ≡ record u { to_do = []; history = behind_all u.registers events u.history }
-title-placed_by l u false going is allowed =
-    title-happens l u going (ap (λ (c : Bool). page_begin_or c None) is) allowed
-title-placed_by l u true going is allowed =
-    let rs : AllRegisters = u.registers in
-    let h : PageHistory = u.history in
-    let g : PageHistory = Page Begin ∷ h in
-    let before : State = record u { to_do = Title Read ∷ [] } in
-    let begun : State = record u { history = g } in
-    let rest : Option PageEvent → List PageEvent = λ own.
-    elim own [ None ↦ Title Read ∷ [] | Some first ↦ first ∷ performed_with rs 0 (told rs first ∷ g) (Title Read) (all_performed rs []) ] in
-    let last : (own : Option PageEvent) → next g (Title Read) ≡ own → own ≡ None → AllQuiet l rs g (rest own)
-    → after l (length (rest own)) (record begun { to_do = Title Read ∷ [] }) ≡ record u { to_do = []; history = behind_all rs (rest own) g } =
-    λ own is_own none.
-    subst
-    (λ (own : Option PageEvent).
-    AllQuiet l rs g (rest own) → after l (length (rest own)) (record begun { to_do = Title Read ∷ [] }) ≡ record u { to_do = []; history = behind_all rs (rest own) g })
-    (sym none) (λ allowed. title-happens l begun going (none-begins h) allowed) in
-    let first : step l before ≡ record u { to_do = Title Read ∷ []; history = g } =
-    ap (λ (ended : Option Status). elim ended [ None ↦ step_with l before.to_do before | Some status ↦ before ]) going
-    ∙ ap (λ (own : Option PageEvent). performing l own (Title Read) [] before) (ap (λ (c : Bool). page_begin_or c None) is)
-    ∙ event-happens l before (Page Begin) (Title Read ∷ []) allowed.0.allowed allowed.0.goes_on allowed.0.none_sprung in
-    ap (after l (length (rest (next g (Title Read))))) first ∙ last (next g (Title Read)) refl (none-begins h) allowed.1
-
-pub title-placed : (l : Limits) (u : State) → u.ended ≡ None
-    → let events : List PageEvent = all_performed u.registers (Title Read ∷ []) u.history in
-    AllQuiet l u.registers u.history events
-    → after l (length events) (record u { to_do = Title Read ∷ [] }) ≡ record u { to_do = []; history = behind_all u.registers events u.history }
-title-placed l u going allowed = title-placed_by l u (begins u.history (Title Read)) going refl allowed

@@ -5,6 +5,7 @@ use Rattle.std.proofs.lemmas.Bool.{ne_eqb}
 use Rattle.roff_input.proofs.KeptArguments.{reverse-cons}
 use Rattle.std.proofs.lemmas.List.{reverse-reverse}
 use Rattle.roff_num.specs.declared.limits.Limits.{Limits}
+use Rattle.roff_layout.specs.DueTexts.{TextDue}
 use Rattle.roff_layout.specs.Events.{History, settings_after}
 use Rattle.roff_layout.specs.Fitting.{Word}
 use Rattle.roff_layout.specs.Lines.{Finished}
@@ -20,13 +21,13 @@ use Rattle.roff_run.specs.Environments.{Environments, environments, is_same, num
 use Rattle.roff_run.specs.Layouts.{happens}
 use Rattle.roff_run.specs.PageEvents.{PageEvent, PageHistory, PastEvent}
 use Rattle.roff_run.specs.Registers.{AllRegisters}
-use Rattle.roff_run.specs.Run.{State, after, step, step_with}
+use Rattle.roff_run.specs.Run.{State, after, step, step_behind, step_with}
 use Rattle.roff_run.specs.Springs.{begins, next, own_word_end, page_begin_or, word_end_of}
 use Rattle.roff_run.specs.Titles.{told}
 use Rattle.roff_run.specs.declared.environment_number.EnvironmentNumber.{EnvironmentNumber}
 use Rattle.roff_run.specs.declared.environment_number.EnvironmentNumber.TheVariants.{Zero, One, Two}
 use Rattle.roff_run.specs.declared.event.PageEvent.TheVariants.{Text, Page, Interrupt, Environment, Back, InputTrap as SetsTrap, Title}
-use Rattle.roff_run.proofs.Readings.{ReadsOn-with_sprung}
+use Rattle.roff_run.proofs.Readings.{ReadsOn-text, ReadsOn-with_sprung}
 use Rattle.roff_laws.specs.EnvironmentLaws.{text_in}
 use Rattle.roff_laws.specs.SpringLaws.{first_of, happening, left_behind}
 use Rattle.roff_laws.proofs.ComesBefore.{ComesBefore, NothingComes, PageComes, WordEndComes, comes_before}
@@ -141,7 +142,13 @@ own-step_with number before l (x ∷ es) s own =
     let first : Option PageEvent = next s.history x in
     own-performed number before l (first_of first x) (left_behind first x es s) s _ (performed_or_stopped l first x es s) own
 own-step_with number before l [] s own =
-    subst (λ (h : PageHistory). InWordsOfItsOwn before (text_in number h)) (sym (history-read l s _ (ReadsOn-with_sprung l s.sprung s refl))) own
+    subst (λ (h : PageHistory). InWordsOfItsOwn before (text_in number h)) (sym (history-read l s _ (ReadsOn-with_sprung l s.follows.sprung s refl))) own
+
+own-step_behind : (number : EnvironmentNumber) (before : History) (l : Limits) (due : Option TextDue) (s : State) → s.follows.text ≡ due
+    → InWordsOfItsOwn before (text_in number s.history) → InWordsOfItsOwn before (text_in number (step_behind l due s).history)
+own-step_behind number before l None s is own = own-step_with number before l s.to_do s own
+own-step_behind number before l (Some due) s is own =
+    subst (λ (h : PageHistory). InWordsOfItsOwn before (text_in number h)) (sym (history-read l s _ (ReadsOn-text l due s is))) own
 
 pub own-step : (number : EnvironmentNumber) (before : History) (l : Limits) (s : State) → InWordsOfItsOwn before (text_in number s.history)
     → InWordsOfItsOwn before (text_in number (step l s).history)
@@ -149,7 +156,7 @@ own-step number before l s own = elim (ended_or_not s.ended) [
   | inl ended ↦ subst (λ (t : State). InWordsOfItsOwn before (text_in number t.history)) (sym (step-ended l s ended)) own
   | inr going ↦
       subst (λ (t : State). InWordsOfItsOwn before (text_in number t.history)) (sym (step-going l s going))
-      (own-step_with number before l s.to_do s own)
+      (own-step_behind number before l s.follows.text s refl own)
 ]
 
 own-after : (number : EnvironmentNumber) (before : History) (l : Limits) (n : ℕ) (s : State) → InWordsOfItsOwn before (text_in number s.history)

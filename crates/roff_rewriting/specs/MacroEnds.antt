@@ -1,5 +1,5 @@
 -- A macro that sprang is read up to its end, and behind that what it interrupted goes on (manual, section 7.5).
-use Rattle.std.specs.Prelude.{◌≡◌, ◌⊎◌, ℕ, suc, List, ◌∷◌, ◌++◌, IsSome}
+use Rattle.std.specs.Prelude.{◌≡◌, ◌⊎◌, ◌+◌, ℕ, suc, List, ◌∷◌, ◌++◌, IsSome}
 use Rattle.roff_num.specs.declared.limits.Limits.{Limits}
 use Rattle.roff_num.specs.declared.short_name.ShortName.{ShortName}
 use Rattle.roff_input.specs.Input.{Ahead, ReturnAhead, item_taken}
@@ -10,7 +10,7 @@ use Rattle.roff_run.specs.Run.{Leads, State, after, step}
 use Rattle.roff_run.specs.declared.line_state.LineState.{LineState}
 use Rattle.roff_run.specs.declared.line_state.LineState.TheVariants.{LineStart, Branch, Braced, Text as InText}
 use Rattle.roff_run.specs.declared.request.Called.TheVariants.{Body as ABody}
-use Rattle.roff_laws.specs.SpringLaws.{MayBeInterrupted, Springs, with_rest_back}
+use Rattle.roff_laws.specs.SpringLaws.{MayBeInterrupted, Springs, before_macro, steps_to_macro, text_with, with_rest_back}
 use Rattle.roff_laws.specs.TrapLaws.{LeavesInput}
 
 -- no control line is being read: a line begins, or a branch, or it is one of text
@@ -37,16 +37,17 @@ pub data HasBeenRead (l : Limits) (from : State) (reading : LineState) (behind :
   InputLeft : (at : State) → Leads l from at → LeavesInput at → Leads l at s → HasBeenRead l from reading behind s
 
 -- Whatever a macro's lines are, and whatever springs within them: all that they put in front is read before what the macro interrupted,
--- and behind its end the line goes on as it was.
+-- and behind its end the line goes on as it was. So it is too where the event that sprang it changes the text of a diversion first.
 abbrev pub MacrosAreReadToTheirEnd : Type 0
 MacrosAreReadToTheirEnd =
     (l : Limits) (s : State) (e : PageEvent) (rest : List PageEvent) (name : ShortName) (n : ℕ) → Springs l s e rest name
-    → called_by name s.input.names ≡ ABody name
-    → HasBeenRead l s s.reading (with_rest_back e rest s).input.ahead (after l (suc (suc n)) s)
+    → called_by name (before_macro e rest name s).input.names ≡ ABody name
+    → HasBeenRead l s s.reading (with_rest_back e rest s).input.ahead (after l (suc (steps_to_macro (text_with e s)) + n) s)
 
 -- where it sprang in a text line, or where a line or a branch begins, a line begins in it
 abbrev pub MacrosBeginALine : Type 0
 MacrosBeginALine =
     (l : Limits) (s : State) (e : PageEvent) (rest : List PageEvent) (name : ShortName) → Springs l s e rest name
-    → called_by name s.input.names ≡ ABody name → ReadsNoControlLine s.reading
-    → IsSome (after l 2 s).ended ⊎ ((after l 2 s).reading ≡ LineStart)
+    → called_by name (before_macro e rest name s).input.names ≡ ABody name → ReadsNoControlLine s.reading →
+    let read : State = after l (suc (steps_to_macro (text_with e s))) s in
+    IsSome read.ended ⊎ (read.reading ≡ LineStart)

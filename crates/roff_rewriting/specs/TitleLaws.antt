@@ -149,7 +149,7 @@ pub record PlacesTitle (page : Option ℕ) (t : TitleOnLine) (h : PageHistory) (
 -- What the line of a title does. In as many steps as it has bytes it leads to where the title that was read is to be placed next,
 -- and wherever that is its parts stand where they belong, also where it is kept while a macro is read. Each event is a step: the
 -- title, and in front of it the first page's beginning, where none was begun, if no limit refuses these, the last page doesn't end
--- with one, and none springs a macro.
+-- with one, and none springs a macro or changes the text of a diversion: the title stands on the page.
 pub record LeadsToTitle (l : Limits) (s : State) (t : TitleOnLine) (line : List ℕ) (behind : State) : Type 0 where
   pub read : TitleText
   pub places : (h : PageHistory) (rs : AllRegisters) → rs.title ≡ read → PlacesTitle s.registers.page_character t h rs Read

@@ -39,7 +39,7 @@ pub record EndsWordsSo (k : Known) (i : PageInput) (found : Found) : Type 0 wher
 abbrev pub TextLinesEndWordsSo : Type 0
 TextLinesEndWordsSo = (k : Known) (i : PageInput) (found : Found) → EndsWordsSo k i found
 
--- and it stays so, as they are performed one after another
+-- and it stays so, as they are performed one after another, and as texts of diversions change between them
 abbrev pub WordEndsStayFollowed : Type 0
 WordEndsStayFollowed =
     (l : Limits) (s : State) (e : PageEvent) (rest : List PageEvent) → s.to_do ≡ e ∷ rest → AreFollowed (e ∷ rest) → AreFollowed (step l s).to_do

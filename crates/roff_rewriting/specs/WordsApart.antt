@@ -118,9 +118,11 @@ pub data WaitsInFront (e : PageEvent) (behind : List (Ahead PageEvent)) (s : Sta
   StandsThere : (front : List (Ahead PageEvent)) → s.input.ahead ≡ front ++ DoAhead e ∷ behind → WaitsInFront e behind s
   IsNext : s.to_do ≡ e ∷ [] → s.input.ahead ≡ behind → WaitsInFront e behind s
 
--- a line goes on with an event, in the environment in force: nothing comes before that any more, and no word is open
+-- a line goes on with an event, in the environment in force: nothing comes before that any more, no event and no change of the text of
+-- a diversion, and no word is open
 pub record GoesOnWith (e : PageEvent) (behind : List (Ahead PageEvent)) (s : State) : Type 0 where
   pub first : s.to_do ≡ e ∷ []
+  pub no_text : s.follows.text ≡ None
   pub others : s.input.ahead ≡ behind
   pub none_before : next s.history e ≡ None
   pub no_word : has_open_word (text_of s.history) ≡ false

@@ -25,7 +25,7 @@ use Rattle.roff_laws.proofs.Endings.{step-going}
 use Rattle.roff_laws.proofs.RegisterLaws.{number_by, settable-other, settable-set, settable_by}
 use Rattle.roff_run.specs.PageEvents.{PageEvent}
 use Rattle.roff_run.specs.Events.Lines.{closing_events}
-use Rattle.roff_run.specs.Run.{State, answered, ending_input, input_ended, input_left, known, left_in, made, phase_ended, reading_by, source_answer, step, step_with, unless_refused, with_registers, with_sprung}
+use Rattle.roff_run.specs.Run.{Following, State, nothing_follows, answered, ending_input, input_ended, input_left, known, left_in, made, phase_ended, reading_by, source_answer, step, step_behind, step_with, unless_refused, with_registers, with_sprung}
 use Rattle.roff_run.proofs.ItemsTaken.{step-reads}
 use Rattle.roff_rules.proofs.Interpolation.{unread_input_is_the_tape}
 use Rattle.roff_run.specs.declared.line_state.LineState.{LineState}
@@ -86,11 +86,12 @@ pub then_the_run_is_done : ThenTheRunIsDone
 then_the_run_is_done l s through = ends-phase l Closing s through
 
 -- the step behind the line of an `.ex`
-leaving-step : (l : Limits) (s : State) → s.ended ≡ None → s.to_do ≡ [] → s.sprung ≡ None → s.reading ≡ Exiting → step l s ≡ made l s (left_in s.phase s)
+leaving-step : (l : Limits) (s : State) → s.ended ≡ None → s.to_do ≡ [] → s.follows ≡ nothing_follows → s.reading ≡ Exiting → step l s ≡ made l s (left_in s.phase s)
 leaving-step l s going idle unsprung leaves =
     step-going l s going
+    ∙ ap (λ (f : Following). step_behind l f.text s) unsprung
     ∙ ap (λ (es : List PageEvent). step_with l es s) idle
-    ∙ ap (λ (name : Option ShortName). with_sprung l name s) unsprung
+    ∙ ap (λ (f : Following). with_sprung l f.sprung s) unsprung
     ∙ ap (λ (reading : LineState). reading_by l (due reading) s) leaves
 
 -- before it closes the input is left

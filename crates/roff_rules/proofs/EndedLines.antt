@@ -107,7 +107,7 @@ after-end l s tape line i h on ends room quiet =
     ∙ ap (made l u) (taken_as-meaning u.input LineStart events u on.idle)
     ∙ made-Fits l u (record there { to_do = events }) (fits-room l s LineStart from [] i h room) in
     ap (after l (steps_of s.registers events h)) one
-    ∙ perform-all l there events on.going quiet
+    ∙ perform-all l there events on.going on.unsprung quiet
     ∙ idle-state s LineStart from [] i (behind_performed s.registers events h) on.idle
 
 steps-ended : (rs : AllRegisters) (bytes : List ℕ) (events more last : List PageEvent) (h : PageHistory)

@@ -1,5 +1,5 @@
 -- Runs over bytes that mean events.
-use Rattle.std.proofs.Common.{◌≡◌, ℕ, zero, suc, ◌+◌, ◌≤◌, Bool, List, ◌∷◌, ◌++◌, length, Option, Some, None, refl, ap, sym, subst, ◌∙◌, arith, append_assoc, []}
+use Rattle.std.proofs.Common.{◌≡◌, ℕ, zero, suc, ◌+◌, ◌≤◌, Bool, false, List, ◌∷◌, ◌++◌, length, Option, Some, None, refl, ap, sym, subst, ◌∙◌, arith, append_assoc, []}
 use Rattle.std.specs.Prelude.{⊤, map}
 use Rattle.std.proofs.lemmas.List.{append-nil, length-append}
 use Rattle.roff_num.specs.declared.limits.Limits.{Limits}
@@ -19,18 +19,20 @@ use Rattle.roff_run.specs.Titles.{told}
 use Rattle.roff_layout.specs.declared.event.Event.TheVariants.{WordEnd}
 use Rattle.roff_layout.specs.declared.layout_event.LayoutEvent.TheVariants.{Begin}
 use Rattle.roff_run.specs.declared.event.PageEvent.TheVariants.{Page, Text}
-use Rattle.roff_laws.proofs.ComesBefore.{ComesBefore, NothingComes, PageComes, WordEndComes, comes_before, steps_in_front, steps_in_front-few}
+use Rattle.roff_laws.proofs.ComesBefore.{ComesBefore, NothingComes, PageComes, WordEndComes, comes_before, own_steps, page_steps, steps_in_front, steps_in_front-few}
 use Rattle.roff_laws.proofs.PerformedOrStopped.{left_of-none}
 use Rattle.roff_rules.specs.TextLaws.{AllQuiet, IsQuiet, all_performed, performed_with}
-use Rattle.roff_run.specs.Run.{State, after, done_if, known, made, performed, performing, sprung_at, step, step_with, taken_as, unless_refused}
+use Rattle.roff_run.specs.Run.{Following, State, after, done_if, followed_by, known, made, nothing_follows, performed, performing, step, step_behind, taken_as, unless_refused}
 use Rattle.roff_run.specs.TurnsToCome.{behind_all}
 use Rattle.roff_run.specs.declared.line_state.LineState.{LineState}
 use Rattle.roff_run.specs.declared.line_state.LineState.TheVariants.{LineStart}
 use Rattle.roff_run.specs.declared.status.Status.{Status}
 use Rattle.roff_rules.proofs.LineRooms.{Room, reads_at, room-behind, within-room}
-use Rattle.roff_run.specs.Springs.{left_of, next, springs}
+use Rattle.roff_run.specs.Following.{following}
+use Rattle.roff_run.specs.Layouts.{layout_of}
+use Rattle.roff_layout.specs.Queries.{takes_text}
+use Rattle.roff_run.specs.Springs.{left_of, next, word_end_of}
 use Rattle.roff_run.specs.Run.Counts.{refusal}
-use Rattle.roff_num.specs.declared.short_name.ShortName.{ShortName}
 
 -- events are quiet as they are performed, each with what comes before it
 abbrev pub AreQuiet : Limits → AllRegisters → PageHistory → List PageEvent → Type 0
@@ -44,40 +46,44 @@ abbrev pub behind_performed : AllRegisters → List PageEvent → PageHistory �
 behind_performed rs events h = behind_all rs (all_performed rs events h) h
 
 -- a step at one that is quiet
-quiet-step : (l : Limits) (s : State) (e : PastEvent) (left : List PageEvent) → IsQuiet l s.history e
+quiet-step : (l : Limits) (s : State) (e : PastEvent) (left : List PageEvent) → s.follows ≡ nothing_follows → IsQuiet l s.history e
     → unless_refused l (refusal l s.history e) s (performed e left s) ≡ record s { to_do = left; history = e ∷ s.history }
-quiet-step l s e left quiet =
+quiet-step l s e left unfollowed quiet =
     let happened : State = record s { history = e ∷ s.history } in
     ap (λ (refused : Option Limit). unless_refused l refused s (performed e left s)) quiet.allowed
-    ∙ ap (λ (over : Bool). done_if over happened (sprung_at (springs s.history e) left happened)) quiet.goes_on
-    ∙ ap (λ (name : Option ShortName). sprung_at name left happened) quiet.none_sprung
+    ∙ ap (λ (over : Bool). done_if over happened (followed_by (following s.history e) left happened)) quiet.goes_on
+    ∙ ap (λ (f : Following). followed_by f left happened) quiet.unfollowed
+    ∙ ap (λ (f : Following). record happened { to_do = left; follows = f }) (sym unfollowed)
 
 -- one that is to do
-quiet-alone : (l : Limits) (s : State) (e : PageEvent) (es : List PageEvent) → s.ended ≡ None → next s.history e ≡ None
-    → IsQuiet l s.history (told s.registers e)
+quiet-alone : (l : Limits) (s : State) (e : PageEvent) (es : List PageEvent) → s.ended ≡ None → s.follows ≡ nothing_follows
+    → next s.history e ≡ None → IsQuiet l s.history (told s.registers e)
     → step l (record s { to_do = e ∷ es }) ≡ record s { to_do = es; history = told s.registers e ∷ s.history }
-quiet-alone l s e es going is quiet =
+quiet-alone l s e es going unfollowed is quiet =
     let before : State = record s { to_do = e ∷ es } in
     let happens : PastEvent = told s.registers e in
-    ap (λ (ended : Option Status). elim ended [ None ↦ step_with l before.to_do before | Some status ↦ before ]) going
+    ap (λ (ended : Option Status). elim ended [ None ↦ step_behind l before.follows.text before | Some status ↦ before ]) going
+    ∙ ap (λ (f : Following). step_behind l f.text before) unfollowed
     ∙ ap (λ (own : Option PageEvent). performing l own e es before) is
-    ∙ quiet-step l before happens (left_of s.history happens ++ es) quiet
-    ∙ ap (λ (front : List PageEvent). record s { to_do = front ++ es; history = happens ∷ s.history }) (left_of-none s.registers e s.history quiet.none_sprung)
+    ∙ quiet-step l before happens (left_of s.history happens ++ es) unfollowed quiet
+    ∙ ap (λ (front : List PageEvent). record s { to_do = front ++ es; history = happens ∷ s.history })
+    (left_of-none s.registers e s.history (ap (λ (f : Following). f.sprung) quiet.unfollowed))
 
 -- or what comes before it
-quiet-own : (l : Limits) (s : State) (own e : PageEvent) (es : List PageEvent) → s.ended ≡ None → next s.history e ≡ Some own
-    → IsQuiet l s.history (told s.registers own)
+quiet-own : (l : Limits) (s : State) (own e : PageEvent) (es : List PageEvent) → s.ended ≡ None → s.follows ≡ nothing_follows
+    → next s.history e ≡ Some own → IsQuiet l s.history (told s.registers own)
     → step l (record s { to_do = e ∷ es }) ≡ record s { to_do = e ∷ es; history = told s.registers own ∷ s.history }
-quiet-own l s own e es going is quiet =
+quiet-own l s own e es going unfollowed is quiet =
     let before : State = record s { to_do = e ∷ es } in
-    ap (λ (ended : Option Status). elim ended [ None ↦ step_with l before.to_do before | Some status ↦ before ]) going
+    ap (λ (ended : Option Status). elim ended [ None ↦ step_behind l before.follows.text before | Some status ↦ before ]) going
+    ∙ ap (λ (f : Following). step_behind l f.text before) unfollowed
     ∙ ap (λ (own : Option PageEvent). performing l own e es before) is
-    ∙ quiet-step l before (told s.registers own) (e ∷ es) quiet
+    ∙ quiet-step l before (told s.registers own) (e ∷ es) unfollowed quiet
 
 -- where no more events come before one than so many, those are performed, and it is
 abbrev PerformsOthers : Limits → List PageEvent → Type 0
 PerformsOthers l es =
-    (u : State) → u.ended ≡ None → AreQuiet l u.registers u.history es →
+    (u : State) → u.ended ≡ None → u.follows ≡ nothing_follows → AreQuiet l u.registers u.history es →
     after l (steps_of u.registers es u.history) (record u { to_do = es })
     ≡ record u { to_do = []; history = behind_performed u.registers es u.history }
 
@@ -87,34 +93,64 @@ PerformsFirst l s e es performed =
     after l (length performed) (record s { to_do = e ∷ es })
     ≡ record s { to_do = []; history = behind_all s.registers performed s.history }
 
-perform-alone : (l : Limits) (s : State) (e : PageEvent) (es : List PageEvent) → s.ended ≡ None → next s.history e ≡ None → PerformsOthers l es
+perform-alone : (l : Limits) (s : State) (e : PageEvent) (es : List PageEvent) → s.ended ≡ None → s.follows ≡ nothing_follows
+    → next s.history e ≡ None → PerformsOthers l es
     → PerformsFirst l s e es (e ∷ all_performed s.registers es (told s.registers e ∷ s.history))
-perform-alone l s e es going none others quiet =
+perform-alone l s e es going unfollowed none others quiet =
     let h : PageHistory = told s.registers e ∷ s.history in
-    ap (after l (steps_of s.registers es h)) (quiet-alone l s e es going none quiet.0)
-    ∙ others (record s { history = h }) going quiet.1
+    ap (after l (steps_of s.registers es h)) (quiet-alone l s e es going unfollowed none quiet.0)
+    ∙ others (record s { history = h }) going unfollowed quiet.1
 
-perform-own : (l : Limits) (s : State) (own e : PageEvent) (es performed : List PageEvent) → s.ended ≡ None → next s.history e ≡ Some own
+perform-own : (l : Limits) (s : State) (own e : PageEvent) (es performed : List PageEvent) → s.ended ≡ None → s.follows ≡ nothing_follows
+    → next s.history e ≡ Some own
     → PerformsFirst l (record s { history = told s.registers own ∷ s.history }) e es performed
     → PerformsFirst l s e es (own ∷ performed)
-perform-own l s own e es performed going is others quiet =
-    ap (after l (length performed)) (quiet-own l s own e es going is quiet.0) ∙ others quiet.1
+perform-own l s own e es performed going unfollowed is others quiet =
+    ap (after l (length performed)) (quiet-own l s own e es going unfollowed is quiet.0) ∙ others quiet.1
+
+-- how many steps may be in front of an event where so many events come before it at the most: a word's end counts twice
+abbrev most_steps : ℕ → ℕ
+most_steps zero = 0
+most_steps (suc zero) = 2
+most_steps (suc (suc n)) = n + 3
+
+own_steps-none : (own : Option PageEvent) → own_steps own ≤ 1 → own_steps own ≤ 0
+own_steps-none None few = omega arith
+own_steps-none (Some own) few = absurd (omega (arith, few))
+
+fewer-word : (n before behind : ℕ) → behind + 2 ≤ before → before ≤ most_steps (suc n) → behind ≤ most_steps n
+fewer-word zero before behind fewer few = omega (arith, fewer, few)
+fewer-word (suc zero) before behind fewer few = omega (arith, fewer, few)
+fewer-word (suc (suc n)) before behind fewer few = omega (arith, fewer, few)
+
+fewer-page : (n : ℕ) (h g : PageHistory) (e : PageEvent) → takes_text (layout_of h) ≡ false → steps_in_front g e + 1 ≤ steps_in_front h e
+    → steps_in_front h e ≤ most_steps (suc n) → steps_in_front g e ≤ most_steps n
+fewer-page zero h g e none fewer few =
+    let begun : page_steps (takes_text (layout_of h)) ≡ 1 = ap page_steps none in
+    omega (arith, fewer, begun, own_steps-none (word_end_of h e) (omega (arith, few, begun)))
+fewer-page (suc zero) h g e none fewer few = omega (arith, fewer, few)
+fewer-page (suc (suc n)) h g e none fewer few = omega (arith, fewer, few)
 
 -- by what comes before it
-perform-by : (l : Limits) (n : ℕ) (s : State) (e : PageEvent) (es : List PageEvent) (own : Option PageEvent) → s.ended ≡ None → next s.history e ≡ own
-    → ComesBefore s.history e own → steps_in_front s.history e ≤ suc n → PerformsOthers l es
+perform-by : (l : Limits) (n : ℕ) (s : State) (e : PageEvent) (es : List PageEvent) (own : Option PageEvent)
+    → s.ended ≡ None → s.follows ≡ nothing_follows → next s.history e ≡ own → ComesBefore s.history e own
+    → steps_in_front s.history e ≤ most_steps (suc n) → PerformsOthers l es
     → let rs : AllRegisters = s.registers in
-    ((g : PageHistory) → steps_in_front g e ≤ n
+    ((g : PageHistory) → steps_in_front g e ≤ most_steps n
     → PerformsFirst l (record s { history = g }) e es (performed_with rs n g e (all_performed rs es)))
     → PerformsFirst l s e es (elim own [
       | None ↦ e ∷ all_performed rs es (told rs e ∷ s.history)
       | Some first ↦ first ∷ performed_with rs n (told rs first ∷ s.history) e (all_performed rs es)
     ])
-perform-by l n s e es own going is (NothingComes none_begins) few others first = perform-alone l s e es going is others
-perform-by l n s e es own going is (WordEndComes none_begins fewer) few others first =
-    perform-own l s (Text WordEnd) e es _ going is (first (Text WordEnd ∷ s.history) (omega (arith, fewer, few)))
-perform-by l n s e es own going is (PageComes none_begun fewer) few others first =
-    perform-own l s (Page Begin) e es _ going is (first (Page Begin ∷ s.history) (omega (arith, fewer, few)))
+perform-by l n s e es own going unfollowed is (NothingComes none_begins) few others first =
+    perform-alone l s e es going unfollowed is others
+perform-by l n s e es own going unfollowed is (WordEndComes none_begins fewer) few others first =
+    let h : PageHistory = Text WordEnd ∷ s.history in
+    perform-own l s (Text WordEnd) e es _ going unfollowed is
+    (first h (fewer-word n (steps_in_front s.history e) (steps_in_front h e) fewer few))
+perform-by l n s e es own going unfollowed is (PageComes none_begun fewer) few others first =
+    let h : PageHistory = Page Begin ∷ s.history in
+    perform-own l s (Page Begin) e es _ going unfollowed is (first h (fewer-page n s.history h e none_begun fewer few))
 
 -- nothing comes before an event where no step does
 none_in_front : (h : PageHistory) (e : PageEvent) (own : Option PageEvent) → ComesBefore h e own → steps_in_front h e ≤ 0 → own ≡ None
@@ -122,21 +158,24 @@ none_in_front h e own (NothingComes none_begins) none = refl
 none_in_front h e own (WordEndComes none_begins fewer) none = absurd (omega (arith, fewer, none))
 none_in_front h e own (PageComes none_begun fewer) none = absurd (omega (arith, fewer, none))
 
-perform-first : (l : Limits) (n : ℕ) (s : State) (e : PageEvent) (es : List PageEvent) → s.ended ≡ None → steps_in_front s.history e ≤ n → PerformsOthers l es
+perform-first : (l : Limits) (n : ℕ) (s : State) (e : PageEvent) (es : List PageEvent) → s.ended ≡ None → s.follows ≡ nothing_follows
+    → steps_in_front s.history e ≤ most_steps n → PerformsOthers l es
     → PerformsFirst l s e es (performed_with s.registers n s.history e (all_performed s.registers es))
-perform-first l zero s e es going few others =
-    perform-alone l s e es going (none_in_front s.history e (next s.history e) (comes_before s.history e) few) others
-perform-first l (suc n) s e es going few others =
-    perform-by l n s e es (next s.history e) going refl (comes_before s.history e) few others
-    (λ g few. perform-first l n (record s { history = g }) e es going few others)
+perform-first l zero s e es going unfollowed few others =
+    perform-alone l s e es going unfollowed (none_in_front s.history e (next s.history e) (comes_before s.history e) few) others
+perform-first l (suc n) s e es going unfollowed few others =
+    perform-by l n s e es (next s.history e) going unfollowed refl (comes_before s.history e) few others
+    (λ g few. perform-first l n (record s { history = g }) e es going unfollowed few others)
 
 -- they are performed in a step each
-pub perform-all : (l : Limits) (s : State) (events : List PageEvent) → s.ended ≡ None → AreQuiet l s.registers s.history events
+pub perform-all : (l : Limits) (s : State) (events : List PageEvent) → s.ended ≡ None → s.follows ≡ nothing_follows
+    → AreQuiet l s.registers s.history events
     → after l (steps_of s.registers events s.history) (record s { to_do = events })
     ≡ record s { to_do = []; history = behind_performed s.registers events s.history }
-perform-all l s [] going quiet = refl
-perform-all l s (e ∷ es) going quiet =
-    perform-first l 2 s e es going (steps_in_front-few s.history e) (λ u going quiet. perform-all l u es going quiet) quiet
+perform-all l s [] going unfollowed quiet = refl
+perform-all l s (e ∷ es) going unfollowed quiet =
+    perform-first l 2 s e es going unfollowed (steps_in_front-few s.history e)
+    (λ u going unfollowed quiet. perform-all l u es going unfollowed quiet) quiet
 
 -- events one behind another, by what comes before the first
 append-by : (rs : AllRegisters) (n : ℕ) (h : PageHistory) (e : PageEvent) (first both more : PageHistory → List PageEvent)
@@ -272,7 +311,7 @@ after-meant l s from p q b bytes events i h on none_due room quiet means =
     let fits : Fits l s.registers there.input = fits-room l s q from bytes (behind_byte from b i) h (room-behind l s from b bytes i room) in
     ap (after l (steps_of s.registers events h))
     (step-meant l s from p q b bytes events i h on none_due (omega (arith, room.charged)) fits means)
-    ∙ perform-all l there events on.going quiet
+    ∙ perform-all l there events on.going on.unsprung quiet
     ∙ idle-state s q from bytes (behind_byte from b i) (behind_performed s.registers events h) on.idle
 
 -- how many steps they are

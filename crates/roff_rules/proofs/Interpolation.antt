@@ -30,7 +30,7 @@ use Rattle.roff_run.specs.Reading.Items.{PageInput, Taking, going_on}
 use Rattle.roff_run.specs.Reading.Found.{place_in, read_in}
 use Rattle.roff_run.specs.Registers.{AllRegisters, Known}
 use Rattle.roff_run.specs.PageEvents.{PageEvent}
-use Rattle.roff_run.specs.Run.{State, known, made, byte_taken, taken_as, step, after, answered, awaited, awaited_of_source, escape_ends, front_seen, in_front_taken, read_waiting, source_answer}
+use Rattle.roff_run.specs.Run.{Following, State, nothing_follows, known, made, byte_taken, taken_as, step, after, answered, awaited, awaited_of_source, escape_ends, front_seen, in_front_taken, read_waiting, source_answer}
 use Rattle.roff_run.proofs.ItemsTaken.{Origin, ahead_at, tape_at, input_of, going, bytes_ahead_are_taken, bytes_of_the_source_are_taken, not-first, not-second, Fits, made-Fits, taken_as-going_on, FromAhead, FromSource, step-TakesItems}
 use Rattle.roff_input.specs.Shown.{seen_ahead}
 use Rattle.roff_escape.specs.declared.open_escape.Waiting.{Waiting}
@@ -85,14 +85,14 @@ line_behind-again (FromSource tape) s line = refl
 pub is-going : (s : State) (from : Origin) (bytes : List ℕ) → TakesItems s → s.input.ahead ≡ ahead_at from bytes → s.tape ≡ tape_at from bytes s.tape
     → going s s.reading from bytes s.input.arguments s.input.escapes s.input.charge s.input.line ≡ s
 is-going s from bytes on ahead tape =
-    let of : Tape → List (Ahead PageEvent) → List PageEvent → Option ShortName → Bool → Option Status → State = λ t items es n c e.
-    record s { tape = t; input = record s.input { ahead = items }; to_do = es; sprung = n; is_closed = c; ended = e } in
-    ap (of (tape_at from bytes s.tape) (ahead_at from bytes) [] None false) (sym on.going)
-    ∙ ap (λ (c : Bool). of (tape_at from bytes s.tape) (ahead_at from bytes) [] None c s.ended) (sym on.is_open)
-    ∙ ap (λ (n : Option ShortName). of (tape_at from bytes s.tape) (ahead_at from bytes) [] n s.is_closed s.ended) (sym on.unsprung)
-    ∙ ap (λ (es : List PageEvent). of (tape_at from bytes s.tape) (ahead_at from bytes) es s.sprung s.is_closed s.ended) (sym on.idle)
-    ∙ ap (λ (items : List (Ahead PageEvent)). of (tape_at from bytes s.tape) items s.to_do s.sprung s.is_closed s.ended) (sym ahead)
-    ∙ ap (λ (t : Tape). of t s.input.ahead s.to_do s.sprung s.is_closed s.ended) (sym tape)
+    let of : Tape → List (Ahead PageEvent) → List PageEvent → Following → Bool → Option Status → State = λ t items es f c e.
+    record s { tape = t; input = record s.input { ahead = items }; to_do = es; follows = f; is_closed = c; ended = e } in
+    ap (of (tape_at from bytes s.tape) (ahead_at from bytes) [] nothing_follows false) (sym on.going)
+    ∙ ap (λ (c : Bool). of (tape_at from bytes s.tape) (ahead_at from bytes) [] nothing_follows c s.ended) (sym on.is_open)
+    ∙ ap (λ (f : Following). of (tape_at from bytes s.tape) (ahead_at from bytes) [] f s.is_closed s.ended) (sym on.unsprung)
+    ∙ ap (λ (es : List PageEvent). of (tape_at from bytes s.tape) (ahead_at from bytes) es s.follows s.is_closed s.ended) (sym on.idle)
+    ∙ ap (λ (items : List (Ahead PageEvent)). of (tape_at from bytes s.tape) items s.to_do s.follows s.is_closed s.ended) (sym ahead)
+    ∙ ap (λ (t : Tape). of t s.input.ahead s.to_do s.follows s.is_closed s.ended) (sym tape)
 
 -- a byte that is read, and doesn't end the line
 abbrev pub IsRead : ℕ → Type 0

@@ -15,6 +15,7 @@ pub mod DefinitionLaws
 pub mod StringLaws
 pub mod LineRooms
 pub mod EventRuns
+pub mod QuietEvents
 pub mod TextLaws
 pub mod AskedHalves
 pub mod AskingRuns

@@ -15,20 +15,20 @@ use Rattle.roff_run.specs.Reading.Returns.{gone_back_to}
 use Rattle.roff_run.specs.Registers.{is_read_only, settable}
 use Rattle.roff_run.specs.Requests.{called_by}
 use Rattle.roff_run.specs.Events.Lines.{closing_events}
-use Rattle.roff_run.specs.Run.{State, ending_as, known, made, going_back_to, step, with_registers}
+use Rattle.roff_run.specs.Run.{State, nothing_follows, ending_as, known, made, going_back_to, step, with_registers}
 use Rattle.roff_run.specs.declared.line_state.LineState.TheVariants.{Exiting, LineStart}
 use Rattle.roff_run.specs.declared.phase.Phase.{Phase}
 use Rattle.roff_run.specs.declared.phase.Phase.TheVariants.{Reading, LastMacro, Closing}
 use Rattle.roff_run.specs.declared.request.Called.TheVariants.{Body as ABody}
 use Rattle.roff_run.specs.declared.status.Status.TheVariants.{Done}
 
--- all that a run reads is read, in this phase: nothing is to do, sprung, due, ahead, half read or unfinished, and the source has
--- ended or is closed
+-- all that a run reads is read, in this phase: nothing is to do, due, ahead, half read or unfinished, no macro that sprang is still to
+-- be read, and no text of a diversion to change, and the source has ended or is closed
 pub record IsReadThrough (phase : Phase) (s : State) : Type 0 where
   pub phase_is : s.phase ≡ phase
   pub going : s.ended ≡ None
   pub idle : s.to_do ≡ []
-  pub unsprung : s.sprung ≡ None
+  pub unsprung : s.follows ≡ nothing_follows
   pub none_due : due s.reading ≡ None
   pub none_ahead : s.input.ahead ≡ []
   pub none_half : s.input.escapes ≡ []
@@ -69,13 +69,13 @@ ThenTheRunIsDone = (l : Limits) (s : State) → IsReadThrough Closing s → step
 -- line that the outermost body interrupted, if one did, as behind its end.
 abbrev pub ExClosesTheInput : Type 0
 ExClosesTheInput =
-    (l : Limits) (s : State) → s.ended ≡ None → s.to_do ≡ [] → s.sprung ≡ None → s.reading ≡ Exiting → s.phase ≢ Closing
+    (l : Limits) (s : State) → s.ended ≡ None → s.to_do ≡ [] → s.follows ≡ nothing_follows → s.reading ≡ Exiting → s.phase ≢ Closing
     → step l s ≡ made l s (going_back_to (gone_back_to (outermost_back 0 s.input.ahead)) (record s { input = leaving s.input; is_closed = true }))
 
 -- as the run closes nothing is dropped: its line ends, and does nothing
 abbrev pub ExIsIgnoredAsTheRunCloses : Type 0
 ExIsIgnoredAsTheRunCloses =
-    (l : Limits) (s : State) → s.ended ≡ None → s.to_do ≡ [] → s.sprung ≡ None → s.reading ≡ Exiting → s.phase ≡ Closing
+    (l : Limits) (s : State) → s.ended ≡ None → s.to_do ≡ [] → s.follows ≡ nothing_follows → s.reading ≡ Exiting → s.phase ≡ Closing
     → step l s ≡ made l s (record s { reading = LineStart })
 
 -- no other register of this name is among these

@@ -28,8 +28,8 @@ abbrev pub unfinished_bytes : TextOnLine → List ℕ
 unfinished_bytes t =
     ((replicate t.leading blank ++ t.first ∷ t.word) ++ flat_map gap_and_word t.others) ++ replicate t.trailing blank
 
--- A text line without its newline at the end of all input tells what it tells with one. A step is taken for each byte, one for
--- each event, and one more for the end, which costs nothing.
+-- A text line without its newline at the end of all input tells what it tells with one, where lines go on the page and no macro
+-- springs. A step is taken for each byte, one for each event, and one more for the end, which costs nothing.
 abbrev pub UnfinishedTextLinesTellTheirWords : Type 0
 UnfinishedTextLinesTellTheirWords =
     (l : Limits) (s : State) (t : TextOnLine) (tape : Tape) →

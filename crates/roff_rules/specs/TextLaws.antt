@@ -11,11 +11,12 @@ use Rattle.roff_rules.specs.CallLaws.{BeginsLine}
 use Rattle.roff_run.specs.Environments.{PageHistory, interrupted_line}
 use Rattle.roff_run.specs.Reading.TextLines.{most_leading}
 use Rattle.roff_run.specs.PageEvents.{PageEvent, PastEvent}
-use Rattle.roff_layout.specs.declared.layout_event.LayoutEvent.TheVariants.{Space}
+use Rattle.roff_layout.specs.declared.layout_event.LayoutEvent.TheVariants.{Divert, Space}
 use Rattle.roff_run.specs.declared.event.PageEvent.TheVariants.{Page, Text}
-use Rattle.roff_run.specs.Layouts.{layout_of}
+use Rattle.roff_run.specs.Layouts.{happens, layout_of}
+use Rattle.roff_run.specs.Following.{following}
 use Rattle.roff_run.specs.Springs.{next, springs}
-use Rattle.roff_run.specs.Run.{State, after}
+use Rattle.roff_run.specs.Run.{State, nothing_follows, after}
 use Rattle.roff_run.specs.Run.Counts.{refusal}
 use Rattle.roff_run.specs.Registers.{AllRegisters}
 use Rattle.roff_run.specs.Titles.{told}
@@ -89,11 +90,30 @@ abbrev pub all_performed : AllRegisters → List PageEvent → PageHistory → L
 all_performed rs [] h = []
 all_performed rs (e ∷ es) h = performed_with rs 2 h e (all_performed rs es)
 
--- an event is quiet: no limit refuses it, the last page doesn't end with it, and it springs no macro
+-- an event is quiet: no limit refuses it, the last page doesn't end with it, and nothing follows it, as it springs no macro and changes
+-- no text of a diversion
 pub record IsQuiet (l : Limits) (h : PageHistory) (e : PastEvent) : Type 0 where
   pub allowed : refusal l h e ≡ None
   pub goes_on : (layout_of (e ∷ h)).is_over ≡ false
-  pub none_sprung : springs h e ≡ None
+  pub unfollowed : following h e ≡ nothing_follows
+
+-- whether a diversion begins with an event
+abbrev pub begins_diversion : PastEvent → Bool
+begins_diversion (Page (Divert name appends)) = true
+begins_diversion (_) = false
+
+-- With no diversion open an event that begins none changes no text: it is quiet if no limit refuses it, the last page doesn't end with
+-- it, and it springs no macro.
+abbrev pub EventsAreQuietOnThePage : Type 0
+EventsAreQuietOnThePage =
+    (l : Limits) (h : PageHistory) (e : PastEvent) → (layout_of h).diversions ≡ [] → begins_diversion e ≡ false → refusal l h e ≡ None
+    → (layout_of (e ∷ h)).is_over ≡ false → springs h e ≡ None → IsQuiet l h e
+
+-- And so is one with which nothing happens to the layout, also in a diversion: one of a text line that finishes no line.
+abbrev pub EventsThatPutNothingAreQuiet : Type 0
+EventsThatPutNothingAreQuiet =
+    (l : Limits) (h : PageHistory) (e : PastEvent) → happens h e ≡ None → refusal l h e ≡ None → (layout_of (e ∷ h)).is_over ≡ false
+    → springs h e ≡ None → IsQuiet l h e
 
 -- so is each of these, one behind another
 abbrev pub AllQuiet : Limits → AllRegisters → PageHistory → List PageEvent → Type 0
@@ -102,7 +122,8 @@ AllQuiet l rs h (e ∷ es) = IsQuiet l h (told rs e) × AllQuiet l rs (told rs e
 
 -- A line of text tells its words and gaps, in order, and the first page begins where it has to. A step is taken for each byte, and
 -- one for each event, and each byte costs one; nothing else changes, and a line begins behind it. So it is where no line was
--- interrupted that is to go on, and no macro springs on the way, at a trap of the page or as the line counts.
+-- interrupted that is to go on, no macro springs on the way, at a trap of the page or as the line counts, and no text of a diversion
+-- changes: what lines are finished on the way go on the page.
 abbrev pub TextLinesTellTheirWords : Type 0
 TextLinesTellTheirWords =
     (l : Limits) (s : State) (t : TextOnLine) (rest : List (Ahead PageEvent)) →
@@ -136,7 +157,7 @@ abbrev pub blank_events : ℕ → List PageEvent
 blank_events zero = Text WordEnd ∷ Text Break ∷ Page (Space 1) ∷ []
 blank_events (suc n) = Text WordEnd ∷ Text Break ∷ Text WordEnd ∷ Text Break ∷ Page (Space 1) ∷ []
 
--- a line of blanks alone, and an empty one, breaks and is a blank line; it isn't counted
+-- a line of blanks alone, and an empty one, breaks and is a blank line of the page; it isn't counted
 abbrev pub BlankLinesSpace : Type 0
 BlankLinesSpace =
     (l : Limits) (s : State) (n : ℕ) (rest : List (Ahead PageEvent)) →

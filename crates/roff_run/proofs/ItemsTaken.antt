@@ -24,7 +24,7 @@ use Rattle.roff_run.specs.Registers.{AllRegisters}
 use Rattle.roff_run.specs.Requests.{PageEvent}
 use Rattle.roff_run.specs.TitleTexts.{title_length}
 use Rattle.roff_run.specs.Reading.Waiting.{waiting_in}
-use Rattle.roff_run.specs.Run.{State, made, byte_taken, escape_ends, awaited, awaited_of_source, answered, moved, in_front_taken, taking_ahead, taking_byte, taken_as, grown, unless_refused, stopped_by, read_waiting, item_read, step, source_answer}
+use Rattle.roff_run.specs.Run.{State, nothing_follows, made, byte_taken, escape_ends, awaited, awaited_of_source, answered, moved, in_front_taken, taking_ahead, taking_byte, taken_as, grown, unless_refused, stopped_by, read_waiting, item_read, step, source_answer}
 use Rattle.roff_run.specs.Run.Counts.{first_passed}
 use Rattle.roff_run.proofs.Waiting.{undecided}
 
@@ -60,7 +60,7 @@ going s reading from bytes arguments half charge line = record s {
   input = input_of s from bytes arguments half charge line;
   reading = reading;
   to_do = [];
-  sprung = None;
+  follows = nothing_follows;
   is_closed = false;
   ended = None;
 }
@@ -89,14 +89,14 @@ taking_ahead-within l b behind s within =
     ap (λ (c : Bool). if c then stopped_by l Bytes s else done) (le-ltb l.bytes (s.input.charge + 1) (omega arith))
 
 -- a step of a run that takes items
-pub step-reads : (l : Limits) (s : State) → s.ended ≡ None → s.to_do ≡ [] → s.sprung ≡ None → due s.reading ≡ None → step l s ≡ item_read l s
+pub step-reads : (l : Limits) (s : State) → s.ended ≡ None → s.to_do ≡ [] → s.follows ≡ nothing_follows → due s.reading ≡ None → step l s ≡ item_read l s
 step-reads l s going idle unsprung none_due = rw (going, idle, unsprung, none_due) refl
 
 pub step-TakesItems : (l : Limits) (s : State) → TakesItems s → step l s ≡ item_read l s
 step-TakesItems l s on = step-reads l s on.going on.idle on.unsprung on.none_due
 
 -- a byte ahead is taken, whether the source is closed or not
-pub byte_ahead_is_taken : (l : Limits) (s : State) (b : ℕ) (behind : List (Ahead PageEvent)) → s.ended ≡ None → s.to_do ≡ [] → s.sprung ≡ None → due s.reading ≡ None
+pub byte_ahead_is_taken : (l : Limits) (s : State) (b : ℕ) (behind : List (Ahead PageEvent)) → s.ended ≡ None → s.to_do ≡ [] → s.follows ≡ nothing_follows → due s.reading ≡ None
     → s.input.ahead ≡ ByteAhead b ∷ behind → is_ended_by s.input.escapes (Some b) ≡ false → s.input.charge < l.bytes
     → step l s ≡ made l s (byte_taken b (record s { input = item_taken (ByteAhead b) behind s.input }))
 byte_ahead_is_taken l s b behind going idle unsprung none_due ahead is within =

@@ -1,9 +1,9 @@
--- Which events an item of the input may mean: none begins the first page, closes the run, or diverts; few wait behind one that springs
+-- Which events an item of the input may mean: none begins the first page or closes the run; few wait behind one that springs
 -- a macro; and where a condition is read behind the item they set the page's number at the most.
 use Rattle.std.proofs.Common.{◌≡◌, ◌⊎◌, inl, inr, ◌<◌, Bool, true, false, List, [], ◌∷◌, ◌++◌, Option, Some, None, refl, sym, subst}
 use Rattle.roff_num.specs.declared.num.Num.{Num}
 use Rattle.roff_layout.specs.declared.layout_event.LayoutEvent.{LayoutEvent}
-use Rattle.roff_layout.specs.declared.layout_event.LayoutEvent.TheVariants.{Space, Need, Eject, EjectTo, EjectOn, EjectLast, Length, Offset, Next, Number, NoSpace, Plant, Uproot, MoveTrap, RemoveTrap}
+use Rattle.roff_layout.specs.declared.layout_event.LayoutEvent.TheVariants.{Space, Need, Eject, EjectTo, EjectOn, EjectLast, Length, Offset, Next, Number, NoSpace, Plant, Uproot, MoveTrap, RemoveTrap, Divert, EndDivert, DiversionTrap, NoDiversionTrap}
 use Rattle.roff_run.specs.PageEvents.{PageEvent}
 use Rattle.roff_run.specs.Requests.Effects.{page_numbered}
 use Rattle.roff_run.specs.declared.event.PageEvent.TheVariants.{Page}
@@ -29,6 +29,10 @@ IsMeant closing (Plant trap) = Unit {0}
 IsMeant closing (Uproot place) = Unit {0}
 IsMeant closing (MoveTrap name place) = Unit {0}
 IsMeant closing (RemoveTrap name) = Unit {0}
+IsMeant closing (Divert name appends) = Unit {0}
+IsMeant closing EndDivert = Unit {0}
+IsMeant closing (DiversionTrap trap) = Unit {0}
+IsMeant closing NoDiversionTrap = Unit {0}
 IsMeant closing (_) = ⊥
 
 -- an event is such, or none of pages

@@ -19,26 +19,26 @@ module _ {A : Type 0} where
   slice_get-behind (x ∷ xs) ys (suc n) less = slice_get-behind xs ys n (omega (arith, less)) ∙ ap (slice_get ys) (omega arith)
 
 -- one that is built
-pub built_at : (n : ℕ) → n < 43 → slice_get requests n ≡ Some (get_or built n Break)
+pub built_at : (n : ℕ) → n < 46 → slice_get requests n ≡ Some (get_or built n Break)
 built_at n less = slice_get-front built others n less ∙ slice_get-get_or built n Break less
 
 -- a name of a list that is made into requests
 named_at : (made : List ℕ → Request) (names : List (List ℕ)) (n : ℕ) → n < length names → slice_get (map made names) n ≡ Some (made (get_or names n []))
 named_at made names n less = slice_get-map made names n ∙ ap (option_map made) (slice_get-get_or names n [] less)
 
-pub without_effect_at : (n : ℕ) → 43 ≤ n → n - 43 < 15 → slice_get requests n ≡ Some (WithoutEffect (get_or names_without_effect (n - 43) []))
+pub without_effect_at : (n : ℕ) → 46 ≤ n → n - 46 < 15 → slice_get requests n ≡ Some (WithoutEffect (get_or names_without_effect (n - 46) []))
 without_effect_at n above less =
     slice_get-behind built others n above
-    ∙ slice_get-front (map WithoutEffect names_without_effect) (map LeftOut names_left_out) (n - 43) less
-    ∙ named_at WithoutEffect names_without_effect (n - 43) less
+    ∙ slice_get-front (map WithoutEffect names_without_effect) (map LeftOut names_left_out) (n - 46) less
+    ∙ named_at WithoutEffect names_without_effect (n - 46) less
 
 -- behind both lists
-left_out : (n : ℕ) → 43 ≤ n → 15 ≤ n - 43 → slice_get requests n ≡ slice_get (map LeftOut names_left_out) (n - 43 - 15)
+left_out : (n : ℕ) → 46 ≤ n → 15 ≤ n - 46 → slice_get requests n ≡ slice_get (map LeftOut names_left_out) (n - 46 - 15)
 left_out n above more =
-    slice_get-behind built others n above ∙ slice_get-behind (map WithoutEffect names_without_effect) (map LeftOut names_left_out) (n - 43) more
+    slice_get-behind built others n above ∙ slice_get-behind (map WithoutEffect names_without_effect) (map LeftOut names_left_out) (n - 46) more
 
-pub left_out_at : (n : ℕ) → 43 ≤ n → 15 ≤ n - 43 → n - 43 - 15 < 24 → slice_get requests n ≡ Some (LeftOut (get_or names_left_out (n - 43 - 15) []))
-left_out_at n above more less = left_out n above more ∙ named_at LeftOut names_left_out (n - 43 - 15) less
+pub left_out_at : (n : ℕ) → 46 ≤ n → 15 ≤ n - 46 → n - 46 - 15 < 24 → slice_get requests n ≡ Some (LeftOut (get_or names_left_out (n - 46 - 15) []))
+left_out_at n above more less = left_out n above more ∙ named_at LeftOut names_left_out (n - 46 - 15) less
 
-pub none_at : (n : ℕ) → 43 ≤ n → 15 ≤ n - 43 → 24 ≤ n - 43 - 15 → slice_get requests n ≡ None
-none_at n above more past = left_out n above more ∙ slice_get_past (map LeftOut names_left_out) (n - 43 - 15) past
+pub none_at : (n : ℕ) → 46 ≤ n → 15 ≤ n - 46 → 24 ≤ n - 46 - 15 → slice_get requests n ≡ None
+none_at n above more past = left_out n above more ∙ slice_get_past (map LeftOut names_left_out) (n - 46 - 15) past

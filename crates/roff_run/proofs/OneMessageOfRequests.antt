@@ -24,6 +24,7 @@ use Rattle.roff_run.specs.Requests.Paging.{begin_page, ejected, ejected_by, ejec
 use Rattle.roff_run.specs.Requests.Spacing.{line_spacing, need, needed, space_down, spaced, spacing}
 use Rattle.roff_run.specs.Requests.Springing.{input_trap, trap_set}
 use Rattle.roff_run.specs.Requests.Switching.{switch, switching_by, switching_to}
+use Rattle.roff_run.specs.Requests.Diverting.{divert, diverted, diversion_trap, diversion_trapped}
 use Rattle.roff_run.specs.Requests.Traps.{change_trap, moved, moved_if_named, place_given, plant_trap, planted}
 use Rattle.roff_run.specs.Requests.Tabs.{most_stops, setting_stops, stop_places}
 use Rattle.roff_layout.specs.declared.layout_event.LayoutEvent.TheVariants.{Eject, EjectTo, Length, Next}
@@ -37,7 +38,7 @@ use Rattle.roff_run.specs.declared.request.Called.TheVariants.{Request as AReque
 use Rattle.roff_run.specs.declared.message.Message.TheVariants.{PageTooShort}
 use Rattle.roff_run.specs.declared.environment_number.EnvironmentNumber.{EnvironmentNumber}
 use Rattle.roff_run.specs.declared.request.Request.{Request}
-use Rattle.roff_run.specs.declared.request.Request.TheVariants.{Abort, Adjust, AppendMacro, AppendString, AssignFormat, BeginPage, Break as BreakRequest, Centre, ChangeTrap, DefineMacro, DefineString, Else, EndMacro, Environment, Exit, Fill, If, IfElse, Ignore, Indent, InputTrap, LineLength, LineSpacing, Need, NoAdjust, NoFill, NoSpace, NumberRegister, PageLength, PageNumber, PageOffset, PlantTrap, RemoveNames, RemoveRegisters, Rename, RestoreSpacing, Space as SpaceDown, TabStops, TemporaryIndent, TellMessage, WithoutEffect, LeftOut, PageCharacter, Title as TitleRequest, TitleLength}
+use Rattle.roff_run.specs.declared.request.Request.TheVariants.{Abort, Adjust, AppendDiversion, AppendMacro, AppendString, AssignFormat, BeginPage, Break as BreakRequest, Centre, ChangeTrap, DefineMacro, DefineString, DiversionTrap, Divert, Else, EndMacro, Environment, Exit, Fill, If, IfElse, Ignore, Indent, InputTrap, LineLength, LineSpacing, Need, NoAdjust, NoFill, NoSpace, NumberRegister, PageLength, PageNumber, PageOffset, PlantTrap, RemoveNames, RemoveRegisters, Rename, RestoreSpacing, Space as SpaceDown, TabStops, TemporaryIndent, TellMessage, WithoutEffect, LeftOut, PageCharacter, Title as TitleRequest, TitleLength}
 use Rattle.roff_run.proofs.OneMessage.{AtMostTwo, IsNamed, TellsOne}
 
 -- what it says with its arguments
@@ -143,6 +144,24 @@ Says-change_trap : (k : Known) (as_given : List (List ℕ)) → Says (change_tra
 Says-change_trap k [] = tt
 Says-change_trap k (name ∷ others) = Says-moved_if_named k (name_or_none (name_at 0 (name ∷ others))) others
 
+-- diversions
+Says-diverted : (appends : Bool) (name : Option ShortName) → Says (diverted appends name)
+Says-diverted appends (Some name) = tt
+Says-diverted appends None = tt
+
+Says-divert : (appends : Bool) (as_given : List (List ℕ)) → Says (divert appends as_given)
+Says-divert appends as_given = Says-diverted appends (name_or_none (name_at 0 as_given))
+
+Says-diversion_trapped : (name : Option ShortName) (place : Result ℤ NumFault) → Says (diversion_trapped name place)
+Says-diversion_trapped (Some name) (Ok place) = tt
+Says-diversion_trapped None (Ok place) = tt
+Says-diversion_trapped (Some name) (Err fault) = tt
+Says-diversion_trapped None (Err fault) = tt
+
+Says-diversion_trap : (k : Known) (as_given : List (List ℕ)) → Says (diversion_trap k as_given)
+Says-diversion_trap k [] = tt
+Says-diversion_trap k (text ∷ others) = Says-diversion_trapped (name_or_none (name_at 1 (text ∷ others))) (place_given k text)
+
 -- the page length
 Says-lines_on_page : (lines : ℕ) → Says (lines_on_page lines)
 Says-lines_on_page zero = tt
@@ -244,6 +263,7 @@ Says-request : (k : Known) (request : Request) (as_given : List (List ℕ)) → 
 Says-request k Abort as_given named = tt
 Says-request k Adjust as_given named = Says-adjusting (mode_wanted as_given)
 Says-request k AssignFormat as_given named = Says-assign_format as_given
+Says-request k AppendDiversion as_given named = Says-divert true as_given
 Says-request k AppendMacro as_given named = tt
 Says-request k AppendString as_given named = tt
 Says-request k BeginPage as_given named = Says-begin_page k as_given
@@ -252,6 +272,8 @@ Says-request k Centre as_given named = Says-centre as_given
 Says-request k ChangeTrap as_given named = Says-change_trap k as_given
 Says-request k DefineMacro as_given named = tt
 Says-request k DefineString as_given named = tt
+Says-request k Divert as_given named = Says-divert false as_given
+Says-request k DiversionTrap as_given named = Says-diversion_trap k as_given
 Says-request k Else as_given named = tt
 Says-request k EndMacro as_given named = tt
 Says-request k Environment as_given named = Says-switch k as_given

@@ -22,7 +22,8 @@ use Rattle.roff_run.specs.declared.line_state.Due.TheVariants.{Leaves, Tells as 
 use Rattle.roff_run.specs.declared.line_state.LineState.{LineState}
 use Rattle.roff_run.specs.declared.line_state.LineState.TheVariants.{LineStart, Branch, Braced, Text as InText, Control, Name, Deciding, Skipping, Dropped, Told, Exiting, TitleFront, Title as InTitle, Collecting}
 use Rattle.roff_run.specs.Reading.Waiting.{waiting_in}
-use Rattle.roff_run.specs.Run.{read_waiting, State, known, ending_as, ending_with, stopped_by, unless_refused, grown, made, moved, byte_taken, escape_ends, ahead_taken, taking_ahead, taking_byte, ending_input, answered, in_front_taken, front_seen, awaited_of_source, awaited, item_read, input_ended, message_told, aborted, left_in, reading_by, reading_on, phase_ended, sprung_read, with_sprung}
+use Rattle.roff_layout.specs.DueTexts.{TextDue}
+use Rattle.roff_run.specs.Run.{read_waiting, State, known, ending_as, ending_with, stopped_by, unless_refused, grown, made, moved, byte_taken, escape_ends, ahead_taken, taking_ahead, taking_byte, ending_input, answered, in_front_taken, front_seen, awaited_of_source, awaited, item_read, input_ended, message_told, aborted, left_in, reading_by, reading_on, phase_ended, sprung_read, text_done, with_sprung}
 use Rattle.roff_run.specs.Run.Counts.{passes_bytes, first_passed}
 use Rattle.roff_run.specs.declared.message.Message.TheVariants.{ReadFailed}
 use Rattle.roff_run.specs.declared.status.Status.TheVariants.{Device, Limit as Limited}
@@ -80,8 +81,10 @@ pub data ReadsOn (l : Limits) (s : State) : State → Type 0 where
   -- the source failed
   SourceFails : s.is_closed ≡ false → front s.tape ≡ Ends Failed → ReadsOn l s (ending_with Device ReadFailed s)
   -- the body of a macro that sprang was put in front, if its name has one
-  SprungRead : (name : ShortName) → s.sprung ≡ Some name → IsMade l (sprung_read (called_by name s.input.names) s)
+  SprungRead : (name : ShortName) → s.follows.sprung ≡ Some name → IsMade l (sprung_read (called_by name s.input.names) s)
       → ReadsOn l s (sprung_read (called_by name s.input.names) s)
+  -- the text of a diversion changed
+  TextChanged : (due : TextDue) → s.follows.text ≡ Some due → IsMade l (text_done due s) → ReadsOn l s (text_done due s)
   -- a limit of the source's own stopped the run
   SourceStops : (limit : Limit) → s.is_closed ≡ false → front s.tape ≡ Ends (Stopped limit) → ReadsOn l s (ending_as (Limited limit) s)
 
@@ -240,6 +243,10 @@ pub ReadsOn-reading_on : (l : Limits) (s : State) → ReadsOn l s (reading_on l 
 ReadsOn-reading_on l s = ReadsOn-reading_by l (due s.reading) s refl
 
 -- what sprang comes first
-pub ReadsOn-with_sprung : (l : Limits) (name : Option ShortName) (s : State) → s.sprung ≡ name → ReadsOn l s (with_sprung l name s)
+pub ReadsOn-with_sprung : (l : Limits) (name : Option ShortName) (s : State) → s.follows.sprung ≡ name → ReadsOn l s (with_sprung l name s)
 ReadsOn-with_sprung l None s is = ReadsOn-reading_on l s
 ReadsOn-with_sprung l (Some name) s is = ReadsOn-made l s (sprung_read (called_by name s.input.names) s) (SprungRead name is)
+
+-- the text of a diversion changes before anything else is done
+pub ReadsOn-text : (l : Limits) (due : TextDue) (s : State) → s.follows.text ≡ Some due → ReadsOn l s (made l s (text_done due s))
+ReadsOn-text l due s is = ReadsOn-made l s (text_done due s) (TextChanged due is)

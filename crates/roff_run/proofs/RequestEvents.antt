@@ -25,6 +25,7 @@ use Rattle.roff_run.specs.Requests.Paging.{begin_page, ejected, ejected_by, ejec
 use Rattle.roff_run.specs.Requests.Spacing.{line_spacing, need, needed, space_down, spaced, spacing}
 use Rattle.roff_run.specs.Requests.Springing.{input_trap, trap_set}
 use Rattle.roff_run.specs.Requests.Switching.{switch, switching_by, switching_to}
+use Rattle.roff_run.specs.Requests.Diverting.{divert, diverted, diversion_trap, diversion_trapped}
 use Rattle.roff_run.specs.Requests.Traps.{change_trap, moved, moved_if_named, place_given, plant_trap, planted}
 use Rattle.roff_run.specs.Requests.Tabs.{most_stops, setting_stops, stop_places, stop_set}
 use Rattle.roff_layout.specs.declared.layout_event.LayoutEvent.TheVariants.{Eject, EjectTo, Length, Next}
@@ -34,7 +35,7 @@ use Rattle.roff_num.specs.ShortNames.{name_at, name_or_none}
 use Rattle.roff_run.specs.declared.message.Message.TheVariants.{PageTooShort}
 use Rattle.roff_run.specs.declared.environment_number.EnvironmentNumber.{EnvironmentNumber}
 use Rattle.roff_run.specs.declared.request.Request.{Request}
-use Rattle.roff_run.specs.declared.request.Request.TheVariants.{Abort, Adjust, AppendMacro, AppendString, AssignFormat, BeginPage, Break as BreakRequest, Centre, ChangeTrap, DefineMacro, DefineString, Else, EndMacro, Environment, Exit, Fill, If, IfElse, Ignore, Indent, InputTrap, LineLength, LineSpacing, Need, NoAdjust, NoFill, NoSpace, NumberRegister, PageLength, PageNumber, PageOffset, PlantTrap, RemoveNames, RemoveRegisters, Rename, RestoreSpacing, Space as SpaceDown, TabStops, TemporaryIndent, TellMessage, WithoutEffect, LeftOut, PageCharacter, Title as TitleRequest, TitleLength}
+use Rattle.roff_run.specs.declared.request.Request.TheVariants.{Abort, Adjust, AppendDiversion, AppendMacro, AppendString, AssignFormat, BeginPage, Break as BreakRequest, Centre, ChangeTrap, DefineMacro, DefineString, DiversionTrap, Divert, Else, EndMacro, Environment, Exit, Fill, If, IfElse, Ignore, Indent, InputTrap, LineLength, LineSpacing, Need, NoAdjust, NoFill, NoSpace, NumberRegister, PageLength, PageNumber, PageOffset, PlantTrap, RemoveNames, RemoveRegisters, Rename, RestoreSpacing, Space as SpaceDown, TabStops, TemporaryIndent, TellMessage, WithoutEffect, LeftOut, PageCharacter, Title as TitleRequest, TitleLength}
 use Rattle.roff_run.proofs.MeantEvents.{AreMeant, meant-append}
 use Rattle.roff_run.proofs.WaitingFew.{AtMost, FewWait, FewWait-short, at_most-more}
 
@@ -144,6 +145,24 @@ means_few-moved_if_named k (Some name) (text ∷ others) = means_few-moved name 
 means_few-change_trap : (k : Known) (as_given : List (List ℕ)) → means_few (change_trap k as_given)
 means_few-change_trap k [] = tt
 means_few-change_trap k (name ∷ others) = means_few-moved_if_named k (name_or_none (name_at 0 (name ∷ others))) others
+
+-- diversions
+means_few-diverted : (appends : Bool) (name : Option ShortName) → means_few (diverted appends name)
+means_few-diverted appends (Some name) = ((tt, tt), tt)
+means_few-diverted appends None = ((tt, tt), tt)
+
+means_few-divert : (appends : Bool) (as_given : List (List ℕ)) → means_few (divert appends as_given)
+means_few-divert appends as_given = means_few-diverted appends (name_or_none (name_at 0 as_given))
+
+means_few-diversion_trapped : (name : Option ShortName) (place : Result ℤ NumFault) → means_few (diversion_trapped name place)
+means_few-diversion_trapped (Some name) (Ok place) = ((tt, tt), tt)
+means_few-diversion_trapped None (Ok place) = ((tt, tt), tt)
+means_few-diversion_trapped (Some name) (Err fault) = tt
+means_few-diversion_trapped None (Err fault) = tt
+
+means_few-diversion_trap : (k : Known) (as_given : List (List ℕ)) → means_few (diversion_trap k as_given)
+means_few-diversion_trap k [] = ((tt, tt), tt)
+means_few-diversion_trap k (text ∷ others) = means_few-diversion_trapped (name_or_none (name_at 1 (text ∷ others))) (place_given k text)
 
 -- the page length
 means_few-lines_on_page : (lines : ℕ) → means_few (lines_on_page lines)
@@ -287,6 +306,7 @@ pub few-request_effect : (k : Known) (breaks : Bool) (request : Request) (as_giv
 few-request_effect k breaks Abort as_given = by_row k breaks Abort as_given (tt, tt)
 few-request_effect k breaks Adjust as_given = by_row k breaks Adjust as_given (means_few-adjusting (mode_wanted as_given))
 few-request_effect k breaks AssignFormat as_given = by_row k breaks AssignFormat as_given (means_few-assign_format as_given)
+few-request_effect k breaks AppendDiversion as_given = by_row k breaks AppendDiversion as_given (means_few-divert true as_given)
 few-request_effect k breaks AppendMacro as_given = by_row k breaks AppendMacro as_given (tt, tt)
 few-request_effect k breaks AppendString as_given = by_row k breaks AppendString as_given (tt, tt)
 few-request_effect k breaks BeginPage as_given = by_row k breaks BeginPage as_given (means_few-begin_page k as_given)
@@ -295,6 +315,8 @@ few-request_effect k breaks Centre as_given = by_row k breaks Centre as_given (m
 few-request_effect k breaks ChangeTrap as_given = by_row k breaks ChangeTrap as_given (means_few-change_trap k as_given)
 few-request_effect k breaks DefineMacro as_given = by_row k breaks DefineMacro as_given (tt, tt)
 few-request_effect k breaks DefineString as_given = by_row k breaks DefineString as_given (tt, tt)
+few-request_effect k breaks Divert as_given = by_row k breaks Divert as_given (means_few-divert false as_given)
+few-request_effect k breaks DiversionTrap as_given = by_row k breaks DiversionTrap as_given (means_few-diversion_trap k as_given)
 few-request_effect k breaks Else as_given = by_row k breaks Else as_given (tt, tt)
 few-request_effect k breaks EndMacro as_given = by_row k breaks EndMacro as_given (tt, tt)
 few-request_effect k breaks Environment as_given = by_row k breaks Environment as_given (means_few-switch k as_given)

@@ -6,14 +6,14 @@ use Rattle.roff_input.specs.Input.{Ahead, ByteAhead, item_taken, counting}
 use Rattle.roff_source.specs.Tape.{Gives, OneByte, front}
 use Rattle.roff_run.specs.Reading.Ends.{due}
 use Rattle.roff_run.specs.Requests.{PageEvent}
-use Rattle.roff_run.specs.Run.{State, made, byte_taken, moved, step}
+use Rattle.roff_run.specs.Run.{State, nothing_follows, made, byte_taken, moved, step}
 
 -- a run takes items: it hasn't ended, its source isn't closed, and there is nothing to do first, nothing that sprang, and nothing due
 pub record TakesItems (s : State) : Type 0 where
   pub going : s.ended ≡ None
   pub is_open : s.is_closed ≡ false
   pub idle : s.to_do ≡ []
-  pub unsprung : s.sprung ≡ None
+  pub unsprung : s.follows ≡ nothing_follows
   pub none_due : due s.reading ≡ None
 
 -- a byte ahead that doesn't end what is half read is taken in one step, at the cost of one

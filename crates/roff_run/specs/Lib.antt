@@ -14,6 +14,7 @@ pub mod Titles
 pub mod Layouts
 pub mod Output
 pub mod Springs
+pub mod Following
 pub mod Starts
 pub mod Run
 pub mod Results

@@ -5,6 +5,7 @@ use Rattle.std.specs.Prelude.{ℕ, ◌*◌, ◌%◌, ◌==◌, unsigned_abs, Boo
 use Rattle.roff_layout.specs.declared.settings.Settings.{Settings}
 use Rattle.roff_num.specs.Ranges.{is_in_range}
 use Rattle.roff_num.specs.RegisterText.{register_text}
+use Rattle.roff_num.specs.ShortNames.{name_bytes}
 use Rattle.roff_num.specs.declared.format.Format.{Format}
 use Rattle.roff_num.specs.declared.format.Format.TheVariants.{Decimal}
 use Rattle.roff_num.specs.declared.num.Num.{Num}
@@ -14,12 +15,12 @@ use Rattle.roff_store.specs.Registers.{Registers, register_of, unset_register, n
 use Rattle.roff_num.specs.declared.direction.Direction.{Direction}
 use Rattle.roff_store.specs.declared.register.Register.{Register}
 use Rattle.roff_layout.specs.Layout.{Layout}
-use Rattle.roff_layout.specs.Queries.{nl, place_now, way_to_trap}
+use Rattle.roff_layout.specs.Queries.{diversion_name, is_diverting, nl, place_now, way_to_trap}
 use Rattle.roff_run.specs.declared.message.Message.{Message}
 use Rattle.roff_run.specs.declared.line_state.TextLine.{TextLine}
 use Rattle.roff_run.specs.declared.message.Message.TheVariants.{BadNumber}
 use Rattle.roff_run.specs.declared.query.Query.{Query}
-use Rattle.roff_run.specs.declared.query.Query.TheVariants.{Newlines, Indent, LineLength, LastWidth, Filling, LineSpacing, ColumnWidth, Arguments, PagePlace, PageLength, PageOffset, WayToTrap, Later}
+use Rattle.roff_run.specs.declared.query.Query.TheVariants.{Newlines, Indent, LineLength, LastWidth, Filling, LineSpacing, ColumnWidth, Arguments, PagePlace, PageLength, PageOffset, WayToTrap, TextPlace, DiversionHeight, DiversionWidth, DiversionName}
 use Rattle.roff_run.specs.TitleTexts.{TitleText, title_begun, part_ended, with_bytes}
 pub mod Capped
 
@@ -66,14 +67,14 @@ pub record Known : Type 0 where
   -- the layout of pages
   pub layout : Layout
 
--- the read-only registers, each with what it asks for; those whose part isn't built yet are 0
+-- the read-only registers, each with what it asks for
 abbrev pub read_only : List (List ℕ × Query)
 read_only =
     (codes ".c", Newlines) ∷ (codes ".i", Indent) ∷ (codes ".l", LineLength) ∷ (codes ".n", LastWidth)
     ∷ (codes ".u", Filling) ∷ (codes ".v", LineSpacing) ∷ (codes ".V", LineSpacing) ∷ (codes ".H", ColumnWidth)
-    ∷ (codes ".$", Arguments) ∷ (codes ".d", Later) ∷ (codes ".o", PageOffset) ∷ (codes ".p", PageLength)
-    ∷ (codes ".t", WayToTrap) ∷ (codes ".z", Later) ∷ (codes "nl", PagePlace) ∷ (codes "dn", Later) ∷ (codes "dl", Later)
-    ∷ []
+    ∷ (codes ".$", Arguments) ∷ (codes ".d", TextPlace) ∷ (codes ".o", PageOffset) ∷ (codes ".p", PageLength)
+    ∷ (codes ".t", WayToTrap) ∷ (codes ".z", DiversionName) ∷ (codes "nl", PagePlace) ∷ (codes "dn", DiversionHeight)
+    ∷ (codes "dl", DiversionWidth) ∷ []
 
 -- what a read-only register asks for, if a name is one's
 abbrev pub query_of : List ℕ → Option Query
@@ -98,7 +99,7 @@ greatest_number = 2147483647
 abbrev pub at_greatest : ℕ → ℤ
 at_greatest n = pos (min n greatest_number)
 
--- a place on the page, in basic units; before the first page it is -1
+-- a place, in basic units; before the first page it is -1
 abbrev pub place_told : Option ℕ → ℤ
 place_told None = negsuc 0
 place_told (Some lines) = at_greatest (in_heights lines)
@@ -108,7 +109,11 @@ abbrev pub way_told : Option ℕ → ℤ
 way_told None = pos greatest_number
 way_told (Some lines) = at_greatest (in_heights lines)
 
--- what is known about that, in basic units where it is a length
+-- the place where text goes, in lines: in the innermost open diversion, or on the page; none before the first page
+abbrev pub text_place : Layout → Option ℕ
+text_place L = if is_diverting L then Some (place_now L) else nl L
+
+-- what is known about that, in basic units where it is a length; a name is 0 as a number
 abbrev pub answer : Known → Query → ℤ
 answer k Newlines = at_greatest k.newlines
 answer k Indent = at_greatest (in_units k.settings.indent)
@@ -122,7 +127,10 @@ answer k PagePlace = place_told (nl k.layout)
 answer k PageLength = at_greatest (in_heights k.layout.length)
 answer k PageOffset = at_greatest (in_units k.layout.offset)
 answer k WayToTrap = way_told (way_to_trap k.layout)
-answer k Later = pos 0
+answer k TextPlace = place_told (text_place k.layout)
+answer k DiversionHeight = at_greatest (in_heights k.layout.height)
+answer k DiversionWidth = at_greatest (in_units k.layout.width)
+answer k DiversionName = pos 0
 
 -- the place from which heights are measured, in basic units: that of the text
 abbrev pub place_down : Known → ℤ
@@ -148,9 +156,19 @@ page_register k = record {
 abbrev pub settable : List ℕ → Known → Register
 settable name k = if is_page name then page_register k else register_of name k.registers.named
 
--- the text of a name that asks for this: a read-only value is written in plain decimal
+-- a diversion's name as text, or nothing
+abbrev pub name_told : Option ShortName → List ℕ
+name_told None = []
+name_told (Some name) = name_bytes name
+
+-- the text of a read-only register that asks for this: a name as it is, and a value in plain decimal
+abbrev pub text_answered : Known → Query → List ℕ
+text_answered k DiversionName = name_told (diversion_name k.layout)
+text_answered k query = register_text (Decimal 1) (answer k query)
+
+-- the text of a name that asks for this, if it does
 abbrev pub text_asked : Option Query → Known → List ℕ → List ℕ
-text_asked (Some query) k name = register_text (Decimal 1) (answer k query)
+text_asked (Some query) k name = text_answered k query
 text_asked None k name = let r : Register = settable name k in register_text r.format r.value.0
 
 -- the text that the escape `\n` gives

@@ -9,7 +9,7 @@ pub use Rattle.roff_run.specs.Registers.{Known}
 use Rattle.roff_run.specs.declared.request.LineReading.{LineReading}
 use Rattle.roff_run.specs.declared.request.LineReading.TheVariants.{ByArguments, ByCondition, ByElse, ByLastLine, ByMessage, ByString, ByLines, ByTitle}
 use Rattle.roff_run.specs.declared.request.Request.{Request}
-use Rattle.roff_run.specs.declared.request.Request.TheVariants.{Abort, Adjust, AppendString, AssignFormat, BeginPage, Break, ChangeTrap, DefineString, Else, EndMacro, Exit, Fill, If, IfElse, Indent, InputTrap, LineLength, Need, NoAdjust, NoFill, NoSpace, NumberRegister, PageLength, PageNumber, PageOffset, PlantTrap, RemoveNames, RemoveRegisters, Rename, RestoreSpacing, Space as SpaceDown, TellMessage, WithoutEffect, LeftOut, AppendMacro, DefineMacro, Ignore, Centre, Environment as SwitchEnvironment, LineSpacing, TabStops, TemporaryIndent, PageCharacter, Title as TitleRequest, TitleLength}
+use Rattle.roff_run.specs.declared.request.Request.TheVariants.{Abort, Adjust, AppendDiversion, AppendString, AssignFormat, BeginPage, Break, ChangeTrap, DefineString, DiversionTrap, Divert, Else, EndMacro, Exit, Fill, If, IfElse, Indent, InputTrap, LineLength, Need, NoAdjust, NoFill, NoSpace, NumberRegister, PageLength, PageNumber, PageOffset, PlantTrap, RemoveNames, RemoveRegisters, Rename, RestoreSpacing, Space as SpaceDown, TellMessage, WithoutEffect, LeftOut, AppendMacro, DefineMacro, Ignore, Centre, Environment as SwitchEnvironment, LineSpacing, TabStops, TemporaryIndent, PageCharacter, Title as TitleRequest, TitleLength}
 use Rattle.roff_run.specs.declared.request.Called.{Called}
 use Rattle.roff_run.specs.declared.request.Called.TheVariants.{Request as ARequest, Body as ABody, Nothing as Unknown}
 use Rattle.roff_run.specs.declared.request.LinesFor.TheVariants.{Macro, Nobody}
@@ -26,6 +26,7 @@ use Rattle.roff_run.specs.Requests.Naming.{end_macro, remove_names, rename}
 use Rattle.roff_run.specs.Requests.Springing.{input_trap}
 use Rattle.roff_run.specs.Requests.Titles.{page_character, place_title}
 use Rattle.roff_run.specs.Requests.Traps.{change_trap, plant_trap}
+use Rattle.roff_run.specs.Requests.Diverting.{diversion_trap, divert}
 use Rattle.roff_run.specs.Requests.Numbering.{assign_format, set_register, remove_registers}
 pub mod Effects
 pub mod Adjustment
@@ -39,6 +40,7 @@ pub mod Naming
 pub mod Springing
 pub mod Titles
 pub mod Traps
+pub mod Diverting
 
 -- a request's name, how its line is read, whether it breaks, and what it does with its arguments
 pub record Row : Type 0 where
@@ -66,8 +68,11 @@ row_of BeginPage = row (codes "bp") ByArguments true begin_page  -- section 3
 row_of Break = row (codes "br") ByArguments true (always nothing)  -- section 4
 row_of Centre = row (codes "ce") ByArguments true (λ known. centre)  -- section 4
 row_of ChangeTrap = row (codes "ch") ByArguments false change_trap  -- section 7
+row_of AppendDiversion = row (codes "da") ByArguments false (λ known. divert true)  -- section 7
 row_of DefineMacro = row (codes "de") (ByLines (Macro false)) false (always nothing)  -- section 7
+row_of Divert = row (codes "di") ByArguments false (λ known. divert false)  -- section 7
 row_of DefineString = row (codes "ds") (ByString false) false (always nothing)  -- section 7
+row_of DiversionTrap = row (codes "dt") ByArguments false diversion_trap  -- section 7
 row_of Else = row (codes "el") ByElse false (always nothing)  -- section 16
 row_of EndMacro = row (codes "em") ByArguments false (λ known. end_macro)  -- section 7
 row_of SwitchEnvironment = row (codes "ev") ByArguments false switch  -- section 17
@@ -127,11 +132,11 @@ names_left_out =
 -- the requests that are built, in the order of their names
 abbrev pub built : List Request
 built =
-    Abort ∷ Adjust ∷ AssignFormat ∷ AppendMacro ∷ AppendString ∷ BeginPage ∷ Break ∷ Centre ∷ ChangeTrap ∷ DefineMacro ∷ DefineString
-    ∷ Else ∷ EndMacro ∷ SwitchEnvironment ∷ Exit ∷ Fill ∷ IfElse ∷ If ∷ Ignore ∷ Indent ∷ InputTrap ∷ LineLength ∷ LineSpacing
-    ∷ TitleLength ∷ NoAdjust ∷ Need ∷ NoFill ∷ NumberRegister ∷ NoSpace ∷ PageCharacter ∷ PageLength ∷ PageNumber ∷ PageOffset
-    ∷ RemoveNames ∷ Rename ∷ RemoveRegisters ∷ RestoreSpacing ∷ SpaceDown ∷ TabStops ∷ TemporaryIndent ∷ TitleRequest ∷ TellMessage
-    ∷ PlantTrap ∷ []
+    Abort ∷ Adjust ∷ AssignFormat ∷ AppendMacro ∷ AppendString ∷ BeginPage ∷ Break ∷ Centre ∷ ChangeTrap ∷ AppendDiversion ∷ DefineMacro
+    ∷ Divert ∷ DefineString ∷ DiversionTrap ∷ Else ∷ EndMacro ∷ SwitchEnvironment ∷ Exit ∷ Fill ∷ IfElse ∷ If ∷ Ignore ∷ Indent
+    ∷ InputTrap ∷ LineLength ∷ LineSpacing ∷ TitleLength ∷ NoAdjust ∷ Need ∷ NoFill ∷ NumberRegister ∷ NoSpace ∷ PageCharacter
+    ∷ PageLength ∷ PageNumber ∷ PageOffset ∷ RemoveNames ∷ Rename ∷ RemoveRegisters ∷ RestoreSpacing ∷ SpaceDown ∷ TabStops
+    ∷ TemporaryIndent ∷ TitleRequest ∷ TellMessage ∷ PlantTrap ∷ []
 
 -- those that do nothing, or nothing but say that they are left out
 abbrev pub others : List Request

@@ -30,7 +30,9 @@ use Rattle.roff_run.specs.Registers.{AllRegisters}
 use Rattle.roff_run.specs.Events.Lines.{closing_events}
 use Rattle.roff_run.specs.PageEvents.{PageEvent, PastEvent}
 use Rattle.roff_run.specs.Requests.{called_by}
-use Rattle.roff_run.specs.Springs.{left_of, next, springs}
+use Rattle.roff_layout.specs.DueTexts.{TextDue}
+use Rattle.roff_run.specs.Following.{following, text_changed}
+use Rattle.roff_run.specs.Springs.{left_of, next}
 use Rattle.roff_run.specs.Titles.{keeping, put_back, told}
 use Rattle.roff_run.specs.declared.request.Called.{Called}
 use Rattle.roff_run.specs.declared.request.Called.TheVariants.{Body as ABody}
@@ -45,7 +47,7 @@ use Rattle.roff_run.specs.declared.phase.Phase.TheVariants.{Reading, LastMacro, 
 use Rattle.roff_run.specs.declared.start.Start.{Start}
 use Rattle.roff_run.specs.Starts.{history_given, pages_given, with_given}
 use Rattle.roff_run.specs.Run.Counts.{passes_bytes, first_passed, refusal, names_counted, counts_in}
-pub use Rattle.roff_run.specs.Run.States.{State, first_input, first_unread, blank_state, known_at, known, ending_as, ending_with, stopped_by, meaning, unless_refused}
+pub use Rattle.roff_run.specs.Run.States.{State, Following, nothing_follows, only_sprung, first_input, first_unread, blank_state, known_at, known, ending_as, ending_with, stopped_by, meaning, unless_refused}
 pub mod Counts
 pub mod States
 
@@ -66,14 +68,17 @@ abbrev pub initial : Limits → Start → Tape → State
 initial l start tape = with_registers l start.registers.items (paged_state start tape)
 
 -- these are left to do; where a macro was sprung they are put back, and stand behind it: a title among them is kept
-abbrev pub sprung_at : Option ShortName → List PageEvent → State → State
-sprung_at None left s = record s { to_do = left }
-sprung_at (Some name) left s = record s {
+abbrev pub with_left : Option ShortName → List PageEvent → State → State
+with_left None left s = record s { to_do = left }
+with_left (Some name) left s = record s {
   to_do = [];
-  sprung = Some name;
   registers = keeping left s.registers;
   input = putting_all_back (map put_back left) s.input;
 }
+
+-- what follows is still to be done, and these are left
+abbrev pub followed_by : Following → List PageEvent → State → State
+followed_by f left s = with_left f.sprung left (record s { follows = f })
 
 -- where the last page has ended the run is done
 abbrev pub done_if : Bool → State → State → State
@@ -83,7 +88,7 @@ done_if is_over behind goes_on = if is_over then ending_as Done behind else goes
 abbrev pub performed : PastEvent → List PageEvent → State → State
 performed e left s =
     let behind : State = record s { history = e ∷ s.history } in
-    done_if (layout_of behind.history).is_over behind (sprung_at (springs s.history e) left behind)
+    done_if (layout_of behind.history).is_over behind (followed_by (following s.history e) left behind)
 
 -- an event is performed, or refused by a limit, and what goes on of it is left; where something comes before it, that is, and the
 -- event is left
@@ -247,25 +252,34 @@ reading_on l s = reading_by l (due s.reading) s
 -- there is no end.
 abbrev pub sprung_read : Called → State → State
 sprung_read (ABody name) s = record s {
-  sprung = None;
+  follows = nothing_follows;
   input = springing (body_named (name_bytes name) s.input) (back_of s.reading) s.input;
   reading = in_sprung s.reading;
 }
-sprung_read (_) s = record s { sprung = None }
+sprung_read (_) s = record s { follows = nothing_follows }
 
 -- what sprang comes first, if something did
 abbrev pub with_sprung : Limits → Option ShortName → State → State
 with_sprung l None s = reading_on l s
 with_sprung l (Some name) s = made l s (sprung_read (called_by name s.input.names) s)
 
--- one step of a run that hasn't ended: the first of the events to do, what sprang, what is due, or an item
+-- one step of a run that hasn't ended, where no text changes: the first of the events to do, what sprang, what is due, or an item
 abbrev pub step_with : Limits → List PageEvent → State → State
 step_with l (e ∷ rest) s = performing l (next s.history e) e rest s
-step_with l [] s = with_sprung l s.sprung s
+step_with l [] s = with_sprung l s.follows.sprung s
+
+-- the text of a diversion has changed
+abbrev pub text_done : TextDue → State → State
+text_done due s = record s { follows = only_sprung s.follows.sprung; input = text_changed due s.input }
+
+-- the text of a diversion changes before anything else is done, if it is to
+abbrev pub step_behind : Limits → Option TextDue → State → State
+step_behind l None s = step_with l s.to_do s
+step_behind l (Some due) s = made l s (text_done due s)
 
 -- one step: a run that has ended stays as it is
 abbrev pub step : Limits → State → State
-step l s = elim s.ended [ None ↦ step_with l s.to_do s | Some status ↦ s ]
+step l s = elim s.ended [ None ↦ step_behind l s.follows.text s | Some status ↦ s ]
 
 -- so many steps
 abbrev pub after : Limits → ℕ → State → State

@@ -27,6 +27,12 @@ pub enum Query {
     PageOffset,
     /// How far the next trap or the page's end is.
     WayToTrap,
-    /// What nothing sets yet: 0.
-    Later,
+    /// The place where text goes: in the innermost open diversion, or on the page.
+    TextPlace,
+    /// The height of the diversion that ended last.
+    DiversionHeight,
+    /// Its width.
+    DiversionWidth,
+    /// The name of the innermost open diversion; as a number it is 0.
+    DiversionName,
 }

@@ -17,6 +17,8 @@ pub enum Request {
     Abort,
     /// `ad`: adjusting on, in a mode.
     Adjust,
+    /// `da`: a diversion is opened whose text is appended, or the innermost one ends.
+    AppendDiversion,
     /// `am`: a macro is appended to.
     AppendMacro,
     /// `as`: a string is appended to.
@@ -35,6 +37,10 @@ pub enum Request {
     DefineMacro,
     /// `ds`: a string.
     DefineString,
+    /// `dt`: the trap of the innermost open diversion.
+    DiversionTrap,
+    /// `di`: a diversion is opened, or the innermost one ends.
+    Divert,
     /// `el`: the other branch of a condition.
     Else,
     /// `em`: the macro that is read behind the input.
@@ -170,7 +176,7 @@ pub struct Row {
 }
 
 /// The requests that are built, in the order of their names.
-static BUILT: [Request; 43] = [
+static BUILT: [Request; 46] = [
     Request::Abort,
     Request::Adjust,
     Request::AssignFormat,
@@ -180,8 +186,11 @@ static BUILT: [Request; 43] = [
     Request::Break,
     Request::Centre,
     Request::ChangeTrap,
+    Request::AppendDiversion,
     Request::DefineMacro,
+    Request::Divert,
     Request::DefineString,
+    Request::DiversionTrap,
     Request::Else,
     Request::EndMacro,
     Request::Environment,
@@ -241,7 +250,7 @@ static LEFT_OUT: [[u8; 2]; 24] = [
 
 impl Request {
     /// How many there are.
-    pub const COUNT: u16 = 82;
+    pub const COUNT: u16 = 85;
 
     /// The request of this place in the table, if there is one.
     pub fn numbered(number: usize) -> Option<Request>
@@ -277,12 +286,15 @@ impl Request {
             Request::Break => Row { name: *b"br", line: ByArguments, breaks: true },
             Request::Centre => Row { name: *b"ce", line: ByArguments, breaks: true },
             Request::ChangeTrap => Row { name: *b"ch", line: ByArguments, breaks: false },
+            Request::AppendDiversion => Row { name: *b"da", line: ByArguments, breaks: false },
             Request::DefineMacro => Row {
                 name: *b"de", line: ByLines(LinesFor::Macro { appends: false }), breaks: false,
             },
+            Request::Divert => Row { name: *b"di", line: ByArguments, breaks: false },
             Request::DefineString => Row {
                 name: *b"ds", line: ByString { appends: false }, breaks: false,
             },
+            Request::DiversionTrap => Row { name: *b"dt", line: ByArguments, breaks: false },
             Request::Else => Row { name: *b"el", line: ByElse, breaks: false },
             Request::EndMacro => Row { name: *b"em", line: ByArguments, breaks: false },
             Request::Environment => Row { name: *b"ev", line: ByArguments, breaks: false },

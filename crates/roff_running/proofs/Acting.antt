@@ -1,145 +1,41 @@
 -- What the code does with an item that it took, as a step of the definition.
-use Rattle.std.proofs.Common.{◌≡◌, ℕ, ◌+◌, ◌*◌, ◌-◌, List, [], ◌∷◌, ◌++◌, ◌≤◌, arith, length, Option, Some, None, Result, Ok, Err, OnOk, inl, inr, refl, subst, sym, ap, append-nil, ◌∙◌}
-use Rattle.std.specs.Prelude.{Bool, true, false, if◌then◌else◌, map, nat_lt}
-use Rattle.roff_num.specs.declared.limit.Limit.{Limit}
+use Rattle.std.proofs.Common.{◌≡◌, ℕ, ◌+◌, ◌*◌, ◌-◌, List, [], ◌++◌, ◌≤◌, arith, length, Option, Some, None, Result, Ok, Err, OnOk, refl, subst, sym, ap, append-nil, ◌∙◌}
 use Rattle.roff_num.specs.declared.limits.Limits.{Limits}
-use Rattle.roff_input.specs.Input.{putting_all_back}
+use Rattle.roff_input.specs.Input.{Ahead}
+use Rattle.roff_escape.specs.OpenEscape.{OpenEscape}
 use Rattle.roff_source.specs.Tape.{Tape}
 use Rattle.roff_input.specs.Looking.{is_closed, looked_then}
-use Rattle.roff_input.specs.declared.looked.Looked.{Looked}
-use Rattle.roff_input.specs.declared.looked.Looked.TheVariants.{Nothing, Byte, Closed}
 use Rattle.roff_interpreter.specs.declared.interpreter.Interpreter.{Interpreter}
 use Rattle.roff_formatter.specs.declared.halt.Halt.{Halt}
-use Rattle.roff_formatter.specs.declared.halt.Halt.TheVariants.{Limit as Limited, Refused, Over, Output, Messages}
 use Rattle.roff_running.specs.declared.running.Running.{Running as Coded}
-use Rattle.roff_interpreter.specs.Outcome.{Beginning, Seen, IsLeftOf, Reaches, OutcomeOf, seen}
-use Rattle.roff_formatter.specs.Formatter.Performing.{acting}
-use Rattle.roff_interpreter.specs.Performing.{CameBehind, TakingDone, DoesTaking, Opens, going, sinks}
+use Rattle.roff_interpreter.specs.Outcome.{Beginning, Seen, Reaches, OutcomeOf, seen}
+use Rattle.roff_interpreter.specs.Performing.{CameBehind, KeepsThem, TakingDone, DoesTaking, Opens, going, sinks}
 use Rattle.roff_run.specs.Springs.{AreFewBehind}
 use Rattle.roff_run.proofs.KeepingText.{StaysFew}
-use Rattle.roff_input.specs.Input.Few.{AreFewFrom}
-use Rattle.roff_formatter.specs.Formatter.Sprung.{most_back, rest_left}
+use Rattle.roff_formatter.specs.Formatter.Sprung.{left_behind, most_back, rest_left}
 use Rattle.roff_run.specs.TurnsToCome.{most_left}
 use Rattle.roff_interpreter.specs.Room.{FewFor}
-use Rattle.roff_running.specs.Running.Springing.{GoesOn, IsBehind}
+use Rattle.roff_running.specs.Running.Springing.{GoesOn, IsBehind, StoppedIn, Stops, turns_where}
 use Rattle.roff_formatter.specs.declared.sprung.Sprung.{Sprung}
-use Rattle.roff_running.specs.Running.Turning.{DoesItem, TookFrom, line_turns, lines_left_in, state_at, turns_at, turns_of_run}
+use Rattle.roff_running.specs.Running.Turning.{DoesItem, TookFrom, line_turns, state_at, turns_at, turns_of_run}
 use Rattle.roff_interpreter.specs.Halting.{Halts, line_told}
 use Rattle.roff_sinks.specs.Sinks.{Sunk}
 use Rattle.roff_composer.specs.Composer.Standing.{StandFor}
-use Rattle.roff_composer.specs.declared.composer.Composer.{Composer as ComposerOf}
 use Rattle.roff_run.specs.Output.{PageHistory}
 use Rattle.roff_reader.specs.Reader.Taken.{CameTo, IsReady}
 use Rattle.roff_run.specs.Reading.Items.{PageUnread}
 use Rattle.roff_run.specs.Reading.Items.{Taking}
 use Rattle.roff_run.specs.Registers.{Known}
-use Rattle.roff_run.specs.Run.{State, ending_as, known_at, made, step, stopped_by, taken_as, told_step, unless_refused, unless_untold, grown}
-use Rattle.roff_run.specs.Run.Counts.{first_passed}
+use Rattle.roff_run.specs.Run.{State, known_at, taken_as}
 use Rattle.roff_run.specs.PageEvents.{PageEvent}
-use Rattle.roff_run.specs.Titles.{put_back}
 use Rattle.roff_run.specs.declared.line_state.LineState.{LineState}
 use Rattle.roff_run.specs.declared.phase.Phase.{Phase}
 use Rattle.roff_run.specs.declared.status.Status.{Status}
-use Rattle.roff_run.specs.declared.status.Status.TheVariants.{Done}
 use Rattle.roff_run.specs.Environments.{interrupted_line}
 use Rattle.roff_run.specs.TurnsToCome.{begun, lines_left, phases_left, turns_to_come, turns_within}
-use Rattle.roff_interpreter.proofs.Bounded.{arrives, told_reached, told_step-quiet}
-use Rattle.roff_interpreter.proofs.Halting.{rest_over}
-use Rattle.roff_num.specs.declared.limit.Limit.TheVariants.{Messages as OnMessages}
+use Rattle.roff_interpreter.proofs.Halted.{IsLeftOf-looked_then, did_halt}
 use Rattle.roff_formatter.proofs.EventsLeft.{few-most}
 use Rattle.roff_interpreter.proofs.Fronts.{few-put_back}
-use Rattle.roff_interpreter.proofs.Room.{ends-within, room_left}
-use Rattle.roff_running.proofs.TurnsLeft.{line_turns-more, lines_left-stands}
-
--- a tape is what is left of itself behind a byte that was looked at
-pub IsLeftOf-looked_then : (looked : Looked) (tape : Tape) → IsLeftOf tape (looked_then looked tape)
-IsLeftOf-looked_then Nothing tape = inl refl
-IsLeftOf-looked_then (Byte b) tape = inr refl
-IsLeftOf-looked_then (Closed None) tape = inl refl
-IsLeftOf-looked_then (Closed (Some b)) tape = inr refl
-
--- a halt that refused no item is told on the line of the last byte taken
-pub line_told-taken : (halt : Halt) (line_before line : ℕ) → ((limit : Limit) → halt ≡ Refused limit → ⊥) → line_told halt line_before line ≡ line
-line_told-taken (Limited limit) line_before line taken = refl
-line_told-taken (Refused limit) line_before line taken = absurd (taken limit refl)
-line_told-taken Output line_before line taken = refl
-line_told-taken Over line_before line taken = refl
-line_told-taken Messages line_before line taken = refl
-
--- what is left of the tape of either state, by whether a limit refuses the step
-left-unless_refused : (l : Limits) (o : Option Limit) (left : Tape) (from done : State)
-    → IsLeftOf left from.tape → IsLeftOf left done.tape → IsLeftOf left (unless_refused l o from done).tape
-left-unless_refused l None left from done before behind = behind
-left-unless_refused l (Some limit) left from done before behind = before
-
--- and behind a step whose messages may be too many
-left-told : (l : Limits) (many : Bool) (left : Tape) (from done : State) → IsLeftOf left from.tape → IsLeftOf left done.tape
-    → IsLeftOf left (if many then stopped_by l OnMessages from else done).tape
-left-told l true left from done before behind = before
-left-told l false left from done before behind = behind
-
-left-told_step : (l : Limits) (left : Tape) (from : State) → IsLeftOf left from.tape → IsLeftOf left (step l from).tape → IsLeftOf left (told_step l from).tape
-left-told_step l left from before behind =
-    elim from.ended as (λ o. IsLeftOf left (elim o as (λ _. State) [ None ↦ unless_untold l from (step l from) | Some status ↦ from ]).tape) [
-      | None ↦ left-told l (nat_lt l.messages (length (step l from).messages)) left from (step l from) before behind
-      | Some status ↦ before
-    ]
-
--- one step from a state leads to a taking's, unless a limit refuses it
-module _ (l : Limits) (t : Beginning) (left : Tape) (line_before line : ℕ) (start now : Seen) (from done : State) (opens : step l from ≡ made l from done)
-    (left_before : IsLeftOf left from.tape) (quiet_before : from.last_message ≡ []) (line_before_is : from.input.line ≡ line_before)
-    (left_behind : IsLeftOf left done.tape) (quiet : done.last_message ≡ []) (line_is : done.input.line ≡ line) where
-  -- what the code could not do of it halts the run
-  did_halt : (events : List PageEvent) (h : PageHistory) (kept rest : List PageEvent) (halt : Halt) (es : ComposerOf)
-      → TakingDone l t start now from done events h kept rest (Err halt) es
-      → Halts l t left (line_told halt line_before line) halt start now
-  did_halt events h kept rest (Refused limit) es did = inl (record {
-    state = from;
-    reaches = did.reaches;
-    goes_on = did.goes_on;
-    stops = did.stops;
-    rest = left_before;
-    quiet = quiet_before;
-    line_is = line_before_is;
-  })
-  did_halt events h kept rest (Limited limit) es did = record {
-    state = acting done (did.next ∷ did.to_do) did.history;
-    reaches = did.reaches;
-    goes_on = refl;
-    stops = told_step-quiet l (acting done (did.next ∷ did.to_do) did.history) (stopped_by l limit (acting done (did.next ∷ did.to_do) did.history))
-        now.err.room refl did.reaches.room did.stops refl;
-    rest = left_behind;
-    quiet = quiet;
-    line_is = line_is;
-  }
-  did_halt events h kept rest Output es did = record {
-    state = acting done (did.next ∷ did.to_do) did.history;
-    stops = did.stops;
-    messages = did.messages;
-    messages_stay = did.messages_stay;
-    rest = left_behind;
-    line_is = line_is;
-  }
-  did_halt events h kept rest Over es did =
-      let over : State = ending_as Done (acting done did.to_do did.history) in record {
-        state = over;
-        reaches = arrives l t start now over did.reaches;
-        ended = refl;
-        rest = rest_over l t left over (told_reached l t start now over did.reaches) refl left_behind;
-        fault = λ wrong. cc;
-      }
-  did_halt events h kept rest Messages es did = record {
-    is_device = refl;
-    state = from;
-    comes = did.comes;
-    goes_on = did.goes_on;
-    text = did.text;
-    messages = did.messages;
-    fault = did.fault;
-    output_stays = did.output_stays;
-    rest = left-told_step l left from left_before
-        (subst (λ (s : State). IsLeftOf left s.tape) (sym opens) (left-unless_refused l (first_passed l (grown done)) left from done left_before left_behind));
-  }
 
 -- the state of the definition in which an item was taken, in this phase, with more to perform
 abbrev pub ready_to_take : Tape → Coded → PageHistory → List ℕ → Phase → List PageEvent → State
@@ -157,60 +53,91 @@ IsTaking f does phase more run =
     (tape : Tape) (h : PageHistory) (messages : List ℕ)
     → does (state_at tape run h messages) ≡ taken_as (taken_of f run h) (ready_to_take tape run h messages phase more)
 
--- the run stands behind the events of a taking, of which one may have sprung a macro
+-- events of which none stopped leave room, and so do those that one stopped
+stopped-taken : (sprung : Option Sprung) (events : List PageEvent) (new : Coded) (before : List (Ahead PageEvent)) (h g : PageHistory)
+    → FewFor events new.interpreter.reader.reading new.unread.input.escapes before → StaysFew before new.unread.input.ahead → most_back events ≤ 5
+    → lines_left (interrupted_line g) ≤ most_left events (lines_left (interrupted_line h))
+    → length (rest_left sprung new.interpreter.reader.meaning.events) ≤ most_back events
+    → KeepsThem sprung new.interpreter.reader.meaning.events events new.interpreter.formatter.composer
+    → StoppedIn sprung new g (most_left events (lines_left (interrupted_line h)))
+stopped-taken None events new before h g few stays short lines left kept = record {
+  few = few-put_back events [] new.interpreter.reader.reading new.unread.input.escapes before new.unread.input few stays (omega arith) short;
+  lines = lines;
+}
+stopped-taken (Some sprung) events new before h g few stays short lines left kept =
+    let reader = new.interpreter.reader in
+    let P : List PageEvent → Type 0 = λ es.
+    Stops sprung es new.interpreter.formatter.composer.due.sprung reader.reading new.unread.input.escapes new.unread.input.ahead
+    (lines_left (interrupted_line g)) (most_left events (lines_left (interrupted_line h))) in
+    subst P (sym kept.0) (record {
+      named = kept.1;
+      left = subst (λ (es : List PageEvent). length (left_behind sprung es) ≤ most_back events) kept.0 left;
+      short = short;
+      few = few-stays events reader.reading new.unread.input.escapes before new.unread.input.ahead few stays;
+      first = h;
+      lines = lines;
+      most = omega arith;
+    })
+  where
+    few-stays : (events : List PageEvent) (reading : LineState) (half : List OpenEscape) (before behind : List (Ahead PageEvent))
+        → FewFor events reading half before → StaysFew before behind → FewFor events reading half behind
+    few-stays events reading half before behind few stays = record {
+      few = stays (5 - most_back events) (omega arith) few.few;
+      decided = λ keeps is next.
+          let none = few.decided keeps is next in
+          (stays 0 (omega arith) none.0, none.1);
+    }
+
+-- the run stands behind the events of a taking, of which one may have stopped the others
+abbrev most_of : List PageEvent → PageHistory → ℕ
+most_of events h = most_left events (lines_left (interrupted_line h))
+
 IsBehind-taken : (t : Beginning) (tape : Tape) (start now : Seen) (old new : Coded) (taken : Taking) (h : PageHistory) (messages : List ℕ) (phase : Phase) (more : List PageEvent) (sprung : Option Sprung)
     → CameTo taken old.interpreter.reader.registers new.interpreter.reader old.unread new.unread
     → new.limits ≡ old.limits → new.phase ≡ phase → old.unread.limits ≡ old.limits → IsReady old.interpreter.reader.registers old.unread
     → CameBehind old.limits t start now (taken_as taken (ready_to_take tape old h messages phase more)) (taken.effect.events ++ more) h new.interpreter.reader.meaning.events [] sprung new.interpreter.formatter.composer
     → AreFewBehind (taken.effect.events ++ more) → StaysFew old.unread.input.ahead taken.input.ahead
     → FewFor (taken.effect.events ++ more) taken.reading taken.input.escapes old.unread.input.ahead
-    → IsBehind t tape start now sprung new
+    → IsBehind t tape start now sprung (most_of (taken.effect.events ++ more) h) new
 IsBehind-taken t tape start now old new taken h messages phase more sprung became limits same kept ready came short stays few =
     let events : List PageEvent = taken.effect.events ++ more in
-    let rest : List PageEvent = rest_left sprung new.interpreter.reader.meaning.events in
-    let room : ℕ = 5 - most_back events in
-    let is_ready : IsReady new.interpreter.reader.registers new.unread = record {
-      cap = rw (became.registers, became.input) ready.cap;
-      line = rw (became.registers, became.input) ready.line;
-      within = rw (became.registers, became.input) became.within;
-    } in
-    let behind : AreFewFrom room new.unread.input.ahead =
-    subst (λ (u : PageUnread). AreFewFrom room u.input.ahead) (sym became.input) (stays room (omega arith) few.few) in
-    let enough : length rest + room ≤ 5 = omega (arith, came.few, few-most events short) in record {
-      room = room_left rest room new.unread behind enough (ends-within new.unread.limits new.interpreter.reader.registers.all new.unread.input is_ready.within);
-      few = subst (λ (reading : LineState). FewFor [] reading new.unread.input.escapes (putting_all_back (map put_back rest) new.unread.input).ahead) (sym became.reading)
-          (subst (λ (u : PageUnread). FewFor [] taken.reading u.input.escapes (putting_all_back (map put_back rest) u.input).ahead) (sym became.input)
-          (few-put_back events rest taken.reading taken.input.escapes old.unread.input.ahead taken.input few stays (omega (arith, came.few)) (few-most events short)));
+    let few_here : FewFor events new.interpreter.reader.reading new.unread.input.escapes old.unread.input.ahead =
+    subst (λ (reading : LineState). FewFor events reading new.unread.input.escapes old.unread.input.ahead) (sym became.reading)
+    (subst (λ (u : PageUnread). FewFor events taken.reading u.input.escapes old.unread.input.ahead) (sym became.input) few) in
+    let stays_here : StaysFew old.unread.input.ahead new.unread.input.ahead =
+    subst (λ (u : PageUnread). StaysFew old.unread.input.ahead u.input.ahead) (sym became.input) stays in record {
       history = came.history;
       messages = (taken_as taken (state_at tape old h messages)).messages;
       reaches = rw (limits, became.input, became.reading, became.registers, same) came.reaches;
       stands = subst (λ (l : Limits). StandFor l came.history new.interpreter.formatter.composer) (sym limits) came.stands;
-      ready = is_ready;
+      ready = record {
+        cap = rw (became.registers, became.input) ready.cap;
+        line = rw (became.registers, became.input) ready.line;
+        within = rw (became.registers, became.input) became.within;
+      };
       limits = rw (became.input, limits) kept;
+      stopped = stopped-taken sprung events new old.unread.input.ahead h came.history few_here stays_here (few-most events short) came.lines came.few came.keeps;
     }
 
 -- no more turns are to come of it than of that state
-turns-behind : (l : Limits) (tape : Tape) (old new : Coded) (taken : Taking) (h behind : PageHistory) (messages : List ℕ) (phase : Phase) (more : List PageEvent)
+turns-behind : (tape : Tape) (old new : Coded) (taken : Taking) (h : PageHistory) (messages : List ℕ) (phase : Phase) (more : List PageEvent)
     → CameTo taken old.interpreter.reader.registers new.interpreter.reader old.unread new.unread
-    → new.phase ≡ phase → old.unread.limits ≡ old.limits → StandFor l behind new.interpreter.formatter.composer
-    → lines_left (interrupted_line behind) ≤ most_left (taken.effect.events ++ more) (lines_left (interrupted_line h))
-    → turns_of_run new ≤ turns_at old.limits.bytes (taken_as taken (ready_to_take tape old h messages phase more))
-turns-behind l tape old new taken h behind messages phase more became same kept stands few =
+    → new.phase ≡ phase → old.unread.limits ≡ old.limits
+    → turns_where new (most_of (taken.effect.events ++ more) h) ≤ turns_at old.limits.bytes (taken_as taken (ready_to_take tape old h messages phase more))
+turns-behind tape old new taken h messages phase more became same kept =
     let of : PageUnread → LineState → ℕ → Phase → ℕ = λ u r left p. 4 * (turns_to_come u + begun r) + line_turns r left + phases_left p in
     let there : PageUnread = record old.unread { input = taken.input } in
     let events : List PageEvent = taken.effect.events in
-    let left : ℕ = lines_left (interrupted_line behind) in
+    let left : ℕ = most_of (events ++ more) h in
     let within : Limits → List PageEvent → ℕ = λ k es.
-    4 * (turns_within k.bytes taken.input + begun taken.reading) + line_turns taken.reading (most_left (events ++ es) (lines_left (interrupted_line h))) + phases_left phase in
-    let first : turns_of_run new ≡ of there taken.reading left phase =
-    ap (λ (u : PageUnread). of u new.interpreter.reader.reading (lines_left_in new.interpreter.formatter.composer) new.phase) became.input
-    ∙ ap (λ (r : LineState). of there r (lines_left_in new.interpreter.formatter.composer) new.phase) became.reading
-    ∙ ap (λ (n : ℕ). of there taken.reading n new.phase) (lines_left-stands l behind new.interpreter.formatter.composer stands)
+    4 * (turns_within k.bytes taken.input + begun taken.reading) + line_turns taken.reading (most_of (events ++ es) h) + phases_left phase in
+    let first : turns_where new left ≡ of there taken.reading left phase =
+    ap (λ (u : PageUnread). of u new.interpreter.reader.reading left new.phase) became.input
+    ∙ ap (λ (r : LineState). of there r left new.phase) became.reading
     ∙ ap (λ (p : Phase). of there taken.reading left p) same in
     let last : within old.unread.limits more ≡ within old.limits (more ++ []) =
     ap (λ (k : Limits). within k more) kept ∙ ap (λ (es : List PageEvent). within old.limits es) (sym (append-nil more)) in
-    let lines = line_turns-more taken.reading left (most_left (events ++ more) (lines_left (interrupted_line h))) few in
-    omega (arith, first, last, lines)
+    omega (arith, first, last)
 
 -- The code takes what the definition does.
 module _ (f : Known → Taking) (does : State → State) (phase : Phase) (more : List PageEvent) (line : ℕ) (old : Coded) (meant : IsTaking f does phase more old) where
@@ -287,21 +214,21 @@ pub taking_acts : {out_old err_old out_new err_new : Sunk} (f : Known → Taking
     → GoesOn sprung mid new (seen failures out_new err_new) behind r
     → DoesItem line does old new (seen failures out_old err_old) behind r
 taking_acts {out_old} {err_old} {out_new} {err_new} f does phase more line old mid new failures sprung behind r meant limits same takes short stays goes =
-    let there : (t : Beginning) (tape : Tape) (start : Seen) (from : State) → TookFrom t tape start (seen failures out_old err_old) line does from old
-    → IsBehind t tape start (seen failures out_new err_new) sprung mid = λ t tape start from took.
+    let there : (t : Beginning) (tape : Tape) (start : Seen) (from : State) → (took : TookFrom t tape start (seen failures out_old err_old) line does from old)
+    → IsBehind t tape start (seen failures out_new err_new) sprung (most_of (events_of f does phase more line old meant took.history) took.history) mid = λ t tape start from took.
     IsBehind-taken t tape start _ old mid (taken_of f old took.history) took.history took.messages phase more sprung
     (takes.became old.limits took.history took.stands took.ready) limits same took.limits took.ready
     (did f does phase more line old meant mid.interpreter mid.unread (Ok sprung) takes t tape start failures from took)
     (short (known_at took.history old.interpreter.reader.registers.all old.unread.input)) (stays (known_at took.history old.interpreter.reader.registers.all old.unread.input))
     (room_taken f does phase more line old meant took) in record {
       limits = goes.limits ∙ limits;
-      acts = λ t tape start from took. goes.goes t tape start (there t tape start from took);
+      acts = λ t tape start from took. goes.goes t tape start (most_of (events_of f does phase more line old meant took.history) took.history) (there t tape start from took);
       turns = λ t tape start from took.
-          let came = did f does phase more line old meant mid.interpreter mid.unread (Ok sprung) takes t tape start failures from took in
+          let most : ℕ = most_of (events_of f does phase more line old meant took.history) took.history in
           subst (λ (s : State). OnOk r (turns_of_run new ≤ turns_at old.limits.bytes s)) (sym (meant tape took.history took.messages))
-          (no_more-turns r (turns_of_run new) (turns_of_run mid) _ (goes.turns t tape start (there t tape start from took))
-          (turns-behind old.limits tape old mid (taken_of f old took.history) took.history came.history took.messages phase more
-          (takes.became old.limits took.history took.stands took.ready) same took.limits came.stands came.lines));
+          (no_more-turns r (turns_of_run new) (turns_where mid most) _ (goes.turns t tape start most (there t tape start from took))
+          (turns-behind tape old mid (taken_of f old took.history) took.history took.messages phase more
+          (takes.became old.limits took.history took.stands took.ready) same took.limits));
     }
 
 -- two things are the same of the states that the run may be at

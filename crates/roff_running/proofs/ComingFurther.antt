@@ -7,7 +7,7 @@ use Rattle.roff_run.specs.declared.status.Status.{Status}
 use Rattle.roff_running.specs.declared.running.Running.{Running as Coded}
 use Rattle.roff_interpreter.specs.Outcome.{Beginning, Seen}
 use Rattle.roff_running.specs.Running.Turning.{AreLeft, ComesFurther, DoesDue, GoesFurther, GoesPastIf, IsAt, StandsForSome, TurnsBy, turns_of_run, turns_with, state_at}
-use Rattle.roff_running.proofs.Waiting.{items_then-append}
+use Rattle.roff_interpreter.proofs.Sighted.{items_then-append}
 use Rattle.roff_run.specs.Output.{PageHistory}
 use Rattle.roff_run.specs.Reading.Ends.{due}
 use Rattle.roff_run.specs.declared.line_state.Due.{Due}

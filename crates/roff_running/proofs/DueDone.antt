@@ -13,7 +13,6 @@ use Rattle.roff_run.specs.declared.phase.Phase.TheVariants.{Reading, LastMacro, 
 use Rattle.roff_running.specs.Running.Leaving.{LeavesIn, LeavesInput as LeavesInputIn}
 use Rattle.roff_source.specs.Tape.{Tape}
 use Rattle.roff_run.specs.Messages.{told_line}
-use Rattle.roff_run.specs.Reading.Items.{PageUnread}
 use Rattle.roff_run.specs.Reading.Ends.{due}
 use Rattle.roff_run.specs.Reading.Messages.{message_text_read}
 use Rattle.roff_run.specs.Run.{State, aborted, initial, input_left, left_in, made, message_told, reading_by, step, unless_refused}
@@ -26,23 +25,22 @@ use Rattle.roff_run.specs.declared.status.Status.{Status}
 use Rattle.roff_run.specs.declared.status.Status.TheVariants.{Aborted, Device}
 use Rattle.roff_run.proofs.InputCounts.{NoMore-leaving, NoMore-released, first_passed-no_more}
 use Rattle.roff_running.specs.declared.running.Running.{Running as Coded}
-use Rattle.roff_interpreter.specs.Outcome.{Beginning, Seen, IsLeftOf, IsRest, OutcomeOf, seen}
+use Rattle.roff_interpreter.specs.Outcome.{Beginning, Seen, OutcomeOf, seen}
 use Rattle.roff_running.specs.Running.Turning.{IsAt, DoesDue, line_turns, lines_left_in, state_at}
 use Rattle.roff_sinks.specs.Sinks.{Sunk, Writes, Fails}
 use Rattle.roff_interpreter.proofs.Fronts.{few-nothing, few-over}
-use Rattle.roff_running.proofs.Acting.{IsLeftOf-looked_then}
-use Rattle.roff_interpreter.proofs.Calls.{Leaves}
-use Rattle.roff_running.proofs.Items.{back_performed, lost, one_last, one_more, untold}
+use Rattle.roff_interpreter.proofs.Halted.{IsLeftOf-looked_then}
+use Rattle.roff_interpreter.proofs.StatesBehind.{back_performed}
+use Rattle.roff_running.proofs.Items.{lost, one_last, one_more, untold}
 use Rattle.roff_formatter.specs.declared.halt.Halt.{Halt}
 use Rattle.roff_interpreter.specs.Halting.{Halts, line_told}
 use Rattle.roff_interpreter.specs.Reporting.{IsTold, Tells as TellsAll}
 use Rattle.roff_interpreter.proofs.Bounded.{told_step-quiet}
 use Rattle.roff_running.proofs.TurnsLeft.{line_turns-by, lines_left_in-few}
-use Rattle.roff_input.specs.Looking.{closing, is_closed, looked_then}
-use Rattle.roff_input.specs.declared.looked.Looked.{Looked}
-use Rattle.roff_input.specs.declared.looked.Looked.TheVariants.{Nothing, Byte, Closed}
+use Rattle.roff_input.specs.Looking.{closing, looked_then}
 use Rattle.roff_interpreter.specs.Performing.{going}
 use Rattle.roff_run.proofs.Leads.{Leads-to}
+use Rattle.roff_interpreter.proofs.DueLeft.{Leaves-nothing, behind_message, rest_aborted, looked-closing, closed-closing}
 
 -- where nothing is due the run stays as it is
 pub nothing_due : (old : Coded) (now : Seen) → due old.interpreter.reader.reading ≡ None → DoesDue old old now now (Ok tt)
@@ -60,24 +58,6 @@ due-line reading what left is = elim (line_turns-by reading) [
   | inl begins ↦ let wrong = sym begins.1.0 ∙ is in absurd (cc)
   | inr within ↦ let two = within.1 left in omega (arith, two)
 ]
-
--- nothing is taken, over this tape
-abbrev IsTape : Tape → Tape → Type 0
-IsTape tape t = t ≡ tape
-
-Leaves-nothing : (tape : Tape) (u : PageUnread) → Leaves (IsTape tape) (IsTape tape) u u []
-Leaves-nothing tape u = record {
-  before = λ t may. may;
-  rest = λ t may. IsLeftOf-looked_then u.looked t;
-  limits = refl;
-  within = λ rs none. none;
-  turns = omega arith;
-}
-
--- the state behind a message
-abbrev behind_message : Bool → State → State
-behind_message true s = aborted s
-behind_message false s = message_told s
 
 -- where its text is released no count is above its limit
 released_within : (run : Coded) → first_passed run.unread.limits (counts_in run.interpreter.reader.registers.all run.unread.input) ≡ None
@@ -124,11 +104,6 @@ failed_due old failures out err told is part = record {
   none_due = tt;
   turns = tt;
 }
-
--- what is left where a run was aborted
-rest_aborted : (tape : Tape) (s : State) → IsLeftOf tape s.tape → IsRest Aborted tape s
-rest_aborted tape s (inl all) = inl all
-rest_aborted tape s (inr looked) = inr (tt, looked)
 
 -- a message was told that ends the run
 pub aborted_due : (old : Coded) (failures : ℕ) (out err told : Sunk) → due old.interpreter.reader.reading ≡ Some (Tells true)
@@ -203,17 +178,6 @@ untold_due old failures out err mid told halt status is tells ends = record {
   none_due = tt;
   turns = tt;
 }
-
--- what was looked at stays as the source is closed
-looked-closing : (looked : Looked) (tape : Tape) → looked_then (closing looked) tape ≡ looked_then looked tape
-looked-closing Nothing tape = refl
-looked-closing (Byte b) tape = refl
-looked-closing (Closed kept) tape = refl
-
-closed-closing : (looked : Looked) → is_closed (closing looked) ≡ true
-closed-closing Nothing = refl
-closed-closing (Byte b) = refl
-closed-closing (Closed kept) = refl
 
 -- what all ends of bodies lead back to is no reading that takes a turn, and nothing is due then
 abbrev IsResting : LineState → Type 0

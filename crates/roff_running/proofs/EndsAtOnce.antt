@@ -1,22 +1,19 @@
 -- What is half read of a condition ends at once: the run has come behind it.
-use Rattle.std.proofs.Common.{◌≡◌, ℕ, suc, zero, ◌+◌, ◌<◌, ◌≤◌, Bool, true, false, List, [], ◌∷◌, length, Option, Some, None, refl, sym, ap, subst, ◌∙◌, arith}
+use Rattle.std.proofs.Common.{◌≡◌, ℕ, suc, zero, ◌+◌, ◌<◌, ◌≤◌, Bool, true, false, List, [], length, Option, Some, None, refl, sym, ap, subst, ◌∙◌, arith}
 use Rattle.std.specs.Prelude.{if◌then◌else◌}
 use Rattle.roff_num.specs.declared.limit.Limit.{Limit}
 use Rattle.roff_num.specs.declared.limits.Limits.{Limits}
-use Rattle.roff_input.specs.declared.place.Place.{Place}
-use Rattle.roff_escape.specs.OpenEscape.{OpenEscape}
 use Rattle.roff_escape.specs.OpenEscapes.{reading_ended}
 use Rattle.roff_escape.specs.Waiting.{decides, is_ended_by, waiting_of}
-use Rattle.roff_escape.specs.declared.open_escape.Found.{Found}
 use Rattle.roff_escape.specs.declared.open_escape.Decision.TheVariants.{Is}
 use Rattle.roff_escape.specs.declared.open_escape.Found.TheVariants.{Decides as DecidesIt, GoesOn}
 use Rattle.roff_escape.specs.declared.open_escape.Surroundings.{Surroundings}
 use Rattle.roff_escape.specs.declared.open_escape.Surroundings.TheVariants.{Arguments as AboveArguments, Copy as AboveCopy}
 use Rattle.roff_escape.specs.declared.open_escape.Waiting.{Waiting}
-use Rattle.roff_escape.specs.declared.open_escape.Waiting.TheVariants.{Decides, Takes, Waits}
+use Rattle.roff_escape.specs.declared.open_escape.Waiting.TheVariants.{Decides, Waits}
 use Rattle.roff_input.proofs.FewEvents.{few-seen}
 use Rattle.roff_input.specs.Input.{Ahead}
-use Rattle.roff_input.specs.Shown.{Sighted, SeesByte, SeesEnding, SeesNote, SeesNothing, byte_seen, seen_ahead}
+use Rattle.roff_input.specs.Shown.{Sighted, SeesByte, seen_ahead}
 use Rattle.roff_input.specs.Unread.{EndsDecided, IsWithin, reading}
 use Rattle.roff_source.specs.Tape.{Tape}
 use Rattle.roff_reader.proofs.TakesAs.{few_names, short_title}
@@ -24,9 +21,8 @@ use Rattle.roff_run.specs.Environments.{PageHistory}
 use Rattle.roff_run.specs.Reading.{escape_ended}
 use Rattle.roff_run.specs.Reading.Branches.{branch_of}
 use Rattle.roff_run.specs.Reading.Ends.{due}
-use Rattle.roff_run.specs.Reading.Found.{found_in}
 use Rattle.roff_run.specs.Reading.Items.{PageInput, PageUnread, Taking, going_on}
-use Rattle.roff_run.specs.Reading.Waiting.{waiting_above, waiting_in}
+use Rattle.roff_run.specs.Reading.Waiting.{waiting_in}
 use Rattle.roff_run.specs.Registers.{AllRegisters, Known}
 use Rattle.roff_run.specs.Run.{Leads, State, awaited, escape_ends, in_front_taken, item_read, known, known_at, made, read_waiting, taken_as, unless_refused}
 use Rattle.roff_run.specs.Run.Counts.{counts_in, first_passed}
@@ -48,11 +44,7 @@ use Rattle.roff_interpreter.proofs.Fronts.{few-seen_ended}
 use Rattle.roff_running.proofs.Passing.{IsAt-leads}
 use Rattle.roff_running.proofs.PassingOn.{goes_further_none, goes_past_none}
 use Rattle.roff_running.proofs.TurnsLeft.{turns_of_run-fewer}
-
--- there is room for what is left of what ends so
-abbrev FewBehind : LineState → PageInput → Type 0
-FewBehind reading i =
-    (k : Known) → FewFor [] reading i.escapes i.ahead → let t : Taking = escape_ended k reading i in FewFor t.effect.events t.reading t.input.escapes i.ahead
+use Rattle.roff_interpreter.proofs.HalfEnded.{FewBehind, decided-at_once, expression-at_once, unread-read, ahead-read, waits-deciding, decides-deciding}
 
 module _ (old new : Coded) (none_due : due old.interpreter.reader.reading ≡ None) (ends : EndsAtOnce old new) (some : 1 ≤ length old.unread.input.escapes)
     (reads_on : (tape : Tape) (h : PageHistory) (messages : List ℕ)
@@ -145,46 +137,6 @@ goes_past_expression old new true b none_due waits sees stays ends kept gave not
     (λ k few. few-seen_ended k old.interpreter.reader.reading old.unread.input (few-seen 5 b old.unread.input.ahead few.few sees)) gave notes now).past
 goes_past_expression old new false b none_due waits sees stays ends kept gave notes now =
     subst (λ (run : Coded). GoesPast gave gave notes notes old run now now) (sym (kept refl)) (goes_past_none gave notes old now)
-
--- what is half read of a condition ends as the definition ends it
-pub decided-at_once : (so : Bool) (before after : PageUnread) → EndsDecided (Some so) before after
-    → (k : Known) → escape_ended k (Deciding false) before.input ≡ going_on after.input (branch_of so)
-decided-at_once so before after ends k = sym (ap (λ (p : Found × PageUnread). found_in k p.1.input (Deciding false) p.0) (ends AboveArguments))
-
-pub expression-at_once : (keeps : Bool) (before after : PageUnread) → ((base : Surroundings) → (GoesOn, after) ≡ reading (reading_ended base before.input.escapes) before)
-    → (k : Known) → escape_ended k (Deciding keeps) before.input ≡ going_on after.input (Deciding keeps)
-expression-at_once keeps before after ends k = sym (ap (λ (p : Found × PageUnread). found_in k p.1.input (Deciding keeps) p.0) (ends AboveArguments))
-
--- nothing else changes
-pub unread-read : (found : Found) (r : Found × List OpenEscape) (before after : PageUnread) → (found, after) ≡ reading r before → after ≡ record before { input = after.input }
-unread-read found r before after is =
-    let same : after ≡ (reading r before).1 = ap (λ (p : Found × PageUnread). p.1) is in
-    same ∙ ap (λ (i : PageInput). record before { input = i }) (sym (ap (λ (u : PageUnread). u.input) same))
-
-pub ahead-read : (found : Found) (r : Found × List OpenEscape) (before after : PageUnread) → (found, after) ≡ reading r before → after.input.ahead ≡ before.input.ahead
-ahead-read found r before after is = ap (λ (p : Found × PageUnread). p.1.input.ahead) is
-
--- a condition that waits, or decides, does so where it is read
-pub waits-deciding : (keeps : Bool) (place : Place) (half : List OpenEscape) → waiting_of AboveCopy half ≡ Waits → waiting_above (Deciding keeps) place half ≡ Waits
-waits-deciding keeps place [] waits = cc
-waits-deciding keeps place (first ∷ rest) waits = waits
-
-is-decides : (w : Waiting) → decides w ≡ true → w ≡ Decides
-is-decides Takes is = cc
-is-decides Decides is = refl
-is-decides Waits is = cc
-
-pub decides-deciding : (keeps : Bool) (place : Place) (half : List OpenEscape) → decides (waiting_of AboveCopy half) ≡ true → waiting_above (Deciding keeps) place half ≡ Decides
-decides-deciding keeps place [] is = cc
-decides-deciding keeps place (first ∷ rest) is = is-decides (waiting_of AboveCopy (first ∷ rest)) is
-
--- a byte that is seen is what stands there
-pub byte-seen : (seen : Option Sighted) (b : ℕ) → byte_seen seen ≡ Some b → seen ≡ Some (SeesByte b)
-byte-seen None b is = cc
-byte-seen (Some (SeesByte c)) b is = cc
-byte-seen (Some SeesNothing) b is = cc
-byte-seen (Some (SeesNote message)) b is = cc
-byte-seen (Some (SeesEnding ending)) b is = cc
 
 -- so the expression ended at once
 pub ends-expression : (keeps : Bool) (old : Coded) (after : PageUnread) → old.interpreter.reader.reading ≡ Deciding keeps

@@ -1,10 +1,9 @@
--- A run that goes on behind events, of which one may have sprung a macro that is read.
-use Rattle.std.proofs.Common.{◌∙◌, ◌≡◌, ◌≤◌, ℕ, List, length, Option, Some, None, Result, Ok, Err, ap, append-nil, arith, refl, subst, sym, []}
+-- A run that goes on behind events, where none of them stopped the others, or one did and sprang a macro that is read.
+use Rattle.std.proofs.Common.{◌∙◌, ◌≡◌, ◌≤◌, ◌-◌, ℕ, List, [], length, Option, Some, None, Ok, Err, ap, arith, refl, subst, sym}
 use Rattle.std.specs.Prelude.{false, is_some, map, nat_lt}
 use Rattle.std.proofs.lemmas.Bool.{le-ltb}
-use Rattle.std.proofs.lemmas.Bool.Decides.{nat_tests}
 use Rattle.roff_input.specs.Input.{putting_all_back}
-use Rattle.roff_interpreter.specs.Room.{FewFor}
+use Rattle.roff_interpreter.specs.Room.{FewFor, HasRoom}
 use Rattle.roff_input.proofs.FewEvents.{few-called}
 use Rattle.roff_input.specs.Input.Calls.{called_text}
 use Rattle.roff_input.specs.Input.Names.{body_named}
@@ -12,14 +11,14 @@ use Rattle.roff_num.specs.ShortNames.{name_bytes}
 use Rattle.roff_num.specs.declared.limit.Limit.{Limit}
 use Rattle.roff_num.specs.declared.limits.Limits.{Limits}
 use Rattle.roff_num.specs.declared.short_name.ShortName.{ShortName}
-use Rattle.roff_input.specs.Unread.{input_refusal, unless_passed}
+use Rattle.roff_input.specs.Unread.{input_refusal}
 use Rattle.roff_source.specs.Tape.{Tape}
 use Rattle.roff_reader.proofs.TakesAs.{few_names, short_title}
 use Rattle.roff_reader.specs.Reader.Springs.{Springs, SpringsBody, SpringsNothing, sprung_input}
 use Rattle.roff_reader.specs.Reader.State.{ReaderState}
 use Rattle.roff_reader.specs.Reader.Taken.{IsReady}
 use Rattle.roff_composer.specs.Composer.Standing.{StandFor}
-use Rattle.roff_run.specs.Environments.{PageHistory}
+use Rattle.roff_run.specs.Environments.{PageHistory, interrupted_line}
 use Rattle.roff_run.proofs.InputCounts.{NoMore, first_passed-few_names, first_passed-no_more}
 use Rattle.roff_run.proofs.KeepingText.{free_ahead-called}
 use Rattle.roff_run.proofs.Leads.{Leads-to}
@@ -32,7 +31,7 @@ use Rattle.roff_laws.proofs.RunsStayWithin.{named-keeping, title-keeping}
 use Rattle.roff_run.specs.Registers.{AllRegisters}
 use Rattle.roff_run.specs.TitleTexts.{title_length}
 use Rattle.roff_run.specs.Titles.{keeping, put_back}
-use Rattle.roff_run.specs.Run.{State, initial, made, sprung_at, sprung_read, step, unless_refused, stopped_by}
+use Rattle.roff_run.specs.Run.{State, followed_by, initial, made, only_sprung, sprung_read, step, unless_refused, stopped_by}
 use Rattle.roff_run.specs.Run.Counts.{counts_in, first_passed}
 use Rattle.roff_run.specs.PageEvents.{PageEvent}
 use Rattle.roff_run.specs.declared.line_state.LineState.{LineState}
@@ -45,54 +44,45 @@ use Rattle.roff_running.specs.declared.running.Running.{Running as Coded}
 use Rattle.roff_formatter.specs.declared.sprung.Sprung.{Sprung}
 use Rattle.roff_interpreter.specs.Outcome.{Beginning, OutcomeOf, Reaches, Seen}
 use Rattle.roff_interpreter.proofs.Bounded.{told_step-quiet}
-use Rattle.roff_formatter.specs.Formatter.Sprung.{left_behind}
-use Rattle.roff_running.specs.Running.Springing.{GoesOn, IsBehind, PutsBack}
+use Rattle.roff_formatter.specs.Formatter.Sprung.{left_behind, most_back}
+use Rattle.roff_running.specs.Running.Springing.{GoesOn, GoesOnSettled, IsSettled, PutsBack, turns_where}
 use Rattle.roff_interpreter.specs.Halting.{Halts}
 use Rattle.roff_running.specs.Running.Turning.{IsAt, line_turns, lines_left_in, state_at, turns_of_run}
-use Rattle.roff_running.proofs.Acting.{IsLeftOf-looked_then}
-use Rattle.roff_interpreter.proofs.Fronts.{few-none}
+use Rattle.roff_interpreter.proofs.Halted.{IsLeftOf-looked_then}
+use Rattle.roff_interpreter.proofs.Fronts.{few-none, few-put_back}
+use Rattle.roff_interpreter.proofs.Room.{ends-within, room_left}
 use Rattle.roff_running.proofs.PuttingBack.{is-back, with_back}
-use Rattle.roff_running.proofs.TurnsLeft.{lines_left_in-few}
+use Rattle.roff_interpreter.proofs.Changes.{changed-Err, changed-Ok, not_above}
+use Rattle.roff_running.proofs.TurnsLeft.{line_turns-more, lines_left-stands, lines_left_in-few}
+use Rattle.roff_run.specs.TurnsToCome.{lines_left}
 
--- nothing sprang
+-- no more turns are to come of a run than where so many interrupted lines are left at the most
+pub turns-most : (l : Limits) (h : PageHistory) (run : Coded) (most : ℕ) → StandFor l h run.interpreter.formatter.composer → lines_left (interrupted_line h) ≤ most
+    → turns_of_run run ≤ turns_where run most
+turns-most l h run most stands few =
+    let lines = lines_left-stands l h run.interpreter.formatter.composer stands in
+    omega (arith, line_turns-more run.interpreter.reader.reading (lines_left_in run.interpreter.formatter.composer) most (omega (arith, lines, few)))
+
+-- nothing stopped
 pub goes_on_quietly : (run : Coded) (now : Seen) → GoesOn None run run now now (Ok tt)
 goes_on_quietly run now = record {
   limits = refl;
-  goes = λ t tape start at. record {
+  goes = λ t tape start most at. record {
     history = at.history;
     messages = at.messages;
     reaches = at.reaches;
     stands = at.stands;
     ready = at.ready;
     limits = at.limits;
-    few = at.few;
+    few = at.stopped.few;
   };
-  turns = λ t tape start at. omega arith;
+  turns = λ t tape start most at. turns-most run.limits at.history run most at.stands at.stopped.lines;
 }
-
--- what no test finds above a limit isn't
-not_above : (n most : ℕ) → nat_lt most n ≡ false → n ≤ most
-not_above n most none = grind (arith, nat_tests, none)
 
 -- what isn't there
 pub not_some : {A : Type 0} (o : Option A) → is_some o ≡ false → o ≡ None
 not_some None is = refl
 not_some (Some x) is = cc
-
--- what a change of the input says that was made
-changed-Ok : (refused : Option Limit) (i : PageInput) (u v : PageUnread) → (Ok tt, v) ≡ unless_passed refused i u
-    → (refused ≡ None) × (v ≡ record u { input = i })
-changed-Ok None i u v is = (refl, ap (λ (p : Result (Unit {0}) Limit × PageUnread). p.1) is)
-changed-Ok (Some limit) i u v is = (let wrong = ap (λ (p : Result (Unit {0}) Limit × PageUnread). p.0) is in cc)
-
--- and one that was refused
-changed-Err : (refused : Option Limit) (limit : Limit) (i : PageInput) (u v : PageUnread) → (Err limit, v) ≡ unless_passed refused i u
-    → (refused ≡ Some limit) × (v ≡ u)
-changed-Err None limit i u v is = (let wrong = ap (λ (p : Result (Unit {0}) Limit × PageUnread). p.0) is in cc)
-changed-Err (Some other) limit i u v is = (
-  (let same = ap (λ (p : Result (Unit {0}) Limit × PageUnread). p.0) is in cc),
-  ap (λ (p : Result (Unit {0}) Limit × PageUnread). p.1) is,
-)
 
 -- what is read in a macro that sprang is no more of a line
 line_turns-sprung : (reading : LineState) (left : ℕ) → left ≤ 1 → line_turns (in_sprung reading) left ≤ line_turns reading left
@@ -138,20 +128,21 @@ within-back l events rs i within few short =
 pub record IsSprung (t : Beginning) (tape : Tape) (start now : Seen) (name : ShortName) (run : Coded) : Type 0 where
   pub history : PageHistory
   pub messages : List ℕ
-  pub reaches : Reaches run.limits t start now (record (state_at tape run history messages) { sprung = Some name })
+  pub reaches : Reaches run.limits t start now (record (state_at tape run history messages) { follows = only_sprung (Some name) })
   pub stands : StandFor run.limits history run.interpreter.formatter.composer
   pub ready : IsReady run.interpreter.reader.registers run.unread
   pub limits : run.unread.limits ≡ run.limits
   pub few : FewFor [] run.interpreter.reader.reading run.unread.input.escapes run.unread.input.ahead
 
-is_sprung : (t : Beginning) (tape : Tape) (start now : Seen) (sprung : Sprung) (run : Coded) → IsBehind t tape start now (Some sprung) run
-    → IsSprung t tape start now sprung.name (with_back (left_behind sprung run.interpreter.reader.meaning.events) run)
-is_sprung t tape start now sprung run at =
+is_sprung : (t : Beginning) (tape : Tape) (start now : Seen) (sprung : Sprung) (name : ShortName) (most : ℕ) (run : Coded)
+    → run.interpreter.formatter.composer.due.sprung ≡ Some name → IsSettled t tape start now sprung most run
+    → IsSprung t tape start now name (with_back (left_behind sprung run.interpreter.reader.meaning.events) run)
+is_sprung t tape start now sprung name most run named at =
     let left : List PageEvent = left_behind sprung run.interpreter.reader.meaning.events in record {
       history = at.history;
       messages = at.messages;
-      reaches = subst (λ (es : List PageEvent). Reaches run.limits t start now (sprung_at (Some sprung.name) es (state_at tape run at.history at.messages)))
-          (append-nil left) at.reaches;
+      reaches = subst (λ (due : Option ShortName). Reaches run.limits t start now (followed_by (only_sprung due) left (state_at tape run at.history at.messages)))
+          named at.reaches;
       stands = at.stands;
       ready = record {
         cap = at.ready.cap;
@@ -160,14 +151,23 @@ is_sprung t tape start now sprung run at =
             (few_names run.interpreter.reader.registers run.unread at.ready) (short_title run.interpreter.reader.registers run.unread at.ready);
       };
       limits = at.limits;
-      few = at.few;
+      few = few-put_back run.interpreter.reader.meaning.events left run.interpreter.reader.reading run.unread.input.escapes run.unread.input.ahead run.unread.input
+          at.stopped.few (λ room some few. few) at.stopped.left at.stopped.short;
     }
+
+-- there is room for what is put back
+room_back : (t : Beginning) (tape : Tape) (start now : Seen) (sprung : Sprung) (most : ℕ) (run : Coded) → IsSettled t tape start now sprung most run
+    → HasRoom (left_behind sprung run.interpreter.reader.meaning.events) run.unread
+room_back t tape start now sprung most run at =
+    let kept : List PageEvent = run.interpreter.reader.meaning.events in
+    room_left (left_behind sprung kept) (5 - most_back kept) run.unread at.stopped.few.few (omega (arith, at.stopped.left, at.stopped.short))
+    (ends-within run.unread.limits run.interpreter.reader.registers.all run.unread.input at.ready.within)
 
 -- it is read in a step, by what its name stands for
 step-sprung : (l : Limits) (tape : Tape) (run : Coded) (h : PageHistory) (messages : List ℕ) (name : ShortName) (c : Called) → called_by name run.unread.input.names ≡ c
-    → let from : State = record (state_at tape run h messages) { sprung = Some name } in step l from ≡ made l from (sprung_read c from)
+    → let from : State = record (state_at tape run h messages) { follows = only_sprung (Some name) } in step l from ≡ made l from (sprung_read c from)
 step-sprung l tape run h messages name c is =
-    let from : State = record (state_at tape run h messages) { sprung = Some name } in
+    let from : State = record (state_at tape run h messages) { follows = only_sprung (Some name) } in
     ap (λ (called : Called). made l from (sprung_read called from)) is
 
 -- the run of the code with this reader and unread input
@@ -177,7 +177,7 @@ with_read run reader unread = record run { interpreter = record run.interpreter 
 module _ (run : Coded) (name : ShortName) (reader : ReaderState) (unread : PageUnread) (t : Beginning) (tape : Tape) (start now : Seen)
     (at : IsSprung t tape start now name run) where
   abbrev from : State
-  from = record (state_at tape run at.history at.messages) { sprung = Some name }
+  from = record (state_at tape run at.history at.messages) { follows = only_sprung (Some name) }
 
   -- a name without a body: nothing is read
   pub nothing_read : (c : Called) → called_by name run.unread.input.names ≡ c
@@ -313,42 +313,44 @@ turns-read (ARequest request) events old reader unread springs = turns-nothing e
 turns-read Unknown events old reader unread springs = turns-nothing events old reader unread springs
 
 -- the run goes on in what sprang
-pub goes_on_sprung : (sprung : Sprung) (old mid : Coded) (reader : ReaderState) (unread : PageUnread) (now : Seen)
-    → PutsBack (left_behind sprung old.interpreter.reader.meaning.events) old mid
-    → Springs (called_by sprung.name mid.unread.input.names) mid.interpreter.reader reader mid.unread unread (Ok tt)
-    → GoesOn (Some sprung) old (with_read mid reader unread) now now (Ok tt)
-goes_on_sprung sprung old mid reader unread now puts springs =
+pub goes_on_sprung : (sprung : Sprung) (name : ShortName) (old mid : Coded) (reader : ReaderState) (unread : PageUnread) (now : Seen)
+    → old.interpreter.formatter.composer.due.sprung ≡ Some name → PutsBack (left_behind sprung old.interpreter.reader.meaning.events) old mid
+    → Springs (called_by name mid.unread.input.names) mid.interpreter.reader reader mid.unread unread (Ok tt)
+    → GoesOnSettled sprung old (with_read mid reader unread) now now (Ok tt)
+goes_on_sprung sprung name old mid reader unread now named puts springs =
     let left : List PageEvent = left_behind sprung old.interpreter.reader.meaning.events in record {
       limits = ap (λ (run : Coded). run.limits) puts.others;
-      goes = λ t tape start at.
-          let P : Coded → Type 0 = λ run. Springs (called_by sprung.name run.unread.input.names) run.interpreter.reader reader run.unread unread (Ok tt)
+      goes = λ t tape start most at.
+          let P : Coded → Type 0 = λ run. Springs (called_by name run.unread.input.names) run.interpreter.reader reader run.unread unread (Ok tt)
           → IsAt t tape start now (with_read run reader unread) in
-          subst P (sym (is-back left old mid puts at.room))
-          (λ reads. called_read (with_back left old) sprung.name reader unread t tape start now (is_sprung t tape start now sprung old at)
-          (called_by sprung.name old.unread.input.names) refl reads) springs;
-      turns = λ t tape start at.
-          let P : Coded → Type 0 = λ run. Springs (called_by sprung.name run.unread.input.names) run.interpreter.reader reader run.unread unread (Ok tt)
+          subst P (sym (is-back left old mid puts (room_back t tape start now sprung most old at)))
+          (λ reads. called_read (with_back left old) name reader unread t tape start now (is_sprung t tape start now sprung name most old named at)
+          (called_by name old.unread.input.names) refl reads) springs;
+      turns = λ t tape start most at.
+          let P : Coded → Type 0 = λ run. Springs (called_by name run.unread.input.names) run.interpreter.reader reader run.unread unread (Ok tt)
           → turns_of_run (with_read run reader unread) ≤ turns_of_run old in
-          subst P (sym (is-back left old mid puts at.room)) (λ reads. turns-read (called_by sprung.name old.unread.input.names) left old reader unread reads) springs;
+          let fewer = subst P (sym (is-back left old mid puts (room_back t tape start now sprung most old at)))
+          (λ reads. turns-read (called_by name old.unread.input.names) left old reader unread reads) springs in
+          omega (arith, fewer, turns-most old.limits at.history old most at.stands (omega (arith, at.stopped.lines, at.stopped.most)));
     }
 
 -- or a limit refuses that
-pub stops_sprung : (sprung : Sprung) (old mid new : Coded) (limit : Limit) (line : ℕ) (now behind : Seen) (status : Status)
-    → PutsBack (left_behind sprung old.interpreter.reader.meaning.events) old mid
-    → Springs (called_by sprung.name mid.unread.input.names) mid.interpreter.reader new.interpreter.reader mid.unread new.unread (Err limit)
+pub stops_sprung : (sprung : Sprung) (name : ShortName) (old mid new : Coded) (limit : Limit) (line : ℕ) (now behind : Seen) (status : Status)
+    → old.interpreter.formatter.composer.due.sprung ≡ Some name → PutsBack (left_behind sprung old.interpreter.reader.meaning.events) old mid
+    → Springs (called_by name mid.unread.input.names) mid.interpreter.reader new.interpreter.reader mid.unread new.unread (Err limit)
     → new.limits ≡ mid.limits → line ≡ mid.unread.input.line
     → ((t : Beginning) (tape : Tape) (start : Seen) → Halts new.limits t tape line (Limited limit) start now → OutcomeOf new.limits t tape status start behind)
-    → GoesOn (Some sprung) old new now behind (Err status)
-stops_sprung sprung old mid new limit line now behind status puts springs same line_is ends =
+    → GoesOnSettled sprung old new now behind (Err status)
+stops_sprung sprung name old mid new limit line now behind status named puts springs same line_is ends =
     let left : List PageEvent = left_behind sprung old.interpreter.reader.meaning.events in record {
       limits = same ∙ ap (λ (run : Coded). run.limits) puts.others;
-      goes = λ t tape start at.
-          let P : Coded → Type 0 = λ run. Springs (called_by sprung.name run.unread.input.names) run.interpreter.reader new.interpreter.reader run.unread new.unread (Err limit)
+      goes = λ t tape start most at.
+          let P : Coded → Type 0 = λ run. Springs (called_by name run.unread.input.names) run.interpreter.reader new.interpreter.reader run.unread new.unread (Err limit)
           → Halts run.limits t tape run.unread.input.line (Limited limit) start now in
           let halts : Halts mid.limits t tape mid.unread.input.line (Limited limit) start now =
-          subst P (sym (is-back left old mid puts at.room))
-          (λ reads. called_refused (with_back left old) sprung.name new.interpreter.reader new.unread t tape start now (is_sprung t tape start now sprung old at)
-          (called_by sprung.name old.unread.input.names) limit refl reads) springs in
+          subst P (sym (is-back left old mid puts (room_back t tape start now sprung most old at)))
+          (λ reads. called_refused (with_back left old) name new.interpreter.reader new.unread t tape start now (is_sprung t tape start now sprung name most old named at)
+          (called_by name old.unread.input.names) limit refl reads) springs in
           ends t tape start (rw (same, line_is) halts);
-      turns = λ t tape start at. tt;
+      turns = λ t tape start most at. tt;
     }

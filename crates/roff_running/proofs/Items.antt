@@ -1,26 +1,17 @@
 -- What a run of the code has come to behind each item of its input, where the definition takes one step.
-use Rattle.std.proofs.Common.{◌≡◌, ℕ, ◌≤◌, ◌<◌, List, [], ◌∷◌, ◌++◌, length, Result, Ok, Err, None, inl, inr, refl, subst, sym, ap, ◌∙◌, arith, append-nil, length-append}
+use Rattle.std.proofs.Common.{◌≡◌, ℕ, ◌≤◌, ◌<◌, List, [], ◌++◌, length, Result, Ok, Err, None, inl, inr, refl, subst, sym, ap, ◌∙◌, arith, append-nil, length-append}
 use Rattle.roff_num.specs.declared.limit.Limit.{Limit}
-use Rattle.roff_num.specs.declared.limits.Limits.{Limits}
 use Rattle.roff_source.specs.Tape.{Tape, Item, Failed, Stopped, items_then}
 use Rattle.roff_num.specs.Faults.{Rises}
-use Rattle.roff_input.specs.Looking.{looked_then}
-use Rattle.roff_input.specs.declared.looked.Looked.{Looked}
-use Rattle.roff_input.specs.declared.looked.Looked.TheVariants.{Nothing, Byte, Closed}
 use Rattle.roff_run.specs.declared.message.Message.TheVariants.{ReadFailed}
 use Rattle.roff_run.specs.declared.status.Status.{Status}
 use Rattle.roff_run.specs.declared.status.Status.TheVariants.{Device, Limit as Limited}
 use Rattle.roff_run.specs.Messages.{message_line}
-use Rattle.roff_reader.specs.Reader.Taken.{IsReady}
 use Rattle.roff_run.specs.Reading.Items.{PageUnread}
 use Rattle.roff_run.specs.Reading.Returns.{going_back}
-use Rattle.roff_run.specs.PageEvents.{PageEvent, PageHistory}
 use Rattle.roff_run.specs.declared.line_state.LineState.{LineState}
-use Rattle.roff_run.proofs.GoingBack.{going_back-by}
-use Rattle.roff_composer.specs.Composer.Standing.{StandFor}
 use Rattle.roff_formatter.specs.declared.formatter.Formatter.{Formatter}
-use Rattle.roff_formatter.specs.Formatter.Performing.{AllPerformed, Flows, PerformsEvents, acting, behind_events}
-use Rattle.roff_run.specs.Registers.Capped.{Capped}
+use Rattle.roff_formatter.specs.Formatter.Performing.{PerformsEvents, behind_events}
 use Rattle.roff_run.specs.Run.{State, ending_as, ending_with, going_back_to, initial, made, output, reported, step, stopped_by, told_step, unless_refused}
 use Rattle.roff_run.specs.Run.Counts.{counts_in, first_passed}
 use Rattle.roff_running.specs.declared.running.Running.{Running as Coded}
@@ -33,23 +24,13 @@ use Rattle.roff_running.specs.Running.Telling.{TellsOrHalts}
 use Rattle.roff_running.specs.Running.Turning.{Continues, IsAt, TookFrom, state_at}
 use Rattle.roff_interpreter.specs.Halting.{Halts, LimitStops, line_told}
 use Rattle.roff_sinks.specs.Sinks.{Sunk, Writes, Fails, Puts}
-use Rattle.roff_running.proofs.Acting.{IsLeftOf-looked_then}
+use Rattle.roff_interpreter.proofs.Halted.{IsLeftOf-looked_then}
 use Rattle.roff_sinks.proofs.Appending.{Appends-append}
 use Rattle.roff_interpreter.specs.Room.{FewFor}
 use Rattle.roff_interpreter.proofs.Calls.{EndsThere, Leaves}
 use Rattle.roff_formatter.proofs.Performed.{between, faults_of_err}
 use Rattle.roff_run.proofs.Leads.{Leads-to, ToldLeads-to, told_step-beyond, told_step-within}
-
--- the source may have had faults more
-pub Reaches-failures : (l : Limits) (t : Beginning) (start : Seen) (old failures : ℕ) (out err : Sunk) (s : State) → old ≤ failures
-    → Reaches l t start (seen old out err) s → Reaches l t start (seen failures out err) s
-Reaches-failures l t start old failures out err s more reached = record {
-  comes = reached.comes;
-  text = reached.text;
-  messages = reached.messages;
-  faults = record { source = omega (arith, reached.faults.source, more); out = reached.faults.out; err = reached.faults.err };
-  room = reached.room;
-}
+use Rattle.roff_interpreter.proofs.StatesBehind.{Reaches-failures, back_performed, ready_behind, all_left}
 
 -- the run of the code with this unread input
 abbrev pub moved : Coded → PageUnread → Coded
@@ -60,30 +41,6 @@ abbrev pub returned : LineState → Formatter → Coded → PageUnread → Coded
 returned reading f run left = record (moved run left) {
   interpreter = record run.interpreter { formatter = f; reader = record run.interpreter.reader { reading = reading } };
 }
-
--- what going back to something means was performed, and nothing came before it
-pub back_performed : (reading : LineState) (f g : Formatter) (l : Limits) (t : Beginning) (start : Seen) (failures : ℕ) (out err : Sunk) (s : State) (h : PageHistory)
-    → PerformsEvents (going_back reading) f g out out (Ok None) → StandFor l h f.composer
-    → Reaches l t start (seen failures out err) (acting s (going_back reading ++ []) h)
-    → AllPerformed l t start (seen failures out err) s (behind_events s.registers (going_back reading) h) [] g.composer
-back_performed reading f g l t start failures out err s h performs stands reaches =
-    performs.performs l t start failures err s h [] stands (going_back-by (λ (es : List PageEvent). Flows s.registers es h) tt (refl, tt) reading) reaches
-
--- behind a call that raises no count, no count is above its limit
-pub ready_behind : {gave gives : Tape → Type 0} {taken : List Item} (r : Capped) (u left : PageUnread) → Leaves gave gives u left taken
-    → IsReady r u → IsReady r left
-ready_behind r u left leaves ready = record {
-  cap = ready.cap ∙ ap (λ (l : Limits). l.names) (sym leaves.limits);
-  line = ready.line ∙ ap (λ (l : Limits). l.line) (sym leaves.limits);
-  within = rw leaves.limits (leaves.within r.all ready.within);
-}
-
--- where nothing was looked at or taken, all of a tape is left
-all_left : (looked : Looked) (taken : List Item) (tape : Tape) → looked ≡ Nothing → taken ≡ [] → tape ≡ looked_then looked (items_then taken tape)
-all_left Nothing [] tape none nothing = refl
-all_left Nothing (item ∷ items) tape none nothing = cc
-all_left (Byte b) taken tape none nothing = cc
-all_left (Closed kept) taken tape none nothing = cc
 
 -- A call took these items of the source, and left this; the run of the definition stands before it, at one state, and
 -- one step leads on.

@@ -16,6 +16,7 @@ pub mod PassingEnds
 pub mod ComingFurther
 pub mod EndsAtOnce
 pub mod Telling
+pub mod GlyphsTold
 pub mod BehindTexts
 pub mod Beginning
 pub mod BytesActed
@@ -28,3 +29,6 @@ pub mod ConditionsAtOnce
 pub mod EventsMeant
 pub mod SteppedRegisters
 pub mod Unfilled
+pub mod Settling
+pub mod LeftPerformed
+pub mod StopsNext

@@ -33,7 +33,8 @@ use Rattle.roff_running.specs.Running.Turning.{GoesFurther, IsAt, state_at}
 use Rattle.roff_sinks.specs.Sinks.{Sunk}
 use Rattle.roff_interpreter.proofs.Fronts.{few-none}
 use Rattle.roff_running.proofs.BytesPassed.{ComesBehind, goes_further-passed}
-use Rattle.roff_running.proofs.Passing.{IsAt-leads, none-read}
+use Rattle.roff_interpreter.proofs.FewRead.{none-read}
+use Rattle.roff_running.proofs.Passing.{IsAt-leads}
 use Rattle.roff_running.proofs.SteppedRegisters.{run_with}
 use Rattle.roff_running.proofs.TurnsLeft.{turns_of_run-fewer}
 

@@ -1,6 +1,6 @@
 -- A run that goes past the end of a text ahead, or of a call.
-use Rattle.std.proofs.Common.{◌++◌, ◌≡◌, ℕ, suc, zero, ◌+◌, ◌<◌, ◌≤◌, Bool, true, false, List, [], ◌∷◌, Option, Some, None, refl, sym, ap, subst, ◌∙◌, arith}
-use Rattle.std.specs.Prelude.{if◌then◌else◌, nat_lt}
+use Rattle.std.proofs.Common.{◌≡◌, ℕ, suc, zero, ◌+◌, ◌<◌, Bool, true, false, List, [], ◌∷◌, Option, Some, None, refl, sym, ap, subst, ◌∙◌, arith}
+use Rattle.std.specs.Prelude.{if◌then◌else◌}
 use Rattle.std.proofs.lemmas.Bool.{le-ltb}
 use Rattle.roff_num.specs.declared.limit.Limit.{Limit}
 use Rattle.roff_num.specs.declared.limit.Limit.TheVariants.{Bytes}
@@ -11,23 +11,20 @@ use Rattle.roff_escape.specs.declared.open_escape.Waiting.{Waiting}
 use Rattle.roff_escape.specs.Waiting.{is_ended_by}
 use Rattle.roff_escape.specs.declared.open_escape.Waiting.TheVariants.{Takes as TakesAny, Waits}
 use Rattle.roff_run.specs.Reading.Waiting.{line_waits, waiting_above, waiting_in}
-use Rattle.roff_input.specs.Input.{Ahead, EndAhead, ReturnAhead, is_none_ahead, item_taken}
+use Rattle.roff_input.specs.Input.{Ahead, EndAhead, ReturnAhead, item_taken}
 use Rattle.roff_source.specs.Tape.{Tape}
-use Rattle.roff_scan.proofs.Asking.{takes_ahead}
-use Rattle.roff_input.specs.Unread.{IsWithin, taking_first}
-use Rattle.roff_input.specs.Shown.{ShowsEnd, ShowsRefusal, Sighted, SeesByte, seen_ahead}
-use Rattle.roff_scan.specs.Unread.Calls.{PassesEnd, PassesReturn, Takes}
+use Rattle.roff_input.specs.Unread.{IsWithin}
+use Rattle.roff_input.specs.Shown.{Sighted, SeesByte, seen_ahead}
+use Rattle.roff_scan.specs.Unread.Calls.{PassesEnd, PassesReturn}
 use Rattle.roff_run.specs.Reading.Items.{PageUnread}
 use Rattle.roff_run.specs.Reading.Returns.{behind_return}
-use Rattle.roff_run.proofs.Behind.{begun-behind_return}
-use Rattle.roff_run.proofs.GoingBack.{going_back-start}
 use Rattle.roff_run.specs.Reading.Ends.{due}
 use Rattle.roff_run.specs.Reading.Items.{PageInput}
 use Rattle.roff_run.specs.Registers.{AllRegisters}
 use Rattle.roff_run.specs.Output.{PageHistory}
-use Rattle.roff_run.specs.Run.{Leads, State, awaited, escape_ends, in_front_taken, item_read, made, read_waiting, step, stopped_by, unless_refused}
+use Rattle.roff_run.specs.Run.{Leads, State, nothing_follows, awaited, escape_ends, in_front_taken, item_read, made, read_waiting, step, stopped_by, unless_refused}
 use Rattle.roff_run.specs.Run.Counts.{counts_in, first_passed}
-use Rattle.roff_run.specs.TurnsToCome.{begun, free_ahead, turns_to_come, turns_within}
+use Rattle.roff_run.specs.TurnsToCome.{turns_to_come}
 use Rattle.roff_run.specs.PageEvents.{PageEvent}
 use Rattle.roff_run.specs.declared.line_state.LineState.{LineState}
 use Rattle.roff_run.proofs.InputCounts.{IsWithin-allowed, first_passed-few_names}
@@ -41,40 +38,10 @@ use Rattle.roff_running.specs.Running.Turning.{GoesFurther, GoesPast, IsAt, stat
 use Rattle.roff_running.proofs.Passing.{IsAt-leads}
 use Rattle.roff_input.specs.Input.Few.{AreFew}
 use Rattle.roff_interpreter.proofs.Fronts.{few-sees, few-undecided}
-use Rattle.roff_running.proofs.Waiting.{takes-next}
+use Rattle.roff_interpreter.proofs.Sighted.{takes-next}
 use Rattle.roff_running.proofs.TurnsLeft.{turns_of_run-fewer}
 use Rattle.roff_running.proofs.PassingOn.{goes_further_none, goes_past_none}
-
--- An item in front that is an end is taken in a step, and this is read on behind it: fewer turns are to come, and none for what is
--- read then.
-record IsEnd (item : Ahead PageEvent) (reads_on : LineState → LineState) : Type 0 where
-  taken : (l : Limits) (s : State) (behind : List (Ahead PageEvent))
-      → let there : State = record s { input = item_taken item behind s.input; reading = reads_on s.reading } in
-      in_front_taken l (item ∷ behind) s ≡ (if nat_lt l.bytes (s.input.charge + 1) then stopped_by l Bytes s else made l s there)
-  begun_behind : (reading : LineState) → begun (reads_on reading) ≤ begun reading
-  few : (behind : List (Ahead PageEvent)) → AreFew (item ∷ behind) → AreFew behind
-  fewer : (most : ℕ) (i : PageInput) (behind : List (Ahead PageEvent)) → i.ahead ≡ item ∷ behind → i.charge < most
-      → turns_within most (item_taken item behind i) < turns_within most i
-
--- that of a text is, and that of a call
-end_of_text : IsEnd EndAhead (λ reading. reading)
-end_of_text = record {
-  taken = λ l s behind. refl;
-  begun_behind = λ reading. omega arith;
-  few = λ behind few. few;
-  fewer = λ most i behind front allowed. omega (arith, allowed, ap free_ahead front);
-}
-
-end_of_call : IsEnd (ReturnAhead 0) (λ reading. behind_return 0 reading)
-end_of_call = record {
-  taken = λ l s behind.
-      let there : State = record s { input = item_taken (ReturnAhead 0) behind s.input; reading = behind_return 0 s.reading } in
-      ap (λ (es : List PageEvent). if nat_lt l.bytes (s.input.charge + 1) then stopped_by l Bytes s else made l s (record there { to_do = es ++ s.to_do }))
-      (going_back-start s.reading);
-  begun_behind = λ reading. omega (arith, begun-behind_return 0 reading);
-  few = λ behind few. few;
-  fewer = λ most i behind front allowed. omega (arith, allowed, ap free_ahead front);
-}
+use Rattle.roff_interpreter.proofs.EndsTaken.{IsEnd, end_of_text, end_of_call}
 
 module _ (item : Ahead PageEvent) (reads_on : LineState → LineState) (ends : IsEnd item reads_on) (old : Coded) (after : PageUnread) (behind : List (Ahead PageEvent))
     (none_due : due old.interpreter.reader.reading ≡ None) (front : old.unread.input.ahead ≡ item ∷ behind)
@@ -88,7 +55,7 @@ module _ (item : Ahead PageEvent) (reads_on : LineState → LineState) (ends : I
   over = record old.interpreter { reader = record old.interpreter.reader { reading = reads_on old.interpreter.reader.reading } }
 
   -- it is taken in a step
-  step-end : (l : Limits) (s : State) → s.ended ≡ None → s.to_do ≡ [] → s.sprung ≡ None → due s.reading ≡ None → s.input.ahead ≡ item ∷ behind → item_read l s ≡ in_front_taken l s.input.ahead s → s.input.charge < l.bytes
+  step-end : (l : Limits) (s : State) → s.ended ≡ None → s.to_do ≡ [] → s.follows ≡ nothing_follows → due s.reading ≡ None → s.input.ahead ≡ item ∷ behind → item_read l s ≡ in_front_taken l s.input.ahead s → s.input.charge < l.bytes
       → first_passed l (counts_in s.registers (item_taken item behind s.input)) ≡ None
       → step l s ≡ record s { input = item_taken item behind s.input; reading = reads_on s.reading }
   step-end l s going idle unsprung none_due in_front any few fits =
@@ -151,17 +118,6 @@ module _ (item : Ahead PageEvent) (reads_on : LineState → LineState) (ends : I
   few_any few =
       few-undecided [] (reads_on old.interpreter.reader.reading) old.unread.input.escapes behind (ends.few behind (subst (λ (items : List (Ahead PageEvent)). AreFew items) front few.few))
       (takes-next old.interpreter.reader.reading old.unread.input.arguments.place old.unread.input.escapes any)
-
--- so it is taken as the front item is
-pub takes_end : (gave : Tape → Type 0) (before after : PageUnread) → PassesEnd before after → Takes gave gave before after ShowsEnd
-takes_end gave before after passes =
-    let ahead = ap (λ (items : List (Ahead PageEvent)). is_none_ahead items) passes.in_front in
-    takes_ahead gave before before after refl ShowsEnd ahead
-    (λ a.
-    ap (λ (u : PageUnread). (ShowsEnd, u)) passes.input
-    ∙ sym (ap (λ (items : List (Ahead PageEvent)). taking_first items a before) passes.in_front
-    ∙ ap (λ (c : Bool). if c then (ShowsRefusal Bytes, before) else (ShowsEnd, record before { input = item_taken EndAhead passes.behind before.input }))
-    (le-ltb before.limits.bytes (before.input.charge + 1) passes.within)))
 
 -- past the end of a text, or past nothing
 pub goes_further_passed : (old new : Coded) (is_passed : Bool) → (is_passed ≡ true → due old.interpreter.reader.reading ≡ None)

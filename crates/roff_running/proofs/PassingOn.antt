@@ -19,7 +19,7 @@ use Rattle.roff_running.specs.Running.Turning.{GoesFurther, GoesPast, GoesPastIf
 use Rattle.roff_sinks.specs.Sinks.{Sunk}
 use Rattle.roff_running.proofs.Turned.{goes_past_turned}
 use Rattle.roff_running.proofs.TurnsLeft.{turns_of_run-fewer}
-use Rattle.roff_running.proofs.Waiting.{items_then-append}
+use Rattle.roff_interpreter.proofs.Sighted.{items_then-append}
 
 -- past some bytes, and then past others
 pub goes_past_both : (gave mid gives : Tape → Type 0) (noted kept notes : ℕ) (old between new : Coded) (now halfway behind : Seen)

@@ -40,7 +40,8 @@ use Rattle.roff_running.specs.Running.Turning.{GoesFurther, GoesPast, IsAt, stat
 use Rattle.roff_sinks.specs.Sinks.{Sunk}
 use Rattle.roff_interpreter.proofs.Fronts.{few-none}
 use Rattle.roff_running.proofs.BytesPassed.{ComesBehind, goes_further-passed}
-use Rattle.roff_running.proofs.Passing.{IsAt-leads, few-behind_escape}
+use Rattle.roff_interpreter.proofs.FewRead.{few-behind_escape}
+use Rattle.roff_running.proofs.Passing.{IsAt-leads}
 use Rattle.roff_running.proofs.PassingEnds.{goes_further_passed}
 use Rattle.roff_running.proofs.PassingOn.{goes_further_none, goes_past_both, goes_past_kept}
 use Rattle.roff_running.proofs.Telling.{goes_past_told}

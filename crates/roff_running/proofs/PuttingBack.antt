@@ -14,7 +14,7 @@ use Rattle.roff_interpreter.specs.declared.interpreter.Interpreter.{Interpreter}
 use Rattle.roff_running.specs.declared.running.Running.{Running as Coded}
 use Rattle.roff_interpreter.specs.Room.{HasRoom}
 use Rattle.roff_running.specs.Running.Springing.{PutsBack}
-use Rattle.roff_formatter.specs.Formatter.Sprung.{event_going_on, first_going_on, left_behind}
+use Rattle.roff_formatter.specs.Formatter.Sprung.{event_going_on, first_going_on, is_going_on, left_behind}
 use Rattle.roff_formatter.specs.declared.sprung.Sprung.{Sprung}
 use Rattle.roff_formatter.proofs.EventsLeft.{drop-at, drop-past, drop-past-next, going-none}
 
@@ -123,14 +123,14 @@ puts_past old mid index some puts at =
     subst (λ (es : List PageEvent). PutsBack es old mid) (sym none) puts
 
 -- What is left of those that the reader keeps was put back: those from an index on, where none goes on.
-pub puts_left : (sprung : Sprung) (old mid : Coded) → sprung.goes_on ≡ false → PutsBack (drop sprung.left old.interpreter.reader.meaning.events) old mid
+pub puts_left : (sprung : Sprung) (old mid : Coded) → is_going_on sprung.why ≡ false → PutsBack (drop sprung.left old.interpreter.reader.meaning.events) old mid
     → PutsBack (left_behind sprung old.interpreter.reader.meaning.events) old mid
 puts_left sprung old mid is puts =
     let left : List PageEvent = drop sprung.left old.interpreter.reader.meaning.events in
     subst (λ (events : List PageEvent). PutsBack events old mid) (sym (ap (λ (b : Bool). first_going_on b left) is ∙ going-none left)) puts
 
 -- and in front of those behind it the one that goes on
-pub puts_going_on : (sprung : Sprung) (old mid : Coded) (reader : ReaderState) (left : PageUnread) (event : PageEvent) → sprung.goes_on ≡ true
+pub puts_going_on : (sprung : Sprung) (old mid : Coded) (reader : ReaderState) (left : PageUnread) (event : PageEvent) → is_going_on sprung.why ≡ true
     → PutsBack (drop (sprung.left + 1) old.interpreter.reader.meaning.events) old mid
     → slice_get mid.interpreter.reader.meaning.events sprung.left ≡ Some event
     → reader ≡ reader_keeping (event_going_on event ∷ []) mid.interpreter.reader
@@ -153,5 +153,5 @@ puts_gone sprung old mid puts at =
     let stands : slice_get events sprung.left ≡ None =
     subst (λ (es : List PageEvent). slice_get es sprung.left ≡ None) (kept_same (drop (sprung.left + 1) events) old mid puts) at in
     let none : left_behind sprung events ≡ drop (sprung.left + 1) events =
-    ap (λ (es : List PageEvent). first_going_on sprung.goes_on es) (drop-past events sprung.left stands) ∙ sym (drop-past-next events sprung.left stands) in
+    ap (λ (es : List PageEvent). first_going_on (is_going_on sprung.why) es) (drop-past events sprung.left stands) ∙ sym (drop-past-next events sprung.left stands) in
     subst (λ (es : List PageEvent). PutsBack es old mid) (sym none) puts

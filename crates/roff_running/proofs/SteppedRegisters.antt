@@ -39,7 +39,8 @@ use Rattle.roff_running.specs.declared.running.Running.{Running as Coded}
 use Rattle.roff_running.specs.Running.Turning.{GoesFurther, GoesPast, IsAt, state_at}
 use Rattle.roff_sinks.specs.Sinks.{Sunk}
 use Rattle.roff_running.proofs.BytesPassed.{ComesBehind, goes_further-passed}
-use Rattle.roff_running.proofs.Passing.{IsAt-leads, few-behind_escape}
+use Rattle.roff_interpreter.proofs.FewRead.{few-behind_escape}
+use Rattle.roff_running.proofs.Passing.{IsAt-leads}
 use Rattle.roff_running.proofs.PassingEnds.{goes_further_passed}
 use Rattle.roff_running.proofs.PassingOn.{goes_past_both}
 use Rattle.roff_running.proofs.PutRegisters.{goes_further_then}

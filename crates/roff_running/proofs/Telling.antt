@@ -40,7 +40,8 @@ use Rattle.roff_running.specs.Running.Turning.{GoesPast, GoesPastIf, IsAt, line_
 use Rattle.roff_sinks.specs.Sinks.{Sunk}
 use Rattle.roff_formatter.proofs.Telling.{all_by}
 use Rattle.roff_running.proofs.BytesPassed.{ComesBehind, goes_past_if-passed}
-use Rattle.roff_running.proofs.Passing.{IsAt-leads, few-alone, goes_past_if-fewer}
+use Rattle.roff_interpreter.proofs.FewRead.{few-alone}
+use Rattle.roff_running.proofs.Passing.{IsAt-leads, goes_past_if-fewer}
 use Rattle.roff_interpreter.specs.Room.{FewFor}
 use Rattle.roff_running.proofs.TurnsLeft.{turns_of_run-no_more}
 use Rattle.roff_run.specs.Reading.Items.{Taking}

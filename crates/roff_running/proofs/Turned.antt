@@ -31,7 +31,8 @@ use Rattle.roff_running.specs.Running.Turning.{GoesPast, IsAt, line_turns, lines
 use Rattle.roff_sinks.specs.Sinks.{Sunk}
 use Rattle.roff_interpreter.proofs.Fronts.{few-none}
 use Rattle.roff_running.proofs.BytesPassed.{goes_past-passed}
-use Rattle.roff_running.proofs.Passing.{IsAt-leads, none-read}
+use Rattle.roff_interpreter.proofs.FewRead.{none-read}
+use Rattle.roff_running.proofs.Passing.{IsAt-leads}
 use Rattle.roff_interpreter.specs.Room.{FewFor}
 use Rattle.roff_input.specs.Input.Few.{AreFew, AreFewFrom}
 use Rattle.roff_running.proofs.TurnsLeft.{turns_of_run-fewer, turns_of_run-no_more}

@@ -32,12 +32,13 @@ use Rattle.roff_sinks.specs.Sinks.{Sunk}
 use Rattle.roff_running.specs.declared.running.Running.{Running as Coded}
 use Rattle.roff_running.specs.Running.Turning.{AreLeft, ComesFurther, Continues, DoesItem, GoesPast, GoesPastIf, IsAt, StandsForSome, StepDoes, TurnsBy, turns_with}
 use Rattle.roff_running.specs.Running.Unfilled.{BehindGlyph, FromFirst, LineInFront, ReadsText}
-use Rattle.roff_running.proofs.Beginning.{begun-some, escapes-passed, goes_past_begun, turns_behind}
+use Rattle.roff_fronts.proofs.LinesBegun.{escapes-passed}
+use Rattle.roff_running.proofs.Beginning.{begun-some, goes_past_begun, turns_behind}
 use Rattle.roff_running.proofs.ComingFurther.{comes_turned}
 use Rattle.roff_running.proofs.PassingOn.{goes_past_known}
 use Rattle.roff_running.proofs.Telling.{goes_past_told}
 use Rattle.roff_running.proofs.WaitedBytes.{byte_alone}
-use Rattle.roff_running.proofs.Waiting.{items_then-append}
+use Rattle.roff_interpreter.proofs.Sighted.{items_then-append}
 use Rattle.roff_running.proofs.ComingFurther.{read_turn}
 
 -- what the formatter found in front of a text line is that line

@@ -1,19 +1,14 @@
 -- A turn in which what is half read waits for a byte: what is seen, and what is done with it.
-use Rattle.roff_escape.specs.Conditions.{is_decided}
-use Rattle.roff_escape.specs.OpenEscape.{OpenEscape, Backslash, Comment, Name, Size, Delimited, Width, Condition}
-use Rattle.roff_escape.specs.declared.open_escape.ConditionPart.TheVariants.{Choice, Expression, Compared, Decided}
-use Rattle.std.proofs.Common.{◌≡◌, ℕ, ◌<◌, ◌≤◌, Bool, true, false, List, ◌++◌, length, Option, Some, None, Result, Err, refl, sym, ap, subst, ◌∙◌, arith, append_assoc, ◌∷◌, []}
-use Rattle.std.specs.Prelude.{if◌then◌else◌}
+use Rattle.std.proofs.Common.{◌≡◌, ℕ, ◌<◌, ◌≤◌, true, false, List, ◌++◌, length, Option, Some, None, Result, Err, refl, sym, ap, subst, ◌∙◌, arith, []}
 use Rattle.roff_num.specs.declared.limit.Limit.{Limit}
-use Rattle.roff_num.specs.declared.limits.Limits.{Limits}
 use Rattle.roff_input.specs.declared.place.Place.{Place}
 use Rattle.roff_escape.specs.Waiting.{decides as decides_by, is_ended_by}
 use Rattle.roff_escape.specs.declared.open_escape.Waiting.{Waiting}
-use Rattle.roff_escape.specs.declared.open_escape.Waiting.TheVariants.{Takes as TakesAny, Decides, Waits}
-use Rattle.roff_source.specs.Tape.{Tape, Item, Ending, Ended, Failed, Stopped, items_then}
+use Rattle.roff_escape.specs.declared.open_escape.Waiting.TheVariants.{Decides}
+use Rattle.roff_source.specs.Tape.{Tape, Item, Ending, Failed, Stopped, items_then}
 use Rattle.roff_num.specs.Faults.{Rises}
 use Rattle.roff_input.specs.Unread.{asks_to_look, looking, looking_past}
-use Rattle.roff_input.specs.Shown.{Sighted, SeesByte, SeesNothing, SeesNote, SeesEnding, seen_ahead}
+use Rattle.roff_input.specs.Shown.{Sighted, SeesNothing, SeesNote, SeesEnding, seen_ahead}
 use Rattle.roff_scan.specs.Unread.Calls.{Looks}
 use Rattle.roff_run.specs.declared.message.Message.TheVariants.{ReadFailed}
 use Rattle.roff_run.specs.declared.status.Status.{Status}
@@ -21,59 +16,26 @@ use Rattle.roff_run.specs.declared.status.Status.TheVariants.{Device, Limit as L
 use Rattle.roff_run.specs.Messages.{message_line}
 use Rattle.roff_run.specs.Output.{PageHistory}
 use Rattle.roff_run.specs.Reading.Items.{PageUnread}
-use Rattle.roff_run.specs.Reading.Items.{PageInput, Taking}
-use Rattle.roff_run.specs.Run.{State, awaited, escape_ends, in_front_taken, known, made, read_waiting, item_read, step}
+use Rattle.roff_run.specs.Reading.Items.{PageInput}
+use Rattle.roff_run.specs.Run.{State, awaited, escape_ends, in_front_taken, known, read_waiting, item_read, step}
 use Rattle.roff_run.specs.Reading.{escape_ended}
-use Rattle.roff_run.specs.Registers.{Known}
-use Rattle.roff_run.specs.Reading.Waiting.{waiting_above, waiting_in}
+use Rattle.roff_run.specs.Reading.Waiting.{waiting_in}
 use Rattle.roff_run.specs.declared.line_state.LineState.{LineState}
 use Rattle.roff_running.specs.declared.running.Running.{Running as Coded}
 use Rattle.roff_interpreter.specs.Outcome.{Beginning, Seen, seen}
 use Rattle.roff_running.specs.Running.Turning.{DoesItem, IsAt, StepDoes, TurnsBy, state_at, turns_with}
 use Rattle.roff_sinks.specs.Sinks.{Sunk, Puts}
-use Rattle.roff_input.proofs.FewEvents.{few-behind}
-use Rattle.roff_interpreter.specs.Room.{FewFor, SeesOn, decides_next}
+use Rattle.roff_interpreter.specs.Room.{FewFor, SeesOn}
 use Rattle.roff_interpreter.proofs.EndsUnseen.{few-unseen}
-use Rattle.roff_interpreter.proofs.Fronts.{few-appended, few-seen_ended}
+use Rattle.roff_interpreter.proofs.Fronts.{few-appended}
 use Rattle.roff_interpreter.proofs.Calls.{EndsThere, EndsThere-looks, Leaves, Leaves-looks, Leaves-deciding}
 use Rattle.roff_running.specs.Running.Telling.{TellsOrHalts}
 use Rattle.roff_running.proofs.Items.{looked_at, moved, note_continues, source_failed, source_stopped}
 use Rattle.roff_running.proofs.Turns.{LeavesFewer, acted, leaves_fewer, on_ok, on_ok-then, turned, turns_of}
-use Rattle.roff_run.proofs.InFront.{Given-asked, IsNoNote, Looks-looking, items_asked, over_unread, over_unread-looking, front_step, seen as seen_step, sighted_step}
+use Rattle.roff_run.proofs.InFront.{Given-asked, IsNoNote, Looks-looking, items_asked, over_unread, over_unread-looking, seen as seen_step, sighted_step}
 use Rattle.roff_run.proofs.TurnsToCome.{turns_within-escape_ended}
 use Rattle.roff_run.proofs.Waiting.{ended-deciding, length-is_ended_by}
-
--- a look shows this in front, a byte or nothing that can be read: no message, fault or limit of the source's
-abbrev pub ShowsFront : Option ℕ → Sighted → Type 0
-ShowsFront seen (SeesByte b) = seen ≡ Some b
-ShowsFront seen SeesNothing = seen ≡ None
-ShowsFront seen (SeesNote message) = ⊥
-ShowsFront seen (SeesEnding Ended) = seen ≡ None
-ShowsFront seen (SeesEnding Failed) = ⊥
-ShowsFront seen (SeesEnding (Stopped limit)) = ⊥
-
-no_note_in_front : (seen : Option ℕ) (sight : Sighted) → ShowsFront seen sight → IsNoNote sight
-no_note_in_front seen (SeesByte b) is = tt
-no_note_in_front seen SeesNothing is = tt
-no_note_in_front seen (SeesNote message) is = is
-no_note_in_front seen (SeesEnding ending) is = tt
-
--- the step goes by it
-sighted_step-front : (l : Limits) (seen : Option ℕ) (sight : Sighted) (from behind : State) → ShowsFront seen sight
-    → sighted_step l sight from behind ≡ front_step l seen from behind
-sighted_step-front l seen (SeesByte b) from behind is = ap (λ (o : Option ℕ). front_step l o from behind) (sym is)
-sighted_step-front l seen SeesNothing from behind is = ap (λ (o : Option ℕ). front_step l o from behind) (sym is)
-sighted_step-front l seen (SeesNote message) from behind is = absurd is
-sighted_step-front l seen (SeesEnding Ended) from behind is = ap (λ (o : Option ℕ). front_step l o from behind) (sym is)
-sighted_step-front l seen (SeesEnding Failed) from behind is = absurd is
-sighted_step-front l seen (SeesEnding (Stopped limit)) from behind is = absurd is
-
--- what is seen stays, and what is half read ends; or it doesn't, and the item in front is taken
-front_step-by : (l : Limits) (seen : Option ℕ) (from behind : State) (stays : Bool)
-    → is_ended_by behind.input.escapes seen ≡ stays
-    → front_step l seen from behind ≡ (if stays then made l from (escape_ends behind) else in_front_taken l behind.input.ahead behind)
-front_step-by l seen from behind stays is =
-    ap (λ (c : Bool). if c then made l from (escape_ends behind) else in_front_taken l behind.input.ahead behind) is
+use Rattle.roff_interpreter.proofs.Sighted.{ShowsFront, no_note_in_front, sighted_step-front, front_step-by, few-ended_by, sees-front, items_then-append}
 
 -- the call that looks ahead
 module _ {gave gives : Tape → Type 0} {left : PageUnread} {sight : Sighted} (old : Coded) (call : Looks gave gives old.unread left sight) where
@@ -121,61 +83,6 @@ module _ {gave gives : Tape → Type 0} {left : PageUnread} {sight : Sighted} (o
       let given = Given-asked gave gives (asks_to_look old.unread) call.answer call.asked tape may in
       subst (λ (c : Sighted × PageUnread). IsNoNote c.0 → over_unread c.1 tape from ≡ from) left_is
       (over_unread-looking old.unread call.answer (items_then taken tape) tape from given) quiet
-
--- where a condition that decided is next it ends before what can't be read, or what stands above it does
-ended-next : (half : List OpenEscape) → decides_next half ≡ true → is_ended_by half None ≡ true
-ended-next [] next = absurd (cc)
-ended-next (Backslash ∷ rest) next = absurd (cc)
-ended-next (Comment ∷ rest) next = absurd (cc)
-ended-next (Name purpose part ∷ rest) next = absurd (cc)
-ended-next (Size part ∷ rest) next = refl
-ended-next (Delimited purpose d text ∷ rest) next = absurd (cc)
-ended-next (Width d width is_deep ∷ rest) next = absurd (cc)
-ended-next (Condition (Choice negated) text ∷ rest) next = absurd (cc)
-ended-next (Condition (Expression negated) text ∷ rest) next = absurd (cc)
-ended-next (Condition (Compared negated d first) text ∷ rest) next = absurd (cc)
-ended-next (Condition (Decided decision freed) text ∷ rest) next = refl
-
--- none is where the item in front is taken, whatever it is
-takes-none : (b : Bool) → (if b then Decides else Waits) ≡ TakesAny → b ≡ false
-takes-none true takes = cc
-takes-none false takes = cc
-
-pub takes-next : (reading : LineState) (place : Place) (half : List OpenEscape) → waiting_above reading place half ≡ TakesAny → decides_next half ≡ false
-takes-next reading place [] takes = refl
-takes-next reading place (Backslash ∷ rest) takes = refl
-takes-next reading place (Comment ∷ rest) takes = refl
-takes-next reading place (Name purpose part ∷ rest) takes = refl
-takes-next reading place (Size part ∷ rest) takes = cc
-takes-next reading place (Delimited purpose d text ∷ rest) takes = refl
-takes-next reading place (Width d width is_deep ∷ rest) takes = refl
-takes-next reading place (Condition part text ∷ rest) takes = takes-none (is_decided part) takes
-
--- so nothing is asked of what is seen in front there
-pub sees-taking : (reading : LineState) (i : PageInput) → waiting_in reading i ≡ TakesAny → SeesOn i
-sees-taking reading i takes = λ next none. let goes_on = takes-next reading i.arguments.place i.escapes takes in cc
-
-pub sees-alone : (i : PageInput) → i.escapes ≡ [] → SeesOn i
-sees-alone i none = λ next seen. let goes_on : decides_next i.escapes ≡ false = ap decides_next none in cc
-
--- there is room for what is left where what is half read ends before what is seen
-few-ended_by : (k : Known) (reading : LineState) (i : PageInput) (seen_byte : Option ℕ) (sight : Sighted) → ShowsFront seen_byte sight → is_ended_by i.escapes seen_byte ≡ true
-    → (seen_ahead i.ahead ≡ Some SeesNothing → sight ≡ SeesNothing) → FewFor [] reading i.escapes i.ahead
-    → let t : Taking = escape_ended k reading i in FewFor t.effect.events t.reading t.input.escapes i.ahead
-few-ended_by k reading i seen_byte (SeesByte b) is stays seen few = few-seen_ended k reading i (few-behind 5 i.ahead few.few (λ none. let wrong = seen none in cc))
-few-ended_by k reading i seen_byte SeesNothing is stays seen few = few-unseen k reading i (subst (λ (o : Option ℕ). is_ended_by i.escapes o ≡ true) is stays) few
-few-ended_by k reading i seen_byte (SeesNote message) is stays seen few = absurd is
-few-ended_by k reading i seen_byte (SeesEnding ending) is stays seen few = few-seen_ended k reading i (few-behind 5 i.ahead few.few (λ none. let wrong = seen none in cc))
-
--- what is seen and stays shows that
-sees-front : (i : PageInput) (seen_byte : Option ℕ) (sight : Sighted) → ShowsFront seen_byte sight → is_ended_by i.escapes seen_byte ≡ false
-    → (seen_ahead i.ahead ≡ Some SeesNothing → sight ≡ SeesNothing) → SeesOn i
-sees-front i seen_byte (SeesByte b) is goes_on seen = λ next none. let wrong = seen none in cc
-sees-front i seen_byte SeesNothing is goes_on seen = λ next none.
-    let ends = ended-next i.escapes next in
-    let stays : is_ended_by i.escapes None ≡ false = subst (λ (o : Option ℕ). is_ended_by i.escapes o ≡ false) is goes_on in cc
-sees-front i seen_byte (SeesNote message) is goes_on seen = absurd is
-sees-front i seen_byte (SeesEnding ending) is goes_on seen = λ next none. let wrong = seen none in cc
 
 pub sees-look : {gave gives : Tape → Type 0} {left : PageUnread} {sight : Sighted} (old : Coded) (call : Looks gave gives old.unread left sight) (seen_byte : Option ℕ)
     → ShowsFront seen_byte sight → is_ended_by left.input.escapes seen_byte ≡ false → SeesOn left.input
@@ -278,10 +185,6 @@ waiting_decides gives old new failures out err notes after r decides acts =
     let s : State = state_at tape old h ms in
     few-appended (escape_ended (known s) s.reading old.unread.input) old.unread.input.ahead (few-unseen (known s) s.reading old.unread.input stays few))
     acts
-
--- items, and then others, are both in this order
-pub items_then-append : (first others : List Item) (tape : Tape) → items_then (first ++ others) tape ≡ items_then first (items_then others tape)
-items_then-append first others tape = ap (λ (items : List Item). record { items = items; ending = tape.ending }) (append_assoc first others tape.items)
 
 -- what is seen stays, and a turn follows that takes the item in front
 module _ {gave mid gives : Tape → Type 0} {left : PageUnread} {sight : Sighted} (old : Coded) (call : Looks gave mid old.unread left sight)

@@ -9,6 +9,7 @@ ghost use Rattle.roff_sinks.specs.Told.{told_by};
 mod conditions;
 mod ending;
 mod fronts;
+mod glyphs;
 mod half_read;
 mod line_ends;
 mod passing;
@@ -279,7 +280,7 @@ impl Running {
     {
         let line = self.unread.line();
         match self.interpreter.take(byte, &mut self.unread, out, err) {
-            Ok(sprung) => self.go_on(sprung, err),
+            Ok(sprung) => self.go_on(sprung, out, err),
             Err(halt) => Err(self.halted(halt, line_before, line, err)),
         }
     }
@@ -299,7 +300,7 @@ impl Running {
         let line = self.unread.line();
         self.interpreter.reader.interrupt(&mut self.unread);
         match self.interpreter.perform_waiting(event, out) {
-            Ok(sprung) => self.go_on(sprung, err),
+            Ok(sprung) => self.go_on(sprung, out, err),
             Err(halt) => Err(self.halted(halt, line_before, line, err)),
         }
     }

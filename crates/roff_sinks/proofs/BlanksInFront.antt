@@ -1,7 +1,7 @@
 -- The blanks in front of what is written of a text.
-use Rattle.std.proofs.Common.{◌≡◌, ℕ, zero, suc, ◌+◌, ◌-◌, ◌≤◌, Bool, true, false, List, [], ◌∷◌, ◌++◌, length, take, refl, sym, ap, ◌∙◌, arith, append-nil}
+use Rattle.std.proofs.Common.{◌≡◌, ℕ, zero, suc, ◌+◌, ◌-◌, ◌≤◌, Bool, true, false, List, [], ◌∷◌, ◌++◌, length, take, refl, sym, ap, ◌∙◌, arith, append_assoc, append-nil}
 use Rattle.std.specs.Prelude.{◌==◌, ◌||◌}
-use Rattle.std.proofs.lemmas.List.{length-replicate, take_all}
+use Rattle.std.proofs.lemmas.List.{length-replicate, replicate-append-replicate, take_all}
 use Rattle.std.proofs.lemmas.List.Sums.{take_while-cons}
 use Rattle.std.proofs.Math.Seq.{take-append_seam}
 use Rattle.roff_layout.specs.Glyphs.{gap_blank, further_blank, glyph_blank}
@@ -62,3 +62,10 @@ first_byte spare gaps i b zero text rest behind is_text none =
     ∙ ap (λ bytes. bytes ++ behind) (itself_by (b == gap_blank) (b == further_blank || b == glyph_blank) spare gaps i b rest behind refl refl front)
 first_byte spare gaps i b (suc blanks) text rest behind is_text none =
     absurd (blank_in_front (spaces blanks ++ (spread spare gaps i text ++ behind)) none)
+
+-- some of the blanks that are owed, and the others
+pub some_blanks : (some all : ℕ) (bytes : List ℕ) → some ≤ all → spaces some ++ (spaces (all - some) ++ bytes) ≡ spaces all ++ bytes
+some_blanks some all bytes few =
+    let sum : some + (all - some) ≡ all = omega arith in
+    let joined : spaces some ++ spaces (all - some) ≡ spaces all = replicate-append-replicate some (all - some) 32 ∙ ap spaces sum in
+    sym (append_assoc (spaces some) (spaces (all - some)) bytes) ∙ ap (λ front. front ++ bytes) joined

@@ -13,7 +13,7 @@ use Rattle.roff_lines.proofs.Columns.{added_before_none, added_columns-le}
 use Rattle.roff_lines.proofs.Widths.{gaps_in-cons}
 
 -- blanks are kept as twice as many bytes
-length-escaped_spaces : (n : ℕ) (bytes : List ℕ) → length (escaped (spaces n ++ bytes)) ≡ 2 * n + length (escaped bytes)
+pub length-escaped_spaces : (n : ℕ) (bytes : List ℕ) → length (escaped (spaces n ++ bytes)) ≡ 2 * n + length (escaped bytes)
 length-escaped_spaces zero bytes = omega arith
 length-escaped_spaces (suc n) bytes = omega (arith, length-escaped_spaces n bytes)
 

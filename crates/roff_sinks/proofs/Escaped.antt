@@ -1,13 +1,13 @@
 -- What a diversion keeps of a line's bytes.
-use Rattle.std.proofs.Common.{◌≡◌, ℕ, zero, suc, ◌<◌, Bool, true, false, inl, inr, List, [], ◌∷◌, ◌++◌, take, drop, refl, sym, ap, ◌∙◌, arith, ne_eqb, append_assoc}
+use Rattle.std.proofs.Common.{◌≡◌, ℕ, zero, suc, ◌+◌, ◌-◌, ◌*◌, ◌/◌, ◌<◌, ◌≤◌, length, Bool, true, false, inl, inr, List, [], ◌∷◌, ◌++◌, take, drop, refl, sym, ap, ◌∙◌, arith, ne_eqb, append_assoc}
 use Rattle.std.specs.Prelude.{not, nat_lt, ◌&&◌, ◌==◌}
 use Rattle.std.proofs.lemmas.Bool.{cases_Bool, eqb-true, ltb-true}
 use Rattle.std.proofs.lemmas.List.{take-append-drop}
 use Rattle.std.proofs.lemmas.List.Sums.{take_while-cons}
-use Rattle.roff_layout.specs.Columns.{spread}
+use Rattle.roff_layout.specs.Columns.{spaces, spread}
 use Rattle.roff_layout.specs.Diverted.{escaped_byte, escaped}
 use Rattle.roff_sinks.specs.LineBytes.Fronts.{blanks_in_front}
-use Rattle.roff_sinks.specs.DivertedBytes.{is_plain, plain_in_front}
+use Rattle.roff_sinks.specs.DivertedBytes.{TakesEscaped, is_plain, plain_in_front}
 use Rattle.roff_sinks.proofs.BlanksInFront.{blank_in_front}
 use Rattle.roff_lines.proofs.GlyphsInFront.{spread-glyph}
 
@@ -69,6 +69,37 @@ take-append-escaped spare gaps i n count text behind front =
     let first : escaped (spread spare gaps i text ++ behind) ≡ escaped (spread spare gaps i (take count text ++ rest) ++ behind) =
     ap (λ bytes. escaped (spread spare gaps i bytes ++ behind)) (sym (take-append-drop count text)) in
     sym (first ∙ rw front (escaped-plain_in_front spare gaps i n text rest behind))
+
+-- so are those of a text that stands as it is
+tails : (b c : ℕ) (xs ys : List ℕ) → b ∷ xs ≡ c ∷ ys → xs ≡ ys
+tails b c xs ys e = ap (drop 1) e
+
+pub plain_kept : (n count : ℕ) (text behind : List ℕ) → take count text ≡ take n (plain_in_front text)
+    → take count text ++ escaped (drop count text ++ behind) ≡ escaped (text ++ behind)
+plain_kept n zero text behind front = refl
+plain_kept n (suc count) [] behind front = refl
+plain_kept zero (suc count) (b ∷ text) behind front = let wrong : b ∷ take count text ≡ [] = front in cc
+plain_kept (suc n) (suc count) (b ∷ text) behind front =
+    elim (cases_Bool (is_plain b)) [
+      | inl e ↦
+          let more : b ∷ take count text ≡ b ∷ take n (plain_in_front text) = front ∙ ap (take (suc n)) (front-plain b text e) in
+          ap (λ bytes. b ∷ bytes) (plain_kept n count text behind (tails b b (take count text) (take n (plain_in_front text)) more))
+          ∙ sym (escaped-plain b (text ++ behind) e)
+      | inr e ↦ let wrong : b ∷ take count text ≡ [] = front ∙ ap (take (suc n)) (front-other b text e) in cc
+    ]
+
+-- blanks, and then bytes that are kept as they are, where nothing else is due
+pub TakesEscaped-piece : (most blanks : ℕ) (due glyphs old left new : List ℕ) → length due ≡ 0 → blanks ≤ most / 2
+    → spaces blanks ++ left ≡ old
+    → length glyphs ≤ most - 2 * blanks → glyphs ++ escaped new ≡ escaped left → 0 < blanks + length glyphs
+    → TakesEscaped most blanks glyphs (due ++ escaped old) (due ++ escaped new)
+TakesEscaped-piece most blanks [] glyphs old left new none few first short rest some = record {
+  whole =
+      ap (λ (bytes : List ℕ). escaped (spaces blanks) ++ bytes) rest ∙ sym (escaped-append (spaces blanks) left) ∙ ap escaped first;
+  within = omega (arith, few, short);
+  some = λ room more. omega (arith, some);
+}
+TakesEscaped-piece most blanks (b ∷ due) glyphs old left new none few first short rest some = absurd (omega (arith, none))
 
 -- a byte in front that is no backslash, where no blank is in front, is kept as it is
 pub escaped-first : (b : ℕ) (front old new : List ℕ) → old ≡ b ∷ new → blanks_in_front old ≡ [] → (b == 92) ≡ false

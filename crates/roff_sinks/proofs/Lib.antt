@@ -9,3 +9,5 @@ pub mod Escaped
 pub mod DivertedLength
 pub mod Appending
 pub mod TitleParts
+pub mod TitleBytes
+pub mod DivertedPieces

@@ -6,3 +6,5 @@ pub mod Devices
 pub mod Within
 pub mod TitleParts
 pub mod TitleLeft
+pub mod TitleBytes
+pub mod DivertedText

@@ -82,7 +82,7 @@ impl Iterator for DivertedBytes<'_> {
 }
 
 /// The bytes in front, at most so many, and the others.
-fn front_of(bytes: &[u8], most: usize) -> (&[u8], &[u8])
+pub(crate) fn front_of(bytes: &[u8], most: usize) -> (&[u8], &[u8])
     ensures whole { result.0.now ++ result.1.now ≡ bytes.now }
     ensures most { length result.0.now ≤ most }
     ensures some { 0 < most → 0 < length bytes.now → 0 < length result.0.now }

@@ -9,16 +9,21 @@
 mod block;
 mod block_write;
 mod diverted_bytes;
+mod diverted_text;
+mod diverted_title;
 mod line_bytes;
 mod message_sink;
 mod page_fault;
 mod sink;
 mod title;
+mod title_bytes;
 mod title_part;
 
 pub use block::{BLOCK, Block};
 pub use block_write::{BlockWrite, StdWrite};
 pub use diverted_bytes::{DivertedBytes, diverted_len};
+pub use diverted_text::{DivertedText, diverted_text_len};
+pub use diverted_title::diverted_title_len;
 pub use line_bytes::{LineBytes, Piece};
 pub use message_sink::{Bounded, MessageSink};
 pub use page_fault::PageFault;

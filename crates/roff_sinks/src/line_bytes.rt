@@ -10,6 +10,7 @@ mod pieces;
 mod spreading;
 mod steps;
 
+pub(crate) use escaping::count_of_plain;
 use roff_layout::{FURTHER_BLANK, GAP, Line, UNPADDABLE};
 use std::marker::Model;
 

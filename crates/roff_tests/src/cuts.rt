@@ -30,7 +30,7 @@ const AMPLE: Room = Room {
 /// A run that ends at its source's end.
 const NEVER: usize = usize::MAX;
 
-static ROWS: [Row; 8] = [
+static ROWS: [Row; 13] = [
     Row {
         name: "registers of two macros",
         input: ".pl 1\n.nr x 0 1\n.de a\n\\\\n+x\n..\n.de b\n\\n+x\n..\n.a\n.a\n.b\n.b\n",
@@ -121,6 +121,56 @@ static ROWS: [Row; 8] = [
         output: "a\n",
         status: Status::Limit(Limit::Names),
         ended_behind: 17,
+    },
+    Row {
+        name: "the height and the width of a diversion",
+        input: ".pl 1\n.di D\n.nf\naa\nbbbb\n.di\n\\n(dn \\n(dl\n.D\n",
+        limits: Limits::DEFAULT,
+        written: &[(40, "80 96\n"), (43, "aa\nbbbb\n")],
+        told: &[],
+        output: "80 96\naa\nbbbb\n",
+        status: Status::Done,
+        ended_behind: NEVER,
+    },
+    Row {
+        name: "a diversion whose name is removed",
+        input: ".pl 1\n.ds D old\n.di D\n.nf\nnew\n.rm D\n.di\n.D\n",
+        limits: Limits::DEFAULT,
+        written: &[(43, "new\n")],
+        told: &[],
+        output: "new\n",
+        status: Status::Done,
+        ended_behind: NEVER,
+    },
+    Row {
+        name: "a diversion that is appended to",
+        input: ".pl 2\n.nf\n.di D\na\n.di\n.da D\nb\n.da\n.D\n",
+        limits: Limits::DEFAULT,
+        written: &[(37, "a\nb\n")],
+        told: &[],
+        output: "a\nb\n",
+        status: Status::Done,
+        ended_behind: NEVER,
+    },
+    Row {
+        name: "the name of an open diversion",
+        input: ".di D\n.tm \\n(.z\n.di\n",
+        limits: Limits::DEFAULT,
+        written: &[],
+        told: &[(16, "D\n")],
+        output: "",
+        status: Status::Done,
+        ended_behind: NEVER,
+    },
+    Row {
+        name: "a diversion with a trap",
+        input: ".pl 3\n.nf\n.de T\nt\n..\n.di D\n.dt 1v T\na\nb\n.di\n.D\n",
+        limits: Limits::DEFAULT,
+        written: &[(47, "a\nt\nb\n")],
+        told: &[],
+        output: "a\nt\nb\n",
+        status: Status::Done,
+        ended_behind: NEVER,
     },
 ];
 

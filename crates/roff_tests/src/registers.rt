@@ -23,10 +23,35 @@ fn read_only_registers_tell_of_the_run(rt: HostRuntime) -> Result<(), Fail> {
 ";
     let expected = Expected {
         output: "     1234567890123\n",
-        messages: "6 120 1440 312 1\n40 40 24\n0 0 0 40 40 0 0 0 0 2 0\n0\n",
+        messages: "6 120 1440 312 1\n40 40 24\n0 0 0 40 40  0 0 0 2 0\n0\n",
         status: Status::Done,
     };
     check(&rt, rt.alloc(), Limits::default(), document, expected)
+}
+
+#[test]
+fn registers_tell_of_diversions(rt: HostRuntime) -> Result<(), Fail> {
+    // Before the first page: outside, in one within another, in that one, and behind both.
+    let document = "\
+.tm \\n(.d (\\n(.z)
+.di D
+.nf
+a  b
+.di ef
+.tm \\n(.d (\\n(.z)
+.di
+.sp
+ c
+.tm \\n(.d (\\n(.z)
+.di
+.tm \\n(.d (\\n(.z) \\n(dn \\n(dl
+";
+    check_told(
+        &rt,
+        rt.alloc(),
+        document,
+        "-1 ()\n0 (ef)\n120 (D)\n-1 () 120 96\n",
+    )
 }
 
 #[test]

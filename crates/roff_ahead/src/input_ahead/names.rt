@@ -1,12 +1,13 @@
 //! Names that are set, removed or renamed, and texts in the making.
 
-ghost use Rattle.std.specs.Prelude.{IsTrue, ◌≡◌, ◌↔◌, ◌<◌, length, option_map};
+ghost use Rattle.std.specs.Prelude.{IsTrue, ◌≡◌, ◌↔◌, ◌<◌, [], length, option_map, Some, None};
+ghost use Rattle.std.specs.Prelude.{IfSome, if◌then◌else◌, nat_lt};
 ghost use Rattle.roff_store.specs.Named.{entry_of};
 ghost use Rattle.roff_store.specs.Texts.{entry_given, kind_given, kind_of, newest, used};
 
 use super::InputAhead;
 use roff_num::{Limit, Name};
-use roff_store::{Entry, Kind, OpenId};
+use roff_store::{Entry, Kind, OpenId, TextStore};
 
 impl<E: Copy> InputAhead<E> {
     ghost use Rattle.roff_store.specs.TextCalls.{DropOpen, Enter, Open, PushOpen, Remove, Rename};
@@ -57,6 +58,20 @@ impl<E: Copy> InputAhead<E> {
         ensures { option_map (λ id. id.0) result ≡ newest self.now.texts.open_texts }
     {
         self.texts.newest()
+    }
+
+    /// The text in the making of this number, the oldest being 0, if there is one.
+    pub fn open_numbered(&self, index: usize) -> Option<OpenId>
+        ensures number { option_map (λ id. id.0) result
+            ≡ (if nat_lt index (length self.now.texts.open_texts) then Some index else None) }
+        ensures open { IfSome result (λ id. id.0 < length self.now.texts.open_texts) }
+    {
+        let id = OpenId(index);
+        if self.texts.is_open(id) {
+            Some(id)
+        } else {
+            None
+        }
     }
 
     /// Whether a text may be begun.
@@ -118,5 +133,22 @@ impl<E: Copy> InputAhead<E> {
         ensures { self.new ≡ record self.old { texts = after (DropOpen id.0) self.old.texts } }
     {
         self.texts.drop_open(id);
+    }
+
+    /// Drops all texts in the making.
+    pub fn drop_all(&mut self)
+        ensures { self.new
+            ≡ record self.old { texts = record self.old.texts { open_texts = [] } } }
+    {
+        drop_texts(&mut self.texts);
+    }
+}
+
+/// Drops all texts in the making, the newest first.
+fn drop_texts(texts: &mut TextStore)
+    ensures { texts.new ≡ record texts.old { open_texts = [] } }
+{
+    while let Some(id) = texts.newest() {
+        texts.drop_open(id);
     }
 }

@@ -17,7 +17,7 @@ use Rattle.roff_run.specs.Springs.{next, own_word_end, word_end_of}
 use Rattle.roff_layout.specs.Words.{has_open_word}
 use Rattle.roff_layout.specs.declared.event.Event.TheVariants.{WordEnd}
 use Rattle.roff_run.specs.declared.status.Status.TheVariants.{Done}
-use Rattle.roff_formatter.specs.Formatter.Sprung.{IsAmong, behind_sprung, first_left, left_behind, most_back}
+use Rattle.roff_formatter.specs.Formatter.Sprung.{GoesOnNamed, IsAmong, MovesOn, StopsBehind, behind_sprung, first_left, left_behind, most_back, open_weight}
 use Rattle.roff_run.specs.TurnsToCome.{most_left}
 use Rattle.roff_formatter.specs.declared.sprung.Sprung.{Sprung}
 use Rattle.roff_run.specs.declared.event.PageEvent.TheVariants.{Text, Title}
@@ -27,12 +27,12 @@ use Rattle.roff_run.specs.PageEvents.{PageEvent, PageHistory}
 use Rattle.roff_run.specs.declared.title.WhichTitle.{WhichTitle}
 use Rattle.roff_run.specs.TitleTexts.{TitleText}
 use Rattle.roff_run.specs.Titles.{title_told, told}
-use Rattle.roff_run.specs.Run.{State, ending_as, step, stopped_by, reported}
+use Rattle.roff_run.specs.Run.{State, nothing_follows, ending_as, step, stopped_by, reported}
 use Rattle.roff_sinks.specs.Sinks.{Sunk}
 
 -- the same state going on, with these events to do behind this history
 abbrev pub acting : State → List PageEvent → PageHistory → State
-acting s to_do history = record s { to_do = to_do; sprung = None; history = history; ended = None }
+acting s to_do history = record s { to_do = to_do; follows = nothing_follows; history = history; ended = None }
 
 -- the history behind what comes before an event, as far as so many events do, as they happen with these registers
 abbrev pub behind_next : AllRegisters → ℕ → PageEvent → PageHistory → PageHistory
@@ -63,14 +63,16 @@ pub record AllPerformed (l : Limits) (t : Beginning) (before now : Seen) (s : St
   pub reaches : Reaches l t before now (acting s rest behind)
   pub stands : StandFor l behind es
 
--- One of the events, or what comes before it, sprang this: the definition has put back what is left, and still has to read it. No more
--- interrupted lines are left than any of the events leaves; and with others behind them no more of them are left than may be.
+-- One of the events, or what comes before it, stopped here: the definition has still to change a text, or to read what sprang, behind
+-- which it has put back what is left. No more interrupted lines are left than any of the events leaves; and with others behind them no
+-- more of them are left than may be.
 pub record SprungAt (l : Limits) (t : Beginning) (before now : Seen) (s : State) (events : List PageEvent) (h : PageHistory) (sprung : Sprung) (rest : List PageEvent) (es : ComposerOf) : Type 0 where
   pub history : PageHistory
-  pub reaches : Reaches l t before now (behind_sprung (Some sprung) events rest (acting s [] history))
+  pub reaches : Reaches l t before now (behind_sprung es (Some sprung) events rest (acting s [] history))
   pub stands : StandFor l history es
   pub lines : lines_left (interrupted_line history) ≤ most_left events (lines_left (interrupted_line h))
   pub among : IsAmong events sprung
+  pub named : GoesOnNamed sprung.why es.due.sprung
   pub few : (others : List PageEvent) → length (left_behind sprung (events ++ others)) ≤ most_back (events ++ others)
 
 -- the definition comes to a state whose next event a limit refuses
@@ -122,6 +124,7 @@ pub record PerformsEvents (events : List PageEvent) (old new : Formatter) (out_o
   pub performs : (l : Limits) (t : Beginning) (before : Seen) (failures : ℕ) (err : Sunk) (s : State) (h : PageHistory) (rest : List PageEvent)
       → StandFor l h old.composer → Flows s.registers events h → Reaches l t before (seen failures out_old err) (acting s (events ++ rest) h)
       → Performs l t before (seen failures out_new err) s events h (behind_events s.registers events h) rest result new.composer
+  pub moves : MovesOn old new result
 
 -- A formatter performed an event, with what comes before it, as far as the answer says: for each state of a run that has it in front
 -- of others to do.
@@ -129,20 +132,23 @@ pub record PerformsOne (e : PageEvent) (old new : Formatter) (out_old out_new : 
   pub one : (l : Limits) (t : Beginning) (before : Seen) (failures : ℕ) (err : Sunk) (s : State) (h : PageHistory) (rest : List PageEvent)
       → StandFor l h old.composer → Reaches l t before (seen failures out_old err) (acting s (e ∷ rest) h)
       → Performs l t before (seen failures out_new err) s (e ∷ []) h (behind_event s.registers e h) rest result new.composer
+  pub moves : (l : Limits) (h : PageHistory) → StandFor l h old.composer → MovesOn old new result
 
--- The same of a title of this text, with the page's number in this format: whichever title of a run it is, whose registers say that.
-pub record PerformsTitle (text : TitleText) (format : Format) (old new : Formatter) (out_old out_new : Sunk) (result : Result (Option Sprung) Halt) : Type 0 where
-  pub title : (l : Limits) (t : Beginning) (before : Seen) (failures : ℕ) (err : Sunk) (s : State) (h : PageHistory) (rest : List PageEvent) (which : WhichTitle)
+-- The same of a title of this text, with the page's number in this format, where the registers of a run say that.
+pub record PerformsTitle (which : WhichTitle) (text : TitleText) (format : Format) (old new : Formatter) (out_old out_new : Sunk) (result : Result (Option Sprung) Halt) : Type 0 where
+  pub title : (l : Limits) (t : Beginning) (before : Seen) (failures : ℕ) (err : Sunk) (s : State) (h : PageHistory) (rest : List PageEvent)
       → StandFor l h old.composer → title_told s.registers which ≡ record { text = text; format = format }
       → Reaches l t before (seen failures out_old err) (acting s (Title which ∷ rest) h)
       → Performs l t before (seen failures out_new err) s (Title which ∷ []) h (behind_event s.registers (Title which) h) rest result new.composer
+  pub moves : MovesOn old new result
 
 -- The same where no page begins before it.
-pub record PlacesTitle (text : TitleText) (format : Format) (old new : Formatter) (out_old out_new : Sunk) (result : Result (Option Sprung) Halt) : Type 0 where
-  pub places : (l : Limits) (t : Beginning) (before : Seen) (failures : ℕ) (err : Sunk) (s : State) (h : PageHistory) (rest : List PageEvent) (which : WhichTitle)
+pub record PlacesTitle (which : WhichTitle) (text : TitleText) (format : Format) (old new : Formatter) (out_old out_new : Sunk) (result : Result (Option Sprung) Halt) : Type 0 where
+  pub places : (l : Limits) (t : Beginning) (before : Seen) (failures : ℕ) (err : Sunk) (s : State) (h : PageHistory) (rest : List PageEvent)
       → StandFor l h old.composer → title_told s.registers which ≡ record { text = text; format = format } → next h (Title which) ≡ None
       → Reaches l t before (seen failures out_old err) (acting s (Title which ∷ rest) h)
       → Performs l t before (seen failures out_new err) s (Title which ∷ []) h (told s.registers (Title which) ∷ h) rest result new.composer
+  pub stops : StopsBehind result
 
 -- The end of the open word, where it comes before an event, was performed, with what comes before it: for each state of a run that
 -- has that event in front of others to do. Where a macro springs the event is left.
@@ -151,6 +157,8 @@ pub record EndsWordFirst (old new : Formatter) (out_old out_new : Sunk) (result 
       → StandFor l h old.composer → word_end_of h e ≡ Some (Text WordEnd)
       → Reaches l t before (seen failures out_old err) (acting s (e ∷ rest) h)
       → EndsBefore l t before (seen failures out_new err) s e h (behind_event s.registers (Text WordEnd) h) rest (first_left result) new.composer
+  pub closes : result ≡ Ok None → (l : Limits) (h : PageHistory) → StandFor l h old.composer → open_weight new.composer ≡ 0
+  pub moves : (l : Limits) (h : PageHistory) → StandFor l h old.composer → has_open_word (text_of h) ≡ true → MovesOn old new (first_left result)
 
 -- The open word, if there was one, has ended where it comes before an event: for each state of a run that has that in front of
 -- others to do, and before which it comes where one is open. Where a macro springs the event is left.
@@ -159,3 +167,5 @@ pub record EndsOpenWord (old new : Formatter) (out_old out_new : Sunk) (result :
       → StandFor l h old.composer → word_end_of h e ≡ own_word_end (has_open_word (text_of h))
       → Reaches l t before (seen failures out_old err) (acting s (e ∷ rest) h)
       → EndsBefore l t before (seen failures out_new err) s e h (behind_word s.registers (has_open_word (text_of h)) h) rest result new.composer
+  pub closes : result ≡ Ok None → (l : Limits) (h : PageHistory) → StandFor l h old.composer → open_weight new.composer ≤ open_weight old.composer
+  pub moves : (l : Limits) (h : PageHistory) → StandFor l h old.composer → MovesOn old new result

@@ -1,18 +1,24 @@
 -- What is set of the pages, and given to a run.
-use Rattle.std.specs.Prelude.{◌≡◌, ◌≤◌, ◌<◌, ◌+◌, Bool, true, false, not, length, Option, None, Result, Ok, Err}
+use Rattle.std.specs.Prelude.{◌≡◌, ◌≤◌, ◌<◌, ◌+◌, Bool, true, false, not, length, Option, Some, None, IsSome, Result, Ok, Err}
 use Rattle.roff_num.specs.declared.limit.Limit.{Limit}
 use Rattle.roff_num.specs.declared.limit.Limit.TheVariants.{Traps, Diversions}
-use Rattle.roff_layout.specs.Happenings.{Does}
+use Rattle.roff_num.specs.declared.short_name.ShortName.{ShortName}
+use Rattle.roff_layout.specs.DueTexts.{text_due}
+use Rattle.roff_layout.specs.Happenings.{Does, is_eject_event}
 use Rattle.roff_pages.specs.Pages.Kept.{Kept}
 use Rattle.roff_layout.specs.Layout.{Layout}
 use Rattle.roff_pages.specs.Pages.Stands.{Happens, StandsAs}
 use Rattle.roff_layout.specs.Springs.{springs as springs_on_page}
 use Rattle.roff_layout.specs.Turning.{with_trap}
 use Rattle.roff_layout.specs.declared.layout_event.LayoutEvent.{LayoutEvent}
-use Rattle.roff_layout.specs.declared.layout_event.LayoutEvent.TheVariants.{Begin, Space, Need, Eject, EjectTo, EjectOn, EjectLast, Plant, Uproot, MoveTrap, RemoveTrap, DiversionTrap, NoDiversionTrap, Divert, EndDivert}
-use Rattle.roff_formatter.specs.Formatter.Paging.{PutsOnPage, ejects_still}
-use Rattle.roff_formatter.specs.Formatter.Sprung.{left_going_on, sprung_by}
+use Rattle.roff_layout.specs.declared.layout_event.LayoutEvent.TheVariants.{Begin, Close, Space, Need, Eject, EjectTo, EjectOn, EjectLast, Plant, Uproot, MoveTrap, RemoveTrap, DiversionTrap, NoDiversionTrap, Divert, EndDivert}
+use Rattle.roff_composer.specs.Composer.Due.{text_told}
+use Rattle.roff_composer.specs.declared.composer.Composer.{Composer as ComposerOf}
+use Rattle.roff_composer.specs.declared.due_text.Due.{Due}
+use Rattle.roff_formatter.specs.Formatter.Paging.{PutsOnPage, blank_due, ejects_still}
+use Rattle.roff_formatter.specs.Formatter.Sprung.{diverting, left_going_on, sprung_behind, text_first}
 use Rattle.roff_formatter.specs.declared.sprung.Sprung.{Sprung}
+use Rattle.roff_run.specs.Registers.{AllRegisters}
 use Rattle.roff_sinks.specs.Sinks.{Sunk}
 use Rattle.roff_formatter.specs.declared.halt.Halt.{Halt}
 use Rattle.roff_formatter.specs.declared.halt.Halt.TheVariants.{Limit as Limited}
@@ -47,6 +53,13 @@ is_of_traps (Divert name appends) = true
 is_of_traps EndDivert = true
 is_of_traps (_) = false
 
+-- and whether the text of a diversion changes with it, if one is open
+abbrev pub is_of_texts : LayoutEvent → Bool
+is_of_texts Close = true
+is_of_texts (Divert name appends) = true
+is_of_texts EndDivert = true
+is_of_texts (_) = false
+
 abbrev pub IsOfTraps : LayoutEvent → Type 0
 IsOfTraps e = is_of_traps e ≡ true
 
@@ -67,28 +80,45 @@ IsPastItsLimit (Plant trap) limit k = (limit ≡ Traps) × (k.most_traps < lengt
 IsPastItsLimit (Divert name appends) limit k = (limit ≡ Diversions) × (k.most_diversions ≤ length k.diversions)
 IsPastItsLimit (_) limit k = ⊥
 
--- it sprang this, if anything: a page may have begun with it
-abbrev pub SpringsBy : LayoutEvent → Kept → Option Sprung → Type 0
-SpringsBy e old sprung = (L : Layout) → StandsAs L old → sprung ≡ sprung_by (springs_on_page (Does e) L)
+-- behind it nothing follows
+pub record SetsAlone (e : LayoutEvent) (old : Kept) : Type 0 where
+  pub untold : (L : Layout) → StandsAs L old → text_due (Does e) L ≡ None
+  pub springs : (L : Layout) → StandsAs L old → springs_on_page (Does e) L ≡ None
+
+-- or it stopped so: a page that began with it sprang this, or the text of a diversion begins, ends, or is dropped
+pub data SetsSo (e : LayoutEvent) (old : Kept) (due : Due) : Sprung → Type 0 where
+  SetSpringing : (name : ShortName) → due.sprung ≡ Some name → SetsSo e old due sprung_behind
+  SetText : ((L : Layout) → StandsAs L old → IsSome (text_due (Does e) L)) → SetsSo e old due diverting
+
+-- and this follows it
+pub record SetsMore (e : LayoutEvent) (old : Kept) (due : Due) (sprung : Sprung) : Type 0 where
+  pub so : SetsSo e old due sprung
+  pub text : (L : Layout) (es : ComposerOf) (rs : AllRegisters) → StandsAs L old → text_first sprung.why (text_told due.text es rs) ≡ text_due (Does e) L
+  pub springs : (L : Layout) → StandsAs L old → due.sprung ≡ springs_on_page (Does e) L
+
+abbrev pub SetsWith : LayoutEvent → Kept → Due → Option Sprung → Type 0
+SetsWith e old due None = SetsAlone e old
+SetsWith e old due (Some sprung) = SetsMore e old due sprung
 
 -- something was set of the pages, or a limit refused it
-abbrev pub SetsOnPage : LayoutEvent → Kept → Kept → Result (Option Sprung) Halt → Type 0
-SetsOnPage e old new (Ok sprung) = Happens (Does e) old new × HasRoomFor e old × SpringsBy e old sprung
-SetsOnPage e old new (Err (Limited limit)) = IsPastItsLimit e limit old × (new ≡ old)
-SetsOnPage e old new (Err halt) = ⊥
+abbrev pub SetsOnPage : LayoutEvent → Kept → Kept → Due → Result (Option Sprung) Halt → Type 0
+SetsOnPage e old new due (Ok sprung) = Happens (Does e) old new × HasRoomFor e old × SetsWith e old due sprung
+SetsOnPage e old new due (Err (Limited limit)) = IsPastItsLimit e limit old × (new ≡ old)
+SetsOnPage e old new due (Err halt) = ⊥
 
 -- what was put by an event, which goes on behind what it sprang if it is an eject whose page hasn't ended
-pub record PutsByEvent (e : LayoutEvent) (old new : Kept) (out_old out_new : Sunk) (result : Result (Option Sprung) Halt) : Type 0 where
+pub record PutsByEvent (e : LayoutEvent) (old new : Kept) (due_old due_new : Due) (out_old out_new : Sunk) (result : Result (Option Sprung) Halt) : Type 0 where
   pub done : Result (Option Sprung) Halt
-  pub puts : PutsOnPage (Does e) old new out_old out_new done
+  pub puts : PutsOnPage (Does e) (blank_due e) old new due_old due_new out_old out_new done
   pub goes_on : Bool
   pub is : (L : Layout) → StandsAs L new → goes_on ≡ ejects_still e L
+  pub only : is_eject_event e ≡ false → goes_on ≡ false
   pub left : result ≡ left_going_on goes_on done
 
 -- an event was done to pages of which one was begun, where it needs one
-abbrev pub DoesBy : Bool → LayoutEvent → Kept → Kept → Sunk → Sunk → Result (Option Sprung) Halt → Type 0
-DoesBy true e old new out_old out_new result = PutsByEvent e old new out_old out_new result
-DoesBy false e old new out_old out_new result = SetsOnPage e old new result × (out_new ≡ out_old)
+abbrev pub DoesBy : Bool → LayoutEvent → Kept → Kept → Due → Due → Sunk → Sunk → Result (Option Sprung) Halt → Type 0
+DoesBy true e old new due_old due_new out_old out_new result = PutsByEvent e old new due_old due_new out_old out_new result
+DoesBy false e old new due_old due_new out_old out_new result = SetsOnPage e old new due_new result × (out_new ≡ out_old)
 
-abbrev pub DoesOnPage : LayoutEvent → Kept → Kept → Sunk → Sunk → Result (Option Sprung) Halt → Type 0
-DoesOnPage e old new out_old out_new result = DoesBy (may_put e) e old new out_old out_new result
+abbrev pub DoesOnPage : LayoutEvent → Kept → Kept → Due → Due → Sunk → Sunk → Result (Option Sprung) Halt → Type 0
+DoesOnPage e old new due_old due_new out_old out_new result = DoesBy (may_put e) e old new due_old due_new out_old out_new result

@@ -1,14 +1,18 @@
 -- How the formatter tells bytes of a text line that stand in front.
-use Rattle.std.specs.Prelude.{◌≡◌, ℕ, ◌+◌, ◌<◌, ◌≤◌, true, List, length, take}
+use Rattle.std.specs.Prelude.{◌≡◌, ℕ, ◌+◌, ◌<◌, ◌≤◌, true, List, ◌∷◌, length, take}
 use Rattle.std.specs.List.{AllByRecursion}
 use Rattle.roff_num.specs.declared.limits.Limits.{Limits}
+use Rattle.roff_layout.specs.Lines.{pending_length}
 use Rattle.roff_layout.specs.Telling.{QuietlyTold}
 use Rattle.roff_layout.specs.Queries.{takes_text}
+use Rattle.roff_layout.specs.declared.event.Event.TheVariants.{Print}
+use Rattle.roff_layout.specs.declared.glyph.Glyph.{Glyph}
 use Rattle.roff_source.specs.Bytes.{is_text_byte}
 use Rattle.roff_run.specs.Environments.{PageHistory, text_of}
 use Rattle.roff_composer.specs.Composer.Standing.{StandFor}
 use Rattle.roff_run.specs.Layouts.{layout_of}
 use Rattle.roff_run.specs.Telling.{page_told}
+use Rattle.roff_run.specs.declared.event.PageEvent.TheVariants.{Text}
 use Rattle.roff_formatter.specs.declared.formatter.Formatter.{Formatter}
 
 -- so many bytes are told at once at the most
@@ -31,3 +35,10 @@ pub record TellsFront (front : List ℕ) (count : ℕ) (old new : Formatter) : T
   pub stands : (l : Limits) (h : PageHistory) → StandFor l h old.composer → StandFor l (page_told (take count front) h) new.composer
   pub most : (l : Limits) (h : PageHistory) → StandFor l h old.composer → takes_text (layout_of h) ≡ true → count < most_at_once → count < length front
       → CanBeTold l h (take (count + 1) front) → ⊥
+
+-- This glyph was printed in the environment in force, and nothing else changed: no page begins with it, and the pending line stays within
+-- its limit.
+pub record TellsGlyph (glyph : Glyph) (old new : Formatter) : Type 0 where
+  pub takes : (l : Limits) (h : PageHistory) → StandFor l h old.composer → takes_text (layout_of h) ≡ true
+  pub within : (l : Limits) (h : PageHistory) → StandFor l h old.composer → pending_length (Print glyph ∷ text_of h) ≤ l.line
+  pub stands : (l : Limits) (h : PageHistory) → StandFor l h old.composer → StandFor l (Text (Print glyph) ∷ h) new.composer

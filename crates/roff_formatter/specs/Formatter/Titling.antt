@@ -2,6 +2,10 @@
 use Rattle.std.specs.Prelude.{ℕ, List}
 use Rattle.roff_formatter.specs.declared.formatter.Formatter.{Formatter}
 use Rattle.roff_run.specs.TitleTexts.{TitleText}
+use Rattle.roff_run.specs.declared.title.WhichTitle.{WhichTitle}
+use Rattle.roff_composer.specs.declared.due_text.DueText.{DueText}
+use Rattle.roff_composer.specs.declared.due_text.DueText.TheVariants.{Title as TitleDue}
+use Rattle.roff_layout.specs.Layout.{Layout}
 use Rattle.roff_layout.specs.Titles.{Title}
 
 -- its text, with the title length of the environment in force, and this number of the page
@@ -13,3 +17,7 @@ title_at f text number = record {
   length = f.composer.environments.in_force.lines.settings.title_length;
   number = number;
 }
+
+-- what is due of it in a diversion: this title, with the number of the page and that length
+abbrev pub title_due : WhichTitle → Formatter → Layout → DueText
+title_due which f L = TitleDue which L.number f.composer.environments.in_force.lines.settings.title_length

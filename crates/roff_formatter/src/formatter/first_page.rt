@@ -1,18 +1,31 @@
 //! The first page: which events begin it.
 
-ghost use Rattle.std.specs.Prelude.{◌≡◌, true};
+ghost use Rattle.std.specs.Prelude.{◌≡◌, true, Ok, Some};
 ghost use Rattle.roff_num.specs.declared.limits.Limits.{Limits as LimitsOf};
 ghost use Rattle.roff_formatter.specs.Clauses.{BeginsFor, BeginsPage, Page, ReadyFor};
-ghost use Rattle.roff_formatter.specs.Clauses.{StandFor, Text};
+ghost use Rattle.roff_formatter.specs.Clauses.{StandFor, Text, sprung_before, with_sprung};
 ghost use Rattle.roff_run.specs.Environments.{PageHistory};
 ghost use Rattle.roff_run.specs.Springs.{is_paged, needs_page};
 ghost use Rattle.roff_run.specs.PageEvents.{PageEvent};
 
 use super::Formatter;
+use crate::halt::Halt;
+use crate::sprung::Sprung;
 use roff_layout::{Event, LayoutEvent};
 use roff_num::ShortName;
 
 impl Formatter {
+    /// A macro was sprung in front of an event, which waits behind it.
+    #[cold]
+    #[inline(never)]
+    pub(super) fn stopped_by(&mut self, name: ShortName) -> Result<Option<Sprung>, Halt>
+        ensures due { self.new ≡ with_sprung name self.old }
+        ensures is { result ≡ Ok (Some sprung_before) }
+    {
+        self.composer.due.sprung = Some(name);
+        Ok(Some(Sprung::in_front()))
+    }
+
     /// Begins the first page in front of an event that needs one, unless text may be taken. Returns
     /// the macro that it springs, if it springs one: the event waits behind it.
     #[inline(always)]

@@ -1,9 +1,10 @@
 //! Bytes of a text line that stand in front, and are told together.
 
-ghost use Rattle.std.specs.Prelude.{◌≡◌, take};
-ghost use Rattle.roff_formatter.specs.Formatter.Telling.{TellsFront};
+ghost use Rattle.std.specs.Prelude.{◌≡◌, true, false, take};
+ghost use Rattle.roff_formatter.specs.Formatter.Telling.{TellsFront, TellsGlyph};
 
 use super::Formatter;
+use roff_layout::Glyph;
 use roff_source::text_in_front;
 
 /// So many bytes of a text line are told at once at the most: more than most lines have, so that
@@ -27,6 +28,22 @@ impl Formatter {
             .in_force
             .lines
             .text_front(near, count)
+    }
+
+    /// Prints a glyph behind a text line's glyphs, unless a limit refuses it or the first page
+    /// begins with it: then nothing changes. Returns whether it did.
+    #[inline(always)]
+    pub fn tell_glyph(&mut self, glyph: Glyph) -> bool
+        ensures told { result ≡ true → TellsGlyph glyph self.old self.new }
+        ensures untold { result ≡ false → self.new ≡ self.old }
+    {
+        if !self.composer.pages.takes_text() {
+            return false;
+        }
+        match self.composer.environments.in_force.lines.glyph(glyph) {
+            Ok(()) => true,
+            Err(_) => false,
+        }
     }
 }
 

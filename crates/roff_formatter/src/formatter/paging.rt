@@ -1,19 +1,22 @@
 //! The events of pages.
 
 ghost use Rattle.std.specs.Prelude.{◌≡◌, [], ◌∷◌, true};
-ghost use Rattle.roff_layout.specs.Happenings.{Does};
+ghost use Rattle.roff_layout.specs.Happenings.{Does, is_eject_event};
 ghost use Rattle.roff_layout.specs.Layout.{Layout};
 ghost use Rattle.roff_pages.specs.Pages.Stands.{StandsAs};
 ghost use Rattle.roff_formatter.specs.Formatter.Paging.{ejects_still};
 ghost use Rattle.roff_formatter.specs.Formatter.Setting.{halted_within, may_put};
 ghost use Rattle.roff_layout.specs.Springs.{is_on_top};
-ghost use Rattle.roff_formatter.specs.Clauses.{DoesOnPage, IsOfTraps, PutsBy, PutsNothing};
+ghost use Rattle.roff_formatter.specs.Clauses.{DoesOnPage, IsOfTraps, PutsBy, PutsByEvent};
+ghost use Rattle.roff_formatter.specs.Clauses.{PutsNothing, PutsOnPage, StopsSprung, blank_due, noted_by};
 ghost use Rattle.roff_formatter.specs.Clauses.{Page, PerformsEvents, SetsOnPage, halted_by};
 ghost use Rattle.roff_layout.specs.declared.layout_event.LayoutEvent.TheVariants.{Need, Space};
 
 use super::Formatter;
+use super::diverting::{close, divert, divert_need, divert_space, end_divert};
 use crate::halt::Halt;
 use crate::sprung::{Sprung, left_going_on};
+use roff_composer::Due;
 use roff_layout::LayoutEvent;
 use roff_num::{Limit, ShortName};
 use roff_pages::{PageFault, Pages};
@@ -30,11 +33,8 @@ impl Formatter {
             (O.sunk out.old) (O.sunk out.new) result }
     {
         match self.begin_first() {
-            Some(name) => Ok(Some(Sprung::in_front(name))),
-            None => {
-                let spaced = space_on(&mut self.composer.pages, lines, out);
-                done_on(&self.composer.pages, spaced)
-            }
+            Some(name) => self.stopped_by(name),
+            None => space_on(&mut self.composer.pages, &mut self.composer.due, lines, out),
         }
     }
 
@@ -52,8 +52,8 @@ impl Formatter {
             (O.sunk out.old) (O.sunk out.new) result }
     {
         match self.begin_first_on(event) {
-            Some(name) => Ok(Some(Sprung::in_front(name))),
-            None => do_on_page(&mut self.composer.pages, event, out),
+            Some(name) => self.stopped_by(name),
+            None => do_on_page(&mut self.composer.pages, &mut self.composer.due, event, out),
         }
     }
 }
@@ -61,16 +61,50 @@ impl Formatter {
 /// Does an event to pages of which one was begun, where it needs one.
 fn do_on_page<O: ByteSink>(
     pages: &mut Pages,
+    due: &mut Due,
     event: LayoutEvent,
     out: &mut O,
 ) -> Result<Option<Sprung>, Halt>
-    ensures { DoesOnPage event pages.old pages.new (O.sunk out.old) (O.sunk out.new) result }
+    ensures { DoesOnPage event pages.old pages.new due.old due.new
+        (O.sunk out.old) (O.sunk out.new) result }
 {
     if !may_put(event) {
-        return set_on_page(pages, event);
+        return set_on_page(pages, due, event);
     }
-    let put = put_on_page(pages, event, out);
-    let done = done_on(pages, put);
+    put_on_page(pages, due, event, out)
+}
+
+/// Does an event that may put something.
+fn put_on_page<O: ByteSink>(
+    pages: &mut Pages,
+    due: &mut Due,
+    event: LayoutEvent,
+    out: &mut O,
+) -> Result<Option<Sprung>, Halt>
+    requires { may_put event ≡ true }
+    ensures { PutsByEvent event pages.old pages.new due.old due.new
+        (O.sunk out.old) (O.sunk out.new) result }
+{
+    match event {
+        LayoutEvent::Space(lines) => space_on(pages, due, lines, out),
+        LayoutEvent::Need(lines) => need_on(pages, due, lines, out),
+        _ => eject_on_page(pages, due, event, out),
+    }
+}
+
+/// Ejects a page, and goes on behind what that sprang where the page hasn't ended.
+fn eject_on_page<O: ByteSink>(
+    pages: &mut Pages,
+    due: &mut Due,
+    event: LayoutEvent,
+    out: &mut O,
+) -> Result<Option<Sprung>, Halt>
+    requires { is_eject_event event ≡ true }
+    ensures { PutsByEvent event pages.old pages.new due.old due.new
+        (O.sunk out.old) (O.sunk out.new) result }
+{
+    let put = eject(pages, event, out);
+    let done = done_on(pages, due, put);
     left_going_on(done, ejects_still(pages, event))
 }
 
@@ -113,18 +147,16 @@ fn may_put(event: LayoutEvent) -> bool
     )
 }
 
-/// Does an event that may put something.
-fn put_on_page<O: ByteSink>(
+/// Ejects a page.
+fn eject<O: ByteSink>(
     pages: &mut Pages,
     event: LayoutEvent,
     out: &mut O,
 ) -> Result<Option<ShortName>, PageFault>
-    requires { may_put event ≡ true }
+    requires { is_eject_event event ≡ true }
     ensures { PutsBy (Does event) pages.old pages.new (O.sunk out.old) (O.sunk out.new) result }
 {
     match event {
-        LayoutEvent::Space(lines) => space_on(pages, lines, out),
-        LayoutEvent::Need(lines) => need_on(pages, lines, out),
         LayoutEvent::Eject(asked) => pages.eject(asked, None, out),
         LayoutEvent::EjectTo(asked, number) => pages.eject(asked, Some(number), out),
         LayoutEvent::EjectOn(asked) => pages.eject_on(asked, out),
@@ -136,60 +168,64 @@ fn put_on_page<O: ByteSink>(
 /// Spaces so many lines, in the innermost open diversion or on the page.
 fn space_on<O: ByteSink>(
     pages: &mut Pages,
+    due: &mut Due,
     lines: u32,
     out: &mut O,
-) -> Result<Option<ShortName>, PageFault>
-    ensures { PutsBy (Does (Space lines)) pages.old pages.new
-        (O.sunk out.old) (O.sunk out.new) result }
+) -> Result<Option<Sprung>, Halt>
+    ensures { PutsOnPage (Does (Space lines)) (blank_due (Space lines)) pages.old pages.new
+        due.old due.new (O.sunk out.old) (O.sunk out.new) result }
 {
     if pages.is_diverting() {
-        return Ok(pages.divert_space(lines));
+        return divert_space(pages, due, lines);
     }
-    pages.space(lines, out)
+    let spaced = pages.space(lines, out);
+    done_on(pages, due, spaced)
 }
 
 /// Spaces what is left of so many lines that are needed, there or here.
 fn need_on<O: ByteSink>(
     pages: &mut Pages,
+    due: &mut Due,
     lines: u32,
     out: &mut O,
-) -> Result<Option<ShortName>, PageFault>
-    ensures { PutsBy (Does (Need lines)) pages.old pages.new
-        (O.sunk out.old) (O.sunk out.new) result }
+) -> Result<Option<Sprung>, Halt>
+    ensures { PutsOnPage (Does (Need lines)) (blank_due (Need lines)) pages.old pages.new
+        due.old due.new (O.sunk out.old) (O.sunk out.new) result }
 {
     if pages.is_diverting() {
-        return Ok(pages.divert_need(lines));
+        return divert_need(pages, due, lines);
     }
-    pages.need(lines, out)
+    let spaced = pages.need(lines, out);
+    done_on(pages, due, spaced)
 }
 
 /// Sets something of the pages: an event that puts nothing. A page may begin with it.
-fn set_on_page(pages: &mut Pages, event: LayoutEvent) -> Result<Option<Sprung>, Halt>
+fn set_on_page(pages: &mut Pages, due: &mut Due, event: LayoutEvent) -> Result<Option<Sprung>, Halt>
     requires { PutsNothing event }
-    ensures { SetsOnPage event pages.old pages.new result }
+    ensures { SetsOnPage event pages.old pages.new due.new result }
 {
     match event {
         LayoutEvent::ListPages(first, last) => pages.list_pages(first, last),
-        LayoutEvent::Begin => return Ok(Sprung::by(pages.begin())),
-        LayoutEvent::Close => pages.close(),
+        LayoutEvent::Begin => return Ok(Sprung::by(due, pages.begin())),
+        LayoutEvent::Close => return close(pages, due),
         LayoutEvent::Length(lines) => pages.set_length(lines),
         LayoutEvent::Offset(columns) => pages.set_offset(columns),
         LayoutEvent::Next(number) => pages.set_next(number),
         LayoutEvent::Number(number) => pages.set_number(number),
         LayoutEvent::NoSpace(on) => pages.set_no_space(on),
-        _ => return set_trap(pages, event),
+        _ => return set_trap(pages, due, event),
     }
     Ok(None)
 }
 
 /// The same of traps and diversions.
-fn set_trap(pages: &mut Pages, event: LayoutEvent) -> Result<Option<Sprung>, Halt>
+fn set_trap(pages: &mut Pages, due: &mut Due, event: LayoutEvent) -> Result<Option<Sprung>, Halt>
     requires { IsOfTraps event }
-    ensures { SetsOnPage event pages.old pages.new result }
+    ensures { SetsOnPage event pages.old pages.new due.new result }
 {
     match event {
         LayoutEvent::Plant(trap) => within_limit(pages.plant(trap)),
-        LayoutEvent::Divert(name, appends) => within_limit(pages.divert(name, appends)),
+        LayoutEvent::Divert(name, appends) => divert(pages, due, name, appends),
         LayoutEvent::Uproot(place) => {
             pages.uproot(place);
             Ok(None)
@@ -210,10 +246,7 @@ fn set_trap(pages: &mut Pages, event: LayoutEvent) -> Result<Option<Sprung>, Hal
             pages.diversion_trap(None);
             Ok(None)
         }
-        LayoutEvent::EndDivert => {
-            pages.end_divert();
-            Ok(None)
-        }
+        LayoutEvent::EndDivert => end_divert(pages, due),
         _ => Ok(None),
     }
 }
@@ -232,16 +265,20 @@ fn within_limit(done: Result<(), Limit>) -> Result<Option<Sprung>, Halt>
 #[inline(always)]
 pub(super) fn done_on(
     pages: &Pages,
+    due: &mut Due,
     done: Result<Option<ShortName>, PageFault>,
 ) -> Result<Option<Sprung>, Halt>
-    ensures { (L : Layout) → StandsAs L pages.now → result ≡ halted_by done L.is_over }
+    ensures halts { (L : Layout) → StandsAs L pages.now → result ≡ halted_by done L.is_over }
+    ensures noted { due.new ≡ noted_by done due.old }
+    ensures stops { StopsSprung result due.new }
 {
     match done {
         Ok(name) => {
+            let sprung = Sprung::by(due, name);
             if pages.is_over() {
                 return Err(Halt::Over);
             }
-            Ok(Sprung::by(name))
+            Ok(sprung)
         }
         Err(PageFault::Output) => Err(Halt::Limit(Limit::Output)),
         Err(PageFault::Sink) => Err(Halt::Output),

@@ -8,13 +8,15 @@ ghost use Rattle.roff_layout.specs.Happenings.{Places};
 ghost use Rattle.roff_layout.specs.declared.layout_event.LayoutEvent.TheVariants.{Space};
 ghost use Rattle.roff_formatter.specs.Clauses.{EndsOpenWord, EndsWordFirst};
 ghost use Rattle.roff_formatter.specs.Clauses.{PerformsEvents, PerformsOne};
-ghost use Rattle.roff_formatter.specs.Clauses.{PutsFinished, PutsOnPage};
+ghost use Rattle.roff_formatter.specs.Clauses.{PutsFinished, PutsOnPage, line_due};
 ghost use Rattle.roff_formatter.specs.Clauses.{Page, Text, Sunk, Tab};
 
 use super::Formatter;
+use super::diverting::divert_line;
 use super::paging::done_on;
 use crate::halt::Halt;
 use crate::sprung::{Sprung, further};
+use roff_composer::Due;
 use roff_layout::{Event, Glyph, Line};
 use roff_pages::Pages;
 use roff_sinks::ByteSink;
@@ -129,7 +131,7 @@ impl Formatter {
             PerformsEvents (Text (Print glyph) ∷ []) self.old self.new told told result }
     {
         match self.begin_first() {
-            Some(name) => Ok(Some(Sprung::in_front(name))),
+            Some(name) => self.stopped_by(name),
             None => match self.composer.environments.in_force.lines.glyph(glyph) {
                 Ok(()) => Ok(None),
                 Err(limit) => Err(Halt::Limit(limit)),
@@ -143,7 +145,7 @@ impl Formatter {
             PerformsEvents (Text Tab ∷ []) self.old self.new told told result }
     {
         match self.begin_first() {
-            Some(name) => Ok(Some(Sprung::in_front(name))),
+            Some(name) => self.stopped_by(name),
             None => match self.composer.environments.in_force.lines.tab() {
                 Ok(()) => Ok(None),
                 Err(limit) => Err(Halt::Limit(limit)),
@@ -157,7 +159,8 @@ impl Formatter {
         ensures { (told : Sunk) →
             PerformsEvents (Text Count ∷ []) self.old self.new told told result }
     {
-        Ok(Sprung::by(self.composer.environments.count()))
+        let name = self.composer.environments.count();
+        Ok(Sprung::by(&mut self.composer.due, name))
     }
 
     /// Ends the open word, behind which a gap of one blank stands.
@@ -189,7 +192,7 @@ impl Formatter {
         }
         match self.end_word(out) {
             Ok(None) => Ok(None),
-            Ok(Some(sprung)) => Ok(Some(Sprung::in_front(sprung.name))),
+            Ok(Some(sprung)) => Ok(Some(sprung.before_event())),
             Err(halt) => Err(halt),
         }
     }
@@ -251,10 +254,10 @@ impl Formatter {
         ensures own { EndsWordFirst self.old self.new (O.sunk out.old) (O.sunk out.new) result }
     {
         match self.begin_first_for(Event::WordEnd) {
-            Some(name) => Ok(Some(Sprung::in_front(name))),
+            Some(name) => self.stopped_by(name),
             None => {
                 let line = self.composer.environments.in_force.lines.end_word();
-                put_finished(&mut self.composer.pages, line, out)
+                put_finished(&mut self.composer.pages, &mut self.composer.due, line, out)
             }
         }
     }
@@ -265,10 +268,10 @@ impl Formatter {
             (O.sunk out.old) (O.sunk out.new) result }
     {
         match self.begin_first_for(Event::LineEnd) {
-            Some(name) => Ok(Some(Sprung::in_front(name))),
+            Some(name) => self.stopped_by(name),
             None => {
                 let line = self.composer.environments.in_force.lines.end_line();
-                put_finished(&mut self.composer.pages, line, out)
+                put_finished(&mut self.composer.pages, &mut self.composer.due, line, out)
             }
         }
     }
@@ -279,10 +282,10 @@ impl Formatter {
             (O.sunk out.old) (O.sunk out.new) result }
     {
         match self.begin_first_for(Event::Break) {
-            Some(name) => Ok(Some(Sprung::in_front(name))),
+            Some(name) => self.stopped_by(name),
             None => {
                 let line = self.composer.environments.in_force.lines.brk();
-                put_finished(&mut self.composer.pages, line, out)
+                put_finished(&mut self.composer.pages, &mut self.composer.due, line, out)
             }
         }
     }
@@ -292,15 +295,16 @@ impl Formatter {
 #[inline(always)]
 fn put_finished<O: ByteSink>(
     pages: &mut Pages,
+    due: &mut Due,
     line: Option<Line<'_>>,
     out: &mut O,
 ) -> Result<Option<Sprung>, Halt>
     ensures { PutsFinished (option_map finished_of line.entry) pages.old pages.new
-        (O.sunk out.old) (O.sunk out.new) result }
+        due.old due.new (O.sunk out.old) (O.sunk out.new) result }
 {
     match line {
         None => Ok(None),
-        Some(line) => place_line(pages, line, out),
+        Some(line) => place_line(pages, due, line, out),
     }
 }
 
@@ -308,16 +312,16 @@ fn put_finished<O: ByteSink>(
 #[inline(always)]
 pub(super) fn place_line<O: ByteSink>(
     pages: &mut Pages,
+    due: &mut Due,
     line: Line<'_>,
     out: &mut O,
 ) -> Result<Option<Sprung>, Halt>
-    ensures { PutsOnPage (Places (finished_of line.entry)) pages.old pages.new
-        (O.sunk out.old) (O.sunk out.new) result }
+    ensures { PutsOnPage (Places (finished_of line.entry)) (line_due (finished_of line.entry))
+        pages.old pages.new due.old due.new (O.sunk out.old) (O.sunk out.new) result }
 {
-    let placed = if pages.is_diverting() {
-        Ok(pages.divert_line(line))
-    } else {
-        pages.place(line, out)
-    };
-    done_on(pages, placed)
+    if pages.is_diverting() {
+        return divert_line(pages, due, line);
+    }
+    let placed = pages.place(line, out);
+    done_on(pages, due, placed)
 }

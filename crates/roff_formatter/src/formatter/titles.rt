@@ -10,51 +10,54 @@ ghost use Rattle.roff_sinks.specs.TitleLeft.{title_of};
 ghost use Rattle.roff_sinks.specs.TitleParts.{HasNoBlank};
 ghost use Rattle.roff_layout.specs.Titles.{part_text};
 ghost use Rattle.roff_formatter.specs.Clauses.{PerformsTitle, PlacesTitle, PutsOnPage};
-ghost use Rattle.roff_formatter.specs.Formatter.Titling.{title_at};
+ghost use Rattle.roff_formatter.specs.Formatter.Titling.{title_at, title_due};
 
 use super::Formatter;
 use super::paging::done_on;
 use crate::halt::Halt;
 use crate::sprung::Sprung;
-use roff_composer::TitleText;
+use roff_composer::{Due, DueText, TitleText};
 use roff_num::{Format, NumText, write_num};
 use roff_pages::Pages;
+use roff_run::WhichTitle;
 use roff_sinks::{ByteSink, TitleLine};
 
 impl Formatter {
-    /// Places a title of this text, with the title length that is in force, and the page's number
-    /// in this format.
+    /// Places this title, of this text, with the title length that is in force, and the page's
+    /// number in this format.
     ///
     /// # Errors
     ///
     /// [`Halt`] if a limit refuses it, the output failed, or the last page ended.
     pub fn place_title<O: ByteSink>(
         &mut self,
+        which: WhichTitle,
         text: &TitleText,
         format: Format,
         out: &mut O,
     ) -> Result<Option<Sprung>, Halt>
-        ensures { PerformsTitle text.now.text format self.old self.new
+        ensures { PerformsTitle which text.now.text format self.old self.new
             (O.sunk out.old) (O.sunk out.new) result }
     {
         match self.begin_first() {
-            Some(name) => Ok(Some(Sprung::in_front(name))),
-            None => self.place_title_here(text, format, out),
+            Some(name) => self.stopped_by(name),
+            None => self.place_title_here(which, text, format, out),
         }
     }
 
     /// The same where no page begins in front of it.
     fn place_title_here<O: ByteSink>(
         &mut self,
+        which: WhichTitle,
         text: &TitleText,
         format: Format,
         out: &mut O,
     ) -> Result<Option<Sprung>, Halt>
-        ensures { PlacesTitle text.now.text format self.old self.new
+        ensures { PlacesTitle which text.now.text format self.old self.new
             (O.sunk out.old) (O.sunk out.new) result }
     {
         let number = self.page_number(format);
-        self.put_title(text, number.as_slice(), out)
+        self.put_title(which, text, number.as_slice(), out)
     }
 
     /// The page's number, in this format.
@@ -72,6 +75,7 @@ impl Formatter {
     /// Puts a title with this number of the page.
     fn put_title<O: ByteSink>(
         &mut self,
+        which: WhichTitle,
         text: &TitleText,
         number: &[u8],
         out: &mut O,
@@ -80,10 +84,14 @@ impl Formatter {
         requires shown { HasNoBlank number.now }
         requires short { length number.now ≤ 48 }
         ensures puts { PutsOnPage (Titles (title_at self.old text.now.text number.now))
+            (title_due which self.old)
             self.old.composer.pages self.new.composer.pages
-            (O.sunk out.old) (O.sunk out.new) result }
+            self.old.composer.due self.new.composer.due (O.sunk out.old) (O.sunk out.new) result }
         ensures others { self.new ≡ record self.old {
-          composer = record self.old.composer { pages = self.new.composer.pages };
+          composer = record self.old.composer {
+            pages = self.new.composer.pages;
+            due = self.new.composer.due;
+          };
         } }
     {
         text.stays_short();
@@ -95,13 +103,26 @@ impl Formatter {
             length: u64::from(settings.title_length),
             number,
         };
-        put_on(&mut self.composer.pages, title, out)
+        let told = DueText::Title {
+            which,
+            number: self.composer.pages.number(),
+            length: settings.title_length,
+        };
+        put_on(
+            &mut self.composer.pages,
+            &mut self.composer.due,
+            told,
+            title,
+            out,
+        )
     }
 }
 
 /// Puts a title, in the innermost open diversion or on the page. With it the last page may end.
 fn put_on<O: ByteSink>(
     pages: &mut Pages,
+    due: &mut Due,
+    text: DueText,
     title: TitleLine<'_>,
     out: &mut O,
 ) -> Result<Option<Sprung>, Halt>
@@ -111,13 +132,14 @@ fn put_on<O: ByteSink>(
         text_width (part_text number title.left.now)
         + text_width (part_text number title.centre.now)
         + text_width (part_text number title.right.now) + title.length < 2 ^ 64 }
-    ensures { PutsOnPage (Titles (title_of title.entry)) pages.old pages.new
-        (O.sunk out.old) (O.sunk out.new) result }
+    ensures { PutsOnPage (Titles (title_of title.entry)) (λ L. text) pages.old pages.new
+        due.old due.new (O.sunk out.old) (O.sunk out.new) result }
 {
-    let placed = if pages.is_diverting() {
-        Ok(pages.divert_title(title))
-    } else {
-        pages.title(title, out)
-    };
-    done_on(pages, placed)
+    if pages.is_diverting() {
+        due.text = text;
+        due.sprung = pages.divert_title(title);
+        return Ok(Some(Sprung::diverting()));
+    }
+    let placed = pages.title(title, out);
+    done_on(pages, due, placed)
 }

@@ -112,6 +112,6 @@ impl Formatter {
             .in_force
             .lines
             .put_line(near, count, gaps);
-        place_line(&mut self.composer.pages, line, out)
+        place_line(&mut self.composer.pages, &mut self.composer.due, line, out)
     }
 }

@@ -1,5 +1,5 @@
 -- What names stand for in an input, and the texts in the making (manual, section 7).
-use Rattle.std.specs.Prelude.{ℕ, ◌-◌, Bool, List, [], length, Option, Some, None}
+use Rattle.std.specs.Prelude.{ℕ, ◌-◌, Bool, List, [], length, nat_lt, Option, Some, None, if◌then◌else◌}
 use Rattle.roff_store.specs.TextCalls.{Call, Enter, PushOpen, DropOpen, made}
 use Rattle.roff_store.specs.Texts.{Texts, body_of, newest, used}
 use Rattle.roff_input.specs.Input.{Input}
@@ -52,3 +52,19 @@ entering name append i = calling_on (λ id. Enter id name append) (newest i.open
 -- it is dropped
 abbrev pub dropping : {E : Type 0} → Input E → Input E
 dropping i = calling_on (λ id. DropOpen id) (newest i.open_texts) i
+
+-- the text in the making of a number, the oldest being 0, if there is one
+abbrev pub open_numbered : {E : Type 0} → ℕ → Input E → Option ℕ
+open_numbered index i = if nat_lt index (length i.open_texts) then Some index else None
+
+-- bytes are put behind the text in the making of this number
+abbrev pub adding_to : {E : Type 0} → ℕ → List ℕ → Input E → Input E
+adding_to index bytes i = calling_on (λ id. PushOpen id bytes) (open_numbered index i) i
+
+-- it ends: it is put behind the body of a name, or is the name's body from now on
+abbrev pub entering_open : {E : Type 0} → ℕ → List ℕ → Bool → Input E → Input E
+entering_open index name append i = calling_on (λ id. Enter id name append) (open_numbered index i) i
+
+-- all texts in the making are dropped
+abbrev pub dropping_all : {E : Type 0} → Input E → Input E
+dropping_all i = record i { open_texts = [] }

@@ -16,7 +16,7 @@ use roff_sinks::{ByteSink, MessageSink};
 
 impl Interpreter {
     /// Does what an item means that ended on this line of the input: its message is reported, and
-    /// then its events are performed, up to one that springs a macro.
+    /// then its events are performed, up to one that stops the list.
     #[inline(always)]
     pub(super) fn perform<O: ByteSink, E: MessageSink>(
         &mut self,
@@ -56,7 +56,7 @@ impl Interpreter {
     }
 
     /// Performs the events of the meaning that the reader keeps, one after another, up to one that
-    /// springs a macro.
+    /// stops the list.
     #[inline(always)]
     pub(super) fn perform_each<O: ByteSink>(&mut self, out: &mut O) -> Result<Option<Sprung>, Halt>
         ensures { PerformsAll self.old.reader.meaning.events self.old self.new
@@ -111,7 +111,22 @@ impl Interpreter {
         Ok(None)
     }
 
-    /// Performs the events of a step that has a name of its own, up to one that springs a macro:
+    /// Performs those of the events that the reader keeps that are left from an index on.
+    ///
+    /// # Errors
+    ///
+    /// [`Halt`] where one of them ends the run, or meets a limit or a fault of the output.
+    pub fn perform_left<O: ByteSink>(
+        &mut self,
+        begin: u8,
+        out: &mut O,
+    ) -> Result<Option<Sprung>, Halt>
+        ensures { PerformsLeft begin self.old self.new (O.sunk out.old) (O.sunk out.new) result }
+    {
+        self.perform_from(begin as usize, out)
+    }
+
+    /// Performs the events of a step that has a name of its own, up to one that stops the list:
     /// then the reader keeps them.
     #[inline(always)]
     pub(super) fn perform_line<O: ByteSink>(
@@ -133,7 +148,7 @@ impl Interpreter {
     }
 
     /// Performs an event that was put back: where it is left once more the reader keeps it. Returns
-    /// what it sprang.
+    /// where it stopped, if it did.
     ///
     /// # Errors
     ///
@@ -196,7 +211,7 @@ impl Interpreter {
     {
         let format = self.reader.page_format();
         self.formatter
-            .place_title(self.reader.title(which), format, out)
+            .place_title(which, self.reader.title(which), format, out)
     }
 }
 

@@ -14,8 +14,8 @@ use Rattle.roff_layout.specs.LastLine.{line_width}
 
 -- what is in force, the indent that is pending for one line alone, and the tab stops; the pending line's text and its
 -- indent, and whether a word stands in it; the open word's text, and whether there is one; the blanks before it; what the
--- line of the input has so far, the place on it, and whether it is interrupted; the line that was handed out last, and the
--- width of the last one that was finished
+-- line of the input has so far, the place on it, and whether it is interrupted; the text of the line that was finished last,
+-- and its width
 pub record Kept : Type 0 where
   pub cap : ℕ
   pub settings : Settings

@@ -7,7 +7,7 @@ use Rattle.roff_layout.specs.Fitting.{word_text, line_text, line_indent}
 use Rattle.roff_layout.specs.Words.{is_empty, has_open_word, last_word_glyphs, ends_sentence, blanks, open_word, words, temporary_indent}
 use Rattle.roff_layout.specs.Lines.{Finished, pending_line, pending_length, finished}
 use Rattle.roff_lines.specs.Env.Kept.{Kept}
-use Rattle.roff_layout.specs.LastLine.{last_width}
+use Rattle.roff_layout.specs.LastLine.{last_text, last_width}
 
 -- an environment of this limit keeps k behind the history h
 pub record Stands (line_cap : ℕ) (h : History) (k : Kept) : Type 0 where
@@ -33,7 +33,8 @@ pub record Stands (line_cap : ℕ) (h : History) (k : Kept) : Type 0 where
   pub ends_sentence : k.ends_sentence ≡ ends_sentence (last_word_glyphs h)
   pub place : k.place ≡ input_place h
   pub is_interrupted : k.is_interrupted ≡ is_interrupted h
-  -- the last line that was finished
+  -- the last line that was finished: its text and its width
+  pub finished : k.finished ≡ last_text h
   pub last_width : k.last_width ≡ last_width h
 
 -- whatever history the old environment stands for, the new one stands for it with one event more

@@ -1,4 +1,4 @@
--- A page with more boxes: it may end, and something may spring.
+-- A page with more boxes: it may end, and something may spring. A diversion with more boxes.
 use Rattle.std.specs.Prelude.{◌-◌, ℕ, ◌+◌, not, List, ◌++◌, length, Option, None, if◌then◌else◌, ◌==◌}
 use Rattle.roff_num.specs.declared.short_name.ShortName.{ShortName}
 use Rattle.roff_layout.specs.Layout.{Box, Layout, page_place}
@@ -12,17 +12,13 @@ use Rattle.roff_layout.specs.Queries.{place_now}
 abbrev pub with_lines : List Box → Layout → Layout
 with_lines boxes L = record L { boxes = boxes ++ L.boxes }
 
--- what springs where the layout has become another one, and this was passed: nothing where it is over, and else what is met at
--- the beginning of a page that began, or what was passed
-abbrev pub sprung_or : Layout → Layout → Option ShortName → Option ShortName
-sprung_or L M passed =
+-- what springs where the layout has become another one, and the page behind a place has come to another place: nothing where it
+-- is over, and else what is met at the beginning of a page that began, or what was passed
+abbrev pub sprung_on : Layout → Layout → ℕ → ℕ → Option ShortName
+sprung_on L M from to =
     if M.is_over then None
     else if not (M.begun == L.begun) then first_met is_on_top M.length M.traps
-    else passed
-
--- the same where the page behind a place has come to another place
-abbrev pub sprung_on : Layout → Layout → ℕ → ℕ → Option ShortName
-sprung_on L M from to = sprung_or L M (first_met (is_passed from to) L.length L.traps)
+    else first_met (is_passed from to) L.length L.traps
 
 -- how far the next stop is
 abbrev pub way_on : Kept → ℕ
@@ -32,11 +28,10 @@ way_on k = next_stop k.length k.place k.traps - k.place
 abbrev pub sprung_by : List Box → Layout → Option ShortName
 sprung_by boxes L = sprung_on L (turned_if_full (with_lines boxes L)) (page_place L) (page_place L + length boxes)
 
--- with boxes in the innermost open diversion, before the page ends
+-- with boxes in the innermost open diversion
 abbrev pub with_diverted : List Box → Layout → Layout
 with_diverted boxes L = record L { diversions = in_innermost boxes L.diversions }
 
--- what springs behind them
+-- what springs behind them: what is passed there, unless the layout is over
 abbrev pub sprung_diverted : List Box → Layout → Option ShortName
-sprung_diverted boxes L =
-    sprung_or L (turned_if_full (with_diverted boxes L)) (passed_in L.diversions (place_now L) (place_now L + length boxes) L)
+sprung_diverted boxes L = if L.is_over then None else passed_in L.diversions (place_now L) (place_now L + length boxes) L

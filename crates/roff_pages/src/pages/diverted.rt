@@ -1,9 +1,10 @@
 //! What is put in the innermost open diversion (manual, sections 7.3 and 7.4).
 //!
-//! A diversion's text is kept elsewhere; here its lines are counted, and its trap is sprung. Behind
-//! what is put the page ends if it has become shorter than its place.
+//! A diversion's text is kept elsewhere; here its lines are counted, and its trap is sprung. What
+//! is put in it changes nothing on the page, and ends none.
 
-ghost use Rattle.std.specs.Prelude.{◌≡◌, ℕ, ◌+◌, ◌<◌, ◌^◌, length, List, Option};
+ghost use Rattle.std.specs.Prelude.{◌≡◌, ℕ, ◌+◌, ◌<◌, ◌^◌, length, List, None, Option};
+ghost use Rattle.std.specs.Prelude.{if◌then◌else◌};
 ghost use Rattle.roff_layout.specs.Columns.{finished_of, printed};
 ghost use Rattle.roff_layout.specs.Glyphs.{text_width};
 ghost use Rattle.roff_layout.specs.Titles.{part_text};
@@ -12,10 +13,10 @@ ghost use Rattle.roff_layout.specs.Layout.{Box, Diversion, Layout};
 ghost use Rattle.roff_layout.specs.declared.layout_event.LayoutEvent.TheVariants.{Need, Space};
 ghost use Rattle.roff_layout.specs.Happenings.{Does, Places, Titles};
 ghost use Rattle.roff_layout.specs.Puts.{needed, within_stop};
-ghost use Rattle.roff_layout.specs.Turning.{greatest_width, in_diversion, turned_if_full};
+ghost use Rattle.roff_layout.specs.Turning.{greatest_width, in_diversion};
 ghost use Rattle.roff_layout.specs.Springs.{springs};
 ghost use Rattle.roff_layout.specs.Queries.{text_target, way_from};
-ghost use Rattle.roff_pages.specs.Pages.Advancing.{sprung_diverted, sprung_or, with_diverted};
+ghost use Rattle.roff_pages.specs.Pages.Advancing.{sprung_diverted, with_diverted};
 ghost use Rattle.roff_pages.specs.Pages.Counted.{counted};
 ghost use Rattle.roff_pages.specs.Pages.Stands.{kept_diversion};
 
@@ -86,7 +87,7 @@ impl Pages {
     }
 
     /// Whether no-space mode is on where text goes.
-    fn is_spaceless(&self) -> bool
+    pub(super) fn is_spaceless(&self) -> bool
         ensures { (L : Layout) → StandsAs L self.now → result ≡ (text_target L).no_space }
     {
         match self.innermost {
@@ -102,7 +103,7 @@ impl Pages {
         ensures stands { (L : Layout) (boxes : List Box) → StandsAs L self.old
             → counted lines ≡ counted (length boxes)
             → counted width ≡ counted (greatest_width boxes)
-            → StandsAs (turned_if_full (with_diverted boxes L)) self.new }
+            → StandsAs (with_diverted boxes L) self.new }
         ensures springs { (L : Layout) (boxes : List Box) → StandsAs L self.old
             → counted lines ≡ counted (length boxes)
             → counted width ≡ counted (greatest_width boxes)
@@ -113,25 +114,16 @@ impl Pages {
         match self.innermost {
             Some(diversion) => {
                 self.innermost = Some(with_lines(diversion, lines, width));
-                self.end_if_short(passed_in_diversion(diversion.height, lines, diversion.trap))
+                self.unless_over(passed_in_diversion(diversion.height, lines, diversion.trap))
             }
             None => None,
         }
     }
 
-    /// Ends the page if it is shorter than its place. Answers what springs: what was passed, where
-    /// the page goes on.
-    fn end_if_short(&mut self, passed: Option<ShortName>) -> Option<ShortName>
-        ensures stands { (L : Layout) → StandsAs L self.old
-            → StandsAs (turned_if_full L) self.new }
-        ensures springs { (L : Layout) → StandsAs L self.old
-            → result ≡ sprung_or L (turned_if_full L) passed }
-        ensures limits { SameLimits self.old self.new }
-        ensures written { self.new.written ≡ self.old.written }
+    /// What springs where this was passed: nothing once the last page has ended.
+    fn unless_over(&self, passed: Option<ShortName>) -> Option<ShortName>
+        ensures { result ≡ (if self.now.is_over then None else passed) }
     {
-        if self.place >= u64::from(self.length) {
-            return self.turn();
-        }
         if self.is_over { None } else { passed }
     }
 }
@@ -154,7 +146,7 @@ fn with_lines(diversion: OpenDiversion, lines: u64, width: u64) -> OpenDiversion
 }
 
 /// So many blank lines, up to a trap that is so far.
-fn up_to_trap(way: Option<u64>, lines: u64) -> u64
+pub(super) fn up_to_trap(way: Option<u64>, lines: u64) -> u64
     ensures { (place : ℕ) (stop : Option ℕ) → way ≡ way_from place stop
         → result ≡ within_stop place stop lines }
 {
@@ -165,7 +157,7 @@ fn up_to_trap(way: Option<u64>, lines: u64) -> u64
 }
 
 /// So many blank lines behind a line, up to a trap that is so far.
-fn behind_text(way: Option<u64>, lines: u64) -> u64
+pub(super) fn behind_text(way: Option<u64>, lines: u64) -> u64
     ensures { (place : ℕ) (stop : Option ℕ) → way ≡ way_from place stop
         → result ≡ within_stop (place + 1) stop lines }
 {
@@ -176,7 +168,7 @@ fn behind_text(way: Option<u64>, lines: u64) -> u64
 }
 
 /// How much is spaced where so many lines are needed, up to a trap that is so far.
-fn needed_up_to(way: Option<u64>, lines: u32) -> u64
+pub(super) fn needed_up_to(way: Option<u64>, lines: u32) -> u64
     ensures { (place : ℕ) (stop : Option ℕ) → way ≡ way_from place stop
         → result ≡ needed lines place stop }
 {

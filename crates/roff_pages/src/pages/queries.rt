@@ -4,6 +4,7 @@ ghost use Rattle.std.specs.Prelude.{◌≡◌, ◌<◌, ◌^◌, [], true, false
 ghost use Rattle.roff_layout.specs.Layout.{Layout};
 ghost use Rattle.roff_layout.specs.Queries.{nl, place_now, way_to_trap, diversion_name};
 ghost use Rattle.roff_layout.specs.Queries.{is_diverting, takes_text};
+ghost use Rattle.roff_pages.specs.Pages.Innermost.{name_and_way};
 
 use super::Pages;
 use crate::traps::way_in_diversion;
@@ -101,6 +102,28 @@ impl Pages {
     {
         match self.innermost {
             Some(diversion) => Some(diversion.name),
+            None => None,
+        }
+    }
+
+    /// How many diversions are open.
+    pub fn diversion_count(&self) -> usize
+        ensures layout { (L : Layout) → StandsAs L self.now → result ≡ length L.diversions }
+        ensures count { result ≡ length self.now.diversions }
+    {
+        match self.innermost {
+            Some(_) => self.outer.len() + 1,
+            None => 0,
+        }
+    }
+
+    /// The name of the innermost open diversion, and whether its text is to be appended to what the
+    /// name has.
+    pub fn innermost(&self) -> Option<(ShortName, bool)>
+        ensures { (L : Layout) → StandsAs L self.now → result ≡ name_and_way L.diversions }
+    {
+        match self.innermost {
+            Some(diversion) => Some((diversion.name, diversion.appends)),
             None => None,
         }
     }

@@ -1,9 +1,12 @@
 //! The read-only registers, as in the manual's lists of registers before section 1.
 
-ghost use Rattle.std.specs.Prelude.{◌≡◌, bytes_eq, find};
+ghost use Rattle.std.specs.Prelude.{◌≡◌, bytes_eq, find, option_map};
 ghost use Rattle.std.specs.Option.{option_copied};
+ghost use Rattle.roff_layout.specs.Layout.{Layout};
+ghost use Rattle.roff_pages.specs.Pages.Counted.{counted};
+ghost use Rattle.roff_pages.specs.Pages.Stands.{StandsAs};
 ghost use Rattle.roff_run.specs.Registers.{Known, answer, at_greatest, in_heights, in_units};
-ghost use Rattle.roff_run.specs.Registers.{is_read_only, query_of};
+ghost use Rattle.roff_run.specs.Registers.{is_read_only, place_told, query_of, text_place};
 ghost use Rattle.roff_registers.specs.Registers.ReadOnly.{begins_read_only};
 ghost use Rattle.roff_registers.specs.Registers.Coded.{AreOf};
 
@@ -33,14 +36,14 @@ static READ_ONLY: [ReadOnly; 17] = [
     ReadOnly { name: *b".V", query: Query::LineSpacing },
     ReadOnly { name: *b".H", query: Query::ColumnWidth },
     ReadOnly { name: *b".$", query: Query::Arguments },
-    ReadOnly { name: *b".d", query: Query::Later },
+    ReadOnly { name: *b".d", query: Query::TextPlace },
     ReadOnly { name: *b".o", query: Query::PageOffset },
     ReadOnly { name: *b".p", query: Query::PageLength },
     ReadOnly { name: *b".t", query: Query::WayToTrap },
-    ReadOnly { name: *b".z", query: Query::Later },
+    ReadOnly { name: *b".z", query: Query::DiversionName },
     ReadOnly { name: *b"nl", query: Query::PagePlace },
-    ReadOnly { name: *b"dn", query: Query::Later },
-    ReadOnly { name: *b"dl", query: Query::Later },
+    ReadOnly { name: *b"dn", query: Query::DiversionHeight },
+    ReadOnly { name: *b"dl", query: Query::DiversionWidth },
 ];
 
 /// A count above this reads as this.
@@ -84,40 +87,63 @@ fn begins_read_only(name: &[u8]) -> bool
 
 impl Facts<'_> {
     /// What a read-only register asks for, in basic units where it is a length.
-    #[tactic(auto, using(crate::proofs::Heights::told_counted))]
+    #[tactic(auto, using(crate::proofs::Heights::told_counted, crate::proofs::Heights::wide_counted, crate::proofs::Heights::told_place))]
     pub(super) fn answer(self, query: Query) -> i32
         ensures { (k : Known) → AreOf k self.entry → result ≡ answer k query }
     {
         let lines = &self.composer.environments.in_force.lines;
         match query {
             Query::Newlines => at_greatest(u64::from(self.newlines)),
-            Query::Indent => columns_told(lines.settings().indent),
-            Query::LineLength => columns_told(lines.settings().line_length),
-            Query::LastWidth => columns_told(lines.last_width()),
+            Query::Indent => columns_told(u64::from(lines.settings().indent)),
+            Query::LineLength => columns_told(u64::from(lines.settings().line_length)),
+            Query::LastWidth => columns_told(u64::from(lines.last_width())),
             Query::Filling => i32::from(lines.settings().filling),
             Query::LineSpacing => LINE as i32,
             Query::ColumnWidth => COLUMN as i32,
             Query::Arguments => at_greatest(self.arguments as u64),
-            Query::PagePlace => match self.composer.pages.nl() {
-                Some(place) => lines_told(place),
-                None => -1,
-            },
+            Query::PagePlace => place_told(self.composer.pages.nl()),
             Query::PageLength => lines_told(u64::from(self.composer.pages.length())),
-            Query::PageOffset => columns_told(self.composer.pages.offset()),
+            Query::PageOffset => columns_told(u64::from(self.composer.pages.offset())),
             Query::WayToTrap => match self.composer.pages.way_to_trap() {
                 Some(way) => lines_told(way),
                 None => GREATEST_NUMBER as i32,
             },
-            Query::Later => 0,
+            Query::TextPlace => place_told(self.text_place()),
+            Query::DiversionHeight => lines_told(self.composer.pages.height()),
+            Query::DiversionWidth => columns_told(self.composer.pages.width()),
+            Query::DiversionName => 0,
         }
+    }
+
+    /// The place where text goes: in the innermost open diversion, or on the page; none before the
+    /// first page.
+    fn text_place(self) -> Option<u64>
+        ensures { (L : Layout) → StandsAs L self.entry.composer.now.pages
+            → result ≡ option_map counted (text_place L) }
+    {
+        let pages = &self.composer.pages;
+        if pages.is_diverting() {
+            return Some(pages.place_now());
+        }
+        pages.nl()
     }
 }
 
 /// A width in columns, in basic units.
-fn columns_told(columns: u32) -> i32
+fn columns_told(columns: u64) -> i32
     ensures { result ≡ at_greatest (in_units columns) }
 {
-    at_greatest(u64::from(columns) * u64::from(COLUMN))
+    at_greatest(columns.saturating_mul(u64::from(COLUMN)))
+}
+
+/// A place, in basic units; before the first page it is -1.
+fn place_told(place: Option<u64>) -> i32
+    ensures { result ≡ place_told place }
+{
+    match place {
+        Some(lines) => lines_told(lines),
+        None => -1,
+    }
 }
 
 /// A height in lines, in basic units.

@@ -69,7 +69,7 @@ fn moved(name: ShortName, place: Result<i32, NumFault>) -> Response
 }
 
 /// The place that a text gives, in lines: below 0 it counts from the page's end.
-fn place_given(known: PageFacts, text: &[u8]) -> Result<i32, NumFault>
+pub(super) fn place_given(known: PageFacts, text: &[u8]) -> Result<i32, NumFault>
     ensures { (k : Known) → known.place ≡ counted (place_now k.layout)
         → result ≡ place_given k text.now }
 {

@@ -7,7 +7,6 @@ use Rattle.roff_layout.specs.Words.{is_empty}
 use Rattle.roff_num.specs.LimitValues.{value_of}
 use Rattle.roff_num.specs.declared.limit.Limit.{Limit}
 use Rattle.roff_num.specs.declared.limits.Limits.{Limits}
-use Rattle.roff_num.specs.declared.short_name.ShortName.{ShortName}
 use Rattle.roff_input.specs.Input.{initial_input}
 use Rattle.roff_input.specs.Input.Calls.{arguments_live}
 use Rattle.roff_source.specs.Tape.{Tape}
@@ -15,6 +14,7 @@ use Rattle.roff_input.specs.declared.looked.Looked.TheVariants.{Nothing as Nothi
 use Rattle.roff_input.specs.Unread.{Unread}
 use Rattle.roff_run.specs.Messages.{message_line, message_lines}
 use Rattle.roff_run.specs.Environments.{environments, interrupted_line}
+pub use Rattle.roff_run.specs.Following.{Following, nothing_follows, only_sprung}
 use Rattle.roff_run.specs.Output.{layout_of, text_of}
 use Rattle.roff_run.specs.PageEvents.{PageEvent, PageHistory}
 use Rattle.roff_run.specs.Reading.Items.{PageInput}
@@ -41,8 +41,8 @@ pub record State : Type 0 where
   pub registers : AllRegisters
   -- the events that the last item means and that are still to be performed
   pub to_do : List PageEvent
-  -- the macro that the last of them sprang and that isn't read yet, if it sprang one
-  pub sprung : Option ShortName
+  -- what follows the last of them that was performed, and isn't done yet
+  pub follows : Following
   -- the events that were performed, the newest first
   pub history : PageHistory
   -- the messages, as they are written
@@ -70,7 +70,7 @@ blank_state tape = record {
   reading = LineStart;
   registers = no_registers;
   to_do = [];
-  sprung = None;
+  follows = nothing_follows;
   history = [];
   messages = [];
   phase = Reading;

@@ -35,7 +35,7 @@ impl Running {
     {
         let line = self.unread.line();
         match self.interpreter.take_escape_end(&mut self.unread, out, err) {
-            Ok(sprung) => self.go_on(sprung, err),
+            Ok(sprung) => self.go_on(sprung, out, err),
             Err(halt) => Err(self.halted(halt, line, line, err)),
         }
     }
@@ -63,24 +63,28 @@ impl Running {
             return self.end_line(out, err);
         }
         match self.phase {
-            Phase::Reading => self.read_last_macro(err),
+            Phase::Reading => self.read_last_macro(out, err),
             Phase::LastMacro => self.finish(out, err),
             Phase::Closing => Err(Status::Done),
         }
     }
 
     /// Reads the last macro behind the input, if there is one.
-    fn read_last_macro<E: MessageSink>(&mut self, err: &mut E) -> Result<(), Status>
+    fn read_last_macro<O: ByteSink, E: MessageSink>(
+        &mut self,
+        out: &mut O,
+        err: &mut E,
+    ) -> Result<(), Status>
         requires { self.old.phase ≡ Reading }
-        ensures { (failures : ℕ) (out : Sunk)
-            → DoesItem self.old.unread.input.line (phase_ended Reading) self.old self.new
-            (seen failures out (told_by E.MessageSink err.old))
-            (seen failures out (told_by E.MessageSink err.new)) result }
+        ensures { (failures : ℕ) → DoesItem self.old.unread.input.line (phase_ended Reading)
+            self.old self.new
+            (seen failures (O.sunk out.old) (told_by E.MessageSink err.old))
+            (seen failures (O.sunk out.new) (told_by E.MessageSink err.new)) result }
     {
         let line = self.unread.line();
         self.phase = Phase::LastMacro;
         match self.interpreter.read_last_macro(&mut self.unread) {
-            Ok(sprung) => self.go_on(sprung, err),
+            Ok(sprung) => self.go_on(sprung, out, err),
             Err(halt) => Err(self.halted(halt, line, line, err)),
         }
     }
@@ -98,7 +102,7 @@ impl Running {
     {
         let line = self.unread.line();
         match self.interpreter.end_input_line(&mut self.unread, out, err) {
-            Ok(sprung) => self.go_on(sprung, err),
+            Ok(sprung) => self.go_on(sprung, out, err),
             Err(halt) => Err(self.halted(halt, line, line, err)),
         }
     }
@@ -118,7 +122,7 @@ impl Running {
         let line = self.unread.line();
         self.phase = Phase::Closing;
         match self.interpreter.finish(out) {
-            Ok(sprung) => self.go_on(sprung, err),
+            Ok(sprung) => self.go_on(sprung, out, err),
             Err(halt) => Err(self.halted(halt, line, line, err)),
         }
     }

@@ -266,7 +266,7 @@ impl Running {
         match self.tell_front(source) {
             Behind::Untold => false,
             Behind::Other => false,
-            Behind::Escape => self.read_escape(source),
+            Behind::Escape => self.tell_line_behind(source),
             Behind::Named => self.read_named(source),
         }
     }
@@ -297,10 +297,7 @@ impl Running {
         match self.tell_front(source) {
             Behind::Untold => true,
             Behind::Other => true,
-            Behind::Escape => {
-                let _ = self.read_escape(source);
-                false
-            }
+            Behind::Escape => self.tell_text_behind(source),
             Behind::Named => {
                 let _ = self.read_named(source);
                 false
@@ -310,7 +307,7 @@ impl Running {
 
     /// Reads the front of an escape, as far as one stands in front. It took no whole one.
     #[inline(always)]
-    fn read_escape<S: ByteSource>(&mut self, source: &mut S) -> bool
+    pub(super) fn read_escape<S: ByteSource>(&mut self, source: &mut S) -> bool
         ensures { GoesFurtherOver result S.ByteSource source.old source.new self.old self.new }
     {
         if let Some(kind) = run_half_read(&self.interpreter.reader, &self.unread) {
@@ -322,7 +319,7 @@ impl Running {
     /// Takes the escape of a register or a string in front, and tells text behind that, or reads
     /// the front of one. Returns whether it took a whole one.
     #[inline(always)]
-    fn read_named<S: ByteSource>(&mut self, source: &mut S) -> bool
+    pub(super) fn read_named<S: ByteSource>(&mut self, source: &mut S) -> bool
         requires { IsRun TextRun self.old.interpreter.reader.reading self.old.unread.input.escapes }
         ensures { GoesFurtherOver result S.ByteSource source.old source.new self.old self.new }
     {
@@ -349,7 +346,7 @@ impl Running {
     /// Takes bytes of plain text together that stand in front, and tells them: as many as no limit
     /// refuses, and none that finishes a line. Returns what lies behind them, as far as is seen.
     #[inline(never)]
-    fn tell_front<S: ByteSource>(&mut self, source: &mut S) -> Behind
+    pub(super) fn tell_front<S: ByteSource>(&mut self, source: &mut S) -> Behind
         requires { IsRun TextRun self.old.interpreter.reader.reading self.old.unread.input.escapes }
         ensures past { GoesPastOver S.ByteSource source.old source.new self.old self.new }
         ensures half { self.new.unread.input.escapes ≡ self.old.unread.input.escapes }

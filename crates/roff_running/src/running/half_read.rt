@@ -155,7 +155,7 @@ impl Running {
     {
         let line = self.unread.line();
         match self.interpreter.take_half(byte, &mut self.unread, out, err) {
-            Ok(sprung) => self.go_on(sprung, err),
+            Ok(sprung) => self.go_on(sprung, out, err),
             Err(halt) => Err(self.halted(halt, line_before, line, err)),
         }
     }

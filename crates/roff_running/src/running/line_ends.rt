@@ -97,7 +97,7 @@ impl Running {
             .interpreter
             .end_call_line(name, &mut self.unread, out, err)
         {
-            Ok(sprung) => self.go_on(sprung, err),
+            Ok(sprung) => self.go_on(sprung, out, err),
             Err(halt) => Err(self.halted(halt, line, line, err)),
         }
     }
@@ -121,7 +121,7 @@ impl Running {
             .interpreter
             .end_break(breaks, &mut self.unread, out, err)
         {
-            Ok(sprung) => self.go_on(sprung, err),
+            Ok(sprung) => self.go_on(sprung, out, err),
             Err(halt) => Err(self.halted(halt, line, line, err)),
         }
     }
@@ -147,7 +147,7 @@ impl Running {
             .interpreter
             .end_request(breaks, request, &mut self.unread, out, err)
         {
-            Ok(sprung) => self.go_on(sprung, err),
+            Ok(sprung) => self.go_on(sprung, out, err),
             Err(halt) => Err(self.halted(halt, line, line, err)),
         }
     }

@@ -164,7 +164,7 @@ impl Running {
             .interpreter
             .take_on_line(text_line, byte, &mut self.unread, out, err)
         {
-            Ok(sprung) => self.go_on(sprung, err),
+            Ok(sprung) => self.go_on(sprung, out, err),
             Err(halt) => Err(self.halted(halt, line_before, line, err)),
         }
     }
@@ -240,7 +240,8 @@ impl Running {
     {
         let front = self.unread.front(source);
         if !begin_with_text(front) {
-            return instead_of_text(front);
+            let instead = instead_of_text(front);
+            return self.begin_with_glyph(instead, source);
         }
         let count = self.interpreter.formatter.text_front(front);
         let behind = behind_text(front, count);
@@ -255,7 +256,7 @@ impl Running {
 }
 
 /// A text line behind a glyph.
-const BEHIND_GLYPH: TextLine = TextLine {
+pub(super) const BEHIND_GLYPH: TextLine = TextLine {
     has_glyph: true,
     has_other: false,
     has_brace: false,

@@ -92,33 +92,33 @@ impl Running {
             Some((count, gaps)) => {
                 let done = self.interpreter.end_front(front, count, gaps, out);
                 self.unread.pass_line(source, count);
-                Some(self.go_on_behind(done, err))
+                Some(self.go_on_behind(done, out, err))
             }
         }
     }
 
     /// Goes on behind a newline that was taken, by what became of its events.
     #[inline(always)]
-    fn go_on_behind<E: MessageSink>(
+    fn go_on_behind<O: ByteSink, E: MessageSink>(
         &mut self,
         done: Result<Option<Sprung>, Halt>,
+        out: &mut O,
         err: &mut E,
     ) -> Result<(), Status>
         ensures { (failures : ℕ) (was : InterpreterOf) (told : FormatterOf) (line : TextLineOf)
-            (out_old out_new : Sunk)
+            (out_old : Sunk)
             → DoesTaking (λ k. taking k (InText line) self.old.unread.input newline) []
             (told_as was told (InText line)) self.old.interpreter self.old.unread self.old.unread
             (sinks out_old (told_by E.MessageSink err.old))
-            (sinks out_new (told_by E.MessageSink err.old)) done
+            (sinks (O.sunk out.old) (told_by E.MessageSink err.old)) done
             → DoesItem self.old.unread.input.line (byte_taken newline)
             (record self.old { interpreter = told_as was told (InText line) }) self.new
-            (seen failures out_old (told_by E.MessageSink err.old)) (seen failures out_new
-            (told_by E.MessageSink err.new))
-            result }
+            (seen failures out_old (told_by E.MessageSink err.old))
+            (seen failures (O.sunk out.new) (told_by E.MessageSink err.new)) result }
     {
         let line = self.unread.line();
         match done {
-            Ok(sprung) => self.go_on(sprung, err),
+            Ok(sprung) => self.go_on(sprung, out, err),
             Err(halt) => Err(self.halted(halt, line, line, err)),
         }
     }

@@ -4,6 +4,7 @@ ghost use Rattle.roff_store.specs.Named.{entry_of};
 ghost use Rattle.roff_store.specs.Texts.{entry_given, kind_given, kind_of};
 ghost use Rattle.std.specs.Prelude.{true, false, ◌+◌, ◌<◌, ◌≡◌, ◌≤◌, option_map};
 ghost use Rattle.roff_input.specs.Input.Names.{adding, calling, dropping, entering, stored};
+ghost use Rattle.roff_input.specs.Input.Names.{adding_to, dropping_all, entering_open};
 
 use super::Unread;
 use roff_num::{Limit, Name};
@@ -115,5 +116,43 @@ impl<E: Copy> Unread<E> {
         if let Some(id) = self.input_ahead.newest() {
             self.input_ahead.drop_open(id);
         }
+    }
+
+    /// Puts bytes behind the text in the making of a number, the oldest being 0, if there is one.
+    ///
+    /// # Errors
+    ///
+    /// [`Limit::Store`] if there would be too many bytes.
+    pub fn add_to(&mut self, index: usize, text: &[u8]) -> Result<(), Limit>
+        ensures change { (result, self.new)
+            ≡ changing (adding_to index text.now self.old.input) self.old }
+    {
+        match self.input_ahead.open_numbered(index) {
+            Some(numbered) => self.input_ahead.push_open(numbered, text),
+            None => Ok(()),
+        }
+    }
+
+    /// Ends the text in the making of a number, if there is one: it is put behind the body of a
+    /// name, or is its body from now on. The number of each newer one goes down by one.
+    ///
+    /// # Errors
+    ///
+    /// [`Limit::Names`] if the name is new and there are as many as may be.
+    pub fn enter_open(&mut self, index: usize, name: &Name, append: bool) -> Result<(), Limit>
+        ensures change { (result, self.new)
+            ≡ changing (entering_open index name.now append self.old.input) self.old }
+    {
+        match self.input_ahead.open_numbered(index) {
+            Some(numbered) => self.input_ahead.enter(numbered, name, append),
+            None => Ok(()),
+        }
+    }
+
+    /// Drops all texts in the making.
+    pub fn drop_all(&mut self)
+        ensures change { self.new ≡ record self.old { input = dropping_all self.old.input } }
+    {
+        self.input_ahead.drop_all();
     }
 }

@@ -64,7 +64,7 @@ impl<'a> LineBytes<'a> {
 }
 
 /// How many bytes above the blank stand in front of a text before a backslash, at most so many.
-fn count_of_plain(text: &[u8], most: usize) -> usize
+pub(crate) fn count_of_plain(text: &[u8], most: usize) -> usize
     ensures text { result ≤ length text.now }
     ensures most { result ≤ most }
     ensures plain { take result text.now ≡ take most (plain_in_front text.now) }

@@ -29,5 +29,5 @@ loop-number-preserved c = elim c.match-numbered.branch [
 
 pub returns : goal.returns
 returns c =
-    let all : c.loop-number.number ≡ 82 = omega (arith, c.loop-number-test.false, c.loop-number.auto.number-end) in
+    let all : c.loop-number.number ≡ 85 = omega (arith, c.loop-number-test.false, c.loop-number.auto.number-end) in
     c.loop-number.invariant ∙ ap (unread_at c.args.limits) all

@@ -7,7 +7,7 @@ use Rattle.roff_formatter.proofs.DoneFirst.{only_first, only_page, ready_then}
 use Rattle.roff_formatter.proofs.formatter.Formatter.end_line.Goals as goal
 
 pub returns-in-Some : goal.returns-in-Some
-returns-in-Some g c = rw c.in_front.ensures (only_page (Text LineEnd) _ _ _ c.in-Some.name refl c.in-Some.ensures)
+returns-in-Some g c = only_page (Text LineEnd) _ _ _ _ c.in-Some.name _ refl c.in-Some.ensures c.stopped_by.ensures.due c.stopped_by.ensures.is
 
 pub returns-in-None : goal.returns-in-None
 returns-in-None g c = only_first (Text LineEnd) (Text LineEnd) _ _ _ _ _ (λ rs. refl) (λ g. refl) (λ sprung is. refl) (ready_then _ _ _ c.begin_first_for.new.self _ _ _ _ c.in-None.ensures

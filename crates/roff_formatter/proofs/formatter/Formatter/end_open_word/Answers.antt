@@ -18,7 +18,7 @@ returns-in-Ok-None g c =
 pub returns-in-Ok-Some : goal.returns-in-Ok-Some
 returns-in-Ok-Some g c =
     let is : c.end_word.result ≡ Ok (Some c.in-Ok-Some.sprung) = search rules in
-    one_open _ _ _ _ c.end_word.result _ (ap first_left is ∙ ap (λ sprung. Ok (Some sprung)) (sym c.in_front.ensures))
+    one_open _ _ _ _ c.end_word.result _ (ap first_left is ∙ ap (λ sprung. Ok (Some sprung)) (sym c.before_event.ensures))
     (λ l h stood. sym (c.has_open_word.ensures.open l.line (text_of h) stood.environments.in_force.lines) ∙ search rules)
     c.end_word.ensures.own
 

@@ -7,10 +7,10 @@ use Rattle.roff_formatter.proofs.DoneFirst.{only_first, only_page, ready_then, w
 use Rattle.roff_formatter.proofs.formatter.Formatter.end_word.Goals as goal
 
 pub returns-in-Some-clause-performs : goal.returns-in-Some-clause-performs
-returns-in-Some-clause-performs g c = rw c.in_front.ensures (only_page (Text WordEnd) _ _ _ c.in-Some.name refl c.in-Some.ensures)
+returns-in-Some-clause-performs g c = only_page (Text WordEnd) _ _ _ _ c.in-Some.name _ refl c.in-Some.ensures c.stopped_by.ensures.due c.stopped_by.ensures.is
 
 pub returns-in-Some-clause-own : goal.returns-in-Some-clause-own
-returns-in-Some-clause-own g c = rw c.in_front.ensures (word_page _ _ _ c.in-Some.name c.in-Some.ensures)
+returns-in-Some-clause-own g c = word_page _ _ _ _ c.in-Some.name _ c.in-Some.ensures c.stopped_by.ensures.due c.stopped_by.ensures.is
 
 pub returns-in-None-clause-performs : goal.returns-in-None-clause-performs
 returns-in-None-clause-performs g c = only_first (Text WordEnd) (Text WordEnd) _ _ _ _ _ (λ rs. refl) (λ g. refl) (λ sprung is. refl) (ready_then _ _ _ c.begin_first_for.new.self _ _ _ _ c.in-None.ensures
@@ -19,7 +19,7 @@ returns-in-None-clause-performs g c = only_first (Text WordEnd) (Text WordEnd) _
     c.put_finished.ensures))
 
 pub returns-in-None-clause-own : goal.returns-in-None-clause-own
-returns-in-None-clause-own g c = word_first _ _ _ _ _ (ready_then _ _ _ c.begin_first_for.new.self _ _ _ _ c.in-None.ensures
+returns-in-None-clause-own g c = word_first _ c.begin_first_for.new.self _ _ _ _ c.in-None.ensures c.end_word-line.follows.holds-at-none
     (text_put_here WordEnd _ _ _ _ _ _ (λ h. refl) (λ l h stood. c.end_word-line.ensures.line l.line (text_of h) stood.environments.in_force.lines)
     (lines_behind WordEnd c.begin_first_for.new.self.composer _ (λ trap. refl) c.end_word-line.follows.holds-at-none)
-    c.put_finished.ensures))
+    c.put_finished.ensures)

@@ -8,7 +8,7 @@ use Rattle.roff_formatter.proofs.DoneFirst.{only_first, only_page, ready_then}
 use Rattle.roff_formatter.proofs.formatter.Formatter.glyph.Goals as goal
 
 pub returns-in-Some : goal.returns-in-Some
-returns-in-Some c = λ told. rw c.in_front.ensures (only_page (Text (Print c.args.glyph)) _ _ told c.in-Some.name refl (c.in-Some.ensures (Text (Print c.args.glyph)) (λ h. refl)))
+returns-in-Some c = λ told. only_page (Text (Print c.args.glyph)) _ _ _ told c.in-Some.name _ refl (c.in-Some.ensures (Text (Print c.args.glyph)) (λ h. refl)) c.stopped_by.ensures.due c.stopped_by.ensures.is
 
 pub returns-in-Ok : goal.returns-in-Ok
 returns-in-Ok c = λ told. only_first (Text (Print c.args.glyph)) (Text (Print c.args.glyph)) _ _ _ _ _ (λ rs. refl) (λ g. refl) (λ sprung is. refl)

@@ -19,7 +19,7 @@ returns-in-Ok-None c = λ told.
     subst
     (λ (none : Bool). PerformsEvents ((if none then [] else Text (Print (Blanks c.args.leading)) ∷ []) ++ Text (Print c.args.glyph) ∷ []) c.args.self.now c.glyph-in-Ok-None.new.self told told c.further.result)
     (sym is)
-    (performs_both (Text (Print (Blanks c.args.leading))) (Text (Print c.args.glyph) ∷ []) c.args.self.now c.glyph-2.new.self c.glyph-in-Ok-None.new.self told told told c.glyph-2.result c.glyph-in-Ok-None.result c.further.result (search rules) (c.glyph-2.ensures told) (c.glyph-in-Ok-None.ensures told) (omega arith) c.further.ensures)
+    (performs_both (Text (Print (Blanks c.args.leading))) (Text (Print c.args.glyph) ∷ []) c.args.self.now c.glyph-2.new.self c.glyph-in-Ok-None.new.self told told told c.glyph-2.result c.glyph-in-Ok-None.result c.further.result (search rules) (c.glyph-2.ensures told) (c.glyph-in-Ok-None.ensures told) (omega arith) c.further.ensures.told (c.further.ensures.least (omega arith)))
 
 pub returns-in-Ok-Some : goal.returns-in-Ok-Some
 returns-in-Ok-Some c = λ told.

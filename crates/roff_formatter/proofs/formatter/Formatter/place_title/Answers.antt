@@ -4,8 +4,8 @@ use Rattle.roff_formatter.proofs.Titling.{title_page, title_placed}
 use Rattle.roff_formatter.proofs.formatter.Formatter.place_title.Goals as goal
 
 pub returns-in-Some : goal.returns-in-Some
-returns-in-Some g c = rw c.in_front.ensures (title_page _ _ _ _ _ c.in-Some.name (λ which. c.in-Some.ensures (Title which) (λ h. refl)))
+returns-in-Some g c = title_page c.args.which _ _ _ _ _ _ c.in-Some.name _ (c.in-Some.ensures (Title c.args.which) (λ h. refl)) c.stopped_by.ensures.due c.stopped_by.ensures.is
 
 pub returns-in-None : goal.returns-in-None
 returns-in-None g c =
-    title_placed _ c.args.format _ c.begin_first.new.self _ _ _ _ (λ which. c.in-None.ensures (Title which) (λ h. refl)) c.place_title_here.ensures
+    title_placed c.args.which _ c.args.format _ c.begin_first.new.self _ _ _ _ (c.in-None.ensures (Title c.args.which) (λ h. refl)) c.place_title_here.ensures

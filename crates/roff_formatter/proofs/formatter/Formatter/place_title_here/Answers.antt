@@ -12,5 +12,5 @@ put_title-requires-clause-shown g c = subst HasNoBlank (sym c.as_slice.ensures.v
 
 pub returns : goal.returns
 returns g c =
-    title_here _ c.args.format c.as_slice.result.now _ _ _ _ _
+    title_here c.args.which _ c.args.format c.as_slice.result.now _ _ _ _ _
     (λ L stands. c.as_slice.ensures.value ∙ c.page_number-number.ensures.number L stands) c.put_title.ensures.puts c.put_title.ensures.others

@@ -12,7 +12,7 @@ returns-in-Ok-None g c =
       tells = put.tells;
       ended = put.ended;
       word = put.word;
-      performs = performs_both (Text LineEnd) (Text Count ∷ []) put.ended c.put_near.new.self _ _ _ _ c.put_near.result c.count.result _ (search rules) put.performs (c.count.ensures _) (omega arith) c.further.ensures;
+      performs = performs_both (Text LineEnd) (Text Count ∷ []) put.ended c.put_near.new.self _ _ _ _ c.put_near.result c.count.result _ (search rules) put.performs (c.count.ensures _) (omega arith) c.further.ensures.told (c.further.ensures.least (omega arith));
     }
 
 pub returns-in-Ok-Some : goal.returns-in-Ok-Some

@@ -15,5 +15,5 @@ returns g c =
     record {
       told = put.told;
       tells = tells_of_all c.args.front.now c.told_at_once-near.result.now c.args.count c.args.self.now put.told c.told_at_once-near.ensures put.tells;
-      performs = performs_both (Text WordEnd) (Text LineEnd ∷ Text Count ∷ []) put.told put.ended _ _ _ _ (Ok None) c.put_and_count.result _ refl (put.word _) put.performs (omega arith) c.further.ensures;
+      performs = performs_both (Text WordEnd) (Text LineEnd ∷ Text Count ∷ []) put.told put.ended _ _ _ _ (Ok None) c.put_and_count.result _ refl (put.word _) put.performs (omega arith) c.further.ensures.told (c.further.ensures.least (omega arith));
     }

@@ -7,14 +7,15 @@ use Rattle.roff_formatter.proofs.Ejects.{going-not}
 use Rattle.roff_formatter.proofs.formatter.Formatter.space.Goals as goal
 
 pub returns-in-Some : goal.returns-in-Some
-returns-in-Some g c = rw c.in_front.ensures (only_page (Page (Space c.args.lines)) _ _ _ c.in-Some.name refl (c.in-Some.ensures (Page (Space c.args.lines)) (λ h. refl)))
+returns-in-Some g c = only_page (Page (Space c.args.lines)) _ _ _ _ c.in-Some.name _ refl (c.in-Some.ensures (Page (Space c.args.lines)) (λ h. refl)) c.stopped_by.ensures.due c.stopped_by.ensures.is
 
 pub returns-in-None : goal.returns-in-None
-returns-in-None g c = page_only (Space c.args.lines) _ c.begin_first.new.self _ _ _ _ (c.in-None.ensures (Page (Space c.args.lines)) (λ h. refl))
+returns-in-None g c = page_only (Space c.args.lines) _ c.begin_first.new.self _ _ _ _ (c.in-None.ensures (Page (Space c.args.lines)) (λ h. refl)) (search rules)
     (record {
-      done = c.done_on.result;
-      puts = record { answer = c.space_on-spaced.result; puts = c.space_on-spaced.ensures; halts = c.done_on.ensures };
+      done = c.space_on.result;
+      puts = c.space_on.ensures;
       goes_on = false;
       is = λ L stands. refl;
-      left = sym (going-not c.done_on.result);
-    }) (search rules)
+      only = λ is. refl;
+      left = sym (going-not c.space_on.result);
+    })

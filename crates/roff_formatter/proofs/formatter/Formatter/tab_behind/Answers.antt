@@ -19,7 +19,7 @@ returns-in-Ok-None c = λ told.
     subst
     (λ (none : Bool). PerformsEvents ((if none then [] else Text (Print (Blanks c.args.leading)) ∷ []) ++ Text Tab ∷ []) c.args.self.now c.tab-in-Ok-None.new.self told told c.further.result)
     (sym is)
-    (performs_both (Text (Print (Blanks c.args.leading))) (Text Tab ∷ []) c.args.self.now c.glyph.new.self c.tab-in-Ok-None.new.self told told told c.glyph.result c.tab-in-Ok-None.result c.further.result (search rules) (c.glyph.ensures told) (c.tab-in-Ok-None.ensures told) (omega arith) c.further.ensures)
+    (performs_both (Text (Print (Blanks c.args.leading))) (Text Tab ∷ []) c.args.self.now c.glyph.new.self c.tab-in-Ok-None.new.self told told told c.glyph.result c.tab-in-Ok-None.result c.further.result (search rules) (c.glyph.ensures told) (c.tab-in-Ok-None.ensures told) (omega arith) c.further.ensures.told (c.further.ensures.least (omega arith)))
 
 pub returns-in-Ok-Some : goal.returns-in-Ok-Some
 returns-in-Ok-Some c = λ told.

@@ -33,6 +33,8 @@ returns-in-Some g c =
                 let few = rw opened at came.few in
                 omega (arith, left, few);
             few = omega arith;
+            keeps = tt;
           };
       reader = record { reading = refl; registers = refl };
+      moves = λ l h stood. tt;
     }

@@ -1,17 +1,24 @@
-use Rattle.std.proofs.Common.{◌≡◌, ◌≤◌, ◌+◌, ◌++◌, [], ◌∷◌, Ok, Some, None, rules, ap, arith, sym, ◌∙◌}
+use Rattle.std.proofs.Common.{◌≡◌, ◌≤◌, ◌+◌, ◌++◌, [], ◌∷◌, Ok, Some, None, Option, Result, refl, rules, ap, arith, subst, sym, ◌∙◌}
 use Rattle.std.specs.Prelude.{drop, slice_get}
 use Rattle.roff_reader.specs.Reader.State.{ReaderState}
 use Rattle.roff_formatter.specs.Formatter.Performing.{behind_event}
 use Rattle.roff_formatter.proofs.EventsLeft.{drop-at, drop-past}
 use Rattle.roff_formatter.proofs.LinesLeft.{more_left}
 use Rattle.roff_formatter.proofs.Performed.{performed_quietly, performed_sprung}
-use Rattle.roff_interpreter.proofs.SoFar.{came_so_far}
+use Rattle.roff_interpreter.proofs.SoFar.{came_so_far, left_on}
+use Rattle.roff_composer.specs.Composer.Standing.{StandFor}
+use Rattle.roff_formatter.specs.declared.formatter.Formatter.{Formatter}
+use Rattle.roff_formatter.specs.declared.halt.Halt.{Halt}
+use Rattle.roff_formatter.specs.declared.sprung.Sprung.{Sprung}
+use Rattle.roff_formatter.specs.Formatter.Sprung.{MovesOn}
 use Rattle.roff_interpreter.proofs.interpreter.Interpreter.perform_from.Goals as goal
 
 pub loop-event-init : goal.loop-event-init
 loop-event-init g c = record {
   performed = λ k t before failures err s h rest same came. came;
   reader = search rules;
+  from = omega arith;
+  same = λ is. refl;
 }
 
 -- the event at the index stands in front of those that are left
@@ -34,6 +41,8 @@ loop-event-preserved g c =
             few = omega (arith, more_left s.registers c.in-Some.event (drop (n + 1) events) now.history, (rw opened at now.few));
           };
       reader = c.perform_event.ensures.reader ∙ so_far.reader;
+      from = omega (arith, so_far.from);
+      same = λ is. absurd (omega (arith, is, so_far.from));
     }
 
 pub returns-in-Ok-Some : goal.returns-in-Ok-Some
@@ -53,6 +62,11 @@ returns-in-Ok-Some g c =
           (c.perform_event.ensures.one l t before failures err s now.history (drop (n + 1) events ++ rest) now.stands kept (rw opened at now.reaches)) in
           rw same_reader (came_so_far l t before _ s events n c.in-Some.event h now.history rest c.in-Ok-Some.sprung c.further.result _ opened (omega (arith, short)) c.further.ensures.told now.few did);
       reader = record { reading = ap (λ (r : ReaderState). r.reading) same_reader; registers = ap (λ (r : ReaderState). r.registers) same_reader };
+      moves = λ l h stood.
+          let is : c.perform_event.result ≡ Ok (Some c.in-Ok-Some.sprung) = search rules in
+          left_on c.args.begin n c.args.self.now c.loop-event.self c.perform_event.new.self c.in-Ok-Some.sprung c.further.result so_far.from short c.further.ensures.told c.further.ensures.most so_far.same
+          (λ first. subst (λ (r : Result (Option Sprung) Halt). MovesOn c.loop-event.self.formatter c.perform_event.new.self.formatter r) is
+          (c.perform_event.ensures.moves l h (subst (λ (f : Formatter). StandFor l h f.composer) (sym (so_far.same first)) stood)));
     }
 
 pub returns-in-Err : goal.returns-in-Err
@@ -68,6 +82,7 @@ returns-in-Err g c =
           let kept = same ∙ ap (λ (r : ReaderState). r.registers.all) (sym so_far.reader) in
           c.in-Err.ensures.one l t before failures err s now.history (drop (n + 1) events ++ rest) now.stands kept (rw opened at now.reaches);
       reader = record { reading = ap (λ (r : ReaderState). r.reading) same_reader; registers = ap (λ (r : ReaderState). r.registers) same_reader };
+      moves = λ l h stood. tt;
     }
 
 pub returns : goal.returns
@@ -84,6 +99,8 @@ returns g c =
             stands = now.stands;
             lines = rw closed at now.few;
             few = omega arith;
+            keeps = tt;
           };
       reader = record { reading = ap (λ (r : ReaderState). r.reading) so_far.reader; registers = ap (λ (r : ReaderState). r.registers) so_far.reader };
+      moves = λ l h stood. tt;
     }

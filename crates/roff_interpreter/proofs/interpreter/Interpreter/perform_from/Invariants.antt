@@ -1,4 +1,4 @@
-use Rattle.std.proofs.Common.{◌≡◌, ℕ, ◌-◌, List}
+use Rattle.std.proofs.Common.{◌≡◌, ◌≤◌, ℕ, ◌-◌, List}
 use Rattle.std.specs.Prelude.{drop}
 use Rattle.roff_num.specs.declared.limits.Limits.{Limits}
 use Rattle.roff_interpreter.specs.Outcome.{Beginning, Seen, seen}
@@ -16,6 +16,8 @@ invariant-loop-event g l = record {
       → CameSoFar k t before (seen failures (g.O.ByteSink.sunk l.initial.out) err) s l.initial.self.reader.meaning.events h (drop l.begin l.initial.self.reader.meaning.events) rest l.initial.self.formatter.composer
       → CameSoFar k t before (seen failures (g.O.ByteSink.sunk l.out) err) s l.initial.self.reader.meaning.events h (drop l.index l.initial.self.reader.meaning.events) rest l.self.formatter.composer;
   reader : l.self.reader ≡ l.initial.self.reader;
+  from : l.begin ≤ l.index;
+  same : l.index ≡ l.begin → l.self.formatter ≡ l.initial.self.formatter;
 }
 
 abbrev pub decreases-loop-event : goal.decreases-loop-event

@@ -1,7 +1,8 @@
 use Rattle.std.proofs.Common.{ap, arith, sym, ◌∙◌}
 use Rattle.roff_run.specs.declared.line_state.LineState.{LineState}
 use Rattle.roff_reader.specs.Reader.State.{ReaderState}
-use Rattle.roff_running.proofs.Beginning.{begun-none, begun-some, escapes-passed, goes_past_begun, is_run-begun, no_newline}
+use Rattle.roff_fronts.proofs.LinesBegun.{begun-none, escapes-passed, is_run-begun}
+use Rattle.roff_running.proofs.Beginning.{begun-some, goes_past_begun, no_newline}
 use Rattle.roff_running.proofs.running.Running.begin_line.Goals as goal
 
 pub pass-requires-clause-plain : goal.pass-requires-clause-plain

@@ -7,7 +7,7 @@ use Rattle.roff_running.proofs.running.Running.end_call_line.Goals as goal
 
 pub returns-in-Ok : goal.returns-in-Ok
 returns-in-Ok g c = λ failures.
-    byte_acts 10 _ c.args.self.now _ c.go_on.new.self failures c.in-Ok.sprung _ _ refl refl c.in-Ok.ensures (c.go_on.ensures failures _)
+    byte_acts 10 _ c.args.self.now _ c.go_on.new.self failures c.in-Ok.sprung _ _ refl refl c.in-Ok.ensures (c.go_on.ensures failures)
 
 pub returns-in-Err : goal.returns-in-Err
 returns-in-Err g c = λ failures.

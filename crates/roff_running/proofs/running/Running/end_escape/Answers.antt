@@ -5,7 +5,7 @@ use Rattle.roff_run.specs.Registers.{Known}
 use Rattle.roff_formatter.proofs.EventsLeft.{few-none}
 use Rattle.roff_run.proofs.ReadEvents.{AreFewBehind-escape_ended}
 use Rattle.roff_running.proofs.Acting.{taking_acts, halted_acts}
-use Rattle.roff_running.proofs.Ending.{few-escape_ended, line-escape_ended}
+use Rattle.roff_interpreter.proofs.InputEnds.{few-escape_ended, line-escape_ended}
 use Rattle.roff_running.proofs.running.Running.end_escape.Goals as goal
 
 pub returns-in-Ok : goal.returns-in-Ok
@@ -14,7 +14,7 @@ returns-in-Ok g c = λ failures.
     taking_acts (λ (k : Known). escape_ended k old.interpreter.reader.reading old.unread.input)
     escape_ends old.phase [] _ old _ c.go_on.new.self failures c.in-Ok.sprung _ _ (λ tape h messages. refl) refl refl c.in-Ok.ensures
     (λ k. few-none (escape_ended k old.interpreter.reader.reading old.unread.input).effect.events (AreFewBehind-escape_ended k old.interpreter.reader.reading old.unread.input))
-    (λ k. few-escape_ended k old.interpreter.reader.reading old.unread.input) (c.go_on.ensures failures _)
+    (λ k. few-escape_ended k old.interpreter.reader.reading old.unread.input) (c.go_on.ensures failures)
 
 pub returns-in-Err : goal.returns-in-Err
 returns-in-Err g c = λ failures.

@@ -5,7 +5,8 @@ use Rattle.roff_run.specs.declared.phase.Phase.TheVariants.{Closing, LastMacro, 
 use Rattle.roff_interpreter.specs.Ending.{input_ends}
 use Rattle.roff_running.specs.Running.Turning.{state_at}
 use Rattle.roff_running.proofs.Acting.{DoesItem-as}
-use Rattle.roff_running.proofs.Ending.{closed_acts, input_ends-escapes, input_ends-no_half, some_half}
+use Rattle.roff_interpreter.proofs.InputEnds.{input_ends-escapes, input_ends-no_half, some_half}
+use Rattle.roff_running.proofs.Ending.{closed_acts}
 use Rattle.roff_running.proofs.Turns.{on_ok}
 use Rattle.roff_running.proofs.running.Running.end_input.Goals as goal
 
@@ -42,7 +43,7 @@ returns-in-Reading-clause-acts g c = λ may failures.
     input_ends-no_half s false (sym c.has_open_escape.ensures ∙ c.if-has_open_escape.false)
     (sym (c.is_unfinished.ensures old.limits h old.interpreter.reader.registers.all old.unread.input stood) ∙ c.if-is_unfinished.false)
     ∙ ap (λ (p : Phase). phase_ended p s) c.in-Reading.is)
-    (c.read_last_macro.ensures failures _)
+    (c.read_last_macro.ensures failures)
 
 pub returns-in-Reading-clause-goes_on : goal.returns-in-Reading-clause-goes_on
 returns-in-Reading-clause-goes_on g c = λ l h stood.

@@ -14,7 +14,7 @@ returns-in-Ok g c = λ failures.
     taking_acts (λ (k : Known). end_taking k old.interpreter.reader.reading old.unread.input)
     (input_ended true) old.phase [] _ old _ c.go_on.new.self failures c.in-Ok.sprung _ _ (λ tape h messages. refl) refl refl c.in-Ok.ensures
     (λ k. few-none (end_taking k old.interpreter.reader.reading old.unread.input).effect.events (AreFewBehind-end_taking k old.interpreter.reader.reading old.unread.input))
-    (λ k. (Keeps-end_taking k old.interpreter.reader.reading old.unread.input).few) (c.go_on.ensures failures _)
+    (λ k. (Keeps-end_taking k old.interpreter.reader.reading old.unread.input).few) (c.go_on.ensures failures)
 
 pub returns-in-Err : goal.returns-in-Err
 returns-in-Err g c = λ failures.

@@ -17,4 +17,4 @@ returns-in-Some-clause-ends g c =
     let err = told_by g.E.MessageSink c.args.err.now in
     comes_line _ _ _ _ _ _ _ out err c.args.self.now c.pass_line.new.self _ _ c.requires.none_half c.front-front.ensures.bytes passed.passes c.in-Some.ensures.stands.ends.words.some
     passed.notes passed.failures c.end_front-done.new.self _ c.end_front-done.result c.end_front-done.ensures c.go_on_behind.new.self _ c.go_on_behind.result
-    (λ told line takes. c.go_on_behind.ensures _ c.args.self.now.interpreter told line _ _ takes) c.in-Some.ensures.reads
+    (λ told line takes. c.go_on_behind.ensures _ c.args.self.now.interpreter told line _ takes) c.in-Some.ensures.reads

@@ -14,7 +14,7 @@ returns-in-Ok g c = λ failures.
     let old = c.args.self.now in
     taking_acts (λ (k : Known). meaning_events old.unread.input LineStart closing_events)
     (phase_ended LastMacro) Closing [] _ old _ c.go_on.new.self failures c.in-Ok.sprung _ _ (λ tape h messages. refl) refl refl (c.in-Ok.ensures old.unread _)
-    (λ k. few-short closing_events (omega arith)) (λ k room most few. few) (c.go_on.ensures failures _)
+    (λ k. few-short closing_events (omega arith)) (λ k room most few. few) (c.go_on.ensures failures)
 
 pub returns-in-Err : goal.returns-in-Err
 returns-in-Err g c = λ failures.

@@ -13,7 +13,8 @@ use Rattle.roff_sinks.specs.Told.{told_by}
 use Rattle.roff_running.proofs.running.Running.go_on_behind.Goals as goal
 
 pub returns-in-Ok : goal.returns-in-Ok
-returns-in-Ok g c = λ failures was told line out_old out_new takes.
+returns-in-Ok g c = λ failures was told line out_old takes.
+    let out_new = g.O.ByteSink.sunk c.args.out.now in
     let now = c.args.self.now in
     let before : Coded = record now { interpreter = told_as was told (InText line) } in
     let err = told_by g.E.MessageSink c.args.err.now in
@@ -21,10 +22,11 @@ returns-in-Ok g c = λ failures was told line out_old out_new takes.
     (subst
     (λ (done : Result (Option Sprung) Halt). DoesTaking (λ k. taking k (InText line) now.unread.input 10) [] before.interpreter now.interpreter now.unread now.unread (sinks out_old err) (sinks out_new err) done)
     c.in-Ok.is takes)
-    (c.go_on.ensures failures _)
+    (c.go_on.ensures failures)
 
 pub returns-in-Err : goal.returns-in-Err
-returns-in-Err g c = λ failures was told line out_old out_new takes.
+returns-in-Err g c = λ failures was told line out_old takes.
+    let out_new = g.O.ByteSink.sunk c.args.out.now in
     let now = c.args.self.now in
     let before : Coded = record now { interpreter = told_as was told (InText line) } in
     let err = told_by g.E.MessageSink c.args.err.now in

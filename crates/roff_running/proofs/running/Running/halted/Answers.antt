@@ -1,7 +1,7 @@
 use Rattle.std.proofs.Common.{◌≡◌, ◌∙◌, sym, ap}
 use Rattle.roff_formatter.specs.declared.halt.Halt.{Halt}
 use Rattle.roff_interpreter.specs.Halting.{line_told}
-use Rattle.roff_running.proofs.Acting.{line_told-taken}
+use Rattle.roff_interpreter.proofs.Halted.{line_told-taken}
 use Rattle.roff_running.proofs.running.Running.halted.Goals as goal
 use Rattle.roff_running.proofs.running.Running.halted.Goals.{in-Refused, in_default}
 

@@ -1,6 +1,7 @@
 use Rattle.std.proofs.Common.{ap, refl, sym, ◌∙◌}
 use Rattle.roff_run.specs.Reading.Items.{PageUnread}
-use Rattle.roff_running.proofs.EndsAtOnce.{byte-seen, ends-expression, goes_past_expression, waits-reading}
+use Rattle.roff_interpreter.proofs.HalfEnded.{byte-seen}
+use Rattle.roff_running.proofs.EndsAtOnce.{ends-expression, goes_past_expression, waits-reading}
 use Rattle.roff_running.proofs.PassingEnds.{goes_past_seen}
 use Rattle.roff_running.proofs.PassingOn.{goes_past_none}
 use Rattle.roff_running.proofs.running.Running.pass_waiting.Goals as goal

@@ -13,7 +13,7 @@ returns-in-Ok g c = λ failures.
     taking_acts (event_taking old.interpreter.reader.reading old.unread.input)
     (ahead_taken (DoAhead c.args.event)) old.phase (c.args.event ∷ []) _ old _ c.go_on.new.self failures c.in-Ok.sprung _ _ (event_meant c.args.event old) refl refl
     (event_does c.args.event _ _ _ _ _ _ _ _ c.interrupt.ensures c.in-Ok.ensures) (λ k. ((λ may. omega arith), tt))
-    (λ k. (Keeps-interrupted old.interpreter.reader.reading old.unread.input).few) (c.go_on.ensures failures _)
+    (λ k. (Keeps-interrupted old.interpreter.reader.reading old.unread.input).few) (c.go_on.ensures failures)
 
 pub returns-in-Err : goal.returns-in-Err
 returns-in-Err g c = λ failures.

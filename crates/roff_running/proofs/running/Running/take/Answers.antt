@@ -4,7 +4,7 @@ use Rattle.roff_running.proofs.running.Running.take.Goals as goal
 
 pub returns-in-Ok : goal.returns-in-Ok
 returns-in-Ok g c = λ failures.
-    byte_acts c.args.byte _ c.args.self.now _ c.go_on.new.self failures c.in-Ok.sprung _ _ refl refl c.in-Ok.ensures (c.go_on.ensures failures _)
+    byte_acts c.args.byte _ c.args.self.now _ c.go_on.new.self failures c.in-Ok.sprung _ _ refl refl c.in-Ok.ensures (c.go_on.ensures failures)
 
 pub returns-in-Err : goal.returns-in-Err
 returns-in-Err g c = λ failures.

@@ -1,5 +1,5 @@
 use Rattle.std.proofs.Common.{sym, ◌∙◌}
-use Rattle.roff_running.proofs.Beginning.{escapes-passed}
+use Rattle.roff_fronts.proofs.LinesBegun.{escapes-passed}
 use Rattle.roff_running.proofs.BehindTexts.{behind-told, behind-untold}
 use Rattle.roff_running.proofs.Telling.{goes_past_told}
 use Rattle.roff_running.proofs.PassingOn.{goes_past_none}

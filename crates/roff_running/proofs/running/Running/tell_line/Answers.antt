@@ -12,7 +12,11 @@ pub returns-in-Other : goal.returns-in-Other
 returns-in-Other g c = λ out err. goes_further_none _ _ _ _ _ _ _ _ (c.tell_front.ensures.past out err)
 
 pub returns-in-Escape : goal.returns-in-Escape
-returns-in-Escape g c = λ out err. goes_further_both _ _ _ _ _ _ _ _ _ _ _ _ _ (c.tell_front.ensures.past out err) (c.read_escape.ensures out err)
+returns-in-Escape g c = λ out err. goes_further_both _ _ _ _ _ _ _ _ _ _ _ _ _ (c.tell_front.ensures.past out err) (c.tell_line_behind.ensures out err)
+
+pub tell_line_behind-requires : goal.tell_line_behind-requires
+tell_line_behind-requires g c =
+    run-kept Text c.args.self.now c.tell_front.new.self (ap (λ (r : ReaderState). r.reading) c.tell_front.ensures.reads) c.tell_front.ensures.half c.requires
 
 pub read_named-requires : goal.read_named-requires
 read_named-requires g c =

@@ -1,7 +1,7 @@
 use Rattle.std.proofs.Common.{arith, subst, sym}
 use Rattle.roff_run.specs.Reading.Items.{PageUnread}
 use Rattle.roff_interpreter.specs.Room.{SeesOn}
-use Rattle.roff_running.proofs.PassingEnds.{takes_end}
+use Rattle.roff_interpreter.proofs.EndsTaken.{takes_end}
 use Rattle.roff_running.proofs.Turns.{TurnsBy-same, front_end}
 use Rattle.roff_running.proofs.running.Running.turn_above.Goals as goal
 

@@ -1,6 +1,7 @@
 use Rattle.std.proofs.Common.{refl, sym, ◌∙◌}
 use Rattle.roff_input.specs.Shown.{sighted}
-use Rattle.roff_running.proofs.Waiting.{ShowsFront, sees-look, waiting_ends, waiting_failed, waiting_in_front, waiting_note, waiting_stopped}
+use Rattle.roff_interpreter.proofs.Sighted.{ShowsFront}
+use Rattle.roff_running.proofs.Waiting.{sees-look, waiting_ends, waiting_failed, waiting_in_front, waiting_note, waiting_stopped}
 use Rattle.roff_running.proofs.running.Running.turn_asking.Goals as goal
 use Rattle.roff_running.proofs.running.Running.turn_asking.Goals.{in-Byte, in-Nothing, in-SourceEnd}
 

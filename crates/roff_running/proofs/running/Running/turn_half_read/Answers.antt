@@ -2,7 +2,8 @@ use Rattle.std.proofs.Common.{ap, sym, ◌∙◌}
 use Rattle.roff_escape.specs.declared.open_escape.Waiting.{Waiting}
 use Rattle.roff_run.specs.Run.{read_waiting}
 use Rattle.roff_running.specs.Running.Turning.{state_at}
-use Rattle.roff_running.proofs.Waiting.{sees-taking, turn_as, waiting_decides}
+use Rattle.roff_interpreter.proofs.Sighted.{sees-taking}
+use Rattle.roff_running.proofs.Waiting.{turn_as, waiting_decides}
 use Rattle.roff_running.proofs.running.Running.turn_half_read.Goals as goal
 
 pub turn_in_front-requires : goal.turn_in_front-requires

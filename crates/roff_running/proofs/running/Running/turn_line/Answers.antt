@@ -4,7 +4,8 @@ use Rattle.roff_escape.specs.declared.open_escape.Waiting.{Waiting}
 use Rattle.roff_escape.specs.declared.open_escape.Waiting.TheVariants.{Takes, Waits}
 use Rattle.roff_run.specs.Run.{read_waiting}
 use Rattle.roff_running.specs.Running.Turning.{state_at}
-use Rattle.roff_running.proofs.Waiting.{sees-alone, turn_as}
+use Rattle.roff_interpreter.proofs.Sighted.{sees-alone}
+use Rattle.roff_running.proofs.Waiting.{turn_as}
 use Rattle.roff_running.proofs.running.Running.turn_line.Goals as goal
 
 pub turn_item-requires : goal.turn_item-requires

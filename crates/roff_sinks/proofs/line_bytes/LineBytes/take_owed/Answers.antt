@@ -1,15 +1,8 @@
-use Rattle.std.proofs.Common.{◌≡◌, ℕ, ◌+◌, ◌-◌, ◌≤◌, List, ◌++◌, replicate, sym, ap, ◌∙◌, arith, rules, append_assoc}
-use Rattle.std.proofs.lemmas.List.{replicate-append-replicate}
-use Rattle.roff_layout.specs.Columns.{spaces, spread}
+use Rattle.std.proofs.Common.{◌++◌, ◌≤◌, replicate, rules}
+use Rattle.roff_layout.specs.Columns.{spread}
 use Rattle.roff_sinks.specs.LineBytes.Left.{spare_columns}
+use Rattle.roff_sinks.proofs.BlanksInFront.{some_blanks}
 use Rattle.roff_sinks.proofs.line_bytes.LineBytes.take_owed.Goals as goal
-
--- some of the blanks that are owed, and the others
-some_blanks : (some all : ℕ) (bytes : List ℕ) → some ≤ all → spaces some ++ (spaces (all - some) ++ bytes) ≡ spaces all ++ bytes
-some_blanks some all bytes few =
-    let sum : some + (all - some) ≡ all = omega arith in
-    let joined : spaces some ++ spaces (all - some) ≡ spaces all = replicate-append-replicate some (all - some) 32 ∙ ap spaces sum in
-    sym (append_assoc (spaces some) (spaces (all - some)) bytes) ∙ ap (λ front. front ++ bytes) joined
 
 pub returns-clause-taken : goal.returns-clause-taken
 returns-clause-taken c =

@@ -1,0 +1,13 @@
+pub mod HistoriesHold
+pub mod OpenDiversions
+pub mod Belonging
+pub mod OpenTexts
+pub mod TextsLeft
+pub mod TitlesLeft
+pub mod MildRequests
+pub mod UnitsMove
+pub mod TextsRead
+pub mod TextsBehind
+pub mod MildEvents
+pub mod RunsDivert
+pub mod DivertedRuns

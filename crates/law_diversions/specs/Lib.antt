@@ -1,0 +1,2 @@
+pub mod DivertedTexts
+pub mod DiversionLaws

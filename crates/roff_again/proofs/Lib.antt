@@ -1,0 +1,13 @@
+pub mod Events
+pub mod Glyphs
+pub mod PendingLines
+pub mod DivertedBoxes
+pub mod Standing
+pub mod Bytes
+pub mod LineEnds
+pub mod TextRuns
+pub mod BoxRuns
+pub mod Again
+pub mod ShownLines
+pub mod ShownBoxes
+pub mod Anywhere

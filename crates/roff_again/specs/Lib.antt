@@ -1,0 +1,4 @@
+pub mod Again
+pub mod Shown
+pub mod Anywhere
+pub mod Rows

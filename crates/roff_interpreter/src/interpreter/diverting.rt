@@ -1,0 +1,170 @@
+//! The texts of diversions.
+
+ghost use Rattle.std.specs.Prelude.{◌≡◌, ◌≤◌, ◌<◌, ◌-◌, Ok, Some, length};
+ghost use Rattle.roff_composer.specs.Composer.Due.{due_told, line_laid, title_laid};
+ghost use Rattle.roff_layout.specs.Columns.{printed};
+ghost use Rattle.roff_layout.specs.Diverted.{diverted};
+ghost use Rattle.roff_layout.specs.DueTexts.{AllDropped, Gets};
+ghost use Rattle.roff_layout.specs.Titles.{title_text};
+ghost use Rattle.roff_num.specs.RegisterText.{register_text};
+ghost use Rattle.roff_interpreter.specs.Diverting.{ChangesText};
+ghost use Rattle.roff_sinks.specs.TitleParts.{HasNoBlank};
+ghost use Rattle.std.specs.Prelude.{◌++◌, replicate};
+
+use super::Interpreter;
+use roff_composer::{Composer, DueText, TitleText};
+use roff_layout::Line;
+use roff_num::{Format, Limit, Num, NumText, write_num};
+use roff_reader::Reader;
+use roff_run::PageEvent;
+use roff_scan::Unread;
+use roff_sinks::{DivertedText, TitleLine};
+
+impl Interpreter {
+    /// Changes the text of a diversion as is due, if it is.
+    ///
+    /// # Errors
+    ///
+    /// The limit that refuses it. A part of the bytes that were due may be there then.
+    pub fn change_text(&self, unread: &mut Unread<PageEvent>) -> Result<(), Limit>
+        ensures { ChangesText (due_told self.now.formatter.composer self.now.reader.registers.all)
+            unread.old unread.new result }
+    {
+        change(&self.formatter.composer, &self.reader, unread)
+    }
+}
+
+/// The same, by what the composer and the reader say of it.
+fn change(composer: &Composer, reader: &Reader, unread: &mut Unread<PageEvent>) -> Result<(), Limit>
+    ensures { ChangesText (due_told composer.now reader.now.registers.all) unread.old unread.new
+        result }
+{
+    match composer.due.text {
+        DueText::Nothing => Ok(()),
+        DueText::Begins => unread.begin_text(),
+        DueText::Ends {
+            index,
+            name,
+            appends,
+        } => unread.enter_open(index, &name.name(), appends),
+        DueText::Drops => {
+            drop_all(unread);
+            Ok(())
+        }
+        DueText::Line {
+            lead,
+            spare,
+            gaps,
+            blank_lines,
+        } => {
+            let line = Line {
+                text: composer.environments.in_force.lines.finished_text(),
+                lead,
+                spare,
+                gaps,
+                after: 0,
+            };
+            let text = DivertedText::of_line(line, blank_lines);
+            add_text(innermost(composer), text, unread)
+        }
+        DueText::Title {
+            which,
+            number,
+            length,
+        } => {
+            let text = reader.title(which);
+            let index = innermost(composer);
+            add_title(index, text, number, reader.page_format(), length, unread)
+        }
+        DueText::BlankLines(count) => {
+            let text = DivertedText::blank_lines(count);
+            add_text(innermost(composer), text, unread)
+        }
+    }
+}
+
+/// The number of the innermost open diversion's text.
+fn innermost(composer: &Composer) -> usize
+    ensures { result ≡ length composer.now.pages.diversions - 1 }
+{
+    composer.pages.diversion_count().saturating_sub(1)
+}
+
+/// Drops all texts in the making.
+fn drop_all(unread: &mut Unread<PageEvent>)
+    ensures { ChangesText (Some AllDropped) unread.old unread.new (Ok tt) }
+{
+    unread.stays_within();
+    unread.drop_all();
+}
+
+/// Puts a title of this text and length behind a text in the making, with this number of the page
+/// in this format.
+fn add_title(
+    index: usize,
+    text: &TitleText,
+    number: Num,
+    format: Format,
+    columns: u32,
+    unread: &mut Unread<PageEvent>,
+) -> Result<(), Limit>
+    ensures { ChangesText (Some (Gets index (diverted (title_text
+        (title_laid text.now.text columns (register_text format number.0))))))
+        unread.old unread.new result }
+{
+    let mut shown = NumText::new();
+    write_num(number, format, &mut shown);
+    add_numbered(index, text, shown.as_slice(), columns, unread)
+}
+
+/// The same with the number as it is printed.
+fn add_numbered(
+    index: usize,
+    text: &TitleText,
+    number: &[u8],
+    columns: u32,
+    unread: &mut Unread<PageEvent>,
+) -> Result<(), Limit>
+    requires some { 0 < length number.now }
+    requires shown { HasNoBlank number.now }
+    requires short { length number.now ≤ 48 }
+    ensures { ChangesText (Some (Gets index (diverted (title_text
+        (title_laid text.now.text columns number.now))))) unread.old unread.new result }
+{
+    text.stays_short();
+    let title = TitleLine {
+        left: text.left(),
+        centre: text.centre(),
+        right: text.right(),
+        length: u64::from(columns),
+        number,
+    };
+    add_text(index, DivertedText::of_title(title), unread)
+}
+
+/// Puts bytes behind a text in the making, a buffer after another.
+///
+/// # Errors
+///
+/// [`Limit::Store`] if there would be too many: a part of them may be there then.
+fn add_text(
+    index: usize,
+    text: DivertedText<'_>,
+    unread: &mut Unread<PageEvent>,
+) -> Result<(), Limit>
+    ensures { ChangesText (Some (Gets index text.entry)) unread.old unread.new result }
+{
+    unread.stays_within();
+    let mut rest = text;
+    let mut buffer = [0; 256];
+    loop {
+        let count = rest.fill(&mut buffer);
+        if count == 0 {
+            return Ok(());
+        }
+        match unread.add_to(index, buffer.split_at(count).0) {
+            Ok(()) => {}
+            Err(limit) => return Err(limit),
+        }
+    }
+}
