@@ -1,6 +1,6 @@
 -- Bytes that are put behind the text of a diversion, piece by piece: all together, or none of them.
-use Rattle.std.proofs.Common.{◌≡◌, ℕ, ◌+◌, ◌<◌, ◌≤◌, Bool, true, false, List, [], ◌∷◌, ◌++◌, length, get_or, set, Option, Some, None, Result, Ok, Err, refl, sym, ap, subst, ◌∙◌, append_assoc, append-nil, arith}
-use Rattle.std.specs.Prelude.{nat_lt, sum_by, if◌then◌else◌}
+use Rattle.std.proofs.Common.{◌≡◌, ℕ, ◌+◌, ◌<◌, ◌≤◌, Bool, true, false, List, [], ◌∷◌, ◌++◌, length, get_or, set, ◌^◌, Option, Some, None, Result, Ok, Err, refl, sym, ap, subst, ◌∙◌, append_assoc, append-nil, arith}
+use Rattle.std.specs.Prelude.{min, nat_lt, sum_by, if◌then◌else◌}
 use Rattle.std.proofs.lemmas.Bool.{lt-ltb, ltb-false, ltb-true}
 use Rattle.std.proofs.lemmas.List.{get_or-set_same, length-append, set-set}
 use Rattle.std.proofs.lemmas.List.Sums.{sum_by-set}
@@ -60,6 +60,25 @@ some-same a b is = ap (λ (o : Option Limit). elim o [ None ↦ a | Some limit �
 never-refused : (r : Result (Unit {0}) Limit) (limit : Limit) → r ≡ Err limit → r ≡ Ok tt → ⊥
 never-refused (Ok done) limit refused made = cc
 never-refused (Err other) limit refused made = cc
+
+-- where none are taken of bytes none are left
+pub none_left : (rest : List ℕ) (taken : ℕ) → (0 < length rest → 0 < taken) → taken ≡ 0 → length rest ≡ 0
+none_left [] taken some none = refl
+none_left (b ∷ rest) taken some none = absurd (omega (arith, none, some (omega arith)))
+
+-- what is refused isn't allowed
+never_both : (refused : Option Limit) (limit : Limit) → refused ≡ None → refused ≡ Some limit → ⊥
+never_both None limit none some = cc
+never_both (Some other) limit none some = cc
+
+-- what was changed wasn't refused
+never_refused_is : (i : PageInput) (u : PageUnread) → changing i u ≡ (Ok tt, record u { input = i }) → input_refusal u.limits i ≡ None
+never_refused_is i u made = (changed-Ok (input_refusal u.limits i) i u (record u { input = i }) (sym made)).0
+
+-- what isn't refused is changed
+was_changed : (old new : PageUnread) (i : PageInput) → input_refusal old.limits i ≡ None → new ≡ record old { input = i } → (Ok tt, new) ≡ changing i old
+was_changed old new i none is =
+    ap (λ (u : PageUnread). (Ok tt, u)) is ∙ sym (ap (λ (refused : Option Limit). unless_passed refused i old) none)
 
 -- a text that has a number is one of those in the making
 among-if : (b : Bool) (index : ℕ) (texts : List (List ℕ)) → nat_lt index (length texts) ≡ b → IsAmong (if b then Some index else None) texts
@@ -162,13 +181,15 @@ module _ (index : ℕ) where
     pub is : now ≡ record old { input = adding_to index added old.input }
     pub all_is : added ++ rest ≡ all
     pub allowed : input_refusal old.limits (adding_to index added old.input) ≡ None
+    pub fits : input_refusal old.limits (adding_to index all old.input) ≡ None
 
-  pub added_none : (all : List ℕ) (old : PageUnread) → IsWithin old → AddedSoFar all all old old
-  added_none all old within = record {
+  pub added_none : (all : List ℕ) (old : PageUnread) → IsWithin old → input_refusal old.limits (adding_to index all old.input) ≡ None → AddedSoFar all all old old
+  added_none all old within fits = record {
     added = [];
     is = ap (λ (j : PageInput). record old { input = j }) (sym (adding_to-none old.input));
     all_is = refl;
     allowed = ap (λ (j : PageInput). input_refusal old.limits j) (adding_to-none old.input) ∙ IsWithin-allowed old within;
+    fits = fits;
   }
 
   -- a piece more
@@ -193,34 +214,64 @@ module _ (index : ℕ) where
           is = changed.1 ∙ ap (λ (i : PageInput). record now { input = i }) together
               ∙ ap (λ (u : PageUnread). record u { input = adding_to index (far.added ++ piece) old.input }) far.is;
           all_is = whole;
+          fits = far.fits;
           allowed = sym refusal-together ∙ changed.0;
         }
 
-    -- or refused: so all are
-    pub added_refused : (limit : Limit) → IsWithin old → (Err limit, new) ≡ changing (adding_to index piece now.input) now → ChangesText (Some (Gets index all)) old new (Err limit)
+    -- or refused: then all would be
+    pub added_refused : (limit : Limit) → IsWithin old → (Err limit, new) ≡ changing (adding_to index piece now.input) now → ⊥
     added_refused limit within made =
         let changed = changed-Err (input_refusal now.limits (adding_to index piece now.input)) limit (adding_to index piece now.input) now new made in
         let refused = refused-store (far.added ++ piece) old limit within (sym refusal-together ∙ changed.0) in
-        subst (λ (bytes : List ℕ). input_refusal old.limits (adding_to index bytes old.input) ≡ Some limit) whole
-        (refused-more (far.added ++ piece) left old refused.1 ∙ ap (λ (l : Limit). Some l) (sym refused.0))
+        let all_refused : input_refusal old.limits (adding_to index all old.input) ≡ Some Store =
+        subst (λ (bytes : List ℕ). input_refusal old.limits (adding_to index bytes old.input) ≡ Some Store) whole (refused-more (far.added ++ piece) left old refused.1) in
+        never_both (input_refusal old.limits (adding_to index all old.input)) Store far.fits all_refused
 
   -- all were added
   pub added_all : (all rest : List ℕ) (old now : PageUnread) → length rest ≡ 0 → AddedSoFar all rest old now → ChangesText (Some (Gets index all)) old now (Ok tt)
   added_all all [] old now none far =
-      let whole : far.added ≡ all = sym (append-nil far.added) ∙ far.all_is in (
-        subst (λ (bytes : List ℕ). input_refusal old.limits (adding_to index bytes old.input) ≡ None) whole far.allowed,
-        far.is ∙ ap (λ (bytes : List ℕ). record old { input = adding_to index bytes old.input }) whole,
-      )
+      let whole : far.added ≡ all = sym (append-nil far.added) ∙ far.all_is in
+      was_changed old now (adding_to index all old.input) far.fits
+      (far.is ∙ ap (λ (bytes : List ℕ). record old { input = adding_to index bytes old.input }) whole)
   added_all all (b ∷ rest) old now none far = absurd (omega (arith, none))
 
--- a change that the unread input made or refused is one of a text
-pub changes_text : (due : TextDue) (old new : PageUnread) (r : Result (Unit {0}) Limit) → (r, new) ≡ changing (text_changed due old.input) old → ChangesText (Some due) old new r
-changes_text due old new (Ok tt) made = changed-Ok (input_refusal old.limits (text_changed due old.input)) (text_changed due old.input) old new made
-changes_text due old new (Err limit) made = (changed-Err (input_refusal old.limits (text_changed due old.input)) limit (text_changed due old.input) old new made).0
+  -- so many bytes are refused
+  pub refused_many : (bytes : List ℕ) (more : ℕ) (u : PageUnread) → nat_lt index (length u.input.open_texts) ≡ true → more ≡ min (length bytes) 18446744073709551615
+      → u.limits.store < stored u.input + more → input_refusal u.limits (adding_to index bytes u.input) ≡ Some Store
+  refused_many bytes more u there is full =
+      let id_is : open_numbered index u.input ≡ Some index = rw there refl in
+      let counted : stored (adding_to index bytes u.input) ≡ stored u.input + length bytes =
+      stored-added bytes u.input ∙ ap (λ (id : Option ℕ). stored u.input + more_of id bytes) id_is in
+      let passed : nat_lt u.limits.store (stored (adding_to index bytes u.input)) ≡ true =
+      lt-ltb u.limits.store (stored (adding_to index bytes u.input)) (omega (arith, full, counted, is)) in
+      rw passed refl
+
+  -- so few aren't
+  pub allowed_few : (bytes : List ℕ) (more : ℕ) (u : PageUnread) → IsWithin u → nat_lt index (length u.input.open_texts) ≡ true → more ≡ min (length bytes) 18446744073709551615
+      → u.limits.store < 2 ^ 32 → stored u.input + more ≤ u.limits.store → input_refusal u.limits (adding_to index bytes u.input) ≡ None
+  allowed_few bytes more u within there is small room =
+      let id_is : open_numbered index u.input ≡ Some index = rw there refl in
+      let few : stored u.input + more_of (open_numbered index u.input) bytes ≤ u.limits.store = rw id_is (omega (arith, is, small, room)) in
+      never_refused_is (adding_to index bytes u.input) u (added-within bytes u within few)
+
+  -- so it is told of bytes which are so many
+  pub refusal_told : (full : Bool) (bytes : List ℕ) (more : ℕ) (u : PageUnread) → IsWithin u → nat_lt index (length u.input.open_texts) ≡ true
+      → more ≡ min (length bytes) 18446744073709551615 → u.limits.store < 2 ^ 32
+      → (full ≡ true → u.limits.store < stored u.input + more) → (full ≡ false → stored u.input + more ≤ u.limits.store)
+      → input_refusal u.limits (adding_to index bytes u.input) ≡ (if full then Some Store else None)
+  refusal_told true bytes more u within there is small many few = refused_many bytes more u there is (many refl)
+  refusal_told false bytes more u within there is small many few = allowed_few bytes more u within there is small (few refl)
+
+  -- nor are any behind a text that isn't there
+  pub allowed_nowhere : (bytes : List ℕ) (u : PageUnread) → IsWithin u → nat_lt index (length u.input.open_texts) ≡ false
+      → input_refusal u.limits (adding_to index bytes u.input) ≡ None
+  allowed_nowhere bytes u within none =
+      let same : adding_to index bytes u.input ≡ u.input = rw none refl in
+      ap (λ (i : PageInput). input_refusal u.limits i) same ∙ IsWithin-allowed u within
 
 -- that all texts are dropped is never refused
 pub dropped_all : (old new : PageUnread) → IsWithin old → new ≡ record old { input = dropping_all old.input } → ChangesText (Some AllDropped) old new (Ok tt)
 dropped_all old new within is =
     let i : PageInput = dropping_all old.input in
     let less : NoMore i old.input = record { bytes = omega arith; texts = omega arith; results = omega arith; stored = omega arith; names = omega arith; open_texts = omega arith } in
-    (input_refusal-no_more old.limits i old.input less (IsWithin-allowed old within), is)
+    was_changed old new i (input_refusal-no_more old.limits i old.input less (IsWithin-allowed old within)) is

@@ -1,5 +1,5 @@
 -- The text of a diversion changes behind an event that stopped the others, before what sprang is read or they are performed.
-use Rattle.std.proofs.Common.{◌∙◌, ◌≡◌, ℕ, false, List, [], ◌++◌, length, Option, Some, None, Ok, Err, ap, append-nil, refl, subst, sym}
+use Rattle.std.proofs.Common.{◌∙◌, ◌≡◌, ℕ, false, List, [], ◌++◌, length, Option, Some, None, Result, Ok, Err, ap, append-nil, refl, subst, sym}
 use Rattle.std.specs.Prelude.{nat_lt}
 use Rattle.std.proofs.lemmas.Bool.{le-ltb}
 use Rattle.roff_num.specs.declared.limit.Limit.{Limit}
@@ -28,7 +28,7 @@ use Rattle.roff_interpreter.specs.Diverting.{ChangesText}
 use Rattle.roff_interpreter.specs.Halting.{Halts}
 use Rattle.roff_interpreter.specs.Outcome.{Beginning, OutcomeOf, Reaches, Seen}
 use Rattle.roff_interpreter.proofs.Halted.{IsLeftOf-looked_then}
-use Rattle.roff_interpreter.proofs.Changes.{not_above}
+use Rattle.roff_interpreter.proofs.Changes.{changed-Err, changed-Ok, not_above}
 use Rattle.roff_interpreter.proofs.TextSteps.{SameFront, text-front, text_done_at, text_due_at, text_step}
 use Rattle.roff_running.specs.Running.Springing.{IsBehind, IsSettled, Settles, StopsIn}
 use Rattle.roff_running.specs.Running.Turning.{state_at, turns_left}
@@ -92,7 +92,8 @@ module _ (t : Beginning) (tape : Tape) (start now : Seen) (sprung : Sprung) (mos
 
     -- it was changed
     pub settled-changed : (new : PageUnread) → ChangesText (Some due) run.unread new (Ok tt) → IsSettled t tape start now sprung most (record run { unread = new })
-    settled-changed new is =
+    settled-changed new made =
+        let is = changed-Ok (input_refusal run.unread.limits changed) changed run.unread new made in
         let front : SameFront changed run.unread.input = text-front due run.unread.input in
         let stays : StopsIn sprung (record run { unread = record run.unread { input = changed } }) at.history most =
         rw (front.ahead, front.escapes) at.stopped in
@@ -126,6 +127,10 @@ turns-changed due run new is =
     ap (λ (u : PageUnread). turns_left (record run { unread = u })) is
     ∙ (rw (front.ahead, front.escapes, front.charge) refl)
 
+-- where nothing changes the unread input stays
+same_behind : (old new : PageUnread) → ◌≡◌ {A = Result (Unit {0}) Limit × PageUnread} (Ok tt, new) (Ok tt, old) → new ≡ old
+same_behind old new is = ap (λ (p : Result (Unit {0}) Limit × PageUnread). p.1) is
+
 -- no text was due
 pub settles-none : (sprung : Sprung) (run : Coded) (now : Seen) → ((text : Option TextDue) → text_first sprung.why text ≡ None) → Settles sprung run run now now (Ok tt)
 settles-none sprung run now none = record {
@@ -146,7 +151,7 @@ module _ (sprung : Sprung) (run : Coded) (new : PageUnread) (now : Seen) (divert
   -- it was changed
   pub settles-done : (text : Option TextDue) → due_of ≡ text → ChangesText text run.unread new (Ok tt) → Settles sprung run (record run { unread = new }) now now (Ok tt)
   settles-done None is changed =
-      subst (λ (u : PageUnread). Settles sprung run (record run { unread = u }) now now (Ok tt)) (sym changed.1) (record {
+      subst (λ (u : PageUnread). Settles sprung run (record run { unread = u }) now now (Ok tt)) (sym (same_behind run.unread new changed)) (record {
         goes = λ t tape start most at. settled-none t tape start now sprung most run at (first None is);
         others = refl;
         turns = refl;
@@ -154,7 +159,8 @@ module _ (sprung : Sprung) (run : Coded) (new : PageUnread) (now : Seen) (divert
   settles-done (Some due) is changed = record {
     goes = λ t tape start most at. settled-changed t tape start now sprung most run at due (first (Some due) is) new changed;
     others = refl;
-    turns = turns-changed due run new changed.1;
+    turns = turns-changed due run new
+        (changed-Ok (input_refusal run.unread.limits (text_changed due run.unread.input)) (text_changed due run.unread.input) run.unread new changed).1;
   }
 
   -- or a limit refused that
@@ -162,10 +168,11 @@ module _ (sprung : Sprung) (run : Coded) (new : PageUnread) (now : Seen) (divert
       → ChangesText text run.unread new (Err limit)
       → ((t : Beginning) (tape : Tape) (start : Seen) → Halts run.limits t tape line (Limited limit) start now → OutcomeOf run.limits t tape status start behind)
       → Settles sprung run (record run { unread = new }) now behind (Err status)
-  settles-stopped None limit line status behind is line_is changed ends = (let wrong = changed.0 in cc)
+  settles-stopped None limit line status behind is line_is changed ends = (let wrong = ap (λ (p : Result (Unit {0}) Limit × PageUnread). p.0) changed in cc)
   settles-stopped (Some due) limit line status behind is line_is changed ends = record {
     goes = λ t tape start most at.
-        ends t tape start (rw line_is (settled-refused t tape start now sprung most run at due (first (Some due) is) limit changed));
+        ends t tape start (rw line_is (settled-refused t tape start now sprung most run at due (first (Some due) is) limit
+        (changed-Err (input_refusal run.unread.limits (text_changed due run.unread.input)) limit (text_changed due run.unread.input) run.unread new changed).0));
     others = refl;
     turns = tt;
   }

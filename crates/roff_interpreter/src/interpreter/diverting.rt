@@ -1,15 +1,18 @@
 //! The texts of diversions.
 
-ghost use Rattle.std.specs.Prelude.{◌≡◌, ◌≤◌, ◌<◌, ◌-◌, Ok, Some, length};
+ghost use Rattle.std.specs.Prelude.{◌≡◌, ◌≤◌, ◌<◌, ◌-◌, ◌^◌, ℕ, List, None, Ok, Some, length, min};
 ghost use Rattle.roff_composer.specs.Composer.Due.{due_told, line_laid, title_laid};
 ghost use Rattle.roff_layout.specs.Columns.{printed};
 ghost use Rattle.roff_layout.specs.Diverted.{diverted};
 ghost use Rattle.roff_layout.specs.DueTexts.{AllDropped, Gets};
 ghost use Rattle.roff_layout.specs.Titles.{title_text};
 ghost use Rattle.roff_num.specs.RegisterText.{register_text};
+ghost use Rattle.roff_num.specs.declared.limit.Limit.TheVariants.{Store};
+ghost use Rattle.roff_input.specs.Input.Names.{adding_to};
+ghost use Rattle.roff_input.specs.Unread.{input_refusal};
 ghost use Rattle.roff_interpreter.specs.Diverting.{ChangesText};
 ghost use Rattle.roff_sinks.specs.TitleParts.{HasNoBlank};
-ghost use Rattle.std.specs.Prelude.{◌++◌, replicate};
+ghost use Rattle.std.specs.Prelude.{◌++◌, if◌then◌else◌, replicate};
 
 use super::Interpreter;
 use roff_composer::{Composer, DueText, TitleText};
@@ -18,14 +21,14 @@ use roff_num::{Format, Limit, Num, NumText, write_num};
 use roff_reader::Reader;
 use roff_run::PageEvent;
 use roff_scan::Unread;
-use roff_sinks::{DivertedText, TitleLine};
+use roff_sinks::{DivertedText, TitleLine, diverted_text_len, diverted_title_len};
 
 impl Interpreter {
     /// Changes the text of a diversion as is due, if it is.
     ///
     /// # Errors
     ///
-    /// The limit that refuses it. A part of the bytes that were due may be there then.
+    /// The limit that refuses it: nothing is changed then.
     pub fn change_text(&self, unread: &mut Unread<PageEvent>) -> Result<(), Limit>
         ensures { ChangesText (due_told self.now.formatter.composer self.now.reader.registers.all)
             unread.old unread.new result }
@@ -65,7 +68,8 @@ fn change(composer: &Composer, reader: &Reader, unread: &mut Unread<PageEvent>) 
                 after: 0,
             };
             let text = DivertedText::of_line(line, blank_lines);
-            add_text(innermost(composer), text, unread)
+            let len = diverted_text_len(line, blank_lines);
+            add_text(innermost(composer), text, len, unread)
         }
         DueText::Title {
             which,
@@ -78,7 +82,7 @@ fn change(composer: &Composer, reader: &Reader, unread: &mut Unread<PageEvent>) 
         }
         DueText::BlankLines(count) => {
             let text = DivertedText::blank_lines(count);
-            add_text(innermost(composer), text, unread)
+            add_text(innermost(composer), text, count, unread)
         }
     }
 }
@@ -139,22 +143,29 @@ fn add_numbered(
         length: u64::from(columns),
         number,
     };
-    add_text(index, DivertedText::of_title(title), unread)
+    let len = diverted_title_len(title);
+    add_text(index, DivertedText::of_title(title), len, unread)
 }
 
-/// Puts bytes behind a text in the making, a buffer after another.
+/// Puts bytes behind a text in the making, a buffer after another, if there is room for all of
+/// them, which are so many.
 ///
 /// # Errors
 ///
-/// [`Limit::Store`] if there would be too many: a part of them may be there then.
+/// [`Limit::Store`] if there would be too many: none of them is there then.
 fn add_text(
     index: usize,
     text: DivertedText<'_>,
+    len: u64,
     unread: &mut Unread<PageEvent>,
 ) -> Result<(), Limit>
+    requires len { len ≡ min (length text) (2 ^ 64 - 1) }
     ensures { ChangesText (Some (Gets index text.entry)) unread.old unread.new result }
 {
     unread.stays_within();
+    if is_refused(index, len, unread) {
+        return Err(Limit::Store);
+    }
     let mut rest = text;
     let mut buffer = [0; 256];
     loop {
@@ -167,4 +178,20 @@ fn add_text(
             Err(limit) => return Err(limit),
         }
     }
+}
+
+/// Whether the limit on the store refuses so many bytes behind a text in the making.
+fn is_refused(index: usize, len: u64, unread: &Unread<PageEvent>) -> bool
+    ensures { (bytes : List ℕ) → len ≡ min (length bytes) (2 ^ 64 - 1)
+        → input_refusal unread.now.limits (adding_to index bytes unread.now.input)
+        ≡ (if result then Some Store else None) }
+{
+    unread.stays_within();
+    if !unread.has_text(index) {
+        return false;
+    }
+    if len > u64::from(unread.limits().store) {
+        return true;
+    }
+    unread.is_store_full(len as usize)
 }

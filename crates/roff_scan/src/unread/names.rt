@@ -2,7 +2,7 @@
 
 ghost use Rattle.roff_store.specs.Named.{entry_of};
 ghost use Rattle.roff_store.specs.Texts.{entry_given, kind_given, kind_of};
-ghost use Rattle.std.specs.Prelude.{true, false, ◌+◌, ◌<◌, ◌≡◌, ◌≤◌, option_map};
+ghost use Rattle.std.specs.Prelude.{true, false, ◌+◌, ◌<◌, ◌≡◌, ◌≤◌, length, nat_lt, option_map};
 ghost use Rattle.roff_input.specs.Input.Names.{adding, calling, dropping, entering, stored};
 ghost use Rattle.roff_input.specs.Input.Names.{adding_to, dropping_all, entering_open};
 
@@ -116,6 +116,13 @@ impl<E: Copy> Unread<E> {
         if let Some(id) = self.input_ahead.newest() {
             self.input_ahead.drop_open(id);
         }
+    }
+
+    /// Whether there is a text in the making of a number, the oldest being 0.
+    pub fn has_text(&self, index: usize) -> bool
+        ensures { result ≡ nat_lt index (length self.now.input.open_texts) }
+    {
+        self.input_ahead.open_numbered(index).is_some()
     }
 
     /// Puts bytes behind the text in the making of a number, the oldest being 0, if there is one.
