@@ -6,8 +6,8 @@ use Rattle.roff_num.specs.declared.limit.Limit.{Limit}
 use Rattle.roff_num.specs.declared.limit.Limit.TheVariants.{Bytes, Stack, Depth, Line, Traps, Diversions, Environments, Conditions, Output, Store, Names, Rows, Columns, Text, Width, TblBytes, Messages}
 use Rattle.roff_num.specs.declared.limits.Limits.{Limits}
 use Rattle.roff_num.specs.Clauses.{default_limits, limits_with, value_of}
-use Rattle.tbl_layout.specs.declared.limits.TblLimits.{TblLimits}
-use Rattle.tbl_layout.specs.TblLimits.{default_tbl_limits, tbl_limits_with, tbl_value_of}
+use Rattle.tbl_format.specs.declared.limits.TblLimits.{TblLimits}
+use Rattle.tbl_format.specs.TblLimits.{default_tbl_limits, tbl_limits_with, tbl_value_of}
 use Rattle.roff_command.specs.CommandLine.{EachOptionSetsItsLimit, limits_asked, number_asked, option_limits, set_by, set_if_asked, tbl_limits, tbl_limits_asked}
 
 -- a limit that is set to the value that it has changes nothing

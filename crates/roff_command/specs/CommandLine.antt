@@ -12,8 +12,8 @@ use Rattle.roff_num.specs.declared.limit.Limit.{Limit}
 use Rattle.roff_num.specs.declared.limit.Limit.TheVariants.{Bytes, Store, Stack, Depth, Names, Line, Traps, Output, Diversions, Environments, Conditions, Rows, Columns, Text as TableText, Width, TblBytes, Messages}
 use Rattle.roff_num.specs.declared.limits.Limits.{Limits}
 use Rattle.roff_num.specs.Clauses.{default_limits, limit_name, limits_with, value_of}
-use Rattle.tbl_layout.specs.declared.limits.TblLimits.{TblLimits}
-use Rattle.tbl_layout.specs.TblLimits.{default_tbl_limits, tbl_limits_with, tbl_value_of}
+use Rattle.tbl_format.specs.declared.limits.TblLimits.{TblLimits}
+use Rattle.tbl_format.specs.TblLimits.{default_tbl_limits, tbl_limits_with, tbl_value_of}
 use Rattle.roff_num.specs.declared.num.Num.{Num}
 use Rattle.roff_command.specs.PagesAsked.{pages_asked, told_pages}
 use Rattle.roff_command.specs.RegistersAsked.{registers_asked, told}

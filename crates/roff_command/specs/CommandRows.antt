@@ -4,7 +4,7 @@ use Rattle.clap.specs.Words.{Kinds, Text, fault_of, subcommand_of, takes}
 use Rattle.roff_num.specs.declared.limits.Limits.{Limits}
 use Rattle.roff_num.specs.declared.num.Num.{Num}
 use Rattle.roff_num.specs.Clauses.{default_limits}
-use Rattle.tbl_layout.specs.declared.limits.TblLimits.{TblLimits}
+use Rattle.tbl_format.specs.declared.limits.TblLimits.{TblLimits}
 use Rattle.roff_command.specs.CommandLine.{asked_by, files_asked, first_page_asked, roff_app}
 use Rattle.roff_command.specs.PagesAsked.{pages_asked}
 use Rattle.roff_command.specs.RegistersAsked.{registers_asked}

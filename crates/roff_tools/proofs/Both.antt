@@ -5,7 +5,7 @@ use Rattle.roff_source.specs.Tape.{Tape}
 use Rattle.roff_run.specs.declared.start.Start.{Start}
 use Rattle.roff_run.specs.declared.status.Status.{Status}
 use Rattle.roff_interpreter.specs.Outcome.{Outcome, Runs, Seen}
-use Rattle.tbl_layout.specs.declared.limits.TblLimits.{TblLimits}
+use Rattle.tbl_format.specs.declared.limits.TblLimits.{TblLimits}
 use Rattle.tbl_core.specs.Tables.{TablesState}
 use Rattle.tbl_core.specs.Yields.{At, MayGive, at_start, yields}
 use Rattle.roff_tools.specs.Both.{RunsBoth, RunsOverTables}

@@ -17,7 +17,7 @@ use Rattle.roff_devices.specs.Memory.{kept_by, room_of}
 use Rattle.roff_devices.specs.WatchedSink.Telling.{IsSound, given_to, nothing_told, told_by}
 use Rattle.roff_devices.specs.declared.watched.WatchedSink.{WatchedSink}
 use Rattle.roff_devices.proofs.Overflows.{overflow_or_not, kept-first, kept-all, given-longer}
-use Rattle.tbl_layout.specs.declared.limits.TblLimits.{TblLimits}
+use Rattle.tbl_format.specs.declared.limits.TblLimits.{TblLimits}
 use Rattle.tbl_core.specs.Yields.{at_start, yields}
 use Rattle.roff_tools.specs.InMemory.{IsWholeResult, RanInMemory}
 use Rattle.roff_tools.specs.declared.in_memory.Formatted.{Formatted}

@@ -5,7 +5,7 @@ use Rattle.std.proofs.lemmas.List.{drop-append-le, drop-drop, drop_all, drop_mor
 use Rattle.roff_source.specs.declared.source.ByteSource as byte_source
 use Rattle.roff_source.specs.BlockRead.{SomeTape}
 use Rattle.roff_source.specs.Tape.{Item, OneByte, Tape, Answer, Answers, Gives, Took, items_then}
-use Rattle.tbl_layout.specs.Parts.{IsFront}
+use Rattle.tbl_format.specs.Parts.{IsFront}
 use Rattle.tbl_core.specs.declared.gathered.GatheredSource.{GatheredSource}
 use Rattle.tbl_core.specs.Gathered.{AreGathered, GathersOn, KeepsGiven, StandReady, bytes_first, bytes_or, gathered_gives, gathered_ready, inner_of, left_of, tables_of, with_bytes}
 use Rattle.tbl_core.specs.NotesLeft.{noted, notes_left}

@@ -2,7 +2,7 @@
 use Rattle.std.proofs.Common.{◌≡◌, ℕ, List, [], ◌∷◌, Option, Some, None, length, nat_lt, subst, refl, sym, ap, ◌∙◌, Bool, true, false}
 use Rattle.roff_num.specs.declared.limit.Limit.{Limit}
 use Rattle.roff_source.specs.Tape.{Item, OneByte, OneNote, Ending, Ended, Failed, Stopped, Tape, Answer, Answers, Gives, Ends, only, items_then, answer_then}
-use Rattle.tbl_layout.specs.declared.limits.TblLimits.{TblLimits}
+use Rattle.tbl_format.specs.declared.limits.TblLimits.{TblLimits}
 use Rattle.tbl_core.specs.declared.place.Count.{Count}
 use Rattle.tbl_core.specs.Lines.{is_name}
 use Rattle.tbl_core.specs.Machine.{Now, Outside, RestOfStart, Inside, Standing, Reads, Over, Step, take, at_rest, standing_behind, passes_table, inside_ended, end_at, Place}

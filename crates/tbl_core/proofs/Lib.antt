@@ -5,7 +5,6 @@ pub mod Turning
 pub mod Answering
 pub mod NotesLeft
 pub mod Stopping
-pub mod NotesStaying
 pub mod Cutting
 pub mod Passing
 pub mod Ready

@@ -6,20 +6,21 @@ use Rattle.roff_num.specs.declared.limit.Limit.{Limit}
 use Rattle.roff_num.specs.declared.limit.Limit.TheVariants.{Rows, Columns, Text, TblBytes, Width}
 use Rattle.roff_source.specs.Bytes.{newline}
 use Rattle.roff_source.specs.Tape.{Item, OneByte, OneNote, Ending, Ended, Failed, Stopped, Tape, items_then}
-use Rattle.tbl_layout.specs.declared.limits.TblLimits.{TblLimits}
-use Rattle.tbl_layout.specs.declared.message.Told.{Told}
-use Rattle.tbl_layout.specs.Messages.{told_item, told_items}
+use Rattle.tbl_format.specs.declared.limits.TblLimits.{TblLimits}
+use Rattle.tbl_format.specs.declared.message.Told.{Told}
+use Rattle.tbl_format.specs.Messages.{told_item, told_items}
 use Rattle.tbl_core.specs.declared.place.Count.{Count}
 use Rattle.tbl_core.specs.declared.place.Front.{Front}
 use Rattle.tbl_core.specs.declared.place.Front.TheVariants.{Nothing}
-use Rattle.tbl_core.specs.Laws.{AreNoGreater, Begins, IsCutByLimit, LimitMet, LimitsOnlyCut, NoneMet}
+use Rattle.tbl_core.specs.Laws.{AreNoGreater, IsCutByLimit, LimitMet, LimitsOnlyCut, NoneMet}
+use Rattle.tbl_table.specs.NotesStay.{Begins}
 use Rattle.tbl_core.specs.Lines.{counted, end_letter, ends_name, front_behind, is_name, is_of_name, start_letter}
 use Rattle.tbl_core.specs.Machine.{Now, Place, Outside, RestOfStart, Inside, Standing, Reads, Over, Step, end_at, goes_on_inside}
 use Rattle.tbl_core.specs.Machine.{inside_ended, limit_inside, limit_told, own_told, passes_table, standing_behind, stops, take}
 use Rattle.tbl_core.specs.Machine.{take_at, table_ended, told_so_far}
 use Rattle.tbl_core.specs.Yields.{at_ending, ended_by, yields_from}
 use Rattle.tbl_core.proofs.Cutting.{begins_both, begins_more, begins_told, messages_first}
-use Rattle.tbl_core.proofs.NotesStaying.{begins_same, behind_closed}
+use Rattle.tbl_table.proofs.NotesStaying.{begins_same, behind_closed}
 use Rattle.tbl_table.specs.Reading.{Reading, byte_read, bytes_read, given_behind, limit_at_end, told_behind}
 use Rattle.tbl_table.specs.Table.{TableRead, closed, columns_at, notes, rows, rows_behind, told_at_cut, width}
 

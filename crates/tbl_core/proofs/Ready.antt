@@ -7,7 +7,7 @@ use Rattle.std.proofs.lemmas.List.{take-take, length-take-le}
 use Rattle.roff_source.specs.Tape.{Item, OneByte, Ending, Tape, Took, items_then}
 use Rattle.roff_source.proofs.PlainBytes.{take_while-plain}
 use Rattle.roff_num.specs.declared.limit.Limit.TheVariants.{TblBytes}
-use Rattle.tbl_layout.specs.declared.limits.TblLimits.{TblLimits}
+use Rattle.tbl_format.specs.declared.limits.TblLimits.{TblLimits}
 use Rattle.tbl_core.specs.declared.place.Count.{Count}
 use Rattle.tbl_core.specs.declared.place.Front.{Front}
 use Rattle.tbl_core.specs.Lines.{counted, ends_name, front_behind, is_name, line_counted, next_line, start_letter}

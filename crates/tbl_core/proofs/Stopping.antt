@@ -1,7 +1,7 @@
 -- A byte of a table that meets a limit, and the line of the last byte.
 use Rattle.std.proofs.Common.{◌≡◌, ℕ, Bool, false, ◌&&◌, Option, Some, if◌then◌else◌, ap, refl, ◌∙◌}
 use Rattle.roff_num.specs.declared.limit.Limit.{Limit}
-use Rattle.tbl_layout.specs.declared.limits.TblLimits.{TblLimits}
+use Rattle.tbl_format.specs.declared.limits.TblLimits.{TblLimits}
 use Rattle.tbl_core.specs.declared.place.Count.{Count}
 use Rattle.tbl_core.specs.declared.place.Front.{Front}
 use Rattle.tbl_core.specs.Lines.{ends_name, front_behind, is_name, start_letter}

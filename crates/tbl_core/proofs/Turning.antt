@@ -5,7 +5,7 @@ use Rattle.std.specs.Option.{MatchOption}
 use Rattle.roff_num.specs.declared.limit.Limit.{Limit}
 use Rattle.roff_source.specs.declared.source.Taken.{Taken}
 use Rattle.roff_source.specs.Tape.{Item, OneByte, Ending, Stopped, Tape, Answers, Gives, Ends, answer_of}
-use Rattle.tbl_layout.specs.declared.limits.TblLimits.{TblLimits}
+use Rattle.tbl_format.specs.declared.limits.TblLimits.{TblLimits}
 use Rattle.tbl_core.specs.Machine.{Now, Standing, Reads, Over, Step}
 use Rattle.tbl_core.specs.Source.{IsAlive, NotAsked, WasAsked}
 use Rattle.tbl_core.specs.Tables.{TablesState, IsGiven, byte_step, ending_step, handed, stopped_by}

@@ -2,24 +2,12 @@
 use Rattle.std.specs.Prelude.{◌≡◌, ℕ, ◌≤◌, List, [], ◌∷◌, ◌++◌}
 use Rattle.roff_num.specs.declared.limit.Limit.{Limit}
 use Rattle.roff_source.specs.Tape.{Item, Ending, Failed, Stopped, Tape, front}
-use Rattle.tbl_layout.specs.declared.limits.TblLimits.{TblLimits}
+use Rattle.tbl_format.specs.declared.limits.TblLimits.{TblLimits}
 use Rattle.tbl_core.specs.Machine.{Now, Standing, Reads, limit_told, told_so_far}
-use Rattle.tbl_layout.specs.Messages.{told_item, told_items}
-use Rattle.tbl_table.specs.Table.{TableRead, closed, ended, line_read, notes, told_at_cut}
+use Rattle.tbl_format.specs.Messages.{told_item, told_items}
+use Rattle.tbl_table.specs.NotesStay.{Begins}
 use Rattle.tbl_core.specs.Stages.{Stage, answered}
 use Rattle.tbl_core.specs.Yields.{yields, yields_from}
-
--- a list begins with another one
-pub record Begins {A : Type 0} (front whole : List A) : Type 0 where
-  pub rest : List A
-  pub is : whole ≡ front ++ rest
-
--- the messages of a table that is cut are a beginning of those of a longer one, of those where its last line is done, and of
--- those at its end
-pub record NotesStay : Type 0 where
-  pub behind_line : (line : ℕ) (bytes : List ℕ) (t : TableRead) → Begins (told_at_cut t) (told_at_cut (line_read line bytes t))
-  pub closing : (t : TableRead) → Begins (told_at_cut t) (notes (closed t))
-  pub at_end : (line line_length : ℕ) (t : TableRead) → Begins (told_at_cut t) (notes (ended line line_length t))
 
 -- whatever comes, the messages of the complete lines are given first
 abbrev pub MessagesComeFirst : Type 0

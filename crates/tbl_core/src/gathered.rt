@@ -10,7 +10,7 @@ ghost use Rattle.tbl_core.specs.Yields.{at_start};
 use crate::source::TblSource;
 use roff_source::{ByteSource, Taken, at_most};
 use std::alloc::{AllocError, Global};
-use tbl_layout::limits::TblLimits;
+use tbl_format::limits::TblLimits;
 
 /// How many bytes are gathered at most.
 const GATHERED: usize = 1_024;

@@ -1,11 +1,12 @@
 //! Facts about the definitions alone, as contracts of functions that do nothing.
 
 ghost use Rattle.tbl_core.specs.Laws.{AnswersAreGiven, FailingOnlyCuts, LimitsOnlyCut};
-ghost use Rattle.tbl_core.specs.Laws.{MessagesComeFirst, NotesStay};
+ghost use Rattle.tbl_core.specs.Laws.{MessagesComeFirst};
+ghost use Rattle.tbl_table.specs.NotesStay.{NotesStay};
 
 /// The messages of a table so far are a beginning of those of a longer one, and of those at its
 /// end.
-#[tactic(auto, using(crate::proofs::NotesStaying::notes_stay))]
+#[tactic(auto, using(tbl_table::proofs::NotesStaying::notes_stay))]
 pub fn stable()
     ensures { NotesStay }
 {}

@@ -10,6 +10,6 @@ mod tables;
 
 pub use gathered::GatheredSource;
 pub use source::TblSource;
-pub use tbl_layout::limits::TblLimits;
-pub use tbl_layout::message::{Message, OptionText, Told};
+pub use tbl_format::limits::TblLimits;
+pub use tbl_format::message::{Message, OptionText, Told};
 pub use tbl_table::worked_rows;

@@ -4,7 +4,7 @@ ghost use Rattle.std.specs.Prelude.{◌≡◌, ◌+◌, ◌<◌, ◌≤◌, [], 
 ghost use Rattle.std.specs.Prelude.{length, map};
 ghost use Rattle.roff_source.specs.Tape.{Answers, Ends, Failed, Gives, OneByte, OneNote, answer_of};
 ghost use Rattle.roff_num.specs.Faults.{Rises};
-ghost use Rattle.tbl_layout.specs.Parts.{IsFront};
+ghost use Rattle.tbl_format.specs.Parts.{IsFront};
 ghost use Rattle.tbl_core.specs.NotesLeft.{gives_byte, noted};
 
 mod reading;
@@ -13,7 +13,7 @@ use crate::tables::Tables;
 use roff_source::{ByteSource, Taken, at_most};
 use std::alloc::{AllocError, Global};
 use std::marker::Model;
-use tbl_layout::limits::TblLimits;
+use tbl_format::limits::TblLimits;
 
 /// A source that gives what its inner source gives, with each table in it as its picture. Bytes
 /// outside tables stand ready where those of the inner source do.

@@ -7,7 +7,7 @@ ghost use Rattle.roff_source.specs.Tape.{Ended, Failed, OneByte, answer_of};
 ghost use Rattle.tbl_core.specs.Machine.{limit_inside, not_ended, own_told, reading_on};
 ghost use Rattle.tbl_core.specs.Passing.{passes_next, reads_outside};
 ghost use Rattle.tbl_core.specs.NotesLeft.{gives_byte, noted};
-ghost use Rattle.tbl_layout.specs.Parts.{IsFront};
+ghost use Rattle.tbl_format.specs.Parts.{IsFront};
 ghost use Rattle.tbl_core.specs.Tables.{behind_given, IsByteGiven, IsGiven, IsRoomFor};
 ghost use Rattle.tbl_core.specs.Tables.{begun_behind, byte_step, counted_step, ending_step, handed};
 ghost use Rattle.tbl_core.specs.Tables.{line_of, position_behind, position_on_start_line};
@@ -22,8 +22,8 @@ use roff_num::Limit;
 use roff_source::Taken;
 use std::alloc::{AllocError, Global};
 use std::marker::Model;
-use tbl_layout::limits::TblLimits;
-use tbl_layout::message::{Message, Told};
+use tbl_format::limits::TblLimits;
+use tbl_format::message::{Message, Told};
 use tbl_table::table::Table;
 
 /// What tables make of the bytes of an input, one at a time.

@@ -7,7 +7,7 @@ use Rattle.std.proofs.lemmas.List.Sums.{prefix_len_is, prefix_len-le-length}
 use Rattle.std.proofs.lemmas.Slice.{between_is}
 use Rattle.memchr.specs.Find.{IsFirstByte, is_byte}
 use Rattle.tbl_layout.specs.Data.{fields, in_first, kept_fields}
-use Rattle.tbl_layout.specs.Pieces.{field_of, fields_from}
+use Rattle.tbl_layout.specs.Fields.{field_of, fields_from}
 use Rattle.tbl_layout.specs.declared.data.Field.{Field}
 
 -- how many bytes stand before the first separator

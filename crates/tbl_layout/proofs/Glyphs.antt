@@ -2,7 +2,7 @@
 use Rattle.std.proofs.Common.{◌≡◌, ℕ, zero, suc, ◌+◌, ◌-◌, ◌<◌, ◌≤◌, Bool, true, false, List, [], ◌∷◌, ◌++◌, length, take, get_or, replicate, refl, sym, ap, ◌∙◌, arith, if◌then◌else◌}
 use Rattle.std.proofs.lemmas.List.{take_more}
 use Rattle.roff_source.specs.Bytes.{blank}
-use Rattle.tbl_layout.specs.Picture.{before_glyphs, is_glyph, to_last_glyph}
+use Rattle.tbl_layout.specs.Glyphs.{before_glyphs, is_glyph, to_last_glyph}
 
 -- a byte in front of a text that has a glyph
 before_some : (x : ℕ) (xs : List ℕ) (g : ℕ) (gs : List ℕ) → before_glyphs x (xs ++ g ∷ gs) ≡ x ∷ (xs ++ g ∷ gs)

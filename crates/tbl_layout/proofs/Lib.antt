@@ -1,15 +1,5 @@
-pub mod DefaultTexts
 pub mod Glyphs
 pub mod Fields
-pub mod Words
 pub mod Columns
-pub mod Cells
-pub mod Lines
-pub mod KeyCounting
-pub mod Parts
-pub mod Slices
-pub mod FormatBlocks
-pub mod FormatReading
-pub mod PiecesWithin
-pub mod PiecesLeft
 pub mod Unbuilt
+pub mod Elements

@@ -1,13 +1,4 @@
-pub mod TblLimits
-pub mod Messages
-pub mod Options
-pub mod Format
 pub mod Data
 pub mod Widths
-pub mod Picture
-pub mod Notes
-pub mod Parts
-pub mod Pieces
-pub mod KeyCounts
-pub mod FormatRows
-pub mod PieceQueue
+pub mod Glyphs
+pub mod Fields

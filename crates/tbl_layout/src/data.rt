@@ -8,9 +8,9 @@ ghost use Rattle.tbl_layout.specs.Data.{blanks_end_from, ends_field, in_front_of
 ghost use Rattle.tbl_layout.specs.Data.{is_command, is_not_built, is_opening, is_rule};
 ghost use Rattle.tbl_layout.specs.Data.{is_rule_field, judged, judged_by, kept_fields};
 ghost use Rattle.tbl_layout.specs.Data.{last_field_at, opening_at, separator_from, unbuilt};
-ghost use Rattle.tbl_layout.specs.Pieces.{field_of, fields_from};
+ghost use Rattle.tbl_layout.specs.Fields.{field_of, fields_from};
 
-use crate::picture::glyphs_len;
+use crate::last_glyph::glyphs_len;
 use crate::widths::text_width;
 use memchr::memchr;
 

@@ -3,7 +3,7 @@ use Rattle.std.specs.Prelude.{◌≡◌, ℕ, List, None}
 use Rattle.std.specs.Io.KnownBytes.{Appends}
 use Rattle.roff_sinks.specs.Devices.{NoSinkFault, Seen}
 use Rattle.roff_source.specs.Tape.{Item, Tape, items_then}
-use Rattle.tbl_layout.specs.declared.limits.TblLimits.{TblLimits}
+use Rattle.tbl_format.specs.declared.limits.TblLimits.{TblLimits}
 use Rattle.tbl_core.specs.Yields.{At}
 use Rattle.tbl_run.specs.Run.{Written, initial, steps}
 use Rattle.tbl_run.specs.Turns.{Counted, IsWithin}

@@ -4,14 +4,14 @@ use Rattle.std.proofs.lemmas.List.{drop-append-le, drop_all, take-append-le, tak
 use Rattle.std.proofs.lemmas.List.Sums.{fold-append}
 use Rattle.roff_source.specs.Bytes.{newline}
 use Rattle.tbl_table.specs.Begun.{begun_in, built_begun, count_of, head_begun}
-use Rattle.tbl_layout.specs.Format.{Format, format_byte, format_read, has_some, no_format}
-use Rattle.tbl_layout.specs.KeyCounts.{Counts}
-use Rattle.tbl_layout.specs.Options.{bracketed, options_end, options_end_from, options_read, semicolon}
+use Rattle.tbl_format.specs.Format.{Format, format_byte, format_read, has_some, no_format}
+use Rattle.tbl_format.specs.KeyCounts.{Counts}
+use Rattle.tbl_format.specs.Options.{bracketed, options_end, options_end_from, options_read, semicolon}
 use Rattle.tbl_table.specs.Table.{columns_of, has_newline, head_columns, head_place}
 use Rattle.tbl_table.specs.declared.begun.Begun.TheVariants.{Front, Keys, Nothing}
-use Rattle.tbl_layout.specs.declared.format.FormatPlace.{FormatPlace}
-use Rattle.tbl_layout.specs.declared.format.FormatPlace.TheVariants.{AtFault}
-use Rattle.tbl_layout.specs.declared.format.KeyCount.{KeyCount}
+use Rattle.tbl_format.specs.declared.format.FormatPlace.{FormatPlace}
+use Rattle.tbl_format.specs.declared.format.FormatPlace.TheVariants.{AtFault}
+use Rattle.tbl_format.specs.declared.format.KeyCount.{KeyCount}
 use Rattle.tbl_table.specs.declared.phase.Phase.{Phase}
 use Rattle.tbl_table.specs.declared.phase.Phase.TheVariants.{AtHead, Bad, InData, InFormat}
 

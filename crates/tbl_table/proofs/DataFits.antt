@@ -5,27 +5,27 @@ use Rattle.std.specs.Prelude.{is_some}
 use Rattle.std.specs.List.{slice_range}
 use Rattle.roff_source.specs.Bytes.{newline}
 use Rattle.tbl_table.specs.Begun.{FewKeys, begun_in}
-use Rattle.tbl_layout.specs.FormatRows.{KeptFormat}
-use Rattle.tbl_table.specs.Joined.{behind_joined}
+use Rattle.tbl_format.specs.FormatRows.{KeptFormat}
+use Rattle.tbl_kept.specs.Joined.{behind_joined}
 use Rattle.tbl_table.specs.Kept.{HasRooms, KeysFit, NotesFit, PartsFit, PhaseFits, RowsFit, TextFits, faults, opened}
-use Rattle.tbl_layout.specs.Notes.{IsWithin, NotesWithin}
+use Rattle.tbl_format.specs.Notes.{IsWithin, NotesWithin}
 use Rattle.tbl_layout.specs.Data.{kept_fields}
-use Rattle.tbl_layout.specs.Pieces.{fields_from}
+use Rattle.tbl_layout.specs.Fields.{fields_from}
 use Rattle.tbl_table.specs.Steps.{notes_judged, phase_judged, rows_judged, with_cause}
-use Rattle.tbl_table.specs.TableNotes.{KeptNotes}
-use Rattle.tbl_table.specs.TableRows.{Holds, KeptRows, fields_of, with_fields}
-use Rattle.tbl_table.specs.TableText.{KeptText, text_closed, text_ended, text_joined}
+use Rattle.tbl_kept.specs.TableNotes.{KeptNotes}
+use Rattle.tbl_kept.specs.TableRows.{Holds, KeptRows, fields_of, with_fields}
+use Rattle.tbl_kept.specs.TableText.{KeptText, text_closed, text_ended, text_joined}
 use Rattle.tbl_table.specs.declared.begun.Begun.{Begun}
 use Rattle.tbl_table.specs.declared.begun.Begun.TheVariants.{Nothing}
 use Rattle.tbl_layout.specs.declared.data.Field.{Field}
 use Rattle.tbl_layout.specs.declared.data.Judged.{Judged}
 use Rattle.tbl_layout.specs.declared.data.Judged.TheVariants.{Refused, Row}
-use Rattle.tbl_layout.specs.declared.limits.TblLimits.{TblLimits}
-use Rattle.tbl_layout.specs.declared.notes.Cause.{Cause}
-use Rattle.tbl_layout.specs.declared.notes.Cause.TheVariants.{BadFormat, TooManyFields}
+use Rattle.tbl_format.specs.declared.limits.TblLimits.{TblLimits}
+use Rattle.tbl_format.specs.declared.notes.Cause.{Cause}
+use Rattle.tbl_format.specs.declared.notes.Cause.TheVariants.{BadFormat, TooManyFields}
 use Rattle.tbl_table.specs.declared.phase.Phase.{Phase}
 use Rattle.tbl_table.specs.declared.phase.Phase.TheVariants.{Bad, InData}
-use Rattle.tbl_table.proofs.RowTexts.{Holds-line, Holds-longer, length-widened}
+use Rattle.tbl_kept.proofs.RowTexts.{Holds-line, Holds-longer, length-widened}
 use Rattle.tbl_table.proofs.TableFits.{NotesWithin-more, NotesWithin-append, ended-read, open-by, behind-len, text-ends}
 
 module _ (l : TblLimits) (phase : Phase) (begun : Begun) (text : KeptText) (format : KeptFormat) (rows : KeptRows) (notes : KeptNotes) (fits : PartsFit l phase begun text format rows notes) where

@@ -3,18 +3,18 @@ use Rattle.std.proofs.Common.{◌≡◌, ℕ, suc, ◌+◌, ◌≤◌, Bool, tru
 use Rattle.std.proofs.lemmas.List.{length-take}
 use Rattle.roff_source.specs.Bytes.{newline}
 use Rattle.tbl_layout.specs.Data.{judged}
-use Rattle.tbl_layout.specs.Format.{format_read}
-use Rattle.tbl_table.specs.Joined.{Joined, behind_joined, ends_joined, goes_on, line_at}
-use Rattle.tbl_layout.specs.Notes.{ignored_message, told_at}
-use Rattle.tbl_layout.specs.Options.{bracketed, if_word, ignored_behind, ignored_options, is_ignored, nothing_set, option_words, options_end, options_read, separates_options, with_word, words_behind}
+use Rattle.tbl_format.specs.Format.{format_read}
+use Rattle.tbl_kept.specs.Joined.{Joined, behind_joined, ends_joined, goes_on, line_at}
+use Rattle.tbl_format.specs.Notes.{ignored_message, told_at}
+use Rattle.tbl_format.specs.Options.{bracketed, if_word, ignored_behind, ignored_options, is_ignored, nothing_set, option_words, options_end, options_read, separates_options, with_word, words_behind}
 use Rattle.tbl_table.specs.Table.{TableRead, bad, behind_format, closed, closed_line, columns, ended, ended_in, format_line, head_line, line_in, line_read, no_lines, notes, told_at_cut, whole_line, with_judged, with_options, with_pending}
 use Rattle.tbl_layout.specs.declared.data.Judged.{Judged}
 use Rattle.tbl_layout.specs.declared.data.Judged.TheVariants.{Refused, Row}
-use Rattle.tbl_layout.specs.declared.format.FormatPlace.{FormatPlace}
-use Rattle.tbl_layout.specs.declared.format.FormatPlace.TheVariants.{AtEnd, AtFault, InRows}
-use Rattle.tbl_layout.specs.declared.message.Message.TheVariants.{BadFormat, TooManyFields}
-use Rattle.tbl_layout.specs.declared.message.Told.{Told}
-use Rattle.tbl_layout.specs.declared.options.Settings.{Settings}
+use Rattle.tbl_format.specs.declared.format.FormatPlace.{FormatPlace}
+use Rattle.tbl_format.specs.declared.format.FormatPlace.TheVariants.{AtEnd, AtFault, InRows}
+use Rattle.tbl_format.specs.declared.message.Message.TheVariants.{BadFormat, TooManyFields}
+use Rattle.tbl_format.specs.declared.message.Told.{Told}
+use Rattle.tbl_format.specs.declared.options.Settings.{Settings}
 use Rattle.tbl_table.specs.declared.phase.Phase.{Phase}
 use Rattle.tbl_table.specs.declared.phase.Phase.TheVariants.{AtHead, Bad, InData, InFormat}
 

@@ -1,13 +1,13 @@
 -- A format that has ended has a row.
 use Rattle.std.proofs.Common.{◌≡◌, ℕ, ◌<◌, Bool, true, false, List, [], ◌∷◌, ◌++◌, length, Option, Some, None, refl, sym, subst, arith, if◌then◌else◌}
-use Rattle.tbl_layout.specs.Format.{Format, at_end, at_fault, behind_key, behind_other, format_byte, format_byte_at, format_read, has_some, is_between, key_of, separates_rows, with_digit, with_digit_of, with_key, with_number, with_whole}
+use Rattle.tbl_format.specs.Format.{Format, at_end, at_fault, behind_key, behind_other, format_byte, format_byte_at, format_read, has_some, is_between, key_of, separates_rows, with_digit, with_digit_of, with_key, with_number, with_whole}
 use Rattle.roff_source.specs.Bytes.{dot, is_digit}
 use Rattle.std.specs.Prelude.{◌==◌}
 use Rattle.tbl_table.specs.Kept.{HasEnd}
-use Rattle.tbl_layout.specs.declared.format.FormatPlace.{FormatPlace}
-use Rattle.tbl_layout.specs.declared.format.FormatPlace.TheVariants.{AtEnd, AtFault, InRows}
-use Rattle.tbl_layout.specs.declared.format.Key.{Key}
-use Rattle.tbl_layout.specs.declared.format.Key.TheVariants.{Center, Left, NotBuilt, Right}
+use Rattle.tbl_format.specs.declared.format.FormatPlace.{FormatPlace}
+use Rattle.tbl_format.specs.declared.format.FormatPlace.TheVariants.{AtEnd, AtFault, InRows}
+use Rattle.tbl_format.specs.declared.format.Key.{Key}
+use Rattle.tbl_format.specs.declared.format.Key.TheVariants.{Center, Left, NotBuilt, Right}
 
 abbrev pub Ended : Format → Type 0
 Ended f = HasEnd f.place f.rows

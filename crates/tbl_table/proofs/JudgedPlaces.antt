@@ -2,7 +2,7 @@
 use Rattle.std.proofs.Common.{◌≡◌, ℕ, zero, suc, ◌+◌, ◌-◌, ◌<◌, ◌≤◌, Bool, true, false, ◌&&◌, ◌||◌, nat_lt, List, [], ◌∷◌, ◌++◌, length, take, drop, Option, None, Some, refl, ap, arith, length-drop, if◌then◌else◌, ◌==◌}
 use Rattle.std.proofs.lemmas.Bool.Decides.{nat_tests}
 use Rattle.tbl_layout.specs.Data.{in_front_of, is_command, is_not_built, is_opening, is_rule, is_rule_field, judged, judged_by, opening_at, separator_from, surplus, unbuilt, unbuilt_from}
-use Rattle.tbl_table.specs.Joined.{line_at}
+use Rattle.tbl_kept.specs.Joined.{line_at}
 use Rattle.tbl_layout.specs.declared.data.Judged.{Judged}
 use Rattle.tbl_layout.specs.declared.data.Judged.TheVariants.{Refused, Row}
 

@@ -1,7 +1,6 @@
 pub mod FewNotes
+pub mod NotesStaying
 pub mod BegunLines
-pub mod TextBlocks
-pub mod RowTexts
 pub mod LinesLeft
 pub mod OutputLeft
 pub mod TableFits

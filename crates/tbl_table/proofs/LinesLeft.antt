@@ -7,14 +7,15 @@ use Rattle.std.proofs.lemmas.Bool.Decides.{nat_tests}
 use Rattle.std.proofs.lemmas.List.{drop_all, length-map}
 use Rattle.std.proofs.lemmas.List.Sums.{sum_by-cons}
 use Rattle.roff_source.specs.Bytes.{is_dropped, is_silent, tab}
-use Rattle.tbl_layout.specs.Format.{Format}
+use Rattle.tbl_format.specs.Format.{Format}
 use Rattle.tbl_table.specs.Output.{CanLine, lines_from}
-use Rattle.tbl_layout.specs.Picture.{first_format, line_of, lines_of, next_formats, next_of}
-use Rattle.tbl_layout.specs.Pieces.{AreMeasured, IsMeasured, text_of, texts_of}
-use Rattle.tbl_table.specs.TableRows.{KeptRows, first_row, texts_in}
+use Rattle.tbl_format.specs.RowsServed.{first_format, next_formats, next_of}
+use Rattle.tbl_picture.specs.Picture.{line_of, lines_of}
+use Rattle.tbl_layout.specs.Fields.{AreMeasured, IsMeasured, text_of, texts_of}
+use Rattle.tbl_kept.specs.TableRows.{KeptRows, first_row, texts_in}
 use Rattle.tbl_layout.specs.Widths.{text_width, width_in_text}
 use Rattle.tbl_layout.specs.declared.data.Field.{Field}
-use Rattle.tbl_layout.specs.declared.format.Key.{Key}
+use Rattle.tbl_format.specs.declared.format.Key.{Key}
 use Rattle.tbl_layout.proofs.Fields.{length-part}
 
 -- behind a row of the format that isn't the last

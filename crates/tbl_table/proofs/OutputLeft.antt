@@ -3,24 +3,26 @@ use Rattle.std.proofs.Common.{◌≡◌, ℕ, ◌+◌, ◌-◌, ◌≤◌, true,
 use Rattle.std.specs.List.{slice_range}
 use Rattle.std.proofs.lemmas.List.{append-nil, drop_all}
 use Rattle.roff_source.specs.Bytes.{backslash, newline}
-use Rattle.tbl_layout.specs.Format.{has_some}
-use Rattle.tbl_layout.specs.FormatRows.{KeptFormat}
-use Rattle.tbl_table.specs.Joined.{RiseWithin, unjoined}
+use Rattle.tbl_format.specs.Format.{has_some}
+use Rattle.tbl_format.specs.FormatRows.{KeptFormat}
+use Rattle.tbl_kept.specs.Joined.{RiseWithin, unjoined}
 use Rattle.tbl_table.specs.Output.{CanGive, CanLine, IsLast, KeptGiving, coming, following, lines_from}
-use Rattle.tbl_layout.specs.PieceQueue.{KeptPieces, bytes_left}
-use Rattle.tbl_layout.specs.Picture.{before_lines, behind_lines, first_format, line_of, next_of, picture}
-use Rattle.tbl_layout.specs.Pieces.{AreWithin, bytes_of_all, some_piece, texts_of}
-use Rattle.tbl_table.specs.TableRows.{KeptRows, first_row}
-use Rattle.tbl_table.specs.TableText.{KeptText, block_of}
+use Rattle.tbl_picture.specs.PieceQueue.{KeptPieces, bytes_left}
+use Rattle.tbl_picture.specs.Picture.{before_lines, behind_lines, line_of, picture}
+use Rattle.tbl_format.specs.RowsServed.{first_format, next_of}
+use Rattle.tbl_picture.specs.Pieces.{AreWithin, bytes_of_all, some_piece}
+use Rattle.tbl_layout.specs.Fields.{texts_of}
+use Rattle.tbl_kept.specs.TableRows.{KeptRows, first_row}
+use Rattle.tbl_kept.specs.TableText.{KeptText, block_of}
 use Rattle.tbl_table.specs.declared.output.Rest.{Rest}
 use Rattle.tbl_table.specs.declared.output.Rest.TheVariants.{Lines, Nothing, Read}
-use Rattle.tbl_layout.specs.declared.picture.Piece.{Piece}
-use Rattle.tbl_layout.specs.declared.picture.Piece.TheVariants.{Block, Frame, Joint}
-use Rattle.tbl_table.specs.declared.table_text.Joint.{Joint as JointAt}
-use Rattle.tbl_layout.proofs.Lines.{part-none, some_by}
+use Rattle.tbl_picture.specs.declared.picture.Piece.{Piece}
+use Rattle.tbl_picture.specs.declared.picture.Piece.TheVariants.{Block, Frame, Joint}
+use Rattle.tbl_kept.specs.declared.table_text.Joint.{Joint as JointAt}
+use Rattle.tbl_picture.proofs.Lines.{part-none, some_by}
 use Rattle.tbl_table.proofs.LinesLeft.{lines_from-more}
-use Rattle.tbl_layout.proofs.Parts.{length-slice_range, slice_range-rest}
-use Rattle.tbl_layout.proofs.PiecesWithin.{AreWithin-append, AreWithin-some}
+use Rattle.tbl_format.proofs.Parts.{length-slice_range, slice_range-rest}
+use Rattle.tbl_picture.proofs.PiecesWithin.{AreWithin-append, AreWithin-some}
 
 -- where a piece is left, anything may follow
 pub IsLast-some : (pieces : List Piece) (rest : Rest) → has_some pieces ≡ true → IsLast pieces rest

@@ -3,26 +3,26 @@ use Rattle.std.proofs.Common.{◌≡◌, ℕ, ◌+◌, ◌*◌, ◌<◌, ◌≤�
 use Rattle.std.proofs.lemmas.Bool.Decides.{nat_tests}
 use Rattle.roff_num.specs.declared.limit.Limit.{Limit}
 use Rattle.roff_num.specs.declared.limit.Limit.TheVariants.{Rows, Width}
-use Rattle.tbl_layout.specs.FormatRows.{KeptFormat}
-use Rattle.tbl_table.specs.Joined.{Joined, behind_joined}
+use Rattle.tbl_format.specs.FormatRows.{KeptFormat}
+use Rattle.tbl_kept.specs.Joined.{Joined, behind_joined}
 use Rattle.tbl_table.specs.Kept.{PartsFit, table_of}
 use Rattle.tbl_table.specs.Output.{CanLine, lines_from}
-use Rattle.tbl_layout.specs.Picture.{lines_of}
-use Rattle.tbl_layout.specs.Pieces.{IsNarrow}
+use Rattle.tbl_picture.specs.Picture.{lines_of}
+use Rattle.tbl_picture.specs.Pieces.{IsNarrow}
 use Rattle.tbl_table.specs.Reading.{Reading, given_at_end, given_behind, limit_at_end, limit_of, output_or_read, told_at_end, told_behind}
 use Rattle.tbl_table.specs.Table.{TableRead, closed, closed_line, columns, ended, ended_in, notes, output, output_in, picture_width, rows, width, width_in}
-use Rattle.tbl_table.specs.TableNotes.{KeptNotes}
-use Rattle.tbl_table.specs.TableRows.{KeptRows, texts_in}
-use Rattle.tbl_table.specs.TableText.{KeptText, block_of}
+use Rattle.tbl_kept.specs.TableNotes.{KeptNotes}
+use Rattle.tbl_kept.specs.TableRows.{KeptRows, texts_in}
+use Rattle.tbl_kept.specs.TableText.{KeptText, block_of}
 use Rattle.tbl_layout.specs.Widths.{width_of_all, widths}
 use Rattle.tbl_table.specs.declared.begun.Begun.{Begun}
-use Rattle.tbl_layout.specs.declared.limits.TblLimits.{TblLimits}
-use Rattle.tbl_layout.specs.declared.options.Options.{Options}
+use Rattle.tbl_format.specs.declared.limits.TblLimits.{TblLimits}
+use Rattle.tbl_format.specs.declared.options.Options.{Options}
 use Rattle.tbl_table.specs.declared.phase.Phase.{Phase}
 use Rattle.tbl_table.specs.declared.phase.Phase.TheVariants.{InData}
 use Rattle.tbl_layout.specs.Data.{judged}
 use Rattle.tbl_table.proofs.FewNotes.{judged-none}
-use Rattle.tbl_table.proofs.RowTexts.{Holds-longer}
+use Rattle.tbl_kept.proofs.RowTexts.{Holds-longer}
 use Rattle.tbl_table.proofs.DataFits.{columns-same, has-rows}
 use Rattle.tbl_table.proofs.TableReads.{texts-stay}
 

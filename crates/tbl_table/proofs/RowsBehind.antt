@@ -2,15 +2,15 @@
 use Rattle.std.proofs.Common.{◌≡◌, ℕ, suc, ◌+◌, ◌≤◌, Bool, true, false, not, ◌&&◌, List, [], ◌∷◌, ◌++◌, length, take, drop, Option, Some, None, refl, ap, arith, length-append, if◌then◌else◌}
 use Rattle.roff_source.specs.Bytes.{newline}
 use Rattle.tbl_layout.specs.Data.{is_row, judged, kept_fields}
-use Rattle.tbl_layout.specs.Format.{format_read}
-use Rattle.tbl_table.specs.Joined.{behind_joined, ends_joined, goes_on}
-use Rattle.tbl_layout.specs.Options.{options_end, options_read}
+use Rattle.tbl_format.specs.Format.{format_read}
+use Rattle.tbl_kept.specs.Joined.{behind_joined, ends_joined, goes_on}
+use Rattle.tbl_format.specs.Options.{options_end, options_read}
 use Rattle.tbl_table.specs.Steps.{ends_row, ends_row_in}
 use Rattle.tbl_table.specs.Table.{TableRead, bad, behind_format, columns, columns_at, columns_in, format_line, head_line, line_in, line_read, rows, rows_behind, whole_line, with_judged, with_options, with_pending}
 use Rattle.tbl_layout.specs.declared.data.Judged.{Judged}
 use Rattle.tbl_layout.specs.declared.data.Judged.TheVariants.{Refused, Row}
-use Rattle.tbl_layout.specs.declared.format.FormatPlace.{FormatPlace}
-use Rattle.tbl_layout.specs.declared.format.FormatPlace.TheVariants.{AtEnd, AtFault, InRows}
+use Rattle.tbl_format.specs.declared.format.FormatPlace.{FormatPlace}
+use Rattle.tbl_format.specs.declared.format.FormatPlace.TheVariants.{AtEnd, AtFault, InRows}
 use Rattle.tbl_table.specs.declared.phase.Phase.{Phase}
 use Rattle.tbl_table.specs.declared.phase.Phase.TheVariants.{AtHead, Bad, InData, InFormat}
 

@@ -4,28 +4,28 @@ use Rattle.std.proofs.lemmas.List.{length-replicate}
 use Rattle.std.specs.Prelude.{is_some}
 use Rattle.roff_source.specs.Bytes.{newline}
 use Rattle.tbl_table.specs.Begun.{FewKeys, begun_in}
-use Rattle.tbl_layout.specs.Format.{Format, no_format}
-use Rattle.tbl_layout.specs.FormatRows.{KeptFormat, key_count, keeping}
-use Rattle.tbl_table.specs.Joined.{Joined, behind_joined}
+use Rattle.tbl_format.specs.Format.{Format, no_format}
+use Rattle.tbl_format.specs.FormatRows.{KeptFormat, key_count, keeping}
+use Rattle.tbl_kept.specs.Joined.{Joined, behind_joined}
 use Rattle.tbl_table.specs.Kept.{HasEnd, HasRooms, KeysFit, NotesFit, PartsFit, PhaseFits, RowsFit, TextFits, faults, opened}
-use Rattle.tbl_layout.specs.Notes.{IsWithin, NotesWithin, ignored_message, told_at, told_of, told_of_all}
+use Rattle.tbl_format.specs.Notes.{IsWithin, NotesWithin, ignored_message, told_at, told_of, told_of_all}
 use Rattle.tbl_table.specs.Steps.{fault_noted, is_front, phase_behind, rows_started, with_cause}
 use Rattle.tbl_table.specs.Table.{is_bad_phase}
-use Rattle.tbl_table.specs.TableNotes.{KeptNotes, no_notes}
-use Rattle.tbl_table.specs.TableRows.{KeptRows, fields_of, starting}
-use Rattle.tbl_table.specs.TableText.{KeptText, no_text, text_ended}
+use Rattle.tbl_kept.specs.TableNotes.{KeptNotes, no_notes}
+use Rattle.tbl_kept.specs.TableRows.{KeptRows, fields_of, starting}
+use Rattle.tbl_kept.specs.TableText.{KeptText, no_text, text_ended}
 use Rattle.tbl_table.specs.declared.begun.Begun.{Begun}
 use Rattle.tbl_table.specs.declared.begun.Begun.TheVariants.{Front, Keys, Nothing}
-use Rattle.tbl_layout.specs.declared.format.FormatPlace.{FormatPlace}
-use Rattle.tbl_layout.specs.declared.format.FormatPlace.TheVariants.{AtEnd, AtFault, InRows}
-use Rattle.tbl_layout.specs.declared.limits.TblLimits.{TblLimits}
-use Rattle.tbl_layout.specs.declared.notes.Cause.{Cause}
-use Rattle.tbl_layout.specs.declared.notes.Cause.TheVariants.{BadFormat, OptionIgnored, TooManyFields}
-use Rattle.tbl_layout.specs.declared.notes.KeptNote.{KeptNote}
+use Rattle.tbl_format.specs.declared.format.FormatPlace.{FormatPlace}
+use Rattle.tbl_format.specs.declared.format.FormatPlace.TheVariants.{AtEnd, AtFault, InRows}
+use Rattle.tbl_format.specs.declared.limits.TblLimits.{TblLimits}
+use Rattle.tbl_format.specs.declared.notes.Cause.{Cause}
+use Rattle.tbl_format.specs.declared.notes.Cause.TheVariants.{BadFormat, OptionIgnored, TooManyFields}
+use Rattle.tbl_format.specs.declared.notes.KeptNote.{KeptNote}
 use Rattle.tbl_table.specs.declared.phase.Phase.{Phase}
 use Rattle.tbl_table.specs.declared.phase.Phase.TheVariants.{AtHead, Bad, InData, InFormat}
-use Rattle.tbl_layout.proofs.Parts.{slice_range-append}
-use Rattle.tbl_table.proofs.RowTexts.{Holds-longer, Holds-start}
+use Rattle.tbl_format.proofs.Parts.{slice_range-append}
+use Rattle.tbl_kept.proofs.RowTexts.{Holds-longer, Holds-start}
 
 -- options within a text are within a longer one
 pub IsWithin-more : (len more : ℕ) (cause : Cause) → len ≤ more → IsWithin len cause → IsWithin more cause

@@ -5,30 +5,30 @@ use Rattle.std.proofs.Math.Seq.{take-append-add}
 use Rattle.roff_source.specs.Bytes.{newline}
 use Rattle.tbl_table.specs.Begun.{begun_in}
 use Rattle.tbl_layout.specs.Data.{judged}
-use Rattle.tbl_layout.specs.Format.{Format, format_read}
-use Rattle.tbl_layout.specs.FormatRows.{KeptFormat}
-use Rattle.tbl_table.specs.Joined.{Joined, behind_joined, ends_joined, goes_on}
+use Rattle.tbl_format.specs.Format.{Format, format_read}
+use Rattle.tbl_format.specs.FormatRows.{KeptFormat}
+use Rattle.tbl_kept.specs.Joined.{Joined, behind_joined, ends_joined, goes_on}
 use Rattle.tbl_table.specs.Kept.{PartsFit, PhaseFits, RowsFit, TextFits, faults}
-use Rattle.tbl_layout.specs.Notes.{NotesWithin, told_at, told_of, told_of_all}
+use Rattle.tbl_format.specs.Notes.{NotesWithin, told_at, told_of, told_of_all}
 use Rattle.tbl_table.specs.Steps.{fault_noted, judged_line, notes_judged, phase_at_last, phase_judged}
 use Rattle.tbl_table.specs.Table.{TableRead, behind_format, closed, closed_line, columns, is_bad, is_bad_phase, line_in, line_read, notes, whole_line, with_judged, with_pending}
-use Rattle.tbl_table.specs.TableNotes.{KeptNotes}
-use Rattle.tbl_table.specs.TableRows.{KeptRows}
-use Rattle.tbl_table.specs.TableText.{KeptText, text_whole}
+use Rattle.tbl_kept.specs.TableNotes.{KeptNotes}
+use Rattle.tbl_kept.specs.TableRows.{KeptRows}
+use Rattle.tbl_kept.specs.TableText.{KeptText, text_whole}
 use Rattle.tbl_table.specs.declared.begun.Begun.{Begun}
 use Rattle.tbl_layout.specs.declared.data.Judged.{Judged}
 use Rattle.tbl_layout.specs.declared.data.Judged.TheVariants.{Refused, Row}
-use Rattle.tbl_layout.specs.declared.format.FormatPlace.{FormatPlace}
-use Rattle.tbl_layout.specs.declared.format.FormatPlace.TheVariants.{AtEnd, AtFault, InRows}
-use Rattle.tbl_layout.specs.declared.limits.TblLimits.{TblLimits}
-use Rattle.tbl_layout.specs.declared.message.Message.TheVariants.{BadFormat as BadFormatMessage, TooManyFields as TooManyFieldsMessage}
-use Rattle.tbl_layout.specs.declared.message.Told.{Told}
-use Rattle.tbl_layout.specs.declared.notes.Cause.TheVariants.{BadFormat, TooManyFields}
-use Rattle.tbl_layout.specs.declared.notes.KeptNote.{KeptNote}
+use Rattle.tbl_format.specs.declared.format.FormatPlace.{FormatPlace}
+use Rattle.tbl_format.specs.declared.format.FormatPlace.TheVariants.{AtEnd, AtFault, InRows}
+use Rattle.tbl_format.specs.declared.limits.TblLimits.{TblLimits}
+use Rattle.tbl_format.specs.declared.message.Message.TheVariants.{BadFormat as BadFormatMessage, TooManyFields as TooManyFieldsMessage}
+use Rattle.tbl_format.specs.declared.message.Told.{Told}
+use Rattle.tbl_format.specs.declared.notes.Cause.TheVariants.{BadFormat, TooManyFields}
+use Rattle.tbl_format.specs.declared.notes.KeptNote.{KeptNote}
 use Rattle.tbl_table.specs.declared.phase.Phase.{Phase}
 use Rattle.tbl_table.specs.declared.phase.Phase.TheVariants.{Bad, InData, InFormat}
 use Rattle.tbl_table.proofs.JudgedPlaces.{IsJudgedBefore, judged-before, line_at-last}
-use Rattle.tbl_table.proofs.RowTexts.{Holds-longer}
+use Rattle.tbl_kept.proofs.RowTexts.{Holds-longer}
 use Rattle.tbl_table.proofs.DataFits.{columns-same, data-keys, has-rows, no-fault}
 use Rattle.tbl_table.proofs.TableFits.{NotesWithin-append, NotesWithin-more, few-start, whole-len}
 

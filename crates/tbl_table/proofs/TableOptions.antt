@@ -4,29 +4,29 @@ use Rattle.std.specs.List.{slice_range}
 use Rattle.std.proofs.lemmas.List.{drop-append-le, take-append-le}
 use Rattle.roff_source.specs.Bytes.{newline}
 use Rattle.tbl_table.specs.Begun.{begun_in, head_begun}
-use Rattle.tbl_layout.specs.Format.{Format, format_read, no_format}
-use Rattle.tbl_layout.specs.FormatRows.{KeptFormat, key_count, keeping}
-use Rattle.tbl_table.specs.Joined.{Joined, behind_joined}
+use Rattle.tbl_format.specs.Format.{Format, format_read, no_format}
+use Rattle.tbl_format.specs.FormatRows.{KeptFormat, key_count, keeping}
+use Rattle.tbl_kept.specs.Joined.{Joined, behind_joined}
 use Rattle.tbl_table.specs.Kept.{NothingRead, PartsFit, PhaseFits, reading_of}
-use Rattle.tbl_layout.specs.Notes.{NotesWithin, told_of_all}
-use Rattle.tbl_layout.specs.Options.{bracketed, options_end}
+use Rattle.tbl_format.specs.Notes.{NotesWithin, told_of_all}
+use Rattle.tbl_format.specs.Options.{bracketed, options_end}
 use Rattle.tbl_table.specs.Steps.{built_format, built_place, ended_with, fault_noted, phase_behind, rows_started}
 use Rattle.tbl_table.specs.Table.{TableRead, bad, behind_format, columns_behind, columns_of, format_line, head_columns}
-use Rattle.tbl_table.specs.TableNotes.{KeptNotes}
-use Rattle.tbl_table.specs.TableRows.{KeptRows, texts_in}
-use Rattle.tbl_table.specs.TableText.{KeptText, block_of, text_ended}
+use Rattle.tbl_kept.specs.TableNotes.{KeptNotes}
+use Rattle.tbl_kept.specs.TableRows.{KeptRows, texts_in}
+use Rattle.tbl_kept.specs.TableText.{KeptText, block_of, text_ended}
 use Rattle.tbl_table.specs.declared.begun.Begun.{Begun}
 use Rattle.tbl_table.specs.declared.begun.Begun.TheVariants.{Front}
-use Rattle.tbl_layout.specs.declared.format.FormatPlace.TheVariants.{AtFault}
-use Rattle.tbl_layout.specs.declared.limits.TblLimits.{TblLimits}
-use Rattle.tbl_layout.specs.declared.message.Told.{Told}
-use Rattle.tbl_layout.specs.declared.options.Options.{Options}
+use Rattle.tbl_format.specs.declared.format.FormatPlace.TheVariants.{AtFault}
+use Rattle.tbl_format.specs.declared.limits.TblLimits.{TblLimits}
+use Rattle.tbl_format.specs.declared.message.Told.{Told}
+use Rattle.tbl_format.specs.declared.options.Options.{Options}
 use Rattle.tbl_table.specs.declared.phase.Phase.{Phase}
 use Rattle.tbl_table.specs.declared.phase.Phase.TheVariants.{AtHead}
 use Rattle.tbl_table.proofs.BegunLines.{columns-some, columns-whole, newline-goes_on}
 use Rattle.tbl_table.proofs.FormatEnds.{format-ended}
-use Rattle.tbl_layout.proofs.FormatReading.{columns-read-most, keys-read as format-keys-read}
-use Rattle.tbl_layout.proofs.Parts.{slice_range-rest}
+use Rattle.tbl_format.proofs.FormatReading.{columns-read-most, keys-read as format-keys-read}
+use Rattle.tbl_format.proofs.Parts.{slice_range-rest}
 use Rattle.tbl_table.proofs.TableFits.{keys-fits}
 use Rattle.tbl_table.proofs.TableReads.{keys-read, made}
 

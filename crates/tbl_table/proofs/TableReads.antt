@@ -5,34 +5,34 @@ use Rattle.std.specs.List.{slice_range}
 use Rattle.std.proofs.lemmas.List.{drop_at, map-append, take_at}
 use Rattle.roff_source.specs.Bytes.{newline}
 use Rattle.tbl_layout.specs.Data.{kept_fields}
-use Rattle.tbl_layout.specs.Format.{Format}
-use Rattle.tbl_layout.specs.FormatRows.{KeptFormat, keeping}
-use Rattle.tbl_table.specs.Joined.{Joined, behind_joined, ends_joined}
+use Rattle.tbl_format.specs.Format.{Format}
+use Rattle.tbl_format.specs.FormatRows.{KeptFormat, keeping}
+use Rattle.tbl_kept.specs.Joined.{Joined, behind_joined, ends_joined}
 use Rattle.tbl_table.specs.Kept.{PartsFit, PhaseFits, opened, reading_of, table_of}
-use Rattle.tbl_layout.specs.Notes.{told_at, told_of, told_of_all}
-use Rattle.tbl_layout.specs.Pieces.{fields_from}
+use Rattle.tbl_format.specs.Notes.{told_at, told_of, told_of_all}
+use Rattle.tbl_layout.specs.Fields.{fields_from}
 use Rattle.tbl_table.specs.Reading.{Reading}
 use Rattle.tbl_table.specs.Steps.{ended_with, fault_noted, judged_line, notes_judged, phase_behind, phase_judged, rows_judged, rows_started}
 use Rattle.tbl_table.specs.Table.{TableRead, behind_format, closed_line, whole_line, with_judged}
-use Rattle.tbl_table.specs.TableNotes.{KeptNotes}
-use Rattle.tbl_table.specs.TableRows.{KeptRows, texts_in, with_fields}
-use Rattle.tbl_table.specs.TableText.{KeptText, block_of, text_closed, text_ended}
+use Rattle.tbl_kept.specs.TableNotes.{KeptNotes}
+use Rattle.tbl_kept.specs.TableRows.{KeptRows, texts_in, with_fields}
+use Rattle.tbl_kept.specs.TableText.{KeptText, block_of, text_closed, text_ended}
 use Rattle.tbl_table.specs.declared.begun.Begun.{Begun}
 use Rattle.tbl_layout.specs.declared.data.Field.{Field}
 use Rattle.tbl_layout.specs.declared.data.Judged.{Judged}
 use Rattle.tbl_layout.specs.declared.data.Judged.TheVariants.{Refused, Row}
-use Rattle.tbl_layout.specs.declared.format.FormatPlace.{FormatPlace}
-use Rattle.tbl_layout.specs.declared.format.FormatPlace.TheVariants.{AtEnd, AtFault, InRows}
-use Rattle.tbl_layout.specs.declared.limits.TblLimits.{TblLimits}
-use Rattle.tbl_layout.specs.declared.message.Message.TheVariants.{TooManyFields as TooManyFieldsMessage}
-use Rattle.tbl_layout.specs.declared.message.Told.{Told}
-use Rattle.tbl_layout.specs.declared.notes.Cause.TheVariants.{BadFormat, TooManyFields}
-use Rattle.tbl_layout.specs.declared.notes.KeptNote.{KeptNote}
-use Rattle.tbl_layout.specs.declared.options.Options.{Options}
+use Rattle.tbl_format.specs.declared.format.FormatPlace.{FormatPlace}
+use Rattle.tbl_format.specs.declared.format.FormatPlace.TheVariants.{AtEnd, AtFault, InRows}
+use Rattle.tbl_format.specs.declared.limits.TblLimits.{TblLimits}
+use Rattle.tbl_format.specs.declared.message.Message.TheVariants.{TooManyFields as TooManyFieldsMessage}
+use Rattle.tbl_format.specs.declared.message.Told.{Told}
+use Rattle.tbl_format.specs.declared.notes.Cause.TheVariants.{BadFormat, TooManyFields}
+use Rattle.tbl_format.specs.declared.notes.KeptNote.{KeptNote}
+use Rattle.tbl_format.specs.declared.options.Options.{Options}
 use Rattle.tbl_table.specs.declared.phase.Phase.{Phase}
 use Rattle.tbl_table.specs.declared.phase.Phase.TheVariants.{Bad, InData, InFormat}
-use Rattle.tbl_layout.proofs.Parts.{slice_range-rest}
-use Rattle.tbl_table.proofs.RowTexts.{texts-line, texts_in-longer}
+use Rattle.tbl_format.proofs.Parts.{slice_range-rest}
+use Rattle.tbl_kept.proofs.RowTexts.{texts-line, texts_in-longer}
 use Rattle.tbl_table.proofs.TableFits.{told-longer}
 
 -- a table by its fields

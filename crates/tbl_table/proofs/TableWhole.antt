@@ -2,30 +2,30 @@
 use Rattle.std.proofs.Common.{◌≡◌, ℕ, suc, ◌+◌, ◌<◌, ◌≤◌, Bool, true, false, List, [], ◌∷◌, ◌++◌, length, take, drop, Option, Some, None, refl, sym, ap, subst, ◌∙◌, arith, append-nil, length-append, if◌then◌else◌}
 use Rattle.roff_source.specs.Bytes.{newline}
 use Rattle.tbl_table.specs.Begun.{FewKeys, begun_in}
-use Rattle.tbl_layout.specs.Format.{Format, format_read, no_format}
-use Rattle.tbl_layout.specs.FormatRows.{KeptFormat}
-use Rattle.tbl_table.specs.Joined.{Joined, behind_joined}
+use Rattle.tbl_format.specs.Format.{Format, format_read, no_format}
+use Rattle.tbl_format.specs.FormatRows.{KeptFormat}
+use Rattle.tbl_kept.specs.Joined.{Joined, behind_joined}
 use Rattle.tbl_table.specs.Kept.{PartsFit, PhaseFits, faults}
-use Rattle.tbl_layout.specs.Notes.{NotesWithin, told_of_all}
+use Rattle.tbl_format.specs.Notes.{NotesWithin, told_of_all}
 use Rattle.std.specs.Prelude.{IfSome, unwrap_or}
-use Rattle.tbl_layout.specs.Options.{options_end, options_read}
+use Rattle.tbl_format.specs.Options.{options_end, options_read}
 use Rattle.tbl_table.specs.Reading.{Reading, last_read}
 use Rattle.tbl_table.specs.Steps.{fault_noted, options_told, phase_at_last}
 use Rattle.tbl_table.specs.Table.{TableRead, bad, behind_format, closed, closed_line, format_line, head_line, head_place, is_bad, is_bad_phase, line_in, line_read, notes, with_options}
-use Rattle.tbl_table.specs.TableNotes.{KeptNotes}
-use Rattle.tbl_table.specs.TableRows.{KeptRows}
-use Rattle.tbl_table.specs.TableText.{KeptText, block_of, text_whole}
+use Rattle.tbl_kept.specs.TableNotes.{KeptNotes}
+use Rattle.tbl_kept.specs.TableRows.{KeptRows}
+use Rattle.tbl_kept.specs.TableText.{KeptText, block_of, text_whole}
 use Rattle.tbl_table.specs.declared.begun.Begun.{Begun}
-use Rattle.tbl_layout.specs.declared.format.FormatPlace.{FormatPlace}
-use Rattle.tbl_layout.specs.declared.format.FormatPlace.TheVariants.{AtEnd, AtFault, InRows}
-use Rattle.tbl_layout.specs.declared.limits.TblLimits.{TblLimits}
-use Rattle.tbl_layout.specs.declared.message.Told.{Told}
-use Rattle.tbl_layout.specs.declared.notes.Cause.TheVariants.{BadFormat}
-use Rattle.tbl_layout.specs.declared.notes.KeptNote.{KeptNote}
+use Rattle.tbl_format.specs.declared.format.FormatPlace.{FormatPlace}
+use Rattle.tbl_format.specs.declared.format.FormatPlace.TheVariants.{AtEnd, AtFault, InRows}
+use Rattle.tbl_format.specs.declared.limits.TblLimits.{TblLimits}
+use Rattle.tbl_format.specs.declared.message.Told.{Told}
+use Rattle.tbl_format.specs.declared.notes.Cause.TheVariants.{BadFormat}
+use Rattle.tbl_format.specs.declared.notes.KeptNote.{KeptNote}
 use Rattle.tbl_table.specs.declared.phase.Phase.{Phase}
 use Rattle.tbl_table.specs.declared.phase.Phase.TheVariants.{Bad, InFormat}
 use Rattle.tbl_table.proofs.BegunLines.{options_end-within}
-use Rattle.tbl_table.proofs.RowTexts.{Holds-longer}
+use Rattle.tbl_kept.proofs.RowTexts.{Holds-longer}
 use Rattle.tbl_table.proofs.TableFits.{NotesWithin-append, NotesWithin-more, opened-most, whole-len}
 use Rattle.tbl_table.proofs.TableReads.{told-more}
 

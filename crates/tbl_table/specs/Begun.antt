@@ -1,10 +1,10 @@
 -- What is known of a line of the options or the format before it has ended.
 use Rattle.std.specs.Prelude.{ℕ, suc, ◌≤◌, Bool, false, List, length, take, drop, fold, Option, None, Some, if◌then◌else◌}
-use Rattle.tbl_layout.specs.Format.{Format, format_read, has_some, no_format}
-use Rattle.tbl_layout.specs.Options.{bracketed, options_end, options_read}
+use Rattle.tbl_format.specs.Format.{Format, format_read, has_some, no_format}
+use Rattle.tbl_format.specs.Options.{bracketed, options_end, options_read}
 use Rattle.tbl_table.specs.declared.begun.Begun.{Begun}
 use Rattle.tbl_table.specs.declared.begun.Begun.TheVariants.{Front, Keys, Nothing}
-use Rattle.tbl_layout.specs.declared.format.KeyCount.{KeyCount}
+use Rattle.tbl_format.specs.declared.format.KeyCount.{KeyCount}
 use Rattle.tbl_table.specs.declared.phase.Phase.{Phase}
 use Rattle.tbl_table.specs.declared.phase.Phase.TheVariants.{AtHead, Bad, InData, InFormat}
 

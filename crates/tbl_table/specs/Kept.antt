@@ -1,23 +1,23 @@
 -- What the parts of a table hold together.
 use Rattle.std.specs.Prelude.{◌≡◌, ℕ, ◌+◌, ◌*◌, ◌≤◌, ◌<◌, min, List, [], ◌++◌, length, Option, None, Some}
 use Rattle.tbl_table.specs.Begun.{FewKeys, begun_in}
-use Rattle.tbl_layout.specs.Format.{Format, no_format}
-use Rattle.tbl_layout.specs.FormatRows.{KeptFormat, key_count}
-use Rattle.tbl_table.specs.Joined.{Joined, behind_joined}
-use Rattle.tbl_layout.specs.Notes.{NotesWithin, told_of_all}
+use Rattle.tbl_format.specs.Format.{Format, no_format}
+use Rattle.tbl_format.specs.FormatRows.{KeptFormat, key_count}
+use Rattle.tbl_kept.specs.Joined.{Joined, behind_joined}
+use Rattle.tbl_format.specs.Notes.{NotesWithin, told_of_all}
 use Rattle.tbl_table.specs.Output.{CanGive, coming}
 use Rattle.tbl_table.specs.Reading.{KeptTable, Reading}
 use Rattle.tbl_table.specs.Table.{TableRead}
-use Rattle.tbl_table.specs.TableNotes.{KeptNotes}
-use Rattle.tbl_table.specs.TableRows.{Holds, KeptRows, fields_of, texts_in}
-use Rattle.tbl_table.specs.TableText.{KeptText}
+use Rattle.tbl_kept.specs.TableNotes.{KeptNotes}
+use Rattle.tbl_kept.specs.TableRows.{Holds, KeptRows, fields_of, texts_in}
+use Rattle.tbl_kept.specs.TableText.{KeptText}
 use Rattle.tbl_table.specs.declared.begun.Begun.{Begun}
-use Rattle.tbl_layout.specs.declared.format.FormatPlace.{FormatPlace}
-use Rattle.tbl_layout.specs.declared.format.FormatPlace.TheVariants.{AtEnd, AtFault, InRows}
-use Rattle.tbl_layout.specs.declared.format.Key.{Key}
-use Rattle.tbl_layout.specs.declared.limits.TblLimits.{TblLimits}
-use Rattle.tbl_layout.specs.declared.notes.KeptNote.{KeptNote}
-use Rattle.tbl_layout.specs.declared.options.Options.{Options}
+use Rattle.tbl_format.specs.declared.format.FormatPlace.{FormatPlace}
+use Rattle.tbl_format.specs.declared.format.FormatPlace.TheVariants.{AtEnd, AtFault, InRows}
+use Rattle.tbl_format.specs.declared.format.Key.{Key}
+use Rattle.tbl_format.specs.declared.limits.TblLimits.{TblLimits}
+use Rattle.tbl_format.specs.declared.notes.KeptNote.{KeptNote}
+use Rattle.tbl_format.specs.declared.options.Options.{Options}
 use Rattle.tbl_table.specs.declared.phase.Phase.{Phase}
 use Rattle.tbl_table.specs.declared.phase.Phase.TheVariants.{AtHead, Bad, InData, InFormat}
 use Rattle.tbl_table.specs.declared.table.Table.TheInside.{Inside}

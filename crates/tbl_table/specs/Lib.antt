@@ -1,10 +1,7 @@
 pub mod Table
+pub mod NotesStay
 pub mod Reading
 pub mod Kept
 pub mod Steps
 pub mod Begun
-pub mod Joined
-pub mod TableText
-pub mod TableNotes
-pub mod TableRows
 pub mod Output

@@ -1,17 +1,17 @@
 -- What is still to give of a table.
 use Rattle.std.specs.Prelude.{◌≡◌, ℕ, ◌+◌, ◌*◌, ◌≤◌, ◌<◌, ◌^◌, List, [], ◌∷◌, ◌++◌, length, drop, vec_capacity}
-use Rattle.tbl_layout.specs.Format.{Format}
-use Rattle.tbl_layout.specs.FormatRows.{KeptFormat}
-use Rattle.tbl_table.specs.Joined.{RiseWithin, unjoined}
-use Rattle.tbl_layout.specs.PieceQueue.{KeptPieces, bytes_left}
-use Rattle.tbl_layout.specs.Picture.{lines_of}
-use Rattle.tbl_layout.specs.Pieces.{AreWithin, IsNarrow}
-use Rattle.tbl_table.specs.TableRows.{Holds, KeptRows, texts_in}
-use Rattle.tbl_table.specs.TableText.{KeptText, block_of}
+use Rattle.tbl_format.specs.Format.{Format}
+use Rattle.tbl_format.specs.FormatRows.{KeptFormat}
+use Rattle.tbl_kept.specs.Joined.{RiseWithin, unjoined}
+use Rattle.tbl_picture.specs.PieceQueue.{KeptPieces, bytes_left}
+use Rattle.tbl_picture.specs.Picture.{lines_of}
+use Rattle.tbl_picture.specs.Pieces.{AreWithin, IsNarrow}
+use Rattle.tbl_kept.specs.TableRows.{Holds, KeptRows, texts_in}
+use Rattle.tbl_kept.specs.TableText.{KeptText, block_of}
 use Rattle.tbl_table.specs.declared.output.Giving.TheInside.{Inside}
 use Rattle.tbl_table.specs.declared.output.Rest.{Rest}
 use Rattle.tbl_table.specs.declared.output.Rest.TheVariants.{Lines, Nothing, Read}
-use Rattle.tbl_layout.specs.declared.picture.Piece.{Piece}
+use Rattle.tbl_picture.specs.declared.picture.Piece.{Piece}
 
 -- the pieces that are left, what follows them, and the requests around the picture, with where those behind it begin
 pub record KeptGiving : Type 0 where

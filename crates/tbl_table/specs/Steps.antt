@@ -2,22 +2,22 @@
 use Rattle.std.specs.Prelude.{ℕ, Bool, true, false, not, ◌&&◌, List, [], ◌∷◌, ◌++◌, Option, None, Some, map, take, if◌then◌else◌}
 use Rattle.roff_source.specs.Bytes.{newline}
 use Rattle.tbl_layout.specs.Data.{is_row, judged}
-use Rattle.tbl_layout.specs.Format.{Format, format_read}
-use Rattle.tbl_table.specs.Joined.{behind_joined, goes_on, line_at}
-use Rattle.tbl_layout.specs.Notes.{ignored_message, told_at}
-use Rattle.tbl_layout.specs.Options.{ignored_options}
+use Rattle.tbl_format.specs.Format.{Format, format_read}
+use Rattle.tbl_kept.specs.Joined.{behind_joined, goes_on, line_at}
+use Rattle.tbl_format.specs.Notes.{ignored_message, told_at}
+use Rattle.tbl_format.specs.Options.{ignored_options}
 use Rattle.tbl_table.specs.Reading.{Reading}
 use Rattle.tbl_table.specs.Table.{TableRead, columns}
-use Rattle.tbl_table.specs.TableNotes.{KeptNotes}
-use Rattle.tbl_table.specs.TableRows.{KeptRows, starting, with_fields}
+use Rattle.tbl_kept.specs.TableNotes.{KeptNotes}
+use Rattle.tbl_kept.specs.TableRows.{KeptRows, starting, with_fields}
 use Rattle.tbl_layout.specs.declared.data.Field.{Field}
 use Rattle.tbl_layout.specs.declared.data.Judged.{Judged}
 use Rattle.tbl_layout.specs.declared.data.Judged.TheVariants.{Refused, Row}
-use Rattle.tbl_layout.specs.declared.format.FormatPlace.{FormatPlace}
-use Rattle.tbl_layout.specs.declared.format.FormatPlace.TheVariants.{AtEnd, AtFault, InRows}
-use Rattle.tbl_layout.specs.declared.message.Told.{Told}
-use Rattle.tbl_layout.specs.declared.notes.Cause.{Cause}
-use Rattle.tbl_layout.specs.declared.notes.Cause.TheVariants.{BadFormat, TooManyFields}
+use Rattle.tbl_format.specs.declared.format.FormatPlace.{FormatPlace}
+use Rattle.tbl_format.specs.declared.format.FormatPlace.TheVariants.{AtEnd, AtFault, InRows}
+use Rattle.tbl_format.specs.declared.message.Told.{Told}
+use Rattle.tbl_format.specs.declared.notes.Cause.{Cause}
+use Rattle.tbl_format.specs.declared.notes.Cause.TheVariants.{BadFormat, TooManyFields}
 use Rattle.tbl_table.specs.declared.phase.Phase.{Phase}
 use Rattle.tbl_table.specs.declared.phase.Phase.TheVariants.{AtHead, Bad, InData, InFormat}
 

@@ -2,20 +2,20 @@
 use Rattle.std.specs.Prelude.{ℕ, suc, ◌-◌, Bool, true, false, List, [], ◌∷◌, ◌++◌, length, map, take, drop, Option, None, Some, if◌then◌else◌, ◌==◌}
 use Rattle.roff_source.specs.Bytes.{newline}
 use Rattle.tbl_layout.specs.Data.{judged, kept_fields}
-use Rattle.tbl_layout.specs.Format.{Format, format_read, no_format}
-use Rattle.tbl_table.specs.Joined.{Joined, behind_joined, ends_joined, goes_on, line_at}
-use Rattle.tbl_layout.specs.Notes.{ignored_message, told_at}
-use Rattle.tbl_layout.specs.Options.{ignored_options, no_options, options_end, options_read}
-use Rattle.tbl_layout.specs.Picture.{indent, lines_of, picture}
+use Rattle.tbl_format.specs.Format.{Format, format_read, no_format}
+use Rattle.tbl_kept.specs.Joined.{Joined, behind_joined, ends_joined, goes_on, line_at}
+use Rattle.tbl_format.specs.Notes.{ignored_message, told_at}
+use Rattle.tbl_format.specs.Options.{ignored_options, no_options, options_end, options_read}
+use Rattle.tbl_picture.specs.Picture.{indent, lines_of, picture}
 use Rattle.tbl_layout.specs.Widths.{width_of_all, widths}
 use Rattle.tbl_layout.specs.declared.data.Judged.{Judged}
 use Rattle.tbl_layout.specs.declared.data.Judged.TheVariants.{Refused, Row}
-use Rattle.tbl_layout.specs.declared.format.FormatPlace.{FormatPlace}
-use Rattle.tbl_layout.specs.declared.format.FormatPlace.TheVariants.{AtEnd, AtFault, InRows}
-use Rattle.tbl_layout.specs.declared.message.Message.{Message}
-use Rattle.tbl_layout.specs.declared.message.Message.TheVariants.{BadFormat, TooManyFields}
-use Rattle.tbl_layout.specs.declared.message.Told.{Told}
-use Rattle.tbl_layout.specs.declared.options.Options.{Options}
+use Rattle.tbl_format.specs.declared.format.FormatPlace.{FormatPlace}
+use Rattle.tbl_format.specs.declared.format.FormatPlace.TheVariants.{AtEnd, AtFault, InRows}
+use Rattle.tbl_format.specs.declared.message.Message.{Message}
+use Rattle.tbl_format.specs.declared.message.Message.TheVariants.{BadFormat, TooManyFields}
+use Rattle.tbl_format.specs.declared.message.Told.{Told}
+use Rattle.tbl_format.specs.declared.options.Options.{Options}
 use Rattle.tbl_table.specs.declared.phase.Phase.{Phase}
 use Rattle.tbl_table.specs.declared.phase.Phase.TheVariants.{AtHead, Bad, InData, InFormat}
 

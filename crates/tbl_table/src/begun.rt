@@ -4,15 +4,15 @@ ghost use Rattle.std.specs.Prelude.{◌≡◌, ◌+◌, ◌^◌, ◌<◌, ℕ, B
 ghost use Rattle.std.specs.Prelude.{length};
 ghost use Rattle.roff_source.specs.Bytes.{newline};
 ghost use Rattle.tbl_table.specs.Begun.{FewKeys, begun_in, built_begun, count_of, head_begun};
-ghost use Rattle.tbl_layout.specs.Format.{Format, format_read, no_format};
-ghost use Rattle.tbl_layout.specs.KeyCounts.{Counts};
-ghost use Rattle.tbl_layout.specs.Options.{options_end, options_read, semicolon};
+ghost use Rattle.tbl_format.specs.Format.{Format, format_read, no_format};
+ghost use Rattle.tbl_format.specs.KeyCounts.{Counts};
+ghost use Rattle.tbl_format.specs.Options.{options_end, options_read, semicolon};
 ghost use Rattle.tbl_table.specs.Table.{columns_of, head_columns, head_place};
 ghost use Rattle.tbl_table.specs.declared.begun.Begun.TheVariants.{Front, Keys};
 
 use crate::phase::Phase;
-use tbl_layout::format::{FormatPlace, KeyCount};
-use tbl_layout::options::{bracketed, read_options};
+use tbl_format::format::{FormatPlace, KeyCount};
+use tbl_format::options::{bracketed, read_options};
 
 /// What is known of the line that is begun.
 #[derive(Clone, Copy)]

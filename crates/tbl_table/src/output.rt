@@ -3,23 +3,24 @@
 ghost use Rattle.std.specs.Prelude.{◌≡◌, ◌+◌, ◌*◌, ◌<◌, ◌≤◌, ◌++◌, [], ◌∷◌, true, length, drop};
 ghost use Rattle.std.specs.Prelude.{IfOk};
 ghost use Rattle.std.specs.Option.{MatchOption};
-ghost use Rattle.tbl_layout.specs.Format.{has_some};
-ghost use Rattle.tbl_layout.specs.FormatRows.{KeptFormat};
-ghost use Rattle.tbl_table.specs.Joined.{RiseWithin, unjoined};
-ghost use Rattle.tbl_layout.specs.Parts.{IsFront};
-ghost use Rattle.tbl_layout.specs.Picture.{next_of, picture};
-ghost use Rattle.tbl_layout.specs.PieceQueue.{bytes_left};
-ghost use Rattle.tbl_layout.specs.Pieces.{AreWithin};
-ghost use Rattle.tbl_table.specs.TableRows.{KeptRows};
-ghost use Rattle.tbl_table.specs.TableText.{KeptText, block_of};
+ghost use Rattle.tbl_format.specs.Format.{has_some};
+ghost use Rattle.tbl_format.specs.FormatRows.{KeptFormat};
+ghost use Rattle.tbl_kept.specs.Joined.{RiseWithin, unjoined};
+ghost use Rattle.tbl_format.specs.Parts.{IsFront};
+ghost use Rattle.tbl_format.specs.RowsServed.{next_of};
+ghost use Rattle.tbl_picture.specs.Picture.{picture};
+ghost use Rattle.tbl_picture.specs.PieceQueue.{bytes_left};
+ghost use Rattle.tbl_picture.specs.Pieces.{AreWithin};
+ghost use Rattle.tbl_kept.specs.TableRows.{KeptRows};
+ghost use Rattle.tbl_kept.specs.TableText.{KeptText, block_of};
 
-use crate::table_rows::TableRows;
-use crate::table_text::TableText;
 use std::alloc::{AllocError, Global};
 use std::marker::Model;
-use tbl_layout::format_rows::FormatRows;
-use tbl_layout::picture::{FRAME, Piece, write_frame};
-use tbl_layout::piece_queue::PieceQueue;
+use tbl_format::format_rows::FormatRows;
+use tbl_kept::table_rows::TableRows;
+use tbl_kept::table_text::TableText;
+use tbl_picture::picture::{FRAME, Piece, write_frame};
+use tbl_picture::piece_queue::PieceQueue;
 
 /// What is to give behind pieces.
 #[derive(Clone, Copy)]

@@ -4,7 +4,7 @@ ghost use Rattle.std.specs.Prelude.{◌≡◌, ℕ, ◌+◌, ◌-◌, ◌<◌, �
 ghost use Rattle.std.specs.Prelude.{IfOk};
 ghost use Rattle.std.specs.Option.{MatchOption};
 ghost use Rattle.tbl_layout.specs.Data.{judged};
-ghost use Rattle.tbl_layout.specs.Parts.{IsFront};
+ghost use Rattle.tbl_format.specs.Parts.{IsFront};
 ghost use Rattle.tbl_table.specs.Reading.{all_read, byte_read, bytes_read, kept_nothing};
 ghost use Rattle.tbl_table.specs.Table.{columns, columns_at, rows_behind, told_at_cut};
 ghost use Rattle.tbl_table.specs.declared.phase.Phase.TheVariants.{InData};
@@ -16,16 +16,16 @@ mod passing;
 use crate::begun::Begun;
 use crate::output::Giving;
 use crate::phase::Phase;
-use crate::table_notes::TableNotes;
-use crate::table_rows::TableRows;
-use crate::table_text::TableText;
 use std::alloc::{AllocError, Global};
 use std::marker::Model;
+use tbl_format::format_rows::FormatRows;
+use tbl_format::limits::TblLimits;
+use tbl_format::message::Told;
+use tbl_format::options::{NO_OPTIONS, Options};
+use tbl_kept::table_notes::TableNotes;
+use tbl_kept::table_rows::TableRows;
+use tbl_kept::table_text::TableText;
 use tbl_layout::data::{Judged, judge};
-use tbl_layout::format_rows::FormatRows;
-use tbl_layout::limits::TblLimits;
-use tbl_layout::message::Told;
-use tbl_layout::options::{NO_OPTIONS, Options};
 
 /// The table that is being read, or that is being given. All its memory is reserved as it is made.
 #[derive(Drop)]

@@ -3,27 +3,27 @@
 ghost use Rattle.std.specs.Prelude.{◌≡◌, ◌+◌, ◌-◌, ◌<◌, ◌≤◌, ◌++◌, [], length, slice_range, take};
 ghost use Rattle.std.specs.Prelude.{true, IfSome, unwrap_or, if◌then◌else◌};
 ghost use Rattle.tbl_layout.specs.Data.{is_row, kept_fields};
-ghost use Rattle.tbl_layout.specs.Format.{format_read};
-ghost use Rattle.tbl_layout.specs.FormatRows.{key_count, keeping};
-ghost use Rattle.tbl_table.specs.Joined.{ends_joined, goes_on};
-ghost use Rattle.tbl_layout.specs.Notes.{NotesWithin, told_of_all};
-ghost use Rattle.tbl_layout.specs.Pieces.{fields_from};
+ghost use Rattle.tbl_format.specs.Format.{format_read};
+ghost use Rattle.tbl_format.specs.FormatRows.{key_count, keeping};
+ghost use Rattle.tbl_kept.specs.Joined.{ends_joined, goes_on};
+ghost use Rattle.tbl_format.specs.Notes.{NotesWithin, told_of_all};
+ghost use Rattle.tbl_layout.specs.Fields.{fields_from};
 ghost use Rattle.tbl_table.specs.Steps.{built_format, built_place, fault_noted, judged_line};
 ghost use Rattle.tbl_table.specs.Steps.{notes_judged, phase_at_last, phase_behind, options_told};
 ghost use Rattle.tbl_table.specs.Steps.{phase_judged, rows_judged, rows_started, surplus_line};
 ghost use Rattle.tbl_table.specs.Steps.{surplus_noted, with_cause};
-ghost use Rattle.tbl_table.specs.TableRows.{fields_of};
-ghost use Rattle.tbl_layout.specs.declared.notes.Cause.TheVariants.{BadFormat};
+ghost use Rattle.tbl_kept.specs.TableRows.{fields_of};
+ghost use Rattle.tbl_format.specs.declared.notes.Cause.TheVariants.{BadFormat};
 ghost use Rattle.tbl_table.specs.declared.phase.Phase.TheVariants.{Bad};
 
 use crate::phase::Phase;
-use crate::table_notes::TableNotes;
-use crate::table_rows::TableRows;
-use crate::table_text::TableText;
+use tbl_format::format::FormatPlace;
+use tbl_format::format_rows::FormatRows;
+use tbl_format::notes::{Cause, KeptNote};
+use tbl_kept::table_notes::TableNotes;
+use tbl_kept::table_rows::TableRows;
+use tbl_kept::table_text::TableText;
 use tbl_layout::data::Judged;
-use tbl_layout::format::FormatPlace;
-use tbl_layout::format_rows::FormatRows;
-use tbl_layout::notes::{Cause, KeptNote};
 
 /// Reports a table that can't be formatted, for what stands on this line. Answers what is read
 /// then.

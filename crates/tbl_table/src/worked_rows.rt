@@ -1,9 +1,9 @@
 //! Worked tables: what the definitions give for their lines.
 
 ghost use Rattle.std.specs.Prelude.{◌≡◌, [], ◌∷◌, Some, None, codes};
-ghost use Rattle.tbl_layout.specs.Notes.{told_at};
+ghost use Rattle.tbl_format.specs.Notes.{told_at};
 ghost use Rattle.tbl_table.specs.Table.{notes_after, picture_after};
-ghost use Rattle.tbl_layout.specs.declared.message.Message.TheVariants.{BadFormat, TooManyFields};
+ghost use Rattle.tbl_format.specs.declared.message.Message.TheVariants.{BadFormat, TooManyFields};
 
 /// Tables that are laid out.
 #[tactic(auto, unfolding(crate::specs::Table::no_lines, crate::specs::Table::line_read, crate::specs::Table::closed, crate::specs::Table::ended, crate::specs::Table::notes, crate::specs::Table::output))]

@@ -1,7 +1,7 @@
 //! Bytes of a table that are read on.
 
 ghost use Rattle.std.specs.Prelude.{◌≡◌, ℕ, ◌≤◌, [], true, length};
-ghost use Rattle.tbl_layout.specs.Parts.{IsFront};
+ghost use Rattle.tbl_format.specs.Parts.{IsFront};
 ghost use Rattle.tbl_core.specs.ReadOn.{HasRoom, ReadsLine, line_read};
 ghost use Rattle.tbl_core.specs.Tables.{ReadsAny, byte_step};
 
@@ -9,7 +9,7 @@ use super::passing::line_front;
 use super::{Tables, read_on};
 use crate::place::{Front, Position};
 use roff_source::at_most;
-use tbl_layout::limits::TblLimits;
+use tbl_format::limits::TblLimits;
 use tbl_table::table::Table;
 
 impl Tables {

@@ -3,9 +3,9 @@
 ghost use Rattle.std.specs.Prelude.{◌≡◌, ◌+◌, ◌-◌, ◌<◌, ◌≤◌, suc, ◌++◌, [], ◌∷◌, length, drop};
 ghost use Rattle.std.specs.Prelude.{take, false, None};
 ghost use Rattle.roff_source.specs.Bytes.{newline};
-ghost use Rattle.tbl_layout.specs.Format.{format_read};
-ghost use Rattle.tbl_table.specs.Joined.{behind_joined, ends_joined};
-ghost use Rattle.tbl_layout.specs.Options.{options_end};
+ghost use Rattle.tbl_format.specs.Format.{format_read};
+ghost use Rattle.tbl_kept.specs.Joined.{behind_joined, ends_joined};
+ghost use Rattle.tbl_format.specs.Options.{options_end};
 ghost use Rattle.tbl_table.specs.Reading.{bytes_read, line_ended};
 ghost use Rattle.tbl_table.specs.Steps.{ended_with, ends_data_row, ends_row};
 ghost use Rattle.tbl_table.specs.Table.{columns_at, columns_behind, columns_of};
@@ -19,7 +19,7 @@ use crate::phase::Phase;
 use crate::table_steps::{
     goes_on, is_row, judged_line, keep_judged, take_built_keys, take_keys, tell_judged,
 };
-use tbl_layout::options::{options_end, read_options};
+use tbl_format::options::{options_end, read_options};
 
 impl Table {
     /// How many columns of its format are counted once this byte is read.

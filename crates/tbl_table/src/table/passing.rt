@@ -11,7 +11,7 @@ use crate::phase::Phase;
 use crate::table_steps::{
     goes_on, judged_line, tell_judged, tell_keys, tell_options, without_joint,
 };
-use tbl_layout::options::options_end;
+use tbl_format::options::options_end;
 
 impl Table {
     /// The input has ended within the table: its messages are to tell, those of a line that is

@@ -1,6 +1,6 @@
 use Rattle.std.specs.Str.Parse.{ExplainsUnsignedError, HasUnsignedDigitsIfOk, ParsesUnsigned}
 use Rattle.clap.specs.Words.{found_of, rows_of}
-use Rattle.tbl_layout.specs.TblLimits.{default_tbl_limits, tbl_limits_with}
+use Rattle.tbl_format.specs.TblLimits.{default_tbl_limits, tbl_limits_with}
 use Rattle.roff_command.proofs.CommandLine.{asked-next, one-number_of}
 use Rattle.roff_command.proofs.words.read_table_limits.Goals as goal
 

@@ -1,7 +1,7 @@
 use Rattle.std.proofs.Common.{◌≡◌, map, take}
 use Rattle.std.specs.Prelude.{fold}
 use Rattle.clap.specs.Words.{found_of, rows_of}
-use Rattle.tbl_layout.specs.TblLimits.{default_tbl_limits, tbl_limits_with}
+use Rattle.tbl_format.specs.TblLimits.{default_tbl_limits, tbl_limits_with}
 use Rattle.roff_command.specs.CommandLine.{set_by}
 use Rattle.roff_command.proofs.words.read_table_limits.Given as goal
 

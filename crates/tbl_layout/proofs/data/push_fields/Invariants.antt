@@ -1,7 +1,7 @@
 use Rattle.std.proofs.Common.{◌≡◌, ◌+◌, ◌-◌, ◌≤◌, ◌++◌, vec_len, vec_capacity}
 use Rattle.std.specs.Prelude.{slice_range}
 use Rattle.tbl_layout.specs.Data.{kept_fields}
-use Rattle.tbl_layout.specs.Pieces.{fields_from}
+use Rattle.tbl_layout.specs.Fields.{fields_from}
 use Rattle.tbl_layout.proofs.data.push_fields.Given as goal
 
 abbrev pub invariant-loop-left : goal.invariant-loop-left

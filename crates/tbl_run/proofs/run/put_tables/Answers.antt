@@ -1,7 +1,7 @@
 use Rattle.std.proofs.Common.{rules, ◌≡◌, ◌∙◌, ◌-◌, ◌≤◌, ap, arith, length, refl}
 use Rattle.std.proofs.lemmas.Bool.Decides.{nat_tests}
 use Rattle.roff_sinks.specs.Devices.{seen}
-use Rattle.tbl_layout.specs.declared.limits.TblLimits.{TblLimits}
+use Rattle.tbl_format.specs.declared.limits.TblLimits.{TblLimits}
 use Rattle.tbl_core.specs.NotesLeft.{notes_left}
 use Rattle.tbl_core.proofs.Given.{front-pending, front_some, given_fewer}
 use Rattle.tbl_run.proofs.Fronts.{front_falls, front_goes_on, front_has_ended, front_room}

@@ -2,7 +2,7 @@ use Rattle.std.proofs.Common.{arith}
 use Rattle.std.proofs.lemmas.Int.{ints}
 use Rattle.std.proofs.lemmas.Grind.{common_steps}
 use Rattle.std.proofs.Common.{refl, sym, ◌∙◌}
-use Rattle.tbl_layout.specs.Options.{options_end}
+use Rattle.tbl_format.specs.Options.{options_end}
 use Rattle.tbl_table.proofs.BegunLines.{columns-keys, columns-nothing}
 use Rattle.tbl_table.proofs.begun.Begun.columns_with.Goals as goal
 

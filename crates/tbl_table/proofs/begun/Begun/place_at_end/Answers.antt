@@ -1,5 +1,5 @@
 use Rattle.std.proofs.Common.{sym, ◌∙◌}
-use Rattle.tbl_layout.specs.Options.{options_end}
+use Rattle.tbl_format.specs.Options.{options_end}
 use Rattle.tbl_table.proofs.BegunLines.{place-keys}
 use Rattle.tbl_table.proofs.begun.Begun.place_at_end.Goals as goal
 

@@ -1,5 +1,5 @@
 use Rattle.std.proofs.Common.{◌≡◌, subst, sym, true}
-use Rattle.tbl_layout.specs.Format.{has_some}
+use Rattle.tbl_format.specs.Format.{has_some}
 use Rattle.tbl_table.specs.Output.{KeptGiving}
 use Rattle.tbl_table.proofs.output.Giving.buffered.Goals as goal
 

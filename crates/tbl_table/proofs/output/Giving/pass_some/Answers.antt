@@ -3,7 +3,7 @@ use Rattle.std.proofs.lemmas.Int.{ints}
 use Rattle.std.proofs.lemmas.Grind.{common_steps}
 use Rattle.std.proofs.Common.{ℕ, subst, sym}
 use Rattle.tbl_table.specs.Output.{CanFollow}
-use Rattle.tbl_table.specs.TableText.{block_of}
+use Rattle.tbl_kept.specs.TableText.{block_of}
 use Rattle.tbl_table.proofs.OutputLeft.{IsLast-some}
 use Rattle.tbl_table.proofs.output.Giving.pass_some.Goals as goal
 

@@ -3,11 +3,12 @@ use Rattle.std.proofs.lemmas.Int.{ints}
 use Rattle.std.proofs.lemmas.Grind.{common_steps}
 use Rattle.std.proofs.Common.{◌≡◌, ℕ, ◌+◌, length, drop, ap, sym, subst, ◌∙◌}
 use Rattle.tbl_table.specs.Output.{CanLine}
-use Rattle.tbl_layout.specs.Picture.{first_format, line_of, next_of}
-use Rattle.tbl_layout.specs.PieceQueue.{bytes_left}
-use Rattle.tbl_layout.specs.Pieces.{AreMeasured, texts_of}
-use Rattle.tbl_table.specs.TableRows.{first_row}
-use Rattle.tbl_table.specs.TableText.{block_of}
+use Rattle.tbl_format.specs.RowsServed.{first_format, next_of}
+use Rattle.tbl_picture.specs.Picture.{line_of}
+use Rattle.tbl_picture.specs.PieceQueue.{bytes_left}
+use Rattle.tbl_layout.specs.Fields.{AreMeasured, texts_of}
+use Rattle.tbl_kept.specs.TableRows.{first_row}
+use Rattle.tbl_kept.specs.TableText.{block_of}
 use Rattle.tbl_table.proofs.LinesLeft.{CanLine-more, row-measured, row-narrow}
 use Rattle.tbl_table.proofs.OutputLeft.{IsLast-some, coming-line}
 use Rattle.tbl_table.proofs.output.Giving.refill_lines.Goals as goal

@@ -4,7 +4,7 @@ use Rattle.std.proofs.lemmas.Grind.{common_steps}
 use Rattle.std.proofs.Common.{length, ap}
 use Rattle.std.proofs.lemmas.List.{drop_all}
 use Rattle.tbl_table.proofs.OutputLeft.{CanGive-joint, coming-last}
-use Rattle.tbl_layout.proofs.PiecesLeft.{drop-at}
+use Rattle.tbl_picture.proofs.PiecesLeft.{drop-at}
 use Rattle.tbl_table.proofs.output.Giving.refill_read.Goals as goal
 
 pub returns-in-Some-clause-can : goal.returns-in-Some-clause-can

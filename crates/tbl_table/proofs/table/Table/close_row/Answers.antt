@@ -4,17 +4,17 @@ use Rattle.std.proofs.Common.{◌≡◌, ◌+◌, ◌≤◌, ℕ, List, [], ◌+
 use Rattle.std.specs.List.{slice_range}
 use Rattle.std.specs.Prelude.{is_some}
 use Rattle.tbl_layout.specs.Data.{judged, kept_fields}
-use Rattle.tbl_table.specs.Joined.{behind_joined, ends_joined}
+use Rattle.tbl_kept.specs.Joined.{behind_joined, ends_joined}
 use Rattle.tbl_table.specs.Kept.{reading_of}
-use Rattle.tbl_layout.specs.Notes.{told_of_all}
-use Rattle.tbl_layout.specs.Pieces.{fields_from}
+use Rattle.tbl_format.specs.Notes.{told_of_all}
+use Rattle.tbl_layout.specs.Fields.{fields_from}
 use Rattle.tbl_table.specs.Reading.{KeptTable, Reading}
 use Rattle.tbl_table.specs.Steps.{judged_line, notes_judged, phase_judged, rows_judged}
 use Rattle.tbl_table.specs.Table.{TableRead, with_judged}
-use Rattle.tbl_table.specs.TableText.{KeptText, block_of, text_closed}
+use Rattle.tbl_kept.specs.TableText.{KeptText, block_of, text_closed}
 use Rattle.tbl_layout.specs.declared.data.Judged.{Judged}
-use Rattle.tbl_layout.specs.declared.message.Told.{Told}
-use Rattle.tbl_layout.proofs.Parts.{slice_range-append}
+use Rattle.tbl_format.specs.declared.message.Told.{Told}
+use Rattle.tbl_format.proofs.Parts.{slice_range-append}
 use Rattle.tbl_table.proofs.DataFits.{close_row-fits, columns-same, open-data}
 use Rattle.tbl_table.proofs.TableReads.{close_row-read, closed-as, opened-some, to_tell-stay, untold-judged}
 use Rattle.tbl_table.proofs.table.Table.close_row.Goals as goal

@@ -1,11 +1,11 @@
 use Rattle.std.proofs.Common.{ℕ, List, [], ◌∷◌, ◌++◌, ap, ◌∙◌}
 use Rattle.roff_source.specs.Bytes.{newline}
-use Rattle.tbl_table.specs.Joined.{behind_joined}
+use Rattle.tbl_kept.specs.Joined.{behind_joined}
 use Rattle.tbl_table.specs.Kept.{reading_of}
-use Rattle.tbl_layout.specs.Notes.{told_of_all}
+use Rattle.tbl_format.specs.Notes.{told_of_all}
 use Rattle.tbl_table.specs.Reading.{KeptTable, Reading}
-use Rattle.tbl_table.specs.TableText.{text_ended}
-use Rattle.tbl_layout.specs.declared.message.Told.{Told}
+use Rattle.tbl_kept.specs.TableText.{text_ended}
+use Rattle.tbl_format.specs.declared.message.Told.{Told}
 use Rattle.tbl_table.proofs.TableFits.{bad-fits}
 use Rattle.tbl_table.proofs.TableReads.{bad-read, to_tell-stay}
 use Rattle.tbl_table.proofs.table.Table.end_bad_line.Goals as goal

@@ -1,8 +1,8 @@
 use Rattle.std.proofs.Common.{◌≡◌, true, sym, ap, ◌∙◌}
-use Rattle.tbl_table.specs.Joined.{goes_on}
+use Rattle.tbl_kept.specs.Joined.{goes_on}
 use Rattle.tbl_table.proofs.DataFits.{join-fits}
 use Rattle.tbl_table.proofs.TableReads.{length-texts}
-use Rattle.tbl_table.proofs.TextBlocks.{goes_on-some}
+use Rattle.tbl_kept.proofs.TextBlocks.{goes_on-some}
 use Rattle.tbl_table.proofs.table.Table.end_data_line.Goals as goal
 
 pub invariant_of-self : goal.invariant_of-self

@@ -4,19 +4,19 @@ use Rattle.std.proofs.Common.{◌≡◌, ◌-◌, ◌≤◌, ℕ, List, [], ◌�
 use Rattle.std.specs.List.{slice_range}
 use Rattle.roff_source.specs.Bytes.{newline}
 use Rattle.tbl_table.specs.Begun.{begun_in}
-use Rattle.tbl_layout.specs.Format.{Format, format_read}
-use Rattle.tbl_layout.specs.FormatRows.{keeping}
-use Rattle.tbl_table.specs.Joined.{behind_joined}
+use Rattle.tbl_format.specs.Format.{Format, format_read}
+use Rattle.tbl_format.specs.FormatRows.{keeping}
+use Rattle.tbl_kept.specs.Joined.{behind_joined}
 use Rattle.tbl_table.specs.Kept.{reading_of}
-use Rattle.tbl_layout.specs.Notes.{told_of_all}
+use Rattle.tbl_format.specs.Notes.{told_of_all}
 use Rattle.tbl_table.specs.Reading.{KeptTable, Reading}
 use Rattle.tbl_table.specs.Steps.{fault_noted, phase_behind, rows_started}
-use Rattle.tbl_table.specs.TableText.{KeptText, block_of, text_ended}
-use Rattle.tbl_layout.specs.declared.message.Told.{Told}
+use Rattle.tbl_kept.specs.TableText.{KeptText, block_of, text_ended}
+use Rattle.tbl_format.specs.declared.message.Told.{Told}
 use Rattle.tbl_table.specs.declared.phase.Phase.{Phase}
 use Rattle.tbl_table.proofs.BegunLines.{count_is}
 use Rattle.tbl_table.proofs.FormatEnds.{format-ended}
-use Rattle.tbl_layout.proofs.FormatReading.{columns-read-most, keys-read}
+use Rattle.tbl_format.proofs.FormatReading.{columns-read-most, keys-read}
 use Rattle.tbl_table.proofs.TableFits.{NotesWithin-more, keys-fits, longer-settled, no-fault-by}
 use Rattle.tbl_table.proofs.TableReads.{keys-line, keys-read as table-keys-read, no-rows, to_tell-stay, told-stay, untold-fault}
 use Rattle.tbl_table.proofs.table.Table.end_format_line.Goals as goal

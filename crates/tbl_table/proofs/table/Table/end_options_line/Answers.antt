@@ -3,23 +3,23 @@ use Rattle.std.proofs.lemmas.Grind.{common_steps}
 use Rattle.std.proofs.Common.{◌≡◌, suc, ◌+◌, ◌-◌, ◌≤◌, ℕ, Bool, List, [], ◌∷◌, ◌++◌, map, take, drop, length, length-append, length-drop, refl, sym, ap, subst, ◌∙◌, arith, if◌then◌else◌}
 use Rattle.roff_source.specs.Bytes.{newline}
 use Rattle.tbl_table.specs.Begun.{begun_in}
-use Rattle.tbl_layout.specs.Format.{Format, format_read, no_format}
-use Rattle.tbl_layout.specs.FormatRows.{keeping}
+use Rattle.tbl_format.specs.Format.{Format, format_read, no_format}
+use Rattle.tbl_format.specs.FormatRows.{keeping}
 use Rattle.tbl_table.specs.Kept.{reading_of}
-use Rattle.tbl_layout.specs.Notes.{NotesWithin, ignored_message, told_at, told_of_all}
-use Rattle.tbl_layout.specs.Options.{ignored_options, options_read}
+use Rattle.tbl_format.specs.Notes.{NotesWithin, ignored_message, told_at, told_of_all}
+use Rattle.tbl_format.specs.Options.{ignored_options, options_read}
 use Rattle.tbl_table.specs.Table.{TableRead, bad, columns_of, format_line}
-use Rattle.tbl_layout.specs.declared.options.Settings.{Settings}
+use Rattle.tbl_format.specs.declared.options.Settings.{Settings}
 use Rattle.tbl_table.specs.Reading.{KeptTable, Reading}
 use Rattle.std.specs.List.{slice_range}
-use Rattle.tbl_table.specs.TableRows.{texts_in}
+use Rattle.tbl_kept.specs.TableRows.{texts_in}
 use Rattle.tbl_table.proofs.TableReads.{made, untold-fault}
 use Rattle.tbl_table.specs.Steps.{built_format, built_place, ended_with, fault_noted, phase_behind, rows_started}
-use Rattle.tbl_table.specs.TableText.{KeptText, block_of, text_ended}
-use Rattle.tbl_layout.specs.declared.message.Told.{Told}
+use Rattle.tbl_kept.specs.TableText.{KeptText, block_of, text_ended}
+use Rattle.tbl_format.specs.declared.message.Told.{Told}
 use Rattle.tbl_table.specs.declared.phase.Phase.{Phase}
 use Rattle.tbl_table.proofs.BegunLines.{count_is}
-use Rattle.tbl_layout.proofs.FormatReading.{columns-read-most}
+use Rattle.tbl_format.proofs.FormatReading.{columns-read-most}
 use Rattle.tbl_table.proofs.TableOptions.{at-head, built-bounds, columns-bound, head-block, head-keys, head-options, head-settled, options-fits, options-read}
 use Rattle.tbl_table.proofs.table.Table.end_options_line.Goals as goal
 

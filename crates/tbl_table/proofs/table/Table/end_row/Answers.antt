@@ -3,16 +3,16 @@ use Rattle.std.proofs.lemmas.Grind.{common_steps}
 use Rattle.std.proofs.Common.{◌≡◌, ◌+◌, ◌-◌, ℕ, List, [], ◌∷◌, ◌++◌, append-nil, length, length-append, ap, ◌∙◌, arith}
 use Rattle.roff_source.specs.Bytes.{newline}
 use Rattle.tbl_layout.specs.Data.{judged, kept_fields}
-use Rattle.tbl_table.specs.Joined.{behind_joined, ends_joined}
+use Rattle.tbl_kept.specs.Joined.{behind_joined, ends_joined}
 use Rattle.tbl_table.specs.Kept.{reading_of}
-use Rattle.tbl_layout.specs.Notes.{told_of_all}
-use Rattle.tbl_layout.specs.Pieces.{fields_from}
+use Rattle.tbl_format.specs.Notes.{told_of_all}
+use Rattle.tbl_layout.specs.Fields.{fields_from}
 use Rattle.tbl_table.specs.Reading.{KeptTable, Reading}
 use Rattle.tbl_table.specs.Steps.{ended_with, judged_line, notes_judged, phase_judged, rows_judged}
 use Rattle.tbl_table.specs.Table.{with_judged}
-use Rattle.tbl_table.specs.TableText.{KeptText, block_of, text_ended}
+use Rattle.tbl_kept.specs.TableText.{KeptText, block_of, text_ended}
 use Rattle.tbl_layout.specs.declared.data.Judged.{Judged}
-use Rattle.tbl_layout.specs.declared.message.Told.{Told}
+use Rattle.tbl_format.specs.declared.message.Told.{Told}
 use Rattle.std.specs.List.{slice_range}
 use Rattle.tbl_table.proofs.DataFits.{columns-same, end_row-fits}
 use Rattle.tbl_table.proofs.TableReads.{end_row-read, length-texts, to_tell-stay, untold-judged}

@@ -1,7 +1,7 @@
 use Rattle.std.proofs.Common.{◌≡◌, None, Some, refl, sym, ap, ◌∙◌}
-use Rattle.tbl_layout.specs.Notes.{told_of_all}
+use Rattle.tbl_format.specs.Notes.{told_of_all}
 use Rattle.tbl_table.specs.Reading.{KeptTable, limit_at_end}
-use Rattle.tbl_table.specs.TableNotes.{KeptNotes}
+use Rattle.tbl_kept.specs.TableNotes.{KeptNotes}
 use Rattle.tbl_table.proofs.PictureGiven.{closed-none, given-none, limit-none, told-none, told-some}
 use Rattle.tbl_table.proofs.table.Table.finish.Goals as goal
 

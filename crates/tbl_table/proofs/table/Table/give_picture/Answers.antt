@@ -1,9 +1,9 @@
 use Rattle.std.proofs.Common.{◌≡◌, ℕ, List, ◌++◌, ap, ◌∙◌}
 use Rattle.tbl_table.specs.Kept.{table_of}
 use Rattle.tbl_table.specs.Output.{lines_from}
-use Rattle.tbl_layout.specs.Picture.{indent, picture}
+use Rattle.tbl_picture.specs.Picture.{indent, picture}
 use Rattle.tbl_table.specs.Table.{picture_width}
-use Rattle.tbl_table.specs.TableText.{block_of}
+use Rattle.tbl_kept.specs.TableText.{block_of}
 use Rattle.tbl_table.proofs.PictureGiven.{picture-can, picture-lines}
 use Rattle.tbl_table.proofs.TableFits.{tell-fits}
 use Rattle.tbl_table.proofs.table.Table.give_picture.Goals as goal

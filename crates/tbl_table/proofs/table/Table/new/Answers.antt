@@ -1,6 +1,6 @@
 use Rattle.std.proofs.Common.{rules, ◌+◌, ◌*◌, ◌<◌, ℕ, [], refl, ap, ◌∙◌}
 use Rattle.tbl_table.specs.Kept.{HasRooms}
-use Rattle.tbl_table.specs.TableRows.{KeptRows}
+use Rattle.tbl_kept.specs.TableRows.{KeptRows}
 use Rattle.tbl_table.proofs.TableFits.{start-fits}
 use Rattle.tbl_table.proofs.table.Table.new.Goals as goal
 

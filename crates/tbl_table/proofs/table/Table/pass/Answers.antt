@@ -1,7 +1,7 @@
 use Rattle.std.proofs.Common.{ap, sym, refl, ◌∙◌}
 use Rattle.tbl_table.specs.Kept.{table_of}
-use Rattle.tbl_layout.specs.Notes.{told_of_all}
-use Rattle.tbl_table.specs.TableNotes.{KeptNotes}
+use Rattle.tbl_format.specs.Notes.{told_of_all}
+use Rattle.tbl_kept.specs.TableNotes.{KeptNotes}
 use Rattle.tbl_table.proofs.TableFits.{tell-fits}
 use Rattle.tbl_table.proofs.TableWhole.{notes-by}
 use Rattle.tbl_table.proofs.table.Table.pass.Goals as goal

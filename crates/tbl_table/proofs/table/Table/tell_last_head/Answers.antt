@@ -1,13 +1,13 @@
 use Rattle.std.proofs.Common.{◌≡◌, ℕ, List, [], ◌++◌, Option, length, length-append, append-nil, sym, ap, subst, ◌∙◌, arith}
 use Rattle.tbl_table.specs.Begun.{begun_in, head_begun}
 use Rattle.tbl_table.specs.Kept.{table_of}
-use Rattle.tbl_layout.specs.Notes.{NotesWithin, told_of_all}
-use Rattle.tbl_layout.specs.Options.{options_end}
+use Rattle.tbl_format.specs.Notes.{NotesWithin, told_of_all}
+use Rattle.tbl_format.specs.Options.{options_end}
 use Rattle.tbl_table.specs.Steps.{fault_noted, options_told, phase_at_last}
 use Rattle.tbl_table.specs.Table.{TableRead, closed, head_place, is_bad, notes}
-use Rattle.tbl_table.specs.TableNotes.{KeptNotes}
-use Rattle.tbl_table.specs.TableText.{KeptText, block_of}
-use Rattle.tbl_layout.specs.declared.format.FormatPlace.{FormatPlace}
+use Rattle.tbl_kept.specs.TableNotes.{KeptNotes}
+use Rattle.tbl_kept.specs.TableText.{KeptText, block_of}
+use Rattle.tbl_format.specs.declared.format.FormatPlace.{FormatPlace}
 use Rattle.tbl_table.specs.declared.phase.Phase.{Phase}
 use Rattle.tbl_table.specs.declared.phase.Phase.TheVariants.{AtHead}
 use Rattle.tbl_table.proofs.BegunLines.{count_is}

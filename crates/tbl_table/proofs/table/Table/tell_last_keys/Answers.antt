@@ -1,14 +1,14 @@
 use Rattle.std.proofs.Common.{◌≡◌, ◌≤◌, [], ◌∷◌, ◌++◌, length, refl, sym, ap, ◌∙◌, arith}
 use Rattle.roff_source.specs.Bytes.{newline}
 use Rattle.tbl_table.specs.Begun.{begun_in}
-use Rattle.tbl_layout.specs.Format.{format_read}
-use Rattle.tbl_table.specs.Joined.{behind_joined}
+use Rattle.tbl_format.specs.Format.{format_read}
+use Rattle.tbl_kept.specs.Joined.{behind_joined}
 use Rattle.tbl_table.specs.Kept.{table_of}
-use Rattle.tbl_layout.specs.Notes.{told_of_all}
+use Rattle.tbl_format.specs.Notes.{told_of_all}
 use Rattle.tbl_table.specs.Steps.{fault_noted, phase_at_last}
 use Rattle.tbl_table.specs.Table.{is_bad_phase}
-use Rattle.tbl_table.specs.TableText.{text_whole}
-use Rattle.tbl_layout.specs.declared.format.FormatPlace.{FormatPlace}
+use Rattle.tbl_kept.specs.TableText.{text_whole}
+use Rattle.tbl_format.specs.declared.format.FormatPlace.{FormatPlace}
 use Rattle.tbl_table.specs.declared.phase.Phase.{Phase}
 use Rattle.tbl_table.proofs.BegunLines.{count_is}
 use Rattle.tbl_table.proofs.TableFits.{NotesWithin-more}

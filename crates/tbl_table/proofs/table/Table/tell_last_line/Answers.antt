@@ -1,9 +1,9 @@
 use Rattle.std.proofs.Common.{◌≡◌, ◌++◌, ap, sym, subst, ◌∙◌, append-nil, refl, None}
-use Rattle.tbl_table.specs.Joined.{behind_joined}
+use Rattle.tbl_kept.specs.Joined.{behind_joined}
 use Rattle.tbl_table.specs.Kept.{PhaseFits, table_of}
-use Rattle.tbl_layout.specs.Notes.{told_of_all}
+use Rattle.tbl_format.specs.Notes.{told_of_all}
 use Rattle.tbl_table.specs.Table.{TableRead, is_bad, notes}
-use Rattle.tbl_table.specs.TableText.{KeptText}
+use Rattle.tbl_kept.specs.TableText.{KeptText}
 use Rattle.tbl_table.specs.declared.phase.Phase.{Phase}
 use Rattle.tbl_table.proofs.TableReads.{told-stay}
 use Rattle.tbl_table.proofs.TableWhole.{bad-last, is_bad-by, notes-by, whole-bad}

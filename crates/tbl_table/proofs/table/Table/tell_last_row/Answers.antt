@@ -1,11 +1,11 @@
 use Rattle.std.proofs.Common.{◌≡◌, ◌-◌, ℕ, Bool, List, ◌++◌, append-nil, take, length, sym, ap, ◌∙◌, if◌then◌else◌}
 use Rattle.tbl_layout.specs.Data.{judged}
-use Rattle.tbl_table.specs.Joined.{behind_joined, ends_joined, goes_on}
+use Rattle.tbl_kept.specs.Joined.{behind_joined, ends_joined, goes_on}
 use Rattle.tbl_table.specs.Kept.{table_of}
-use Rattle.tbl_layout.specs.Notes.{told_of_all}
+use Rattle.tbl_format.specs.Notes.{told_of_all}
 use Rattle.tbl_table.specs.Steps.{judged_line, notes_judged, phase_judged}
 use Rattle.tbl_table.specs.Table.{is_bad_phase}
-use Rattle.tbl_table.specs.TableText.{text_whole}
+use Rattle.tbl_kept.specs.TableText.{text_whole}
 use Rattle.tbl_layout.specs.declared.data.Judged.{Judged}
 use Rattle.tbl_table.proofs.TableLast.{bad-as, cut_judged, joined-cut, judged-said, last-row-fits, row-bad, row-said, said_judged, told-as}
 use Rattle.tbl_table.proofs.TableReads.{told-stay}

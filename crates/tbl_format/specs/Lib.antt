@@ -1,0 +1,9 @@
+pub mod TblLimits
+pub mod Messages
+pub mod Options
+pub mod Format
+pub mod RowsServed
+pub mod Notes
+pub mod Parts
+pub mod KeyCounts
+pub mod FormatRows

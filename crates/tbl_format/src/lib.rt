@@ -1,0 +1,12 @@
+//! What the options and the format of a table say, its limits and its messages (Lesk, "Tbl - A
+//! Program to Format Tables").
+#![tactic(auto)]
+
+pub mod format;
+pub mod format_rows;
+pub mod limits;
+pub mod message;
+pub mod notes;
+pub mod option_words;
+pub mod options;
+pub mod part_starts;

@@ -1,0 +1,2 @@
+pub mod TextBlocks
+pub mod RowTexts

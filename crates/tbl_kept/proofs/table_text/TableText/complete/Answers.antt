@@ -1,0 +1,18 @@
+use Rattle.tbl_kept.proofs.TextBlocks.{Lies-complete, text-complete}
+use Rattle.tbl_kept.proofs.table_text.TableText.complete.Goals as goal
+
+pub invariant_of-self : goal.invariant_of-self
+invariant_of-self c =
+    let a = c.self.inside in
+    record {
+      block = c.self.invariant.block;
+      joints = c.self.invariant.joints;
+      few = c.self.invariant.few;
+      most = c.self.invariant.most;
+      lies = rw (c.len-self-inside.ensures, c.len-self-inside-2.ensures, a.block.ok.0, a.joints.ok.0) (Lies-complete a.block.items a.joints.items a.line_start a.open_start a.open_joints c.self.invariant.lies);
+    }
+
+pub returns : goal.returns
+returns c =
+    let a = c.self.inside in
+    rw (← c.self.view_is, c.len-self-inside.ensures, c.len-self-inside-2.ensures, a.block.ok.0, a.joints.ok.0) (text-complete a.block.items a.joints.items a.line_start a.open_start a.open_joints c.self.invariant.lies a.text_room)

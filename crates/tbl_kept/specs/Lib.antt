@@ -1,0 +1,4 @@
+pub mod Joined
+pub mod TableText
+pub mod TableNotes
+pub mod TableRows

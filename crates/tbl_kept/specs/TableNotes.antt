@@ -1,0 +1,23 @@
+-- The messages of a table, and those that are to tell.
+use Rattle.std.specs.Prelude.{ℕ, ◌≤◌, List, [], length, vec_capacity}
+use Rattle.std.specs.List.{slice_range}
+use Rattle.tbl_format.specs.declared.notes.KeptNote.{KeptNote}
+use Rattle.tbl_kept.specs.declared.table_notes.TableNotes.TheInside.{Inside}
+
+-- all messages, those of them that are to tell, and for how many there is room
+pub record KeptNotes : Type 0 where
+  pub notes : List KeptNote
+  pub to_tell : List KeptNote
+  pub note_room : ℕ
+
+abbrev pub no_notes : ℕ → KeptNotes
+no_notes room = record { notes = []; to_tell = []; note_room = room }
+
+abbrev pub kept_by : Inside → KeptNotes
+kept_by a = record { notes = a.notes.items; to_tell = slice_range a.notes.items a.next a.end; note_room = a.note_room }
+
+-- those that are to tell are among them
+pub record IsSound (a : Inside) : Type 0 where
+  pub room : a.note_room ≤ vec_capacity a.notes
+  pub order : a.next ≤ a.end
+  pub within : a.end ≤ length a.notes.items

@@ -1,0 +1,113 @@
+//! The messages of a table, and those that are to tell.
+
+ghost use Rattle.std.specs.Prelude.{◌≡◌, ◌+◌, ◌-◌, ◌<◌, ◌≤◌, [], ◌∷◌, ◌++◌, true, length, map};
+ghost use Rattle.std.specs.Prelude.{slice_range, IfOk};
+ghost use Rattle.std.specs.Option.{MatchOption};
+ghost use Rattle.tbl_format.specs.Notes.{NotesWithin, ignored_message, told_at, told_of_all};
+ghost use Rattle.tbl_format.specs.Options.{ignored_options};
+ghost use Rattle.tbl_kept.specs.TableNotes.{no_notes};
+
+use std::alloc::{AllocError, Global};
+use std::marker::Model;
+use tbl_format::notes::KeptNote;
+use tbl_format::options::push_ignored;
+
+/// The messages of a table, in order. All memory for them is reserved as they are made.
+#[derive(Drop)]
+pub struct TableNotes {
+    notes: Vec<KeptNote>,
+    /// Those from one place up to the other are to tell.
+    next: usize,
+    end: usize,
+    note_room: usize,
+}
+
+impl Model for TableNotes {
+    ghost use Rattle.tbl_kept.specs.TableNotes.{KeptNotes, kept_by, IsSound};
+
+    ghost Value = { KeptNotes };
+
+    ghost view = { kept_by };
+
+    ghost invariant = { IsSound };
+}
+
+impl TableNotes {
+    /// No message, with room for so many.
+    pub fn new(alloc: Global, room: usize) -> Result<TableNotes, AllocError>
+        ensures { IfOk result (λ n. n ≡ no_notes room) }
+    {
+        Ok(TableNotes {
+            notes: Vec::with_capacity(alloc, room)?,
+            next: 0,
+            end: 0,
+            note_room: room,
+        })
+    }
+
+    /// No message.
+    pub fn clear(&mut self)
+        ensures { self.new ≡ no_notes self.old.note_room }
+    {
+        self.notes.clear();
+        self.next = 0;
+        self.end = 0;
+    }
+
+    /// One message more.
+    pub fn push(&mut self, note: KeptNote)
+        requires { length self.old.notes < self.old.note_room }
+        ensures { self.new ≡ record self.old { notes = self.old.notes ++ note ∷ [] } }
+    {
+        self.notes.push_reserved(note);
+    }
+
+    /// A message for each option that is ignored, of the options that lie there in a block.
+    pub fn push_ignored(&mut self, block: &[u8], from: usize, to: usize, line: u32)
+        requires order { from ≤ to }
+        requires block { to ≤ length block.now }
+        requires room { length self.old.notes + (to - from) ≤ self.old.note_room }
+        requires within { NotesWithin (length block.now) self.old.notes }
+        requires none { self.old.to_tell ≡ [] }
+        ensures told { told_of_all block.now self.new.notes ≡ told_of_all block.now self.old.notes
+            ++ map (λ word. told_at line (ignored_message word))
+            (ignored_options (slice_range block.now from to)) }
+        ensures few { length self.new.notes ≤ length self.old.notes + (to - from) }
+        ensures within { NotesWithin (length block.now) self.new.notes }
+        ensures none { self.new.to_tell ≡ [] }
+        ensures room { self.new.note_room ≡ self.old.note_room }
+    {
+        self.next = 0;
+        self.end = 0;
+        push_ignored(&mut self.notes, block, from, to, line);
+    }
+
+    /// All messages are to tell.
+    pub fn tell(&mut self)
+        ensures { self.new ≡ record self.old { to_tell = self.old.notes } }
+    {
+        self.next = 0;
+        self.end = self.notes.len();
+    }
+
+    /// Whether no message is left to tell.
+    #[inline(always)]
+    pub fn are_told(&self) -> bool
+        ensures { result ≡ true → self.now.to_tell ≡ [] }
+    {
+        self.next == self.end
+    }
+
+    /// The next message to tell.
+    pub fn next(&mut self) -> Option<KeptNote>
+        ensures { MatchOption result ((self.old.to_tell ≡ []) × (self.new ≡ self.old))
+            (λ note. self.old ≡ record self.new { to_tell = note ∷ self.new.to_tell }) }
+    {
+        if self.next == self.end {
+            return None;
+        }
+        let note = self.notes[self.next];
+        self.next += 1;
+        Some(note)
+    }
+}

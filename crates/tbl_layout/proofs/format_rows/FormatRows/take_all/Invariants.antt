@@ -1,7 +1,0 @@
-use Rattle.std.proofs.Common.{◌≡◌, take}
-use Rattle.tbl_layout.specs.Format.{format_read}
-use Rattle.tbl_layout.specs.FormatRows.{keeping}
-use Rattle.tbl_layout.proofs.format_rows.FormatRows.take_all.Given as goal
-
-abbrev pub invariant-loop-at : goal.invariant-loop-at
-invariant-loop-at l = l.self ≡ keeping l.fn.self (format_read l.fn.self.format (take l.at l.bytes))

@@ -1,0 +1,4 @@
+pub mod Cells
+pub mod Lines
+pub mod PiecesWithin
+pub mod PiecesLeft

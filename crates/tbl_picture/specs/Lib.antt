@@ -1,0 +1,3 @@
+pub mod Picture
+pub mod Pieces
+pub mod PieceQueue

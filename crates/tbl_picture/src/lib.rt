@@ -1,0 +1,6 @@
+//! The picture of a table, a line and a piece of it at a time (Lesk, "Tbl - A Program to Format
+//! Tables").
+#![tactic(auto)]
+
+pub mod picture;
+pub mod piece_queue;

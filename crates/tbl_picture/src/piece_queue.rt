@@ -1,0 +1,178 @@
+//! Pieces that are to give, of which a front was given.
+
+ghost use Rattle.std.specs.Prelude.{◌≡◌, ℕ, ◌+◌, ◌*◌, ◌<◌, ◌≤◌, ◌^◌, List, [], ◌∷◌, ◌++◌, length};
+ghost use Rattle.std.specs.Prelude.{drop, IfOk, true};
+ghost use Rattle.std.specs.List.{AllByRecursion};
+ghost use Rattle.std.specs.Option.{MatchOption};
+ghost use Rattle.tbl_format.specs.Format.{has_some};
+ghost use Rattle.tbl_picture.specs.Picture.{line_of};
+ghost use Rattle.tbl_format.specs.Parts.{IsFront};
+ghost use Rattle.tbl_layout.specs.Fields.{AreMeasured, texts_of};
+ghost use Rattle.tbl_picture.specs.Pieces.{AreWithin, IsNarrow, some_piece};
+
+use crate::picture::{Piece, push_line, push_some};
+use std::alloc::{AllocError, Global};
+use std::marker::Model;
+use tbl_format::format::Key;
+use tbl_layout::data::Field;
+
+/// Pieces, and how far they were given. All its memory is reserved as it is made.
+#[derive(Drop)]
+pub struct PieceQueue {
+    pieces: Vec<Piece>,
+    /// The first that is left.
+    piece: usize,
+    /// How many of its bytes were given.
+    offset: usize,
+    room: usize,
+}
+
+impl Model for PieceQueue {
+    ghost use Rattle.tbl_picture.specs.PieceQueue.{KeptPieces, kept_by, IsSound};
+
+    ghost Value = { KeptPieces };
+
+    ghost view = { kept_by };
+
+    ghost invariant = { IsSound };
+}
+
+impl PieceQueue {
+    ghost use Rattle.tbl_picture.specs.PieceQueue.{bytes_left, holding};
+
+    /// No piece, with room for so many.
+    pub fn new(alloc: Global, room: usize) -> Result<Self, AllocError>
+        ensures { IfOk result (λ q. q ≡ record { pieces = []; offset = 0; room = room }) }
+    {
+        Ok(PieceQueue {
+            pieces: Vec::with_capacity(alloc, room)?,
+            piece: 0,
+            offset: 0,
+            room,
+        })
+    }
+
+    /// No piece is left.
+    pub fn clear(&mut self)
+        ensures { self.new ≡ holding self.old [] }
+    {
+        self.pieces.clear();
+        self.piece = 0;
+        self.offset = 0;
+    }
+
+    /// This piece is to give, if it has a byte.
+    pub fn set_one(&mut self, piece: Piece)
+        requires { 0 < self.old.room }
+        ensures { self.new ≡ holding self.old (some_piece piece) }
+    {
+        self.pieces.clear();
+        self.piece = 0;
+        self.offset = 0;
+        push_some(&mut self.pieces, piece);
+    }
+
+    /// These pieces are to give, if they have a byte.
+    pub fn set_two(&mut self, first: Piece, second: Piece)
+        requires { 1 < self.old.room }
+        ensures { self.new ≡ holding self.old (some_piece first ++ some_piece second) }
+    {
+        self.pieces.clear();
+        self.piece = 0;
+        self.offset = 0;
+        push_some(&mut self.pieces, first);
+        push_some(&mut self.pieces, second);
+    }
+
+    /// The pieces of a line of the picture are to give.
+    pub fn set_line(&mut self, widths: &[usize], asked: &[Option<u32>], keys: &[Key], row: &[Field])
+        requires columns { length row.now ≤ length widths.now }
+        requires asked { length widths.now ≤ length asked.now }
+        requires room { 2 * length row.now + 2 ≤ self.old.room }
+        requires narrow { IsNarrow 0 widths.now asked.now }
+        requires texts { AllByRecursion (λ field. field.width < 2 ^ 33) row.now }
+        ensures line { (block frame : List ℕ) → AreMeasured block row.now
+            → bytes_left block frame self.new
+            ≡ line_of widths.now asked.now keys.now (texts_of block row.now) }
+        ensures within { (block frame : List ℕ) → AreMeasured block row.now
+            → AreWithin block frame self.new.pieces }
+        ensures some { has_some self.new.pieces ≡ true }
+        ensures room { self.new.room ≡ self.old.room }
+    {
+        self.pieces.clear();
+        self.piece = 0;
+        self.offset = 0;
+        push_line(&mut self.pieces, widths, asked, keys, row);
+    }
+
+    /// Whether a piece is left.
+    pub fn has_piece(&self) -> bool
+        ensures { result ≡ has_some self.now.pieces }
+    {
+        self.piece < self.pieces.len()
+    }
+
+    /// The next bytes to give that lie together, where the pieces are parts of these texts: some,
+    /// if any is left.
+    #[inline(always)]
+    pub fn buffered<'a>(&self, block: &'a [u8], frame: &'a [u8]) -> &'a [u8]
+        requires { AreWithin block.now frame.now self.now.pieces }
+        ensures front { IsFront result.now (bytes_left block.now frame.now self.now) }
+        ensures some { has_some self.now.pieces ≡ true → 1 ≤ length result.now }
+    {
+        match self.pieces.get(self.piece) {
+            Some(piece) => piece.from(block, frame, self.offset),
+            None => &[],
+        }
+    }
+
+    /// Bytes of the first piece were given, so many at most. Answers how many.
+    #[inline(always)]
+    pub fn pass(&mut self, most: usize) -> usize
+        requires { 0 < most }
+        ensures few { result ≤ most }
+        ensures some { has_some self.old.pieces ≡ true → 0 < result }
+        ensures enough { (block frame : List ℕ) → AreWithin block frame self.old.pieces
+            → result ≤ length (bytes_left block frame self.old) }
+        ensures left { (block frame : List ℕ) → AreWithin block frame self.old.pieces
+            → bytes_left block frame self.new ≡ drop result (bytes_left block frame self.old) }
+        ensures within { (block frame : List ℕ) → AreWithin block frame self.old.pieces
+            → AreWithin block frame self.new.pieces }
+        ensures room { self.new.room ≡ self.old.room }
+    {
+        match self.pieces.get(self.piece) {
+            Some(piece) => {
+                let left = piece.len() - self.offset;
+                if most < left {
+                    self.offset += most;
+                    return most;
+                }
+                self.offset = 0;
+                self.piece += 1;
+                left
+            }
+            None => 0,
+        }
+    }
+
+    /// The next byte to give, where the pieces are parts of these texts.
+    pub fn next(&mut self, block: &[u8], frame: &[u8]) -> Option<u8>
+        requires { AreWithin block.now frame.now self.old.pieces }
+        ensures byte { MatchOption result
+            ((self.old.pieces ≡ []) × (self.new ≡ self.old))
+            (λ b. bytes_left block.now frame.now self.old
+            ≡ b ∷ bytes_left block.now frame.now self.new) }
+        ensures within { AreWithin block.now frame.now self.new.pieces }
+        ensures room { self.new.room ≡ self.old.room }
+    {
+        let piece = *self.pieces.get(self.piece)?;
+        let byte = piece.byte(block, frame, self.offset);
+        let len = piece.len();
+        self.offset += 1;
+        if self.offset == len {
+            self.offset = 0;
+            self.piece += 1;
+        }
+        Some(byte)
+    }
+}

@@ -1,8 +1,0 @@
-use Rattle.std.proofs.Common.{sym}
-use Rattle.tbl_table.proofs.TextBlocks.{open-is}
-use Rattle.tbl_table.proofs.table_text.TableText.open_line.Goals as goal
-
-pub returns : goal.returns
-returns c =
-    let a = c.self.inside in
-    rw (← c.self.view_is, c.as_slice.ensures.value) (sym (open-is a.block.items a.joints.items a.line_start a.open_start a.open_joints c.self.invariant.lies))
