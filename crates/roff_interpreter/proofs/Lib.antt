@@ -17,6 +17,7 @@ pub mod LinesSplit
 pub mod Unfilled
 pub mod Changes
 pub mod TextSteps
+pub mod DivertedMost
 pub mod TextsAdded
 pub mod Halted
 pub mod InputEnds

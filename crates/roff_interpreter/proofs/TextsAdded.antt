@@ -52,6 +52,11 @@ more-both : (id : Option ℕ) (a b : List ℕ) → more_of id a + more_of id b �
 more-both None a b = refl
 more-both (Some id) a b = sym (length-append a b)
 
+-- no more than all of them
+more_of-le : (id : Option ℕ) (bytes : List ℕ) → more_of id bytes ≤ length bytes
+more_of-le None bytes = omega arith
+more_of-le (Some id) bytes = omega arith
+
 -- a limit that is the same
 some-same : (a b : Limit) → Some a ≡ Some b → a ≡ b
 some-same a b is = ap (λ (o : Option Limit). elim o [ None ↦ a | Some limit ↦ limit ]) is
@@ -261,6 +266,14 @@ module _ (index : ℕ) where
       → input_refusal u.limits (adding_to index bytes u.input) ≡ (if full then Some Store else None)
   refusal_told true bytes more u within there is small many few = refused_many bytes more u there is (many refl)
   refusal_told false bytes more u within there is small many few = allowed_few bytes more u within there is small (few refl)
+
+  -- nor are bytes that are no more than what there is room for, wherever they are put
+  pub allowed_most : (bytes : List ℕ) (most : ℕ) (u : PageUnread) → IsWithin u → min (length bytes) 18446744073709551615 ≤ most
+      → u.limits.store < 2 ^ 32 → stored u.input + most ≤ u.limits.store → input_refusal u.limits (adding_to index bytes u.input) ≡ None
+  allowed_most bytes most u within few small room =
+      let id : Option ℕ = open_numbered index u.input in
+      let fits : stored u.input + more_of id bytes ≤ u.limits.store = omega (arith, few, small, room, more_of-le id bytes) in
+      never_refused_is (adding_to index bytes u.input) u (added-within bytes u within fits)
 
   -- nor are any behind a text that isn't there
   pub allowed_nowhere : (bytes : List ℕ) (u : PageUnread) → IsWithin u → nat_lt index (length u.input.open_texts) ≡ false

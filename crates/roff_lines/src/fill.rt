@@ -36,7 +36,7 @@ pub fn fill_words<I: Iterator<Item = Word>>(words: I, measure: u64) -> usize
 }
 
 /// The width of a line with a word more, if it fits there; the first word always does.
-fn width_of_line(line: Option<u64>, word: Word, measure: u64) -> Option<u64>
+pub fn width_of_line(line: Option<u64>, word: Word, measure: u64) -> Option<u64>
     ensures { result ≡ width_with measure line word }
 {
     let Some(width) = line else {

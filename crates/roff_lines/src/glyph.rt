@@ -43,7 +43,7 @@ pub(crate) fn ends_sentence_behind_glyph(glyph: Glyph, before: bool) -> bool
 /// Whether a sentence ends behind these printed bytes: closers leave that as it was before them,
 /// and behind a blank none does.
 #[tactic(auto, using(crate::proofs::Sentences::ends_sentence_behind_push))]
-pub(crate) fn ends_sentence_behind(bytes: &[u8], before: bool) -> bool
+pub fn ends_sentence_behind(bytes: &[u8], before: bool) -> bool
     ensures { result ≡ ends_sentence_behind bytes.now before }
 {
     let mut front = bytes;

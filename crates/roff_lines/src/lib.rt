@@ -18,7 +18,8 @@ mod title;
 mod words;
 
 pub use env::Env;
-pub use fill::{Word, fill_words};
+pub use fill::{Word, fill_words, width_of_line};
+pub use glyph::ends_sentence_behind;
 pub use lanes::{HALF_STEP, glyphs_of_half_step, glyphs_of_step};
 pub use roff_num::lanes::STEP;
 pub use title::place_title;

@@ -4,8 +4,8 @@ ghost use Rattle.std.specs.Prelude.{◌<◌, length};
 ghost use Rattle.roff_formatter.specs.Clauses.{PutsIn, PutsOnPage, SetsOnPage, Sunk};
 ghost use Rattle.roff_formatter.specs.Clauses.{blank_due, finished_of, line_due};
 ghost use Rattle.roff_layout.specs.Happenings.{Does, Places};
-ghost use Rattle.roff_layout.specs.declared.layout_event.LayoutEvent.TheVariants.{Close};
-ghost use Rattle.roff_layout.specs.declared.layout_event.LayoutEvent.TheVariants.{Divert, EndDivert};
+ghost use Rattle.roff_layout.specs.declared.layout_event.LayoutEvent.TheVariants.{Close, Divert};
+ghost use Rattle.roff_layout.specs.declared.layout_event.LayoutEvent.TheVariants.{EndDivert};
 ghost use Rattle.roff_layout.specs.declared.layout_event.LayoutEvent.TheVariants.{Need, Space};
 
 use super::paging::done_on;

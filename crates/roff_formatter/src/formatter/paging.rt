@@ -8,8 +8,9 @@ ghost use Rattle.roff_formatter.specs.Formatter.Paging.{ejects_still};
 ghost use Rattle.roff_formatter.specs.Formatter.Setting.{halted_within, may_put};
 ghost use Rattle.roff_layout.specs.Springs.{is_on_top};
 ghost use Rattle.roff_formatter.specs.Clauses.{DoesOnPage, IsOfTraps, PutsBy, PutsByEvent};
-ghost use Rattle.roff_formatter.specs.Clauses.{PutsNothing, PutsOnPage, StopsSprung, blank_due, noted_by};
+ghost use Rattle.roff_formatter.specs.Clauses.{PutsNothing, PutsOnPage, StopsSprung, blank_due};
 ghost use Rattle.roff_formatter.specs.Clauses.{Page, PerformsEvents, SetsOnPage, halted_by};
+ghost use Rattle.roff_formatter.specs.Clauses.{noted_by};
 ghost use Rattle.roff_layout.specs.declared.layout_event.LayoutEvent.TheVariants.{Need, Space};
 
 use super::Formatter;

@@ -1,18 +1,18 @@
 //! The texts of diversions.
 
-ghost use Rattle.std.specs.Prelude.{◌≡◌, ◌≤◌, ◌<◌, ◌-◌, ◌^◌, ℕ, List, None, Ok, Some, length, min};
+ghost use Rattle.std.specs.Prelude.{◌≡◌, ◌≤◌, ◌<◌, ◌+◌, ◌-◌, ◌^◌, ℕ, List, None, Ok, Some, length};
 ghost use Rattle.roff_composer.specs.Composer.Due.{due_told, line_laid, title_laid};
-ghost use Rattle.roff_layout.specs.Columns.{printed};
+ghost use Rattle.roff_layout.specs.Columns.{finished_of, printed};
 ghost use Rattle.roff_layout.specs.Diverted.{diverted};
 ghost use Rattle.roff_layout.specs.DueTexts.{AllDropped, Gets};
 ghost use Rattle.roff_layout.specs.Titles.{title_text};
 ghost use Rattle.roff_num.specs.RegisterText.{register_text};
 ghost use Rattle.roff_num.specs.declared.limit.Limit.TheVariants.{Store};
-ghost use Rattle.roff_input.specs.Input.Names.{adding_to};
+ghost use Rattle.roff_input.specs.Input.Names.{adding_to, stored};
 ghost use Rattle.roff_input.specs.Unread.{input_refusal};
 ghost use Rattle.roff_interpreter.specs.Diverting.{ChangesText};
 ghost use Rattle.roff_sinks.specs.TitleParts.{HasNoBlank};
-ghost use Rattle.std.specs.Prelude.{◌++◌, if◌then◌else◌, replicate};
+ghost use Rattle.std.specs.Prelude.{◌++◌, false, if◌then◌else◌, min, replicate, true};
 
 use super::Interpreter;
 use roff_composer::{Composer, DueText, TitleText};
@@ -67,9 +67,7 @@ fn change(composer: &Composer, reader: &Reader, unread: &mut Unread<PageEvent>) 
                 gaps,
                 after: 0,
             };
-            let text = DivertedText::of_line(line, blank_lines);
-            let len = diverted_text_len(line, blank_lines);
-            add_text(innermost(composer), text, len, unread)
+            add_line(innermost(composer), line, blank_lines, unread)
         }
         DueText::Title {
             which,
@@ -100,6 +98,41 @@ fn drop_all(unread: &mut Unread<PageEvent>)
 {
     unread.stays_within();
     unread.drop_all();
+}
+
+/// Puts a line and so many blank lines, whatever it has itself, behind a text in the making. How
+/// many bytes they are is counted only where the store might be too full for as many as they can
+/// be.
+fn add_line(
+    index: usize,
+    line: Line<'_>,
+    blank_lines: u64,
+    unread: &mut Unread<PageEvent>,
+) -> Result<(), Limit>
+    ensures { ChangesText (Some (Gets index (diverted (printed (finished_of line.entry))
+        ++ replicate blank_lines 10))) unread.old unread.new result }
+{
+    unread.stays_within();
+    let text = DivertedText::of_line(line, blank_lines);
+    if is_store_full(most_bytes(line, blank_lines), unread) {
+        let len = diverted_text_len(line, blank_lines);
+        return add_text(index, text, len, unread);
+    }
+    add_pieces(index, text, unread)
+}
+
+/// No fewer than the bytes of a line in a diversion and of so many blank lines behind it, of which
+/// no more than `u64::MAX` are counted: as if each byte of its text were two and a gap that gets
+/// all its spare columns. None of them is looked at.
+fn most_bytes(line: Line<'_>, blank_lines: u64) -> u64
+    ensures { min (length (diverted (printed (finished_of line.entry))
+        ++ replicate blank_lines 10)) (2 ^ 64 - 1) ≤ result }
+{
+    let len = line.text.len() as u64;
+    let added = len.saturating_mul(line.spare);
+    let columns = len.saturating_add(added).saturating_add(line.lead);
+    let bytes = columns.saturating_mul(2).saturating_add(3);
+    bytes.saturating_add(blank_lines)
 }
 
 /// Puts a title of this text and length behind a text in the making, with this number of the page
@@ -147,8 +180,7 @@ fn add_numbered(
     add_text(index, DivertedText::of_title(title), len, unread)
 }
 
-/// Puts bytes behind a text in the making, a buffer after another, if there is room for all of
-/// them, which are so many.
+/// Puts bytes behind a text in the making if there is room for all of them, which are so many.
 ///
 /// # Errors
 ///
@@ -162,22 +194,10 @@ fn add_text(
     requires len { len ≡ min (length text) (2 ^ 64 - 1) }
     ensures { ChangesText (Some (Gets index text.entry)) unread.old unread.new result }
 {
-    unread.stays_within();
     if is_refused(index, len, unread) {
         return Err(Limit::Store);
     }
-    let mut rest = text;
-    let mut buffer = [0; 256];
-    loop {
-        let count = rest.fill(&mut buffer);
-        if count == 0 {
-            return Ok(());
-        }
-        match unread.add_to(index, buffer.split_at(count).0) {
-            Ok(()) => {}
-            Err(limit) => return Err(limit),
-        }
-    }
+    add_pieces(index, text, unread)
 }
 
 /// Whether the limit on the store refuses so many bytes behind a text in the making.
@@ -190,8 +210,41 @@ fn is_refused(index: usize, len: u64, unread: &Unread<PageEvent>) -> bool
     if !unread.has_text(index) {
         return false;
     }
-    if len > u64::from(unread.limits().store) {
+    is_store_full(len, unread)
+}
+
+/// Whether the limit on the store has no room for so many bytes more.
+fn is_store_full(more: u64, unread: &Unread<PageEvent>) -> bool
+    ensures full { result ≡ true → unread.now.limits.store < stored unread.now.input + more }
+    ensures room { result ≡ false → stored unread.now.input + more ≤ unread.now.limits.store }
+    ensures small { unread.now.limits.store < 2 ^ 32 }
+{
+    if more > u64::from(unread.limits().store) {
         return true;
     }
-    unread.is_store_full(len as usize)
+    unread.is_store_full(more as usize)
+}
+
+/// Puts bytes for which there is room behind a text in the making, a buffer after another.
+fn add_pieces(
+    index: usize,
+    text: DivertedText<'_>,
+    unread: &mut Unread<PageEvent>,
+) -> Result<(), Limit>
+    requires room { input_refusal unread.old.limits (adding_to index text unread.old.input) ≡ None }
+    ensures { ChangesText (Some (Gets index text.entry)) unread.old unread.new result }
+{
+    unread.stays_within();
+    let mut rest = text;
+    let mut buffer = [0; 256];
+    loop {
+        let count = rest.fill(&mut buffer);
+        if count == 0 {
+            return Ok(());
+        }
+        match unread.add_to(index, buffer.split_at(count).0) {
+            Ok(()) => {}
+            Err(limit) => return Err(limit),
+        }
+    }
 }

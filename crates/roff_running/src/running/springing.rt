@@ -18,7 +18,8 @@ use roff_sinks::{ByteSink, MessageSink};
 const MOST_STOPS: u32 = 1024;
 
 impl Running {
-    ghost use Rattle.roff_running.specs.Running.Springing.{GoesOn, GoesOnSettled, PutsBack, Settles};
+    ghost use Rattle.roff_running.specs.Running.Springing.{GoesOn, GoesOnSettled, PutsBack};
+    ghost use Rattle.roff_running.specs.Running.Springing.{Settles};
     ghost use Rattle.roff_running.specs.Running.Springing.{StopsNext, StopsNextSettled};
 
     /// Goes on behind the events of an item, of which one may have stopped the others.
