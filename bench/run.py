@@ -40,6 +40,21 @@ MANY_ROWS = 4 * FEW_ROWS
 ROWS_OPTIONS = ("--rows", "100000", "--text", "1000000")
 ROWS_ROUNDS = 7
 
+# One table of so many bytes, and one of four times as many, of which most are of one kind: what stands in front, what is
+# repeated, and what stands behind.
+FEW_BYTES = 64_000
+GROWING = (
+    ("one field", ".TS\nl.\n", "x", "\n.TE\n"),
+    ("one row of fields", ".TS\nl l.\na", "\tbc", "\n.TE\n"),
+    ("joined lines", ".TS\nl.\n", "ab\\\n", "\n.TE\n"),
+    ("format rows", ".TS\nl", "\nr 3", ".\na\n.TE\n"),
+    ("letters of the format", ".TS\nl", "fBp+2", ".\na\n.TE\n"),
+    ("messages of the format", ".TS\nl", "x ", ".\na\n.TE\n"),
+    ("messages of the options", ".TS\n", "abc ", ";l.\na\n.TE\n"),
+)
+GROWING_OPTIONS = ("--width", "1000000")
+MOST_GROWTH = 4.5
+
 # No hyphenation. Pages keep their usual length: nothing is printed at their ends, and on one page of all the text
 # groff's driver for terminals would take many times as long.
 PRELUDE = ".nh\n"
@@ -381,6 +396,27 @@ def rows_grow(program):
     return best[1] / best[0]
 
 
+def kinds_grow(program, counting):
+    """Prints what `tbl` takes for a table of each kind, and for one of four times as many bytes, and returns the greatest
+    number of times: of instructions where these are counted, and of seconds elsewhere."""
+    rows, most = [], 0
+    with tempfile.TemporaryDirectory() as folder:
+        for name, front, text, behind in GROWING:
+            taken = []
+            for size in (0, FEW_BYTES, 4 * FEW_BYTES):
+                path = os.path.join(folder, "document")
+                with open(path, "w", encoding="ascii") as file:
+                    file.write(front + text * (size // len(text)) + behind)
+                words = [program, "tbl", *GROWING_OPTIONS, path]
+                taken.append(counting[0](words) if counting[0] else min(spend(words)[0] for _ in range(ROWS_ROUNDS)))
+            few, many = taken[1] - taken[0], taken[2] - taken[0]
+            most = max(most, many / few)
+            rows.append([name, shown(few / FEW_BYTES), shown(many / 4 / FEW_BYTES), shown(many / few, 2)])
+    print(f"roff tbl, one table of {FEW_BYTES // 1000} KB and one of {4 * FEW_BYTES // 1000} KB of one kind, a byte\n")
+    show_table(["Kind", "few", "many", "many / few"], rows)
+    return most
+
+
 def judged(title, aim, value):
     """Returns the row of an aim: what is wanted, what was measured, and whether it is met."""
     if value is None:
@@ -416,6 +452,8 @@ def main():
             aims += [judged(work.title, aim, aim.figure(work, those, runs)) for aim in work.aims]
     growth = Aim(None, "times the time of a quarter of its rows", most=4.5)
     aims.append(judged("One table", growth, rows_grow(program)))
+    growth = Aim(None, "times what a quarter of it takes", most=MOST_GROWTH)
+    aims.append(judged("One table of each kind", growth, kinds_grow(program, counting)))
     memory = Aim(None, "MB", most=MOST_MEMORY)
     aims.append(judged("Memory", memory, default_memory(program)))
     for remark in [formatter.remark for formatter in formatters["nroff"] if formatter.remark]:

@@ -1,17 +1,26 @@
 #!/bin/sh
 # Runs the worked rows and the examples on the built program, with their real files:
 #
-#     tests/rows.sh [NAME ..]
+#     tests/rows.sh [--program PROGRAM] [--data FOLDER] [NAME ..]
 #
-# NAME is a row or a folder of rows. A row is a document NAME.roff, with its output in NAME.txt, its
-# messages in NAME.messages, its exit status in NAME.status and the words of the command line in
-# NAME.args; where NAME.source says "fails", a folder is read behind it. What isn't there is usual: no
-# output, no messages, status 0, and the command nroff. Where the words name "-" the document is standard
-# input, and else it is the last file, but for that folder. The exit status is 1 if a row differs.
+# PROGRAM is crates/roff/out/roff if none is given, and FOLDER crates/roff_rows/data. NAME is a row or a
+# folder of rows. A row is a document NAME.roff, with its output in NAME.txt, its messages in
+# NAME.messages, its exit status in NAME.status and the words of the command line in NAME.args; where
+# NAME.source says "fails", a folder is read behind it. What isn't there is usual: no output, no messages,
+# status 0, and the command nroff. Where the words name "-" the document is standard input, and else it is
+# the last file, but for that folder. The exit status is 1 if a row differs.
 
 top=$(CDPATH='' cd -P -- "$(dirname -- "$0")/.." && pwd -P) || exit 1
 program=$top/crates/roff/out/roff
 data=$top/crates/roff_rows/data
+while :; do
+    case ${1-} in
+        --program) program=$(realpath -- "${2:?}") ;;
+        --data) data=$(realpath -- "${2:?}") ;;
+        *) break ;;
+    esac
+    shift 2
+done
 
 if [ ! -x "$program" ]; then
     echo "tests/rows.sh: $program is missing; ./roff --version builds it" >&2

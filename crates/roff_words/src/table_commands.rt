@@ -11,7 +11,7 @@ static FILES: [(&str, &[u8]); 5] = [
     ("table", b".pl 1\n.TS\nl r.\nab\t1\nc\t22\n.TE\n"),
     ("centred", b".pl 1\n.TS\ncenter;\nl.\nabc\n.TE\n"),
     ("text", b".pl 1\n.nf\nno table\n"),
-    ("unformatted", b".pl 1\n.nf\n.TS\nl x.\nab\n.TE\n"),
+    ("unformatted", b".pl 1\n.nf\n.TS\nl q.\nab\n.TE\n"),
     (
         "wide",
         b".TS\nllllllllllllllllllllllllllllllllllllllllr.\na\n.TE\n",
@@ -58,19 +58,19 @@ static FILE_ROWS: [Row; 12] = [
     (
         &["roff", "tbl", "unformatted"],
         0,
-        ".pl 1\n.nf\n.TS\nl x.\nab\n.TE\n",
+        ".pl 1\n.nf\n.TS\nl q.\nab\n.TE\n",
         "tbl: line 4: bad format\n",
     ),
     (
         &["roff", "both", "unformatted"],
         0,
-        "l x.\nab\n",
+        "l q.\nab\n",
         "tbl: line 4: bad format\n",
     ),
     (
         &["roff", "both", "text", "unformatted"],
         0,
-        "no table\nl x.\nab\n",
+        "no table\nl q.\nab\n",
         "tbl: line 7: bad format\n",
     ),
     (
@@ -346,7 +346,7 @@ static FAILING_WRITERS: [FailingRow; 4] = [
         ".pl 1\n.TS\n",
         "tbl: ",
     ),
-    (&["roff", "both", "unformatted"], AMPLE, 0, "l x.\nab\n", ""),
+    (&["roff", "both", "unformatted"], AMPLE, 0, "l q.\nab\n", ""),
 ];
 
 #[test]

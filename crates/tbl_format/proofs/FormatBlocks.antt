@@ -1,122 +1,263 @@
--- The rows of a format, as they lie among its keys.
-use Rattle.std.proofs.Common.{◌≡◌, ℕ, zero, suc, ◌+◌, ◌<◌, ◌≤◌, Bool, true, false, List, [], ◌∷◌, ◌++◌, length, drop, set, get_or, Option, Some, None, refl, sym, ap, ◌∙◌, arith, length-drop, if◌then◌else◌, ◌==◌}
-use Rattle.std.proofs.lemmas.List.{drop-append-le, drop_all}
-use Rattle.tbl_format.specs.Format.{Format, asking, at_end, at_fault, greater, has_some, place_behind, with_columns, with_key, with_whole}
-use Rattle.tbl_format.specs.FormatRows.{keys_of}
+-- The rows of formats, as they lie among their keys.
+use Rattle.std.proofs.Common.{◌≡◌, ℕ, zero, suc, ◌+◌, ◌-◌, ◌<◌, ◌≤◌, Bool, true, false, not, nat_lt, List, [], ◌∷◌, ◌++◌, length, take, drop, set, get_or, refl, sym, ap, ◌∙◌, arith, length-append, length-drop, if◌then◌else◌}
+use Rattle.std.proofs.lemmas.List.{drop-append-le, drop_all, take-append-drop, take-append-le, take_all}
+use Rattle.tbl_format.specs.Format.{Format, FormatRow, asking, at_fault, fault_if, further, has_some, last_changed, nothing_asked, plain_key, with_any_key, with_columns, with_end, with_last, with_whole}
+use Rattle.tbl_format.specs.FormatRows.{key_count, keys_of, rows_kept, rows_with}
 use Rattle.tbl_format.specs.Parts.{EndWithin, last_end, parts_ending}
+use Rattle.tbl_format.specs.declared.format.Asked.{Asked}
+use Rattle.tbl_format.specs.declared.format.FormatKey.{FormatKey}
+use Rattle.tbl_format.specs.RowsServed.{first_format}
 use Rattle.tbl_format.specs.declared.format.FormatPlace.{FormatPlace}
-use Rattle.tbl_format.specs.declared.format.FormatPlace.TheVariants.{AtEnd}
+use Rattle.tbl_format.specs.declared.format.FormatPlace.TheVariants.{InRows}
+use Rattle.tbl_format.specs.declared.format.RowPart.TheVariants.{AtKeys}
+use Rattle.std.specs.List.{slice_range}
 use Rattle.tbl_format.specs.declared.format.Key.{Key}
-use Rattle.tbl_format.proofs.Parts.{EndWithin-first, EndWithin-last, EndWithin-order, last_end-append, length-slice_range, parts_ending-append, parts_ending-more, slice_range-rest}
+use Rattle.tbl_format.proofs.KeyCounting.{has_some-long, has_some-none}
+use Rattle.tbl_format.proofs.Parts.{EndWithin-first, EndWithin-last, EndWithin-order, last_end-append, length-parts, length-slice_range, parts_ending-append, part-read, parts_ending-more, slice_range-rest}
 
 -- all keys are in a row, or in the one begun
-keys_of-parts : (keys : List Key) (from : ℕ) (ends : List ℕ) → EndWithin (length keys) from ends
-    → keys_of (parts_ending keys from ends) + from ≡ last_end from ends
-keys_of-parts keys from [] within = omega arith
-keys_of-parts keys from (end ∷ ends) within =
-    omega (arith, within.0, length-slice_range keys from end (EndWithin-first (length keys) end ends within.1), keys_of-parts keys end ends within.1)
+keys_of-with : (keys : List FormatKey) (from : ℕ) (ends bars : List ℕ) → EndWithin (length keys) from ends
+    → keys_of (rows_with (parts_ending keys from ends) bars) + from ≡ last_end from ends
+keys_of-with keys from [] bars within = omega arith
+keys_of-with keys from (end ∷ ends) [] within =
+    omega (arith, within.0, length-slice_range keys from end (EndWithin-first (length keys) end ends within.1), keys_of-with keys end ends [] within.1)
+keys_of-with keys from (end ∷ ends) (n ∷ bars) within =
+    omega (arith, within.0, length-slice_range keys from end (EndWithin-first (length keys) end ends within.1), keys_of-with keys end ends bars within.1)
 
-pub key_count-all : (keys : List Key) (ends : List ℕ) → EndWithin (length keys) 0 ends
-    → keys_of (parts_ending keys 0 ends) + length (drop (last_end 0 ends) keys) ≡ length keys
-key_count-all keys ends within =
-    omega (arith, keys_of-parts keys 0 ends within, length-drop (last_end 0 ends) keys, EndWithin-last (length keys) 0 ends within)
+keys_of-parts : (rows : List FormatRow) (first : ℕ) → keys_of (take first rows) + keys_of (drop first rows) ≡ keys_of rows
+keys_of-parts rows zero = omega arith
+keys_of-parts [] (suc first) = omega arith
+keys_of-parts (row ∷ rows) (suc first) = omega (arith, keys_of-parts rows first)
 
--- a row is whole if there is an end
-pub has_some-parts : (keys : List Key) (from : ℕ) (ends : List ℕ) → has_some (parts_ending keys from ends) ≡ has_some ends
-has_some-parts keys from [] = refl
-has_some-parts keys from (end ∷ ends) = refl
-
--- a list of no length has nothing
-pub has_some-none : {A : Type 0} (xs : List A) → length xs ≤ 0 → has_some xs ≡ false
-has_some-none [] none = refl
-has_some-none (x ∷ xs) none = absurd (omega (arith, none))
-
-pub has_some-long : {A : Type 0} (xs : List A) → 0 < length xs → has_some xs ≡ true
-has_some-long [] some = absurd (omega (arith, some))
-has_some-long (x ∷ xs) some = refl
-
--- a key more stands in the row begun
-module _ (keys : List Key) (ends : List ℕ) (within : EndWithin (length keys) 0 ends) where
-  pub rows-key : (key : Key) → parts_ending (keys ++ key ∷ []) 0 ends ≡ parts_ending keys 0 ends
-  rows-key key = parts_ending-more keys (key ∷ []) 0 ends (EndWithin-order (length keys) 0 ends within)
-
-  pub row-key : (key : Key) → drop (last_end 0 ends) (keys ++ key ∷ []) ≡ drop (last_end 0 ends) keys ++ key ∷ []
-  row-key key = drop-append-le (last_end 0 ends) keys (key ∷ []) (EndWithin-last (length keys) 0 ends within)
-
-  -- the row begun is whole
-  pub rows-end : parts_ending keys 0 (ends ++ length keys ∷ []) ≡ parts_ending keys 0 ends ++ drop (last_end 0 ends) keys ∷ []
-  rows-end =
-      parts_ending-append keys 0 (length keys) ends
-      ∙ ap (λ (row : List Key). parts_ending keys 0 ends ++ row ∷ []) (slice_range-rest keys (last_end 0 ends))
-
--- a column more
-with_columns-same : (asked : List (Option ℕ)) (count : ℕ) → count ≡ length asked → with_columns asked count ≡ asked ++ None ∷ []
-with_columns-same [] zero is = refl
-with_columns-same [] (suc count) is = absurd (omega (arith, is))
-with_columns-same (a ∷ asked) zero is = absurd (omega (arith, is))
-with_columns-same (a ∷ asked) (suc count) is = ap (λ (rest : List (Option ℕ)). a ∷ rest) (with_columns-same asked count (omega (arith, is)))
-
-with_columns-within : (asked : List (Option ℕ)) (count : ℕ) → count < length asked → with_columns asked count ≡ asked
-with_columns-within [] count few = absurd (omega (arith, few))
-with_columns-within (a ∷ asked) zero few = refl
-with_columns-within (a ∷ asked) (suc count) few = ap (λ (rest : List (Option ℕ)). a ∷ rest) (with_columns-within asked count (omega (arith, few)))
-
-pub with_columns-longer : (asked : List (Option ℕ)) (count : ℕ) → count ≡ length asked → with_columns asked count ≡ asked ++ None ∷ []
-with_columns-longer asked count is = with_columns-same asked count is
-
-pub with_columns-kept : (asked : List (Option ℕ)) (count : ℕ) → count ≤ length asked → (count ≡ length asked → ⊥) → with_columns asked count ≡ asked
-with_columns-kept asked count few other = with_columns-within asked count (omega (arith, few, other))
-
--- a number asks of one column
-pub asking-set : (asked : List (Option ℕ)) (column n : ℕ) (d : Option ℕ) → column < length asked
-    → asking asked column n ≡ set asked column (Some (greater (get_or asked column d) n))
-asking-set [] column n d inside = absurd (omega (arith, inside))
-asking-set (a ∷ asked) zero n d inside = refl
-asking-set (a ∷ asked) (suc column) n d inside =
-    ap (λ (rest : List (Option ℕ)). a ∷ rest) (asking-set asked column n d (omega (arith, inside)))
-
--- a number that isn't none
-pub some-number : (n : ℕ) → (n == 0) ≡ false → 0 < n
-some-number zero is = absurd (cc)
-some-number (suc n) is = omega arith
-
--- the format that these keys and ends are
-abbrev pub format_of : List Key → List ℕ → List (Option ℕ) → Option ℕ → FormatPlace → Format
-format_of keys ends asked number place = record {
-  rows = parts_ending keys 0 ends;
+-- these keys, ends and bars, the first rows of which are of earlier formats
+abbrev pub format_of : List FormatKey → List ℕ → List ℕ → ℕ → List Asked → ℕ → FormatPlace → Format
+format_of keys ends row_bars first asked bars place = record {
+  earlier = take first (rows_kept keys ends row_bars);
+  rows = drop first (rows_kept keys ends row_bars);
   row = drop (last_end 0 ends) keys;
+  bars = bars;
   asked = asked;
-  number = number;
   place = place;
 }
 
-module _ (keys : List Key) (ends : List ℕ) (asked : List (Option ℕ)) (number : Option ℕ) (place : FormatPlace) where
-  pub format-end : 0 < length ends → record (format_of keys ends asked number place) { place = AtEnd } ≡ at_end (format_of keys ends asked number place)
-  format-end some =
-      let f : Format = format_of keys ends asked number place in
-      let has : has_some (parts_ending keys 0 ends) ≡ true = has_some-parts keys 0 ends ∙ has_some-long ends some in
-      ap (λ (t : Bool). if t then record f { place = AtEnd } else at_fault f) (sym has)
+pub key_count-all : (keys : List FormatKey) (ends row_bars : List ℕ) (first : ℕ) (asked : List Asked) (bars : ℕ) (place : FormatPlace) → EndWithin (length keys) 0 ends
+    → key_count (format_of keys ends row_bars first asked bars place) ≡ length keys
+key_count-all keys ends row_bars first asked bars place within =
+    omega (arith, keys_of-with keys 0 ends row_bars within, keys_of-parts (rows_kept keys ends row_bars) first, length-drop (last_end 0 ends) keys, EndWithin-last (length keys) 0 ends within)
+
+-- as many rows as ends
+length-with : (rows : List (List FormatKey)) (bars : List ℕ) → length (rows_with rows bars) ≡ length rows
+length-with [] bars = refl
+length-with (keys ∷ rows) [] = ap (λ (n : ℕ). suc n) (length-with rows [])
+length-with (keys ∷ rows) (n ∷ bars) = ap (λ (m : ℕ). suc m) (length-with rows bars)
+
+pub length-rows : (keys : List FormatKey) (ends bars : List ℕ) → length (rows_kept keys ends bars) ≡ length ends
+length-rows keys ends bars = length-with (parts_ending keys 0 ends) bars ∙ length-parts keys 0 ends
+
+-- one row more, with its bars
+with-append : (rows : List (List FormatKey)) (bars : List ℕ) (keys : List FormatKey) (n : ℕ) → length bars ≡ length rows
+    → rows_with (rows ++ keys ∷ []) (bars ++ n ∷ []) ≡ rows_with rows bars ++ record { keys = keys; bars = n } ∷ []
+with-append [] [] keys n same = refl
+with-append [] (m ∷ bars) keys n same = absurd (omega (arith, same))
+with-append (row ∷ rows) [] keys n same = absurd (omega (arith, same))
+with-append (row ∷ rows) (m ∷ bars) keys n same =
+    ap (λ (more : List FormatRow). record { keys = row; bars = m } ∷ more) (with-append rows bars keys n (omega (arith, same)))
+
+module _ (keys : List FormatKey) (ends row_bars : List ℕ) (within : EndWithin (length keys) 0 ends) where
+  -- a key more stands in the row begun
+  pub row-key : (key : FormatKey) → drop (last_end 0 ends) (keys ++ key ∷ []) ≡ drop (last_end 0 ends) keys ++ key ∷ []
+  row-key key = drop-append-le (last_end 0 ends) keys (key ∷ []) (EndWithin-last (length keys) 0 ends within)
+
+  pub rows-key : (key : FormatKey) → rows_kept (keys ++ key ∷ []) ends row_bars ≡ rows_kept keys ends row_bars
+  rows-key key =
+      ap (λ (rows : List (List FormatKey)). rows_with rows row_bars) (parts_ending-more keys (key ∷ []) 0 ends (EndWithin-order (length keys) 0 ends within))
+
+  -- the row begun is whole
+  pub rows-end : (n : ℕ) → length row_bars ≡ length ends
+      → rows_kept keys (ends ++ length keys ∷ []) (row_bars ++ n ∷ []) ≡ rows_kept keys ends row_bars ++ record { keys = drop (last_end 0 ends) keys; bars = n } ∷ []
+  rows-end n same =
+      ap (λ (rows : List (List FormatKey)). rows_with rows (row_bars ++ n ∷ []))
+      (parts_ending-append keys 0 (length keys) ends ∙ ap (λ (row : List FormatKey). parts_ending keys 0 ends ++ row ∷ []) (slice_range-rest keys (last_end 0 ends)))
+      ∙ with-append (parts_ending keys 0 ends) row_bars (drop (last_end 0 ends) keys) n (omega (arith, same, length-parts keys 0 ends))
+
+-- a column more
+pub with_columns-longer : (asked : List Asked) (count : ℕ) → count ≡ length asked → with_columns asked count ≡ asked ++ nothing_asked ∷ []
+with_columns-longer [] zero is = refl
+with_columns-longer [] (suc count) is = absurd (omega (arith, is))
+with_columns-longer (a ∷ asked) zero is = absurd (omega (arith, is))
+with_columns-longer (a ∷ asked) (suc count) is = ap (λ (rest : List Asked). a ∷ rest) (with_columns-longer asked count (omega (arith, is)))
+
+with_columns-within : (asked : List Asked) (count : ℕ) → count < length asked → with_columns asked count ≡ asked
+with_columns-within [] count few = absurd (omega (arith, few))
+with_columns-within (a ∷ asked) zero few = refl
+with_columns-within (a ∷ asked) (suc count) few = ap (λ (rest : List Asked). a ∷ rest) (with_columns-within asked count (omega (arith, few)))
+
+pub with_columns-kept : (asked : List Asked) (count : ℕ) → count ≤ length asked → (count ≡ length asked → ⊥) → with_columns asked count ≡ asked
+with_columns-kept asked count few other = with_columns-within asked count (omega (arith, few, other))
+
+-- what is asked changes one column
+asking-at : (change : Asked → Asked) (asked : List Asked) (at : ℕ) (d : Asked) → at < length asked
+    → asking change (suc at) asked ≡ set asked at (change (get_or asked at d))
+asking-at change [] at d inside = absurd (omega (arith, inside))
+asking-at change (a ∷ asked) zero d inside = refl
+asking-at change (a ∷ asked) (suc at) d inside =
+    ap (λ (rest : List Asked). a ∷ rest) (asking-at change asked at d (omega (arith, inside)))
+
+pub asking-set : (change : Asked → Asked) (asked : List Asked) (keys : ℕ) (d : Asked) → 0 < keys → keys ≤ length asked
+    → asking change keys asked ≡ set asked (keys - 1) (change (get_or asked (keys - 1) d))
+asking-set change asked zero d some inside = absurd (omega (arith, some))
+asking-set change asked (suc at) d some inside =
+    let same : at ≡ suc at - 1 = omega arith in
+    asking-at change asked at d (omega (arith, inside)) ∙ ap (λ (n : ℕ). set asked n (change (get_or asked n d))) same
+
+-- whether there is a row of the last format
+module _ (keys : List FormatKey) (ends row_bars : List ℕ) (first : ℕ) where
+  rows-left : length (drop first (rows_kept keys ends row_bars)) ≡ length ends - first
+  rows-left = omega (arith, length-drop first (rows_kept keys ends row_bars), length-rows keys ends row_bars)
+
+  pub has-row : first < length ends → has_some (drop first (rows_kept keys ends row_bars)) ≡ true
+  has-row some = has_some-long (drop first (rows_kept keys ends row_bars)) (omega (arith, some, rows-left))
+
+  pub has-none : length ends ≤ first → has_some (drop first (rows_kept keys ends row_bars)) ≡ false
+  has-none none = has_some-none (drop first (rows_kept keys ends row_bars)) (omega (arith, none, rows-left))
+
+  pub count-rows : length (drop first (rows_kept keys ends row_bars)) ≡ length ends - first
+  count-rows = rows-left
+
+-- the last key is said something of
+last-append : (change : FormatKey → FormatKey) (front : List FormatKey) (key : FormatKey) → last_changed change (front ++ key ∷ []) ≡ front ++ change key ∷ []
+last-append change [] key = refl
+last-append change (k ∷ []) key = refl
+last-append change (k ∷ next ∷ front) key = ap (λ (rest : List FormatKey). k ∷ rest) (last-append change (next ∷ front) key)
+
+EndWithin-less : (len more from : ℕ) (ends : List ℕ) → last_end from ends ≤ len → EndWithin more from ends → EndWithin len from ends
+EndWithin-less len more from [] last within = last
+EndWithin-less len more from (end ∷ ends) last within = (within.0, EndWithin-less len more end ends last within.1)
+
+-- a list with a last element
+record HasLast (keys : List FormatKey) : Type 0 where
+  front : List FormatKey
+  last : FormatKey
+  is : keys ≡ front ++ last ∷ []
+
+has_last-more : (key : FormatKey) (keys : List FormatKey) → HasLast keys → HasLast (key ∷ keys)
+has_last-more key keys has = record { front = key ∷ has.front; last = has.last; is = ap (λ (rest : List FormatKey). key ∷ rest) has.is }
+
+has_last : (key : FormatKey) (keys : List FormatKey) → HasLast (key ∷ keys)
+has_last key [] = record { front = []; last = key; is = refl }
+has_last key (next ∷ keys) = has_last-more key (next ∷ keys) (has_last next keys)
+
+has_last-some : (keys : List FormatKey) → 0 < length keys → HasLast keys
+has_last-some [] some = absurd (omega (arith, some))
+has_last-some (key ∷ keys) some = has_last key keys
+
+set-last : (front : List FormatKey) (key new : FormatKey) → set (front ++ key ∷ []) (length front) new ≡ front ++ new ∷ []
+set-last [] key new = refl
+set-last (k ∷ front) key new = ap (λ (rest : List FormatKey). k ∷ rest) (set-last front key new)
+
+get-last : (front : List FormatKey) (key d : FormatKey) → get_or (front ++ key ∷ []) (length front) d ≡ key
+get-last [] key d = refl
+get-last (k ∷ front) key d = get-last front key d
+
+module _ (change : FormatKey → FormatKey) (ends row_bars : List ℕ) (first : ℕ) (asked : List Asked) (bars : ℕ) (place : FormatPlace) where
+  said-last : (front : List FormatKey) (key : FormatKey) → EndWithin (length front) 0 ends
+      → format_of (front ++ change key ∷ []) ends row_bars first asked bars place ≡ with_last change (format_of (front ++ key ∷ []) ends row_bars first asked bars place)
+  said-last front key within =
+      let row = drop (last_end 0 ends) front in
+      let rows = rows-key front ends row_bars within (change key) ∙ sym (rows-key front ends row_bars within key) in
+      let changed = row-key front ends row_bars within (change key) ∙ sym (last-append change row key)
+      ∙ ap (last_changed change) (sym (row-key front ends row_bars within key)) in
+      ap (λ (rs : List FormatRow). let g : Format = record { earlier = take first rs; rows = drop first rs; row = drop (last_end 0 ends) (front ++ change key ∷ []); bars = bars; asked = asked; place = place } in g) rows
+      ∙ ap (λ (r : List FormatKey). let g : Format = record { earlier = take first (rows_kept (front ++ key ∷ []) ends row_bars); rows = drop first (rows_kept (front ++ key ∷ []) ends row_bars); row = r; bars = bars; asked = asked; place = place } in g) changed
+
+  pub format-said : (keys : List FormatKey) (at : ℕ) (new d : FormatKey) → EndWithin (length keys) 0 ends → last_end 0 ends < length keys
+      → at ≡ length keys - 1 → new ≡ change (get_or keys at d)
+      → format_of (set keys at new) ends row_bars first asked bars place ≡ with_last change (format_of keys ends row_bars first asked bars place)
+  format-said keys at new d within some at_is new_is =
+      let has = has_last-some keys (omega (arith, some)) in
+      let len = length-append has.front (has.last ∷ []) in
+      let all = ap length has.is in
+      let at_last : at ≡ length has.front = omega (arith, at_is, all, len) in
+      let new_last : new ≡ change has.last =
+      new_is ∙ ap (λ (n : ℕ). change (get_or keys n d)) at_last ∙ ap (λ (xs : List FormatKey). change (get_or xs (length has.front) d)) has.is
+      ∙ ap change (get-last has.front has.last d) in
+      let set_last : set keys at new ≡ has.front ++ change has.last ∷ [] =
+      ap (λ (n : ℕ). set keys n new) at_last ∙ ap (λ (xs : List FormatKey). set xs (length has.front) new) has.is
+      ∙ set-last has.front has.last new ∙ ap (λ (k : FormatKey). has.front ++ k ∷ []) new_last in
+      let less = EndWithin-less (length has.front) (length keys) 0 ends (omega (arith, some, all, len)) within in
+      ap (λ (xs : List FormatKey). format_of xs ends row_bars first asked bars place) set_last
+      ∙ said-last has.front has.last less
+      ∙ ap (λ (xs : List FormatKey). with_last change (format_of xs ends row_bars first asked bars place)) (sym has.is)
+
+module _ (keys : List FormatKey) (ends row_bars : List ℕ) (first : ℕ) (asked : List Asked) (bars : ℕ) (place : FormatPlace) where
+  abbrev this : Format
+  this = format_of keys ends row_bars first asked bars place
+
+  pub end-none : first ≡ length ends → at_fault this ≡ with_end this
+  end-none none =
+      ap (λ (t : Bool). fault_if (not t) this) (sym (has-none keys ends row_bars first (omega (arith, none))))
+
+  pub end-some : first < length ends → this ≡ with_end this
+  end-some some = ap (λ (t : Bool). fault_if (not t) this) (sym (has-row keys ends row_bars first some))
+
+  pub further-is : (start : FormatPlace) → first ≤ length ends → drop (last_end 0 ends) keys ≡ [] → start ≡ InRows AtKeys
+      → format_of keys ends row_bars (length ends) asked 0 start ≡ further this
+  further-is start within none start_is =
+      let all = rows_kept keys ends row_bars in
+      let earlier : take (length ends) all ≡ take first all ++ drop first all =
+      take_all (length ends) all (omega (arith, length-rows keys ends row_bars)) ∙ sym (take-append-drop first all) in
+      let rows : drop (length ends) all ≡ [] = drop_all (length ends) all (omega (arith, length-rows keys ends row_bars)) in
+      ap (λ (rs : List FormatRow). let g : Format = record { earlier = rs; rows = drop (length ends) all; row = drop (last_end 0 ends) keys; bars = 0; asked = asked; place = start } in g) earlier
+      ∙ ap (λ (rs : List FormatRow). let g : Format = record { earlier = take first all ++ drop first all; rows = rs; row = drop (last_end 0 ends) keys; bars = 0; asked = asked; place = start } in g) rows
+      ∙ ap (λ (r : List FormatKey). let g : Format = record { earlier = take first all ++ drop first all; rows = []; row = r; bars = 0; asked = asked; place = start } in g) none
+      ∙ ap (λ (p : FormatPlace). let g : Format = record { earlier = take first all ++ drop first all; rows = []; row = []; bars = 0; asked = asked; place = p } in g) start_is
 
   module _ (within : EndWithin (length keys) 0 ends) where
-    pub format-whole : 0 < length (drop (last_end 0 ends) keys)
-        → format_of keys (ends ++ length keys ∷ []) asked None place ≡ with_whole (format_of keys ends asked number place)
-    format-whole some =
-        let f : Format = format_of keys ends asked number place in
+    pub format-whole : 0 < length (drop (last_end 0 ends) keys) → length row_bars ≡ length ends → first ≤ length ends
+        → format_of keys (ends ++ length keys ∷ []) (row_bars ++ bars ∷ []) first asked 0 place ≡ with_whole this
+    format-whole some same behind =
+        let all = rows_kept keys ends row_bars in
+        let row : FormatRow = record { keys = this.row; bars = bars } in
         let nothing : drop (last_end 0 (ends ++ length keys ∷ [])) keys ≡ [] =
         ap (λ (n : ℕ). drop n keys) (last_end-append 0 (length keys) ends) ∙ drop_all (length keys) keys (omega arith) in
-        ap (λ (rows : List (List Key)). let g : Format = record { rows = rows; row = drop (last_end 0 (ends ++ length keys ∷ [])) keys; asked = asked; number = None; place = place } in g) (rows-end keys ends within)
-        ∙ ap (λ (row : List Key). let g : Format = record { rows = f.rows ++ f.row ∷ []; row = row; asked = asked; number = None; place = place } in g) nothing
-        ∙ ap (λ (t : Bool). if t then record f { rows = f.rows ++ f.row ∷ []; row = []; number = None } else record f { number = None }) (sym (has_some-long f.row some))
+        let count : first ≤ length all = omega (arith, behind, length-rows keys ends row_bars) in
+        ap (λ (rs : List FormatRow). let g : Format = record { earlier = take first rs; rows = drop first rs; row = drop (last_end 0 (ends ++ length keys ∷ [])) keys; bars = 0; asked = asked; place = place } in g) (rows-end keys ends row_bars within bars same)
+        ∙ ap (λ (rs : List FormatRow). let g : Format = record { earlier = rs; rows = drop first (all ++ row ∷ []); row = drop (last_end 0 (ends ++ length keys ∷ [])) keys; bars = 0; asked = asked; place = place } in g) (take-append-le first all (row ∷ []) count)
+        ∙ ap (λ (rs : List FormatRow). let g : Format = record { earlier = take first all; rows = rs; row = drop (last_end 0 (ends ++ length keys ∷ [])) keys; bars = 0; asked = asked; place = place } in g) (drop-append-le first all (row ∷ []) count)
+        ∙ ap (λ (r : List FormatKey). let g : Format = record { earlier = take first all; rows = drop first all ++ row ∷ []; row = r; bars = 0; asked = asked; place = place } in g) nothing
+        ∙ ap (λ (t : Bool). if t then record this { rows = this.rows ++ row ∷ []; row = []; bars = 0 } else fault_if (nat_lt 0 this.bars) this) (sym (has_some-long this.row some))
 
     pub format-key : (key : Key)
-        → format_of (keys ++ key ∷ []) ends (with_columns asked (length (drop (last_end 0 ends) keys))) None (place_behind key)
-        ≡ with_key (format_of keys ends asked number place) key
+        → format_of (keys ++ plain_key bars key ∷ []) ends row_bars first (with_columns asked (length (drop (last_end 0 ends) keys))) 0 place ≡ with_any_key key this
     format-key key =
         let more = with_columns asked (length (drop (last_end 0 ends) keys)) in
-        ap (λ (rows : List (List Key)). let g : Format = record { rows = rows; row = drop (last_end 0 ends) (keys ++ key ∷ []); asked = more; number = None; place = place_behind key } in g) (rows-key keys ends within key)
-        ∙ ap (λ (row : List Key). let g : Format = record { rows = parts_ending keys 0 ends; row = row; asked = more; number = None; place = place_behind key } in g) (row-key keys ends within key)
+        let k = plain_key bars key in
+        ap (λ (rs : List FormatRow). let h : Format = record { earlier = take first rs; rows = drop first rs; row = drop (last_end 0 ends) (keys ++ k ∷ []); bars = 0; asked = more; place = place } in h) (rows-key keys ends row_bars within k)
+        ∙ ap (λ (r : List FormatKey). let h : Format = record { earlier = this.earlier; rows = this.rows; row = r; bars = 0; asked = more; place = place } in h) (row-key keys ends row_bars within k)
 
-  pub format-same : length (drop (last_end 0 ends) keys) ≤ 0 → format_of keys ends asked None place ≡ with_whole (format_of keys ends asked number place)
-  format-same none =
-      let f : Format = format_of keys ends asked number place in
-      ap (λ (t : Bool). if t then record f { rows = f.rows ++ f.row ∷ []; row = []; number = None } else record f { number = None }) (sym (has_some-none f.row none))
+drop-drop : (m n : ℕ) (rows : List FormatRow) → drop n (drop m rows) ≡ drop (m + n) rows
+drop-drop zero n rows = let same : n ≡ 0 + n = omega arith in ap (λ (k : ℕ). drop k rows) same
+drop-drop (suc m) n [] = drop_all n [] (omega arith) ∙ sym (drop_all (suc m + n) [] (omega arith))
+drop-drop (suc m) n (row ∷ rows) =
+    let same : suc (m + n) ≡ suc m + n = omega arith in drop-drop m n rows ∙ ap (λ (k : ℕ). drop k (row ∷ rows)) same
+
+-- one of the rows of the last format
+abbrev first_keys : List (List FormatKey) → List FormatKey
+first_keys [] = []
+first_keys (keys ∷ rows) = keys
+
+with-first : (rows : List (List FormatKey)) (bars : List ℕ) (n : ℕ) → first_format (drop n (rows_with rows bars)) ≡ first_keys (drop n rows)
+with-first [] bars zero = refl
+with-first [] bars (suc n) = refl
+with-first (keys ∷ rows) [] zero = refl
+with-first (keys ∷ rows) [] (suc n) = with-first rows [] n
+with-first (keys ∷ rows) (m ∷ bars) zero = refl
+with-first (keys ∷ rows) (m ∷ bars) (suc n) = with-first rows bars n
+
+pub row-read : (keys : List FormatKey) (ends row_bars : List ℕ) (first at start end : ℕ) → first + at < length ends
+    → start ≡ get_or (0 ∷ ends) (first + at) 0 → end ≡ get_or ends (first + at) 0
+    → slice_range keys start end ≡ first_format (drop at (drop first (rows_kept keys ends row_bars)))
+row-read keys ends row_bars first at start end some start_is end_is =
+    sym (ap first_format (drop-drop first at (rows_kept keys ends row_bars))
+    ∙ with-first (parts_ending keys 0 ends) row_bars (first + at)
+    ∙ ap first_keys (part-read keys ends (first + at) start end some start_is end_is))

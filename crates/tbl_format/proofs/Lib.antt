@@ -1,3 +1,5 @@
+pub mod StepPlaces
+pub mod LeftOut
 pub mod DefaultTexts
 pub mod Words
 pub mod KeyCounting

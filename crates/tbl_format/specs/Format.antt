@@ -1,138 +1,196 @@
 -- The format of a table: rows of keys, up to a dot (Lesk, "Tbl": Format).
-use Rattle.std.specs.Prelude.{ℕ, zero, suc, ◌+◌, ◌-◌, ◌*◌, min, max, Bool, true, false, ◌||◌, List, [], ◌∷◌, ◌++◌, length, fold, Option, None, Some, codes, if◌then◌else◌, ◌==◌}
-use Rattle.std.specs.List.{list_any}
-use Rattle.roff_source.specs.Bytes.{tab, newline, blank, dot, is_digit}
-use Rattle.tbl_format.specs.Options.{comma, as_small}
-use Rattle.tbl_format.specs.declared.format.Key.{Key}
-use Rattle.tbl_format.specs.declared.format.Key.TheVariants.{Center, Left, NotBuilt, Right}
+use Rattle.std.specs.Prelude.{ℕ, zero, suc, nat_lt, ◌+◌, max, Bool, true, false, not, ◌||◌, List, [], ◌∷◌, ◌++◌, length, Option, None, Some, if◌then◌else◌}
+use Rattle.tbl_format.specs.FormatSteps.{step}
+use Rattle.tbl_format.specs.declared.format.Asked.{Asked}
+use Rattle.tbl_format.specs.declared.format.FormatKey.{FormatKey}
 use Rattle.tbl_format.specs.declared.format.FormatPlace.{FormatPlace}
 use Rattle.tbl_format.specs.declared.format.FormatPlace.TheVariants.{AtEnd, AtFault, InRows}
+use Rattle.tbl_format.specs.declared.format.Key.{Key}
+use Rattle.tbl_format.specs.declared.format.Key.TheVariants.{Above, Spanned}
+use Rattle.tbl_format.specs.declared.format.RowPart.TheVariants.{AtKeys, BehindKey}
+use Rattle.tbl_format.specs.declared.format.Standing.TheVariants.{Middle}
+use Rattle.tbl_format.specs.declared.format_step.Does.{Does}
+use Rattle.tbl_format.specs.declared.format_step.Does.TheVariants.{AddBar, AddKey, DropWidth, EndFormat, EndRow, Equalize, LeaveOut, Nothing, Separate, Stand, Widen}
+use Rattle.tbl_format.specs.declared.format_step.FormatStep.{FormatStep}
 
--- the format as far as it was read: the rows that are whole, the keys of the one begun, for each column the greatest
--- number behind its keys, and the number that is being read
+-- a row: its keys, each with the bars in front of it and with its letters, and the bars behind the last
+pub record FormatRow : Type 0 where
+  pub keys : List FormatKey
+  pub bars : ℕ
+
+-- the formats as far as they were read: the rows of those before the last, and those of the last that are whole; the keys of
+-- the row begun, and the bars behind them; what the keys of each column ask for it; and where the reading stands
 pub record Format : Type 0 where
-  pub rows : List (List Key)
-  pub row : List Key
-  pub asked : List (Option ℕ)
-  pub number : Option ℕ
+  pub earlier : List FormatRow
+  pub rows : List FormatRow
+  pub row : List FormatKey
+  pub bars : ℕ
+  pub asked : List Asked
   pub place : FormatPlace
 
 abbrev pub no_format : Format
-no_format = record { rows = []; row = []; asked = []; number = None; place = InRows }
+no_format = record { earlier = []; rows = []; row = []; bars = 0; asked = []; place = InRows AtKeys }
 
--- the key that a byte is, in either case
-abbrev pub key_of : ℕ → Option Key
-key_of b =
-    let letter = as_small b in
-    if letter == 108 then Some Left
-    else if letter == 114 then Some Right
-    else if letter == 99 then Some Center
-    else if list_any (λ c. letter == c) (codes "nas^_-=") then Some NotBuilt
-    else None
-
--- whether a byte separates rows
-abbrev pub separates_rows : ℕ → Bool
-separates_rows b = b == comma || b == newline
-
--- whether a byte may stand between keys and numbers
-abbrev pub is_between : ℕ → Bool
-is_between b = b == blank || b == tab
-
--- the greatest number; greater ones read as that
-abbrev pub greatest_number : ℕ
-greatest_number = 2147483647
-
--- a number with one digit more
-abbrev pub with_digit : Option ℕ → ℕ → ℕ
-with_digit None b = b - 48
-with_digit (Some n) b = min (n * 10 + (b - 48)) greatest_number
-
--- the greater of what was asked and a number
-abbrev pub greater : Option ℕ → ℕ → ℕ
-greater None n = n
-greater (Some m) n = max m n
-
--- what was asked of a column, and a number that asks it
-abbrev pub asking : List (Option ℕ) → ℕ → ℕ → List (Option ℕ)
-asking [] column n = []
-asking (m ∷ asked) zero n = Some (greater m n) ∷ asked
-asking (m ∷ asked) (suc column) n = m ∷ asking asked column n
-
--- one column more, behind a row that has so many keys, if it is the longest
-abbrev pub with_columns : List (Option ℕ) → ℕ → List (Option ℕ)
-with_columns [] count = None ∷ []
-with_columns (a ∷ asked) zero = a ∷ asked
-with_columns (a ∷ asked) (suc count) = a ∷ with_columns asked count
+-- a further format begins, behind `.T&`
+abbrev pub further : Format → Format
+further f = record f { earlier = f.earlier ++ f.rows; rows = []; row = []; bars = 0; place = InRows AtKeys }
 
 -- whether a list has an element
 abbrev pub has_some : {A : Type 0} → List A → Bool
 has_some [] = false
 has_some (x ∷ xs) = true
 
--- where the reading stands behind a key: one that can't be laid out is a fault
-abbrev pub place_behind : Key → FormatPlace
-place_behind Left = InRows
-place_behind Right = InRows
-place_behind Center = InRows
-place_behind NotBuilt = AtFault
-
--- one key more in the row begun
-abbrev pub with_key : Format → Key → Format
-with_key f key = record {
-  rows = f.rows;
-  row = f.row ++ key ∷ [];
-  asked = with_columns f.asked (length f.row);
-  number = None;
-  place = place_behind key;
-}
-
 -- a fault
 abbrev pub at_fault : Format → Format
 at_fault f = record f { place = AtFault }
 
--- one digit more of a number, which asks of the column of the key in front of it; without a key it is a fault
-abbrev pub with_number : Format → ℕ → Format
-with_number f n = record f { asked = asking f.asked (length f.row - 1) n; number = Some n }
+abbrev pub fault_if : Bool → Format → Format
+fault_if true f = at_fault f
+fault_if false f = f
 
-abbrev pub with_digit_of : Format → ℕ → Format
-with_digit_of f b = if has_some f.row then with_number f (with_digit f.number b) else at_fault f
+-- a key behind so many bars, without letters
+abbrev pub plain_key : ℕ → Key → FormatKey
+plain_key bars key = record { bars = bars; key = key; standing = Middle; has_no_width = false }
 
--- the row begun is whole, if it has a key
+-- nothing is asked
+abbrev pub nothing_asked : Asked
+nothing_asked = record { separation = None; least = None; is_equal = false }
+
+-- one column more, behind a row that has so many keys, if it is the longest
+abbrev pub with_columns : List Asked → ℕ → List Asked
+with_columns [] count = nothing_asked ∷ []
+with_columns (a ∷ asked) zero = a ∷ asked
+with_columns (a ∷ asked) (suc count) = a ∷ with_columns asked count
+
+-- a cell can't go on from the left in a first column, nor from above in the first row of the first format
+abbrev pub is_misplaced : Key → Format → Bool
+is_misplaced Spanned f = not (has_some f.row)
+is_misplaced Above f = not (has_some f.earlier || has_some f.rows)
+is_misplaced key f = false
+
+-- one key more in the row begun
+abbrev pub with_any_key : Key → Format → Format
+with_any_key key f = record f { row = f.row ++ plain_key f.bars key ∷ []; bars = 0; asked = with_columns f.asked (length f.row) }
+
+abbrev pub with_key : Key → Format → Format
+with_key key f = fault_if (is_misplaced key f) (with_any_key key f)
+
+-- one bar more: at a boundary there are two at the most
+abbrev pub with_bar : Format → Format
+with_bar f = if nat_lt f.bars 2 then record f { bars = f.bars + 1 } else at_fault f
+
+-- what the last of so many keys asks for its column
+abbrev pub asking : (Asked → Asked) → ℕ → List Asked → List Asked
+asking change zero asked = asked
+asking change (suc keys) [] = []
+asking change (suc zero) (a ∷ asked) = change a ∷ asked
+asking change (suc (suc keys)) (a ∷ asked) = a ∷ asking change (suc keys) asked
+
+abbrev pub with_asked : (Asked → Asked) → Format → Format
+with_asked change f = record f { asked = asking change (length f.row) f.asked }
+
+-- the greater of what was asked and a number
+abbrev pub greater : Option ℕ → ℕ → ℕ
+greater None n = n
+greater (Some m) n = max m n
+
+abbrev pub asked_by : Does → Asked → Asked
+asked_by (Separate n) a = record a { separation = Some (greater a.separation n) }
+asked_by (Widen n) a = record a { least = Some (greater a.least n) }
+asked_by Equalize a = record a { is_equal = true }
+asked_by does a = a
+
+-- what a letter says of the last key
+abbrev pub last_changed : (FormatKey → FormatKey) → List FormatKey → List FormatKey
+last_changed change [] = []
+last_changed change (key ∷ []) = change key ∷ []
+last_changed change (key ∷ next ∷ keys) = key ∷ last_changed change (next ∷ keys)
+
+abbrev pub with_last : (FormatKey → FormatKey) → Format → Format
+with_last change f = record f { row = last_changed change f.row }
+
+abbrev pub said_by : Does → FormatKey → FormatKey
+said_by DropWidth key = record key { has_no_width = true }
+said_by (Stand standing) key = record key { standing = standing }
+said_by does key = key
+
+-- the row begun is whole, if it has a key; bars alone are a fault
 abbrev pub with_whole : Format → Format
 with_whole f =
-    if has_some f.row then record f { rows = f.rows ++ f.row ∷ []; row = []; number = None }
-    else record f { number = None }
+    if has_some f.row then record f { rows = f.rows ++ record { keys = f.row; bars = f.bars } ∷ []; row = []; bars = 0 }
+    else fault_if (nat_lt 0 f.bars) f
 
--- the end of the format, which has a row; else it is a fault
-abbrev pub at_end : Format → Format
-at_end f = if has_some f.rows then record f { place = AtEnd } else at_fault f
+-- a format without a row is a fault
+abbrev pub with_end : Format → Format
+with_end f = fault_if (not (has_some f.rows)) f
 
--- a byte that is no digit and no key
-abbrev pub behind_other : Format → ℕ → Format
-behind_other f b =
-    if separates_rows b then with_whole f
-    else if is_between b then record f { number = None }
-    else if b == dot then at_end (with_whole f)
-    else at_fault f
+-- what a byte does is done
+abbrev pub done : Does → Format → Format
+done Nothing f = f
+done (AddKey key) f = with_key key f
+done AddBar f = with_bar f
+done (Separate n) f = with_asked (asked_by (Separate n)) f
+done (Widen n) f = with_asked (asked_by (Widen n)) f
+done Equalize f = with_asked (asked_by Equalize) f
+done DropWidth f = with_last (said_by DropWidth) f
+done (Stand standing) f = with_last (said_by (Stand standing)) f
+done (LeaveOut letter) f = f
+done EndRow f = with_whole f
+done EndFormat f = with_end (with_whole f)
 
--- a byte that is no digit
-abbrev pub behind_key : Format → ℕ → Option Key → Format
-behind_key f b (Some key) = with_key f key
-behind_key f b None = behind_other f b
+-- behind a step
+abbrev pub stepped : FormatStep → Format → Format
+stepped s f = done s.does (record f { place = s.place })
 
--- one byte more of the rows
-abbrev pub in_rows : Format → ℕ → Format
-in_rows f b = if is_digit b then with_digit_of f b else behind_key f b (key_of b)
+-- a byte that is looked at again stands behind a key
+abbrev pub looked_again : Bool → List ℕ → ℕ → Format → Format
+looked_again false front b f = f
+looked_again true front b f = stepped (step BehindKey front b) f
 
--- one byte more, by where the reading stands: behind the end and a fault nothing is read
-abbrev pub format_byte_at : FormatPlace → Format → ℕ → Format
-format_byte_at InRows f b = in_rows f b
-format_byte_at AtEnd f b = f
-format_byte_at AtFault f b = f
+abbrev pub behind_step : FormatStep → List ℕ → ℕ → Format → Format
+behind_step s front b f = looked_again s.is_again front b (stepped s f)
 
-abbrev pub format_byte : Format → ℕ → Format
-format_byte f b = format_byte_at f.place f b
+-- one byte more, which stands behind this front of its line: behind the end and a fault nothing is read
+abbrev pub format_byte_at : FormatPlace → List ℕ → Format → ℕ → Format
+format_byte_at (InRows part) front f b = behind_step (step part front b) front b f
+format_byte_at AtEnd front f b = f
+format_byte_at AtFault front f b = f
 
--- the format behind such bytes
+abbrev pub format_byte : List ℕ → Format → ℕ → Format
+format_byte front f b = format_byte_at f.place front f b
+
+-- more bytes, behind a front of their line
+abbrev pub read_behind : List ℕ → Format → List ℕ → Format
+read_behind front f [] = f
+read_behind front f (b ∷ bytes) = read_behind (front ++ b ∷ []) (format_byte front f b) bytes
+
+-- the format behind a line
 abbrev pub format_read : Format → List ℕ → Format
-format_read f bytes = fold format_byte f bytes
+format_read f line = read_behind [] f line
+
+-- the letter of what is left out, if anything is
+abbrev pub left_out : Does → Option ℕ
+left_out (LeaveOut letter) = Some letter
+left_out does = None
+
+-- at a byte
+abbrev pub last_does : FormatStep → List ℕ → ℕ → Does
+last_does s front b = if s.is_again then (step BehindKey front b).does else s.does
+
+abbrev pub left_out_at : FormatPlace → List ℕ → ℕ → Option ℕ
+left_out_at (InRows part) front b = left_out (last_does (step part front b) front b)
+left_out_at AtEnd front b = None
+left_out_at AtFault front b = None
+
+abbrev pub if_letter : Option ℕ → List ℕ
+if_letter None = []
+if_letter (Some letter) = letter ∷ []
+
+-- and in a line
+abbrev pub left_out_behind : List ℕ → Format → List ℕ → List ℕ
+left_out_behind front f [] = []
+left_out_behind front f (b ∷ bytes) =
+    if_letter (left_out_at f.place front b) ++ left_out_behind (front ++ b ∷ []) (format_byte front f b) bytes
+
+abbrev pub letters_left_out : Format → List ℕ → List ℕ
+letters_left_out f line = left_out_behind [] f line

@@ -1,11 +1,11 @@
 -- What is kept of a format while it is read.
-use Rattle.std.specs.Prelude.{ℕ, ◌+◌, ◌≤◌, List, [], ◌∷◌, length, drop, vec_capacity}
-use Rattle.tbl_format.specs.Format.{Format}
+use Rattle.std.specs.Prelude.{◌≡◌, ℕ, ◌+◌, ◌≤◌, List, [], ◌∷◌, length, take, drop, vec_capacity}
+use Rattle.tbl_format.specs.Format.{Format, FormatRow}
 use Rattle.tbl_format.specs.Parts.{EndWithin, last_end, parts_ending}
-use Rattle.tbl_format.specs.declared.format.Key.{Key}
+use Rattle.tbl_format.specs.declared.format.FormatKey.{FormatKey}
 use Rattle.tbl_format.specs.declared.format_rows.FormatRows.TheInside.{Inside}
 
--- the format, and how many keys and columns there is room for
+-- the formats, and how many keys and columns there is room for
 pub record KeptFormat : Type 0 where
   pub format : Format
   pub key_room : ℕ
@@ -16,21 +16,32 @@ abbrev pub keeping : KeptFormat → Format → KeptFormat
 keeping k f = record k { format = f }
 
 -- the keys of rows
-abbrev pub keys_of : List (List Key) → ℕ
+abbrev pub keys_of : List FormatRow → ℕ
 keys_of [] = 0
-keys_of (row ∷ rows) = length row + keys_of rows
+keys_of (row ∷ rows) = length row.keys + keys_of rows
 
--- the keys of a format, those of the row begun too
+-- the keys of all formats, those of the row begun too
 abbrev pub key_count : Format → ℕ
-key_count f = keys_of f.rows + length f.row
+key_count f = keys_of f.earlier + (keys_of f.rows + length f.row)
+
+-- rows of these keys, with these bars behind the last of each
+abbrev pub rows_with : List (List FormatKey) → List ℕ → List FormatRow
+rows_with [] bars = []
+rows_with (keys ∷ rows) [] = record { keys = keys; bars = 0 } ∷ rows_with rows []
+rows_with (keys ∷ rows) (n ∷ bars) = record { keys = keys; bars = n } ∷ rows_with rows bars
+
+-- all rows that are whole
+abbrev pub rows_kept : List FormatKey → List ℕ → List ℕ → List FormatRow
+rows_kept keys ends bars = rows_with (parts_ending keys 0 ends) bars
 
 abbrev pub kept_by : Inside → KeptFormat
 kept_by a = record {
   format = record {
-    rows = parts_ending a.keys.items 0 a.ends.items;
+    earlier = take a.first (rows_kept a.keys.items a.ends.items a.row_bars.items);
+    rows = drop a.first (rows_kept a.keys.items a.ends.items a.row_bars.items);
     row = drop (last_end 0 a.ends.items) a.keys.items;
+    bars = a.bars;
     asked = a.asked.items;
-    number = a.number;
     place = a.place;
   };
   key_room = a.key_room;
@@ -41,7 +52,10 @@ kept_by a = record {
 pub record IsSound (a : Inside) : Type 0 where
   pub keys_reserved : a.key_room ≤ vec_capacity a.keys
   pub ends_reserved : a.key_room ≤ vec_capacity a.ends
+  pub bars_reserved : a.key_room ≤ vec_capacity a.row_bars
   pub columns_reserved : a.column_room ≤ vec_capacity a.asked
   pub keys_within : length a.keys.items ≤ a.key_room
   pub ends : EndWithin (length a.keys.items) 0 a.ends.items
+  pub bars : length a.row_bars.items ≡ length a.ends.items
+  pub first : a.first ≤ length a.ends.items
   pub row : length (drop (last_end 0 a.ends.items) a.keys.items) ≤ length a.asked.items

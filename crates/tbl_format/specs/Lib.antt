@@ -1,7 +1,12 @@
 pub mod TblLimits
 pub mod Messages
 pub mod Options
+pub mod OptionWords
+pub mod Keys
+pub mod LaidOut
+pub mod FormatSteps
 pub mod Format
+pub mod FormatWorked
 pub mod RowsServed
 pub mod Notes
 pub mod Parts

@@ -2,21 +2,30 @@
 use Rattle.std.specs.Prelude.{ℕ, ◌≤◌, List, map, slice_range, take}
 use Rattle.std.specs.List.{AllByRecursion}
 use Rattle.tbl_format.specs.declared.message.Message.{Message}
-use Rattle.tbl_format.specs.declared.message.Message.TheVariants.{BadFormat as BadFormatMessage, OptionIgnored as OptionIgnoredMessage, TooManyFields as TooManyFieldsMessage}
+use Rattle.tbl_format.specs.declared.message.Message.TheVariants.{BadFormat as BadFormatMessage, LeftOut as LeftOutMessage, OptionIgnored as OptionIgnoredMessage, TooManyFields as TooManyFieldsMessage}
 use Rattle.tbl_format.specs.declared.message.Told.{Told}
 use Rattle.tbl_format.specs.declared.notes.Cause.{Cause}
-use Rattle.tbl_format.specs.declared.notes.Cause.TheVariants.{BadFormat, OptionIgnored, TooManyFields}
+use Rattle.tbl_format.specs.declared.notes.Cause.TheVariants.{BadFormat, LeftOut, OptionIgnored, TooManyFields}
 use Rattle.tbl_format.specs.declared.notes.KeptNote.{KeptNote}
 
 -- the message of an option that is ignored has 32 bytes of it at the most
 abbrev pub ignored_message : List ℕ → Message
 ignored_message word = OptionIgnoredMessage (record { items = take 32 word })
 
+-- the message of what is left out of a format, by its letter
+abbrev pub left_out_message : ℕ → Message
+left_out_message letter = LeftOutMessage letter
+
 -- what is reported; the option lies in this block
 abbrev pub message_of : List ℕ → Cause → Message
 message_of block BadFormat = BadFormatMessage
 message_of block TooManyFields = TooManyFieldsMessage
 message_of block (OptionIgnored from to) = ignored_message (slice_range block from to)
+message_of block (LeftOut letter) = left_out_message letter
+
+-- what is left out, as it is kept
+abbrev pub left_out_note : ℕ → ℕ → KeptNote
+left_out_note line letter = record { line = line; cause = LeftOut letter }
 
 -- a message that names a line
 abbrev pub told_at : ℕ → Message → Told
@@ -33,6 +42,7 @@ abbrev pub IsWithin : ℕ → Cause → Type 0
 IsWithin len BadFormat = Unit {0}
 IsWithin len TooManyFields = Unit {0}
 IsWithin len (OptionIgnored from to) = (from ≤ to) × (to ≤ len)
+IsWithin len (LeftOut letter) = Unit {0}
 
 abbrev pub NotesWithin : ℕ → List KeptNote → Type 0
 NotesWithin len notes = AllByRecursion (λ note. IsWithin len note.cause) notes

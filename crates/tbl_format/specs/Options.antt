@@ -1,6 +1,7 @@
 -- The options of a table: what its first line says up to a `;` (Lesk, "Tbl": Options).
 use Rattle.std.specs.Prelude.{ℕ, suc, ◌+◌, ◌-◌, Bool, true, false, not, ◌&&◌, ◌||◌, List, [], ◌∷◌, ◌++◌, length, map, fold, take, slice_index, slice_range, nat_le, nat_lt, Option, None, Some, is_some, bytes_eq, codes, if◌then◌else◌, ◌==◌}
 use Rattle.roff_source.specs.Bytes.{tab, blank}
+use Rattle.tbl_format.specs.LaidOut.{is_option_laid_out}
 use Rattle.tbl_format.specs.declared.options.Options.{Options}
 use Rattle.tbl_format.specs.declared.options.Settings.{Settings}
 use Rattle.tbl_format.specs.declared.options.TableOption.{TableOption}
@@ -93,53 +94,76 @@ option_words text = words_behind false [] text
 
 -- the options of a table that gives none
 abbrev pub no_options : Options
-no_options = record { separator = tab; centered = false }
+no_options = record { separator = tab; centered = false; expanded = false }
 
 abbrev pub nothing_set : Settings
 nothing_set = record { options = no_options; are_built = true }
 
--- one option more
-abbrev pub with_option : Settings → TableOption → Settings
-with_option s (Separator b) = record { options = record { separator = b; centered = s.options.centered }; are_built = s.are_built }
-with_option s Center = record { options = record { separator = s.options.separator; centered = true }; are_built = s.are_built }
-with_option s WithoutEffect = s
-with_option s Unknown = s
-with_option s Expand = record { options = s.options; are_built = false }
-with_option s Box = record { options = s.options; are_built = false }
-with_option s AllBox = record { options = s.options; are_built = false }
-with_option s DoubleBox = record { options = s.options; are_built = false }
+-- an option whose brackets are a word by themselves, by what stands in them
+abbrev pub separating : Option ℕ → TableOption
+separating (Some b) = Separator b
+separating None = Unknown
 
--- one word more; behind an option that can't be laid out none counts
-abbrev pub with_word : Settings → List ℕ → Settings
-with_word s word = if s.are_built then with_option s (option_of word) else s
+abbrev pub option_by : List ℕ → Option (List ℕ) → TableOption
+option_by name argument =
+    if is_name (codes "tab") name then separating (one_byte argument)
+    else if is_name (codes "delim") name && are_two_bytes argument || is_name (codes "linesize") name && is_some argument then WithoutEffect
+    else Unknown
 
--- what a text says, all of which is options
-abbrev pub options_read : List ℕ → Settings
-options_read text = fold with_word nothing_set (option_words text)
+abbrev pub option_of_two : List ℕ → List ℕ → TableOption
+option_of_two name brackets = option_by name (argument_of (codes "(") brackets)
 
 -- whether an option isn't known
 abbrev pub is_unknown : TableOption → Bool
-is_unknown (Separator b) = false
-is_unknown Center = false
-is_unknown WithoutEffect = false
 is_unknown Unknown = true
-is_unknown Expand = false
-is_unknown Box = false
-is_unknown AllBox = false
-is_unknown DoubleBox = false
+is_unknown option = false
 
--- whether a word is ignored, and told
-abbrev pub is_ignored : Settings → List ℕ → Bool
-is_ignored s word = s.are_built && is_unknown (option_of word)
+-- an option: its word, or the first of its two, and what it says
+pub record Said : Type 0 where
+  pub word : List ℕ
+  pub option : TableOption
 
--- of these words those that are ignored
-abbrev pub ignored_behind : Settings → List (List ℕ) → List (List ℕ)
+-- the options of words: a word and the next one where they are known together, and else each by itself
+abbrev pub options_of : List (List ℕ) → List Said
+options_of [] = []
+options_of (word ∷ []) = record { word = word; option = option_of word } ∷ []
+options_of (word ∷ next ∷ words) =
+    if is_unknown (option_of_two word next) then record { word = word; option = option_of word } ∷ options_of (next ∷ words)
+    else record { word = word; option = option_of_two word next } ∷ options_of words
+
+-- what an option sets
+abbrev pub with_set : TableOption → Options → Options
+with_set (Separator b) o = record o { separator = b }
+with_set Center o = record o { centered = true }
+with_set Expand o = record o { expanded = true }
+with_set option o = o
+
+abbrev pub with_option : Settings → TableOption → Settings
+with_option s option = record { options = with_set option s.options; are_built = is_option_laid_out option }
+
+-- one option more; behind one that isn't laid out none counts
+abbrev pub with_counted : Settings → TableOption → Settings
+with_counted s option = if s.are_built then with_option s option else s
+
+abbrev pub with_said : Settings → Said → Settings
+with_said s said = with_counted s said.option
+
+-- what a text says, all of which is options
+abbrev pub options_read : List ℕ → Settings
+options_read text = fold with_said nothing_set (options_of (option_words text))
+
+-- whether an option is ignored, and told
+abbrev pub is_ignored : Settings → Said → Bool
+is_ignored s said = s.are_built && is_unknown said.option
+
+-- of these options those that are ignored, as they are written
+abbrev pub ignored_behind : Settings → List Said → List (List ℕ)
 ignored_behind s [] = []
-ignored_behind s (word ∷ words) =
-    if is_ignored s word then word ∷ ignored_behind (with_word s word) words else ignored_behind (with_word s word) words
+ignored_behind s (said ∷ more) =
+    if is_ignored s said then said.word ∷ ignored_behind (with_said s said) more else ignored_behind (with_said s said) more
 
 abbrev pub ignored_options : List ℕ → List (List ℕ)
-ignored_options text = ignored_behind nothing_set (option_words text)
+ignored_options text = ignored_behind nothing_set (options_of (option_words text))
 
 -- where the options end, counted from a place on: at the first `;` outside brackets, if there is one
 abbrev pub options_end_from : Bool → ℕ → List ℕ → Option ℕ

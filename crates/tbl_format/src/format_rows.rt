@@ -1,31 +1,35 @@
-//! The format of a table, as it is kept while it is read.
+//! The formats of a table, as they are kept while they are read.
 
-ghost use Rattle.std.specs.Prelude.{◌≡◌, ◌+◌, ◌<◌, ◌≤◌, [], ◌∷◌, length, drop, vec_capacity, IfOk};
-ghost use Rattle.tbl_format.specs.Format.{asking, format_byte, format_read, greater, has_some};
-ghost use Rattle.tbl_format.specs.Format.{no_format, with_columns, with_digit};
-ghost use Rattle.tbl_format.specs.KeyCounts.{Counts};
+ghost use Rattle.std.specs.Prelude.{◌≡◌, ◌+◌, ◌<◌, ◌≤◌, ◌++◌, [], ◌∷◌, length, drop, vec_capacity};
+ghost use Rattle.std.specs.Prelude.{IfOk};
+ghost use Rattle.tbl_format.specs.Format.{asked_by, asking, format_byte, format_read, further};
+ghost use Rattle.tbl_format.specs.Format.{greater, is_misplaced, no_format, said_by, with_columns};
+ghost use Rattle.tbl_format.specs.KeyCounts.{Counts, IsOnLine, StandsOnLine};
 ghost use Rattle.tbl_format.specs.Parts.{last_end};
 ghost use Rattle.tbl_format.specs.RowsServed.{first_format};
 
-use crate::format::{FormatPlace, Key, KeyCount, is_between, key_of, place_behind, separates_rows};
+use crate::format::{Asked, FormatKey, FormatPlace, Key, RowPart};
+use crate::format_step::{Does, FormatStep, step};
+use crate::key_count::KeyCount;
 use crate::part_starts::part_start;
 use std::alloc::{AllocError, Global};
 use std::marker::Model;
 
-/// The greatest number; greater ones read as that.
-const GREATEST_NUMBER: u64 = 2_147_483_647;
-
-/// The rows of a format, and the one begun. All its memory is reserved as it is made.
+/// The rows of the formats, and the one begun. All its memory is reserved as it is made.
 #[derive(Drop)]
 pub struct FormatRows {
     /// The keys of all rows, and of the one begun.
-    keys: Vec<Key>,
+    keys: Vec<FormatKey>,
     /// Where each row that is whole ends among them.
     ends: Vec<usize>,
-    /// For each column the greatest number behind its keys.
-    asked: Vec<Option<u32>>,
-    /// The number that is being read.
-    number: Option<u32>,
+    /// How many bars stand behind its last key.
+    row_bars: Vec<u8>,
+    /// For each column what its keys ask for it.
+    asked: Vec<Asked>,
+    /// How many rows are of formats before this one.
+    first: usize,
+    /// How many bars stand behind the keys of the row begun.
+    bars: u8,
     place: FormatPlace,
     key_room: usize,
     column_room: usize,
@@ -42,8 +46,8 @@ impl Model for FormatRows {
 }
 
 impl FormatRows {
-    ghost use Rattle.tbl_format.specs.Format.{at_end, at_fault, behind_other, in_rows};
-    ghost use Rattle.tbl_format.specs.Format.{with_digit_of, with_key, with_whole};
+    ghost use Rattle.tbl_format.specs.Format.{done, fault_if, stepped, with_any_key, with_asked};
+    ghost use Rattle.tbl_format.specs.Format.{with_bar, with_end, with_key, with_last, with_whole};
     ghost use Rattle.tbl_format.specs.FormatRows.{keeping, key_count};
 
     /// No byte of a format, with room for so many keys and columns.
@@ -54,9 +58,11 @@ impl FormatRows {
         Ok(FormatRows {
             keys: Vec::with_capacity(alloc, keys)?,
             ends: Vec::with_capacity(alloc, keys)?,
+            row_bars: Vec::with_capacity(alloc, keys)?,
             asked: Vec::with_capacity(alloc, columns)?,
-            number: None,
-            place: FormatPlace::InRows,
+            first: 0,
+            bars: 0,
+            place: FormatPlace::InRows(RowPart::AtKeys),
             key_room: keys,
             column_room: columns,
         })
@@ -68,97 +74,158 @@ impl FormatRows {
     {
         self.keys.clear();
         self.ends.clear();
+        self.row_bars.clear();
         self.asked.clear();
-        self.number = None;
-        self.place = FormatPlace::InRows;
+        self.first = 0;
+        self.bars = 0;
+        self.place = FormatPlace::InRows(RowPart::AtKeys);
     }
 
-    /// More bytes.
+    /// More bytes, which begin a line.
     pub fn take_all(&mut self, bytes: &[u8])
         requires keys { key_count self.old.format + length bytes.now ≤ self.old.key_room }
         requires columns { length (format_read self.old.format bytes.now).asked
             ≤ self.old.column_room }
+        requires place { StandsOnLine 0 self.old.format.place }
         ensures { self.new ≡ keeping self.old (format_read self.old.format bytes.now) }
     {
         for at in 0..bytes.len() {
-            self.take(bytes[at]);
+            self.take(&bytes[..at], bytes[at]);
         }
     }
 
-    /// One byte more.
-    pub fn take(&mut self, byte: u8)
+    /// One byte more, which stands behind this front of its line.
+    pub fn take(&mut self, front: &[u8], byte: u8)
         requires keys { key_count self.old.format < self.old.key_room }
-        requires columns { length (format_byte self.old.format byte).asked
+        requires columns { length (format_byte front.now self.old.format byte).asked
             ≤ self.old.column_room }
-        ensures { self.new ≡ keeping self.old (format_byte self.old.format byte) }
+        requires place { StandsOnLine (length front.now) self.old.format.place }
+        ensures { self.new ≡ keeping self.old (format_byte front.now self.old.format byte) }
     {
         match self.place {
-            FormatPlace::InRows => self.take_in_rows(byte),
+            FormatPlace::InRows(part) => self.take_in_rows(part, front, byte),
             FormatPlace::AtEnd => {}
             FormatPlace::AtFault => {}
         }
     }
 
-    /// One byte more of its rows.
-    fn take_in_rows(&mut self, byte: u8)
+    /// One byte more of its rows, of which this part is read.
+    fn take_in_rows(&mut self, part: RowPart, front: &[u8], byte: u8)
         requires keys { key_count self.old.format < self.old.key_room }
-        requires columns { length (in_rows self.old.format byte).asked ≤ self.old.column_room }
-        ensures { self.new ≡ keeping self.old (in_rows self.old.format byte) }
+        requires columns { length (format_byte front.now self.old.format byte).asked
+            ≤ self.old.column_room }
+        requires part { self.old.format.place ≡ FormatPlace.InRows part }
+        requires place { IsOnLine (length front.now) part }
+        ensures { self.new ≡ keeping self.old (format_byte front.now self.old.format byte) }
     {
-        if byte.is_ascii_digit() {
-            return self.take_digit(byte);
-        }
-        match key_of(byte) {
-            Some(key) => self.take_key(key),
-            None => self.take_other(byte),
+        let first = step(part, front, byte);
+        self.take_step(first);
+        if first.is_again {
+            self.take_step(step(RowPart::BehindKey, front, byte));
         }
     }
 
-    /// A digit of a number: it asks of the column of the key in front of it.
-    fn take_digit(&mut self, byte: u8)
-        requires from { 48 ≤ byte }
-        requires to { byte < 58 }
-        ensures { self.new ≡ keeping self.old (with_digit_of self.old.format byte) }
+    /// One step more.
+    fn take_step(&mut self, step: FormatStep)
+        requires keys { key_count self.old.format < self.old.key_room }
+        requires columns { length (stepped step self.old.format).asked ≤ self.old.column_room }
+        ensures { self.new ≡ keeping self.old (stepped step self.old.format) }
     {
-        let keys = self.row_len();
-        if keys == 0 {
-            self.place = FormatPlace::AtFault;
-            return;
+        self.place = step.place;
+        self.take_does(step.does);
+    }
+
+    /// What a byte does.
+    fn take_does(&mut self, does: Does)
+        requires keys { key_count self.old.format < self.old.key_room }
+        requires columns { length (done does self.old.format).asked ≤ self.old.column_room }
+        ensures { self.new ≡ keeping self.old (done does self.old.format) }
+    {
+        match does {
+            Does::Nothing => {}
+            Does::AddKey(key) => self.take_key(key),
+            Does::AddBar => self.take_bar(),
+            Does::Separate(_) => self.ask(does),
+            Does::Widen(_) => self.ask(does),
+            Does::Equalize => self.ask(does),
+            Does::DropWidth => self.say(does),
+            Does::Stand(_) => self.say(does),
+            Does::LeaveOut(_) => {}
+            Does::EndRow => self.end_row(),
+            Does::EndFormat => {
+                self.end_row();
+                self.end();
+            }
         }
-        let number = with_digit(self.number, byte);
-        ask(&mut self.asked, keys - 1, number);
-        self.number = Some(number);
     }
 
     /// One key more in the row begun.
     fn take_key(&mut self, key: Key)
         requires keys { key_count self.old.format < self.old.key_room }
-        requires columns { length (with_key self.old.format key).asked ≤ self.old.column_room }
-        ensures { self.new ≡ keeping self.old (with_key self.old.format key) }
+        requires columns { length (with_key key self.old.format).asked ≤ self.old.column_room }
+        ensures { self.new ≡ keeping self.old (with_key key self.old.format) }
+    {
+        let is_misplaced = self.is_misplaced(key);
+        self.push_key(key);
+        self.take_fault(is_misplaced);
+    }
+
+    /// One key more, wherever it stands.
+    fn push_key(&mut self, key: Key)
+        requires keys { key_count self.old.format < self.old.key_room }
+        requires columns { length (with_any_key key self.old.format).asked
+            ≤ self.old.column_room }
+        ensures { self.new ≡ keeping self.old (with_any_key key self.old.format) }
     {
         let keys = self.row_len();
         push_column(&mut self.asked, keys);
-        self.keys.push_reserved(key);
-        self.number = None;
-        self.place = place_behind(key);
+        self.keys.push_reserved(FormatKey::new(self.bars, key));
+        self.bars = 0;
     }
 
-    /// A byte that is neither a digit nor a key.
-    fn take_other(&mut self, byte: u8)
-        ensures { self.new ≡ keeping self.old (behind_other self.old.format byte) }
+    /// A fault, if this holds.
+    fn take_fault(&mut self, is_fault: bool)
+        ensures { self.new ≡ keeping self.old (fault_if is_fault self.old.format) }
     {
-        if separates_rows(byte) {
-            return self.end_row();
+        if is_fault {
+            self.place = FormatPlace::AtFault;
         }
-        if is_between(byte) {
-            self.number = None;
-            return;
+    }
+
+    /// Whether a cell of this key would go on from nothing.
+    fn is_misplaced(&self, key: Key) -> bool
+        ensures { result ≡ is_misplaced key self.now.format }
+    {
+        self.count().is_misplaced(key)
+    }
+
+    /// One bar more.
+    fn take_bar(&mut self)
+        ensures { self.new ≡ keeping self.old (with_bar self.old.format) }
+    {
+        if self.bars < 2 {
+            self.bars += 1;
+        } else {
+            self.place = FormatPlace::AtFault;
         }
-        if byte == b'.' {
-            self.end_row();
-            return self.end();
+    }
+
+    /// What asks something for the column of the last key.
+    fn ask(&mut self, does: Does)
+        ensures { self.new ≡ keeping self.old (with_asked (asked_by does) self.old.format) }
+    {
+        let keys = self.row_len();
+        ask(&mut self.asked, keys, does);
+    }
+
+    /// What says something of the last key.
+    fn say(&mut self, does: Does)
+        ensures { self.new ≡ keeping self.old (with_last (said_by does) self.old.format) }
+    {
+        if self.row_len() > 0 {
+            let last = self.keys.len() - 1;
+            self.keys[last] = self.keys[last].said_by(does);
         }
-        self.place = FormatPlace::AtFault;
     }
 
     /// The row begun is whole, if it has a key.
@@ -167,19 +234,30 @@ impl FormatRows {
     {
         if self.row_len() > 0 {
             self.ends.push_reserved(self.keys.len());
+            self.row_bars.push_reserved(self.bars);
+            self.bars = 0;
+        } else if self.bars > 0 {
+            self.place = FormatPlace::AtFault;
         }
-        self.number = None;
     }
 
-    /// The format ends, if a row is whole.
+    /// The format ends, which is a fault if no row of it is whole.
     fn end(&mut self)
-        ensures { self.new ≡ keeping self.old (at_end self.old.format) }
+        ensures { self.new ≡ keeping self.old (with_end self.old.format) }
     {
-        if self.ends.is_empty() {
+        if self.ends.len() == self.first {
             self.place = FormatPlace::AtFault;
-        } else {
-            self.place = FormatPlace::AtEnd;
         }
+    }
+
+    /// A further format begins.
+    pub fn begin_further(&mut self)
+        requires { self.old.format.row ≡ [] }
+        ensures { self.new ≡ keeping self.old (further self.old.format) }
+    {
+        self.first = self.ends.len();
+        self.bars = 0;
+        self.place = FormatPlace::InRows(RowPart::AtKeys);
     }
 
     /// Where its reading stands.
@@ -189,33 +267,34 @@ impl FormatRows {
         self.place
     }
 
-    /// How many columns it has.
+    /// How many columns the table has.
     pub fn columns(&self) -> usize
         ensures { result ≡ length self.now.format.asked }
     {
         self.asked.len()
     }
 
-    /// For each column the greatest number behind its keys.
-    pub fn asked(&self) -> &[Option<u32>]
+    /// For each column what its keys ask for it.
+    pub fn asked(&self) -> &[Asked]
         ensures { result.now ≡ self.now.format.asked }
     {
         self.asked.as_slice()
     }
 
-    /// How many of its rows are whole.
+    /// How many rows of this format are whole.
     pub fn rows(&self) -> usize
         ensures { result ≡ length self.now.format.rows }
     {
-        self.ends.len()
+        self.ends.len() - self.first
     }
 
     /// The keys of one of its rows.
-    pub fn row(&self, at: usize) -> &[Key]
+    pub fn row(&self, at: usize) -> &[FormatKey]
         requires { at < length self.now.format.rows }
         ensures { result.now ≡ first_format (drop at self.now.format.rows) }
     {
-        &self.keys.as_slice()[part_start(self.ends.as_slice(), at)..self.ends[at]]
+        let row = self.first + at;
+        &self.keys.as_slice()[part_start(self.ends.as_slice(), row)..self.ends[row]]
     }
 
     /// What counts of its keys.
@@ -225,8 +304,10 @@ impl FormatRows {
     {
         KeyCount {
             place: self.place,
-            has_row: !self.ends.is_empty(),
+            is_further: self.first > 0,
+            has_row: self.ends.len() > self.first,
             row: self.row_len(),
+            bars: self.bars,
             columns: self.asked.len(),
         }
     }
@@ -250,45 +331,24 @@ fn last_end(ends: &[usize]) -> usize
 }
 
 /// One column more, behind a row that has so many keys, if it is the longest.
-fn push_column(asked: &mut Vec<Option<u32>>, count: usize)
+fn push_column(asked: &mut Vec<Asked>, count: usize)
     requires few { count ≤ length asked.old.items }
     requires room { length (with_columns asked.old.items count) ≤ vec_capacity asked.old }
     ensures items { asked.new.items ≡ with_columns asked.old.items count }
     ensures capacity { vec_capacity asked.new ≡ vec_capacity asked.old }
 {
     if count == asked.len() {
-        asked.push_reserved(None);
+        asked.push_reserved(Asked::NOTHING);
     }
 }
 
-/// A number asks of a column.
-fn ask(asked: &mut Vec<Option<u32>>, column: usize, number: u32)
-    requires { column < length asked.old.items }
-    ensures items { asked.new.items ≡ asking asked.old.items column number }
+/// What asks something for the column of the last of so many keys.
+fn ask(asked: &mut Vec<Asked>, keys: usize, does: Does)
+    requires { keys ≤ length asked.old.items }
+    ensures items { asked.new.items ≡ asking (asked_by does) keys asked.old.items }
     ensures capacity { vec_capacity asked.new ≡ vec_capacity asked.old }
 {
-    asked[column] = Some(greater(asked[column], number));
-}
-
-/// A number with one digit more.
-fn with_digit(number: Option<u32>, byte: u8) -> u32
-    requires from { 48 ≤ byte }
-    requires to { byte < 58 }
-    ensures { result ≡ with_digit number byte }
-{
-    let digit = byte - b'0';
-    match number {
-        None => u32::from(digit),
-        Some(number) => (u64::from(number) * 10 + u64::from(digit)).min(GREATEST_NUMBER) as u32,
-    }
-}
-
-/// The greater of what was asked and a number.
-fn greater(asked: Option<u32>, number: u32) -> u32
-    ensures { result ≡ greater asked number }
-{
-    match asked {
-        None => number,
-        Some(asked) => asked.max(number),
+    if keys > 0 {
+        asked[keys - 1] = asked[keys - 1].asked_by(does);
     }
 }

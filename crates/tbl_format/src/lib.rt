@@ -3,10 +3,16 @@
 #![tactic(auto)]
 
 pub mod format;
+mod format_parts;
 pub mod format_rows;
+pub mod format_step;
+pub mod key_count;
+pub mod laid_out;
+pub mod left_out;
 pub mod limits;
 pub mod message;
 pub mod notes;
 pub mod option_words;
 pub mod options;
 pub mod part_starts;
+pub mod worked_formats;

@@ -16,6 +16,8 @@ pub enum Cause {
     TooManyFields,
     /// An option that is ignored, by where it lies in the block.
     OptionIgnored(usize, usize),
+    /// What is left out of the format, by its letter.
+    LeftOut(u8),
 }
 
 /// A message that is kept.
@@ -44,6 +46,7 @@ impl KeptNote {
                 Cause::OptionIgnored(from, to) => {
                     Message::OptionIgnored(option_text(&block[from..to]))
                 }
+                Cause::LeftOut(letter) => Message::LeftOut(letter),
             },
         }
     }

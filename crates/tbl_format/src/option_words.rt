@@ -5,7 +5,8 @@ ghost use Rattle.std.specs.Prelude.{if◌then◌else◌};
 ghost use Rattle.std.specs.Option.{option_copied};
 ghost use Rattle.tbl_format.specs.declared.options.TableOption.TheVariants.{Unknown, WithoutEffect};
 ghost use Rattle.tbl_format.specs.Options.{are_two_bytes, argument_of, as_small, has_brackets};
-ghost use Rattle.tbl_format.specs.Options.{is_name, one_byte, option_of, option_with_brackets};
+ghost use Rattle.tbl_format.specs.Options.{is_name, one_byte, option_of, option_of_two};
+ghost use Rattle.tbl_format.specs.Options.{option_with_brackets, separating};
 
 use crate::options::TableOption;
 
@@ -29,6 +30,29 @@ pub fn option_of(word: &[u8]) -> TableOption
         return TableOption::DoubleBox;
     }
     option_with_brackets(word)
+}
+
+/// What an option says whose brackets are a word by themselves.
+pub fn option_of_two(name: &[u8], brackets: &[u8]) -> TableOption
+    ensures { result ≡ option_of_two name.now brackets.now }
+{
+    if is_name(b"tab", name) {
+        return separating(one_byte(argument_of(b"(", brackets)));
+    }
+    other_with_brackets(
+        is_name(b"delim", name) && are_two_bytes(argument_of(b"(", brackets))
+            || is_name(b"linesize", name) && is_given(argument_of(b"(", brackets)),
+    )
+}
+
+/// What `tab` says with this in its brackets.
+fn separating(separator: Option<u8>) -> TableOption
+    ensures { result ≡ separating separator }
+{
+    match separator {
+        Some(separator) => TableOption::Separator(separator),
+        None => TableOption::Unknown,
+    }
 }
 
 /// What an option says that may have brackets.

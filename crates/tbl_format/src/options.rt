@@ -1,15 +1,18 @@
 //! The options of a table: what its first line says up to a `;` (Lesk, "Tbl": Options).
 
-ghost use Rattle.std.specs.Prelude.{◌≡◌, ◌+◌, ◌-◌, ◌≤◌, [], ◌∷◌, ◌++◌, fold, length, map};
-ghost use Rattle.std.specs.Prelude.{slice_range, false, ◌<◌, not, ◌&&◌, ◌||◌, vec_capacity};
-ghost use Rattle.std.specs.Prelude.{vec_len, if◌then◌else◌};
+ghost use Rattle.std.specs.Prelude.{◌≡◌, ◌+◌, ◌-◌, ◌≤◌, ◌++◌, length, map, slice_range};
+ghost use Rattle.std.specs.Prelude.{not, ◌&&◌, ◌||◌, vec_capacity, vec_len};
 ghost use Rattle.tbl_format.specs.Notes.{NotesWithin, ignored_message, told_at, told_of_all};
-ghost use Rattle.tbl_format.specs.Options.{bracketed, if_word, ignored_behind, ignored_options};
-ghost use Rattle.tbl_format.specs.Options.{is_unknown, options_end, options_read};
-ghost use Rattle.tbl_format.specs.Options.{separates_options, with_option, with_word};
+ghost use Rattle.tbl_format.specs.Options.{bracketed, ignored_options, is_unknown, options_end};
+ghost use Rattle.tbl_format.specs.Options.{options_read, separates_options, with_counted, with_option};
+ghost use Rattle.tbl_format.specs.Options.{with_set};
+ghost use Rattle.tbl_format.specs.OptionWords.{behind_two, behind_word, held_word, ignored_by};
+ghost use Rattle.tbl_format.specs.OptionWords.{ignores_before, ignores_last, IsHeld};
+ghost use Rattle.tbl_format.specs.OptionWords.{settings_behind};
 
+use crate::laid_out::is_option_laid_out;
 use crate::notes::{Cause, KeptNote};
-use crate::option_words::option_of;
+use crate::option_words::{option_of, option_of_two};
 
 /// What of a table's options is laid out.
 #[derive(Clone, Copy)]
@@ -18,6 +21,8 @@ pub struct Options {
     pub separator: u8,
     /// Whether the picture is centred on the line.
     pub centered: bool,
+    /// Whether the picture is as wide as the line.
+    pub expanded: bool,
 }
 
 /// What an option says.
@@ -54,25 +59,26 @@ pub struct Settings {
 pub const NO_OPTIONS: Options = Options {
     separator: b'\t',
     centered: false,
+    expanded: false,
 };
 
 /// What a text says, all of which is options.
 pub fn read_options(text: &[u8]) -> Settings
     ensures { result ≡ options_read text.now }
 {
-    let mut settings = Settings::NONE;
+    let mut read = OptionsRead::NOTHING;
     let mut from = 0;
     let mut inside = false;
     for at in 0..text.len() {
         let byte = text[at];
         if ends_word(inside, byte) {
-            settings = settings.with_word(&text[from..at]);
+            read = read.with_word(text, from, at);
             from = at + 1;
         } else {
             inside = bracketed(inside, byte);
         }
     }
-    settings.with_word(&text[from..])
+    read.with_word(text, from, text.len()).ended(text)
 }
 
 /// Keeps a message for each option that is ignored, of the options that lie there in a block.
@@ -88,47 +94,186 @@ pub fn push_ignored(notes: &mut Vec<KeptNote>, block: &[u8], from: usize, to: us
     ensures within { NotesWithin (length block.now) notes.new.items }
     ensures capacity { vec_capacity notes.new ≡ vec_capacity notes.old }
 {
-    let mut settings = Settings::NONE;
+    let mut read = OptionsRead::NOTHING;
     let mut start = from;
     let mut inside = false;
     for at in from..to {
         let byte = block[at];
         if ends_word(inside, byte) {
-            push_word(notes, settings, block, start, at, line);
-            settings = settings.with_word(&block[start..at]);
+            read = take_word(notes, read, block, start, at, line);
             start = at + 1;
         } else {
             inside = bracketed(inside, byte);
         }
     }
-    push_word(notes, settings, block, start, to, line);
+    let last = take_word(notes, read, block, start, to, line);
+    push_last(notes, last, block, line);
 }
 
-/// Keeps a message for the word that lies there, if it is ignored.
-fn push_word(
+/// One word more, which lies there in a block: keeps a message for the word in front of it, if that
+/// is ignored.
+fn take_word(
     notes: &mut Vec<KeptNote>,
-    settings: Settings,
+    read: OptionsRead,
     block: &[u8],
     from: usize,
     to: usize,
     line: u32,
-)
+) -> OptionsRead
+    requires held { IsHeld (length block.now) read }
     requires order { from ≤ to }
     requires block { to ≤ length block.now }
-    requires room { vec_len notes.old + (to - from) ≤ vec_capacity notes.old }
+    requires room { vec_len notes.old + (read.to - read.from) ≤ vec_capacity notes.old }
     requires within { NotesWithin (length block.now) notes.old.items }
+    ensures value { result ≡ behind_word block.now read from to }
+    ensures held { IsHeld (length block.now) result }
     ensures told { told_of_all block.now notes.new.items ≡ told_of_all block.now notes.old.items
         ++ map (λ word. told_at line (ignored_message word))
-        (ignored_behind settings (if_word (slice_range block.now from to))) }
-    ensures few { vec_len notes.new ≤ vec_len notes.old + (to - from) }
+        (ignored_by (ignores_before block.now read from to) (held_word block.now read)) }
+    ensures few { vec_len notes.new + (result.to - result.from)
+        ≤ vec_len notes.old + ((read.to - read.from) + (to - from)) }
     ensures within { NotesWithin (length block.now) notes.new.items }
     ensures capacity { vec_capacity notes.new ≡ vec_capacity notes.old }
 {
-    if settings.ignores(&block[from..to]) {
+    push_if(
+        notes,
+        read.ignores_before(block, from, to),
+        read,
+        block,
+        line,
+    );
+    read.with_word(block, from, to)
+}
+
+/// Behind the last word: keeps a message for it, if it is ignored.
+fn push_last(notes: &mut Vec<KeptNote>, read: OptionsRead, block: &[u8], line: u32)
+    requires held { IsHeld (length block.now) read }
+    requires room { vec_len notes.old + (read.to - read.from) ≤ vec_capacity notes.old }
+    requires within { NotesWithin (length block.now) notes.old.items }
+    ensures told { told_of_all block.now notes.new.items ≡ told_of_all block.now notes.old.items
+        ++ map (λ word. told_at line (ignored_message word))
+        (ignored_by (ignores_last block.now read) (held_word block.now read)) }
+    ensures few { vec_len notes.new ≤ vec_len notes.old + (read.to - read.from) }
+    ensures within { NotesWithin (length block.now) notes.new.items }
+    ensures capacity { vec_capacity notes.new ≡ vec_capacity notes.old }
+{
+    push_if(notes, read.ignores_last(block), read, block, line);
+}
+
+/// Keeps a message for the word that waits, if it is ignored.
+fn push_if(notes: &mut Vec<KeptNote>, is_ignored: bool, read: OptionsRead, block: &[u8], line: u32)
+    requires held { IsHeld (length block.now) read }
+    requires room { vec_len notes.old + length (ignored_by is_ignored (held_word block.now read))
+        ≤ vec_capacity notes.old }
+    requires within { NotesWithin (length block.now) notes.old.items }
+    ensures told { told_of_all block.now notes.new.items ≡ told_of_all block.now notes.old.items
+        ++ map (λ word. told_at line (ignored_message word))
+        (ignored_by is_ignored (held_word block.now read)) }
+    ensures few { vec_len notes.new
+        ≡ vec_len notes.old + length (ignored_by is_ignored (held_word block.now read)) }
+    ensures within { NotesWithin (length block.now) notes.new.items }
+    ensures capacity { vec_capacity notes.new ≡ vec_capacity notes.old }
+{
+    let _ = block;
+    if is_ignored {
         notes.push_reserved(KeptNote {
             line,
-            cause: Cause::OptionIgnored(from, to),
+            cause: Cause::OptionIgnored(read.from, read.to),
         });
+    }
+}
+
+/// What was read of options, and where the last word lies among them that may go on in the next
+/// one: nowhere, if it has no byte.
+#[derive(Clone, Copy)]
+struct OptionsRead {
+    settings: Settings,
+    from: usize,
+    to: usize,
+}
+
+impl OptionsRead {
+    /// Nothing.
+    const NOTHING: OptionsRead = OptionsRead {
+        settings: Settings::NONE,
+        from: 0,
+        to: 0,
+    };
+
+    /// One word more, which lies there, if it has a byte.
+    fn with_word(self, text: &[u8], from: usize, to: usize) -> OptionsRead
+        requires held { IsHeld (length text.now) self }
+        requires order { from ≤ to }
+        requires text { to ≤ length text.now }
+        ensures value { result ≡ behind_word text.now self from to }
+        ensures held { IsHeld (length text.now) result }
+    {
+        if from == to {
+            return self;
+        }
+        if self.from == self.to {
+            return OptionsRead {
+                settings: self.settings,
+                from,
+                to,
+            };
+        }
+        let held = &text[self.from..self.to];
+        self.with_two(held, option_of_two(held, &text[from..to]), from, to)
+    }
+
+    /// The same of two words, which say this together.
+    fn with_two(self, held: &[u8], two: TableOption, from: usize, to: usize) -> OptionsRead
+        ensures { result ≡ behind_two self held.now two from to }
+    {
+        if two.is_unknown() {
+            OptionsRead {
+                settings: self.settings.with_counted(option_of(held)),
+                from,
+                to,
+            }
+        } else {
+            OptionsRead {
+                settings: self.settings.with_counted(two),
+                from: to,
+                to,
+            }
+        }
+    }
+
+    /// Behind the last word.
+    fn ended(self, text: &[u8]) -> Settings
+        requires { IsHeld (length text.now) self }
+        ensures { result ≡ settings_behind text.now self }
+    {
+        if self.from == self.to {
+            return self.settings;
+        }
+        self.settings
+            .with_counted(option_of(&text[self.from..self.to]))
+    }
+
+    /// Whether the word that may go on is ignored, and told, as this one comes.
+    fn ignores_before(self, text: &[u8], from: usize, to: usize) -> bool
+        requires held { IsHeld (length text.now) self }
+        requires order { from ≤ to }
+        requires text { to ≤ length text.now }
+        ensures { result ≡ ignores_before text.now self from to }
+    {
+        if from == to {
+            return false;
+        }
+        self.ignores_last(text)
+            && option_of_two(&text[self.from..self.to], &text[from..to]).is_unknown()
+    }
+
+    /// Whether it is ignored as no word comes any more.
+    fn ignores_last(self, text: &[u8]) -> bool
+        requires { IsHeld (length text.now) self }
+        ensures { result ≡ ignores_last text.now self }
+    {
+        self.from != self.to
+            && (self.settings.are_built && option_of(&text[self.from..self.to]).is_unknown())
     }
 }
 
@@ -154,22 +299,12 @@ impl Settings {
         are_built: true,
     };
 
-    /// One word more, if it has a byte.
-    fn with_word(self, word: &[u8]) -> Settings
-        ensures { result ≡ fold with_word self (if_word word.now) }
-    {
-        if word.is_empty() {
-            return self;
-        }
-        self.with_option_word(word)
-    }
-
-    /// One option more, as it is written. Behind one that can't be laid out none counts.
-    fn with_option_word(self, word: &[u8]) -> Settings
-        ensures { result ≡ with_word self word.now }
+    /// One option more. Behind one that isn't laid out none counts.
+    fn with_counted(self, option: TableOption) -> Settings
+        ensures { result ≡ with_counted self option }
     {
         if self.are_built {
-            self.with_option(option_of(word))
+            self.with_option(option)
         } else {
             self
         }
@@ -179,45 +314,40 @@ impl Settings {
     fn with_option(self, option: TableOption) -> Settings
         ensures { result ≡ with_option self option }
     {
-        match option {
-            TableOption::Separator(separator) => Settings {
-                options: Options {
-                    separator,
-                    centered: self.options.centered,
-                },
-                are_built: self.are_built,
-            },
-            TableOption::Center => Settings {
-                options: Options {
-                    separator: self.options.separator,
-                    centered: true,
-                },
-                are_built: self.are_built,
-            },
-            TableOption::WithoutEffect | TableOption::Unknown => self,
-            TableOption::Expand | TableOption::Box | TableOption::AllBox | TableOption::DoubleBox =>
-                Settings {
-                    options: self.options,
-                    are_built: false,
-                },
-        }
-    }
-
-    /// With an option that can't be laid out.
-    fn not_built(self) -> Settings
-        ensures { result ≡ record { options = self.options; are_built = false } }
-    {
         Settings {
-            options: self.options,
-            are_built: false,
+            options: self.options.with_set(option),
+            are_built: is_option_laid_out(option),
         }
     }
+}
 
-    /// Whether a word is ignored, and told.
-    fn ignores(self, word: &[u8]) -> bool
-        ensures { (if result then word.now ∷ [] else []) ≡ ignored_behind self (if_word word.now) }
+impl Options {
+    /// What an option sets is set.
+    fn with_set(self, option: TableOption) -> Options
+        ensures { result ≡ with_set option self }
     {
-        !word.is_empty() && (self.are_built && option_of(word).is_unknown())
+        match option {
+            TableOption::Separator(separator) => Options {
+                separator,
+                centered: self.centered,
+                expanded: self.expanded,
+            },
+            TableOption::Center => Options {
+                separator: self.separator,
+                centered: true,
+                expanded: self.expanded,
+            },
+            TableOption::Expand => Options {
+                separator: self.separator,
+                centered: self.centered,
+                expanded: true,
+            },
+            TableOption::Box => self,
+            TableOption::AllBox => self,
+            TableOption::DoubleBox => self,
+            TableOption::WithoutEffect => self,
+            TableOption::Unknown => self,
+        }
     }
 }
 

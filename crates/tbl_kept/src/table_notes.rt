@@ -1,14 +1,19 @@
 //! The messages of a table, and those that are to tell.
 
-ghost use Rattle.std.specs.Prelude.{◌≡◌, ◌+◌, ◌-◌, ◌<◌, ◌≤◌, [], ◌∷◌, ◌++◌, true, length, map};
-ghost use Rattle.std.specs.Prelude.{slice_range, IfOk};
+ghost use Rattle.std.specs.Prelude.{◌≡◌, ◌+◌, ◌-◌, ◌<◌, ◌≤◌, ◌^◌, [], ◌∷◌, ◌++◌, true, length};
+ghost use Rattle.std.specs.Prelude.{map, slice_range, IfOk};
 ghost use Rattle.std.specs.Option.{MatchOption};
-ghost use Rattle.tbl_format.specs.Notes.{NotesWithin, ignored_message, told_at, told_of_all};
+ghost use Rattle.tbl_format.specs.Format.{Format, letters_left_out};
+ghost use Rattle.tbl_format.specs.KeyCounts.{Counts, IsCount};
+ghost use Rattle.tbl_format.specs.Notes.{NotesWithin, ignored_message, left_out_note, told_at};
+ghost use Rattle.tbl_format.specs.Notes.{told_of_all};
 ghost use Rattle.tbl_format.specs.Options.{ignored_options};
 ghost use Rattle.tbl_kept.specs.TableNotes.{no_notes};
 
 use std::alloc::{AllocError, Global};
 use std::marker::Model;
+use tbl_format::key_count::KeyCount;
+use tbl_format::left_out::push_left_out;
 use tbl_format::notes::KeptNote;
 use tbl_format::options::push_ignored;
 
@@ -80,6 +85,20 @@ impl TableNotes {
         self.next = 0;
         self.end = 0;
         push_ignored(&mut self.notes, block, from, to, line);
+    }
+
+    /// A message for each letter that is left out of a line of the format, behind what is counted of
+    /// the lines before it.
+    pub fn push_left_out(&mut self, count: KeyCount, bytes: &[u8], line: u32)
+        requires is { IsCount 0 count }
+        requires few { count.columns + length bytes.now < 2 ^ 63 }
+        requires room { length self.old.notes + length bytes.now ≤ self.old.note_room }
+        ensures { (f : Format) → Counts f count → self.new ≡ record self.old {
+          notes
+              = self.old.notes ++ map (left_out_note line) (letters_left_out f bytes.now);
+        } }
+    {
+        push_left_out(&mut self.notes, count, bytes, line);
     }
 
     /// All messages are to tell.

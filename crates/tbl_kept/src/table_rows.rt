@@ -8,6 +8,7 @@ ghost use Rattle.tbl_layout.specs.Widths.{width_of_all};
 
 use std::alloc::{AllocError, Global};
 use std::marker::Model;
+use tbl_format::format::Asked;
 use tbl_format::part_starts::part_start;
 use tbl_layout::data::{Field, push_fields};
 use tbl_layout::widths::{widen, width_of_all};
@@ -122,7 +123,7 @@ impl TableRows {
     }
 
     /// The width of all columns, with what was asked of them, or 2^64 - 1 if it is greater.
-    pub fn width(&self, asked: &[Option<u32>]) -> usize
+    pub fn width(&self, asked: &[Asked]) -> usize
         requires { length self.now.widths ≤ length asked.now }
         ensures { result ≡ min (width_of_all self.now.widths asked.now) (2 ^ 64 - 1) }
     {

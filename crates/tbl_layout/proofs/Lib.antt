@@ -1,5 +1,10 @@
 pub mod Glyphs
 pub mod Fields
-pub mod Columns
+pub mod Widened
 pub mod Unbuilt
 pub mod Elements
+pub mod LeastWidths
+pub mod ColumnsEnd
+pub mod Shares
+pub mod Placing
+pub mod LastField

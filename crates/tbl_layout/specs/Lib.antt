@@ -1,4 +1,7 @@
 pub mod Data
+pub mod DataLines
+pub mod Entries
+pub mod Columns
 pub mod Widths
 pub mod Glyphs
 pub mod Fields

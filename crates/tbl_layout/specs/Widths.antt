@@ -2,6 +2,7 @@
 use Rattle.std.specs.Prelude.{ℕ, ◌+◌, max, List, [], ◌∷◌, fold, map, replicate, sum_by, Option, None, Some, if◌then◌else◌}
 use Rattle.roff_escape.specs.Measures.{byte_columns}
 use Rattle.roff_source.specs.Bytes.{is_dropped}
+use Rattle.tbl_format.specs.declared.format.Asked.{Asked}
 
 -- the width of a byte of a text: of one that is dropped there is nothing
 abbrev pub width_in_text : ℕ → ℕ
@@ -31,9 +32,9 @@ separation None = 3
 separation (Some n) = n
 
 -- what is asked of the first column that is left
-abbrev pub first_asked : List (Option ℕ) → Option ℕ
+abbrev pub first_asked : List Asked → Option ℕ
 first_asked [] = None
-first_asked (a ∷ asked) = a
+first_asked (a ∷ asked) = a.separation
 
 -- a list behind its first element
 abbrev pub behind : {A : Type 0} → List A → List A
@@ -41,10 +42,10 @@ behind [] = []
 behind (x ∷ xs) = xs
 
 -- the width of columns with their separations between, and with one before the first
-abbrev pub width_behind : ℕ → List ℕ → List (Option ℕ) → ℕ
+abbrev pub width_behind : ℕ → List ℕ → List Asked → ℕ
 width_behind before [] asked = 0
 width_behind before (w ∷ widths) asked = before + (w + width_behind (separation (first_asked asked)) widths (behind asked))
 
 -- the width of columns with their separations between
-abbrev pub width_of_all : List ℕ → List (Option ℕ) → ℕ
+abbrev pub width_of_all : List ℕ → List Asked → ℕ
 width_of_all widths asked = width_behind 0 widths asked

@@ -193,7 +193,7 @@ fn blanks_end(line: &[u8], from: usize) -> usize
 }
 
 /// Whether a text is `T{` and blanks behind it.
-fn is_opening(text: &[u8]) -> bool
+pub(crate) fn is_opening(text: &[u8]) -> bool
     ensures { result ≡ is_opening text.now }
 {
     match text.split_first() {
@@ -255,7 +255,7 @@ pub fn push_fields(
 }
 
 /// How many bytes a field has that begins a text.
-fn field_len(separator: u8, text: &[u8]) -> usize
+pub(crate) fn field_len(separator: u8, text: &[u8]) -> usize
     ensures value { result ≡ prefix_len (λ b. not (b == separator)) text.now }
     ensures within { result ≤ length text.now }
 {

@@ -2,6 +2,10 @@
 //! Program to Format Tables").
 #![tactic(auto)]
 
+pub mod columns;
 pub mod data;
+pub mod data_lines;
 pub mod last_glyph;
+pub mod laws;
 pub mod widths;
+pub mod worked_rows;

@@ -7,10 +7,11 @@ ghost use Rattle.tbl_layout.specs.Widths.{width_of_all};
 use crate::data::Field;
 use roff_num::width_of_byte;
 use roff_source::{is_dropped, is_silent};
+use tbl_format::format::Asked;
 
 /// The width of a byte of a text, in columns: of one that is dropped there is nothing.
 #[inline(always)]
-fn width_in_text(byte: u8) -> usize
+pub(crate) fn width_in_text(byte: u8) -> usize
     ensures value { result ≡ width_in_text byte }
     ensures most { result ≤ 1 }
 {
@@ -65,7 +66,7 @@ pub fn separation(asked: Option<u32>) -> usize
 }
 
 /// The width of columns with their separations between, or 2^64 - 1 if it is greater.
-pub fn width_of_all(widths: &[usize], asked: &[Option<u32>]) -> usize
+pub fn width_of_all(widths: &[usize], asked: &[Asked]) -> usize
     requires { length widths.now ≤ length asked.now }
     ensures { result ≡ min (width_of_all widths.now asked.now) (2 ^ 64 - 1) }
 {
@@ -73,7 +74,7 @@ pub fn width_of_all(widths: &[usize], asked: &[Option<u32>]) -> usize
     let mut before: usize = 0;
     for at in 0..widths.len() {
         width = width.saturating_add(before).saturating_add(widths[at]);
-        before = separation(asked[at]);
+        before = separation(asked[at].separation);
     }
     width
 }

@@ -1,5 +1,5 @@
 -- The pieces of a row, one cell after another.
-use Rattle.std.proofs.Common.{◌≡◌, ℕ, zero, suc, ◌+◌, ◌-◌, ◌<◌, ◌≤◌, Bool, false, List, [], ◌∷◌, ◌++◌, length, take, drop, get_or, Option, None, refl, sym, ap, subst, ◌∙◌, arith, append_assoc, if◌then◌else◌, ◌==◌}
+use Rattle.std.proofs.Common.{◌≡◌, ℕ, zero, suc, ◌+◌, ◌-◌, ◌<◌, ◌≤◌, Bool, false, List, [], ◌∷◌, ◌++◌, length, take, drop, get_or, refl, sym, ap, subst, ◌∙◌, arith, append_assoc, if◌then◌else◌, ◌==◌}
 use Rattle.std.proofs.lemmas.List.{drop_more, take_more}
 use Rattle.std.proofs.lemmas.Bool.Decides.{nat_tests}
 use Rattle.tbl_picture.specs.Picture.{first_key, shift}
@@ -9,6 +9,9 @@ use Rattle.tbl_layout.specs.declared.data.Field.{Field}
 use Rattle.tbl_format.specs.declared.format.Key.{Key}
 use Rattle.tbl_picture.specs.declared.picture.Piece.{Piece}
 use Rattle.tbl_picture.specs.declared.picture.Piece.TheVariants.{Blanks, Block}
+use Rattle.tbl_format.specs.Format.{nothing_asked}
+use Rattle.tbl_format.specs.declared.format.Asked.{Asked}
+use Rattle.tbl_format.specs.declared.format.FormatKey.{FormatKey}
 
 -- the last of some fields has a glyph
 pub EndsInGlyph-last : (fields : List Field) (field : Field) → field.from < field.glyphs → EndsInGlyph (fields ++ field ∷ [])
@@ -37,7 +40,7 @@ behind-drop {A = A} (x ∷ xs) (suc n) =
     let same : suc (n + 1) ≡ suc n + 1 = omega arith in
     behind-drop xs n ∙ ap (λ (m : ℕ). drop m (x ∷ xs)) same
 
-pub first_asked-drop : (asked : List (Option ℕ)) (n : ℕ) → first_asked (drop n asked) ≡ get_or asked n None
+pub first_asked-drop : (asked : List Asked) (n : ℕ) → first_asked (drop n asked) ≡ (get_or asked n nothing_asked).separation
 first_asked-drop [] zero = refl
 first_asked-drop [] (suc n) = refl
 first_asked-drop (a ∷ asked) zero = refl
@@ -59,24 +62,24 @@ end_of-drop (f ∷ row) (suc column) field more =
     ∙ ap (λ (n : ℕ). end_of field (drop n (f ∷ row))) same
 
 -- the next column is narrow too
-narrow-by : (start w before : ℕ) (widths : List ℕ) (asked : List (Option ℕ)) → start + (0 + (w + width_behind before widths asked)) < 4294967296
+narrow-by : (start w before : ℕ) (widths : List ℕ) (asked : List Asked) → start + (0 + (w + width_behind before widths asked)) < 4294967296
     → IsNarrow (start + (w + before)) widths asked
 narrow-by start w before [] asked narrow = tt
 narrow-by start w before (v ∷ widths) asked narrow = omega (arith, narrow)
 
-pub IsNarrow-more : (start w : ℕ) (widths : List ℕ) (asked : List (Option ℕ)) → IsNarrow start (w ∷ widths) asked
+pub IsNarrow-more : (start w : ℕ) (widths : List ℕ) (asked : List Asked) → IsNarrow start (w ∷ widths) asked
     → IsNarrow (start + (w + separation (first_asked asked))) widths (behind asked)
 IsNarrow-more start w widths asked narrow = narrow-by start w (separation (first_asked asked)) widths (behind asked) narrow
 
 -- one cell more
-module _ (place start : ℕ) (widths : List ℕ) (asked : List (Option ℕ)) (keys : List Key) (row : List Field) (column : ℕ) (in_row : column < length row) (in_widths : column < length widths) (field : Field) (field_is : field ≡ get_or row column (record { from = 0; to = 0; glyphs = 0; width = 0 })) (w : ℕ) (width_is : w ≡ get_or widths column 0) where
+module _ (place start : ℕ) (widths : List ℕ) (asked : List Asked) (keys : List FormatKey) (row : List Field) (column : ℕ) (in_row : column < length row) (in_widths : column < length widths) (field : Field) (field_is : field ≡ get_or row column (record { from = 0; to = 0; glyphs = 0; width = 0 })) (w : ℕ) (width_is : w ≡ get_or widths column 0) where
   pub row_is : drop column row ≡ field ∷ drop (column + 1) row
   row_is = drop_more row column (record { from = 0; to = 0; glyphs = 0; width = 0 }) in_row ∙ ap (λ (f : Field). f ∷ drop (column + 1) row) (sym field_is)
 
   pub widths_are : drop column widths ≡ w ∷ drop (column + 1) widths
   widths_are = drop_more widths column 0 in_widths ∙ ap (λ (v : ℕ). v ∷ drop (column + 1) widths) (sym width_is)
 
-  pub narrow-more : (a : ℕ) → a ≡ separation (get_or asked column None) → IsNarrow start (drop column widths) (drop column asked)
+  pub narrow-more : (a : ℕ) → a ≡ separation (get_or asked column nothing_asked).separation → IsNarrow start (drop column widths) (drop column asked)
       → IsNarrow (start + (w + a)) (drop (column + 1) widths) (drop (column + 1) asked)
   narrow-more a is narrow =
       let here : IsNarrow start (w ∷ drop (column + 1) widths) (drop column asked) = subst (λ (ws : List ℕ). IsNarrow start ws (drop column asked)) widths_are narrow in
@@ -84,7 +87,7 @@ module _ (place start : ℕ) (widths : List ℕ) (asked : List (Option ℕ)) (ke
       let next = IsNarrow-more start w (drop (column + 1) widths) (drop column asked) here in
       let there : IsNarrow (start + (w + a)) (drop (column + 1) widths) (behind (drop column asked)) =
       subst (λ (s : ℕ). IsNarrow (start + (w + s)) (drop (column + 1) widths) (behind (drop column asked))) sep next in
-      subst (λ (xs : List (Option ℕ)). IsNarrow (start + (w + a)) (drop (column + 1) widths) xs) (behind-drop asked column) there
+      subst (λ (xs : List Asked). IsNarrow (start + (w + a)) (drop (column + 1) widths) xs) (behind-drop asked column) there
 
   pub start-fits : IsNarrow start (drop column widths) (drop column asked) → start + w < 4294967296
   start-fits narrow =
@@ -93,7 +96,7 @@ module _ (place start : ℕ) (widths : List ℕ) (asked : List (Option ℕ)) (ke
       omega (arith, here)
 
   pub cells-more : (key : Key) (moved at to a : ℕ) (done all : List Piece) → key ≡ first_key (drop column keys) → moved ≡ shift key (w - field.width)
-      → at ≡ start + moved → to ≡ end_of field (drop (column + 1) row) → a ≡ separation (get_or asked column None)
+      → at ≡ start + moved → to ≡ end_of field (drop (column + 1) row) → a ≡ separation (get_or asked column nothing_asked).separation
       → done ++ cells place start (drop column widths) (drop column asked) (drop column keys) (drop column row) ≡ all
       → ((done ++ some_piece (Blanks (at - place))) ++ some_piece (Block field.from to))
       ++ cells (at + field.width) (start + (w + a)) (drop (column + 1) widths) (drop (column + 1) asked) (drop (column + 1) keys) (drop (column + 1) row) ≡ all
@@ -111,8 +114,8 @@ module _ (place start : ℕ) (widths : List ℕ) (asked : List (Option ℕ)) (ke
       ∙ ap (λ (n : ℕ). some_piece (Blanks (n - place)) ++ (some_piece (Block field.from (end_of field fs)) ++ cells (n + field.width) (start + (w + separation (first_asked (drop column asked)))) ws (behind (drop column asked)) (behind (drop column keys)) fs)) here
       ∙ ap (λ (n : ℕ). some_piece (Blanks (at - place)) ++ (some_piece (Block field.from n) ++ cells (at + field.width) (start + (w + separation (first_asked (drop column asked)))) ws (behind (drop column asked)) (behind (drop column keys)) fs)) (sym to_is)
       ∙ ap (λ (n : ℕ). some_piece (Blanks (at - place)) ++ (some_piece (Block field.from to) ++ cells (at + field.width) (start + (w + n)) ws (behind (drop column asked)) (behind (drop column keys)) fs)) sep
-      ∙ ap (λ (xs : List (Option ℕ)). some_piece (Blanks (at - place)) ++ (some_piece (Block field.from to) ++ cells (at + field.width) (start + (w + a)) ws xs (behind (drop column keys)) fs)) (behind-drop asked column)
-      ∙ ap (λ (xs : List Key). some_piece (Blanks (at - place)) ++ (some_piece (Block field.from to) ++ cells (at + field.width) (start + (w + a)) ws (drop (column + 1) asked) xs fs)) (behind-drop keys column) in
+      ∙ ap (λ (xs : List Asked). some_piece (Blanks (at - place)) ++ (some_piece (Block field.from to) ++ cells (at + field.width) (start + (w + a)) ws xs (behind (drop column keys)) fs)) (behind-drop asked column)
+      ∙ ap (λ (xs : List FormatKey). some_piece (Blanks (at - place)) ++ (some_piece (Block field.from to) ++ cells (at + field.width) (start + (w + a)) ws (drop (column + 1) asked) xs fs)) (behind-drop keys column) in
       append_assoc (done ++ some_piece (Blanks (at - place))) (some_piece (Block field.from to)) rest
       ∙ append_assoc done (some_piece (Blanks (at - place))) (some_piece (Block field.from to) ++ rest)
       ∙ ap (λ (ps : List Piece). done ++ ps) (sym unfolded)

@@ -1,5 +1,5 @@
 -- A line of the picture, from its pieces.
-use Rattle.std.proofs.Common.{◌≡◌, ℕ, zero, suc, ◌+◌, ◌-◌, ◌<◌, ◌≤◌, Bool, true, false, List, [], ◌∷◌, ◌++◌, length, take, drop, replicate, Option, refl, sym, ap, subst, ◌∙◌, arith, append_assoc, length-append, if◌then◌else◌, ◌==◌}
+use Rattle.std.proofs.Common.{◌≡◌, ℕ, zero, suc, ◌+◌, ◌-◌, ◌<◌, ◌≤◌, Bool, true, false, List, [], ◌∷◌, ◌++◌, length, take, drop, replicate, refl, sym, ap, subst, ◌∙◌, arith, append_assoc, length-append, if◌then◌else◌, ◌==◌}
 use Rattle.std.specs.List.{slice_range, AllByRecursion}
 use Rattle.std.proofs.lemmas.List.{append-nil, take-append-drop}
 use Rattle.std.proofs.lemmas.Bool.Decides.{nat_tests}
@@ -10,11 +10,12 @@ use Rattle.tbl_picture.specs.Pieces.{AreGlyphless, EndsInGlyph, bytes_of, bytes_
 use Rattle.tbl_layout.specs.Fields.{AreMeasured, IsMeasured, text_of, texts_of}
 use Rattle.tbl_layout.specs.Widths.{behind, first_asked, separation, text_width}
 use Rattle.tbl_layout.specs.declared.data.Field.{Field}
-use Rattle.tbl_format.specs.declared.format.Key.{Key}
 use Rattle.tbl_picture.specs.declared.picture.Piece.{Piece}
 use Rattle.tbl_picture.specs.declared.picture.Piece.TheVariants.{Blanks, Block, LineEnd, LineFront}
 use Rattle.tbl_layout.proofs.Fields.{front-part, length-part}
 use Rattle.tbl_layout.proofs.Glyphs.{take-to_last_glyph, to_last_glyph-before, to_last_glyph-blanks, to_last_glyph-without}
+use Rattle.tbl_format.specs.declared.format.Asked.{Asked}
+use Rattle.tbl_format.specs.declared.format.FormatKey.{FormatKey}
 
 -- what holds of each element holds of those in front of a place, and of those behind it
 pub each-front : {A : Type 0} (P : A → Type 0) (xs : List A) (n : ℕ) → AllByRecursion P xs → AllByRecursion P (take n xs)
@@ -104,7 +105,7 @@ module _ (block frame : List ℕ) where
   glyphless-cell n text rest none later =
       to_last_glyph-without (replicate n blank) (text ++ rest) (to_last_glyph-without text rest later ∙ none) ∙ to_last_glyph-blanks n
 
-  glyphless : (place start : ℕ) (widths : List ℕ) (asked : List (Option ℕ)) (keys : List Key) (fields : List Field)
+  glyphless : (place start : ℕ) (widths : List ℕ) (asked : List Asked) (keys : List FormatKey) (fields : List Field)
       → AreMeasured block fields → AreGlyphless fields
       → to_last_glyph (written place (placed start widths asked keys (texts_of block fields))) ≡ []
   glyphless place start [] asked keys fields measured none = refl
@@ -121,7 +122,7 @@ module _ (block frame : List ℕ) where
       (glyphless (at + text_width text) (start + (w + separation (first_asked asked))) widths (behind asked) (behind keys) fields measured.1 none.1)
 
   -- the pieces of fields, of which the last has a glyph and no later one has, give the row up to its last glyph
-  record GivesRow (place start : ℕ) (widths : List ℕ) (asked : List (Option ℕ)) (keys : List Key) (fields later : List Field) : Type 0 where
+  record GivesRow (place start : ℕ) (widths : List ℕ) (asked : List Asked) (keys : List FormatKey) (fields later : List Field) : Type 0 where
     bytes : bytes_of_all block frame (cells place start widths asked keys fields)
         ≡ to_last_glyph (written place (placed start widths asked keys (texts_of block (fields ++ later))))
     some : 0 < length (to_last_glyph (written place (placed start widths asked keys (texts_of block (fields ++ later)))))
@@ -141,7 +142,7 @@ module _ (block frame : List ℕ) where
       subst (λ (g : List ℕ). 0 < length g) (sym same) (omega (arith, some, length-append text (to_last_glyph rest))) in
       to_last_glyph-before (replicate n blank) (text ++ rest) longer ∙ ap (λ (g : List ℕ). replicate n blank ++ g) same
 
-  gives_row : (place start : ℕ) (widths : List ℕ) (asked : List (Option ℕ)) (keys : List Key) (f : Field) (fields later : List Field)
+  gives_row : (place start : ℕ) (widths : List ℕ) (asked : List Asked) (keys : List FormatKey) (f : Field) (fields later : List Field)
       → length (f ∷ fields) ≤ length widths → AreMeasured block (f ∷ fields) → AreMeasured block later → EndsInGlyph (f ∷ fields) → AreGlyphless later
       → GivesRow place start widths asked keys (f ∷ fields) later
   gives_row place start [] asked keys f fields later few measured later_measured ends none = absurd (omega (arith, few))
@@ -178,7 +179,7 @@ module _ (block frame : List ℕ) where
         some = subst (λ (g : List ℕ). 0 < length g) (sym cut) (omega (arith, row.some, length-append (replicate (at - place) blank) (text ++ to_last_glyph rest), length-append text (to_last_glyph rest)));
       }
 
-  cells-bytes : (widths : List ℕ) (asked : List (Option ℕ)) (keys : List Key) (fields later : List Field)
+  cells-bytes : (widths : List ℕ) (asked : List Asked) (keys : List FormatKey) (fields later : List Field)
       → length fields ≤ length widths → AreMeasured block fields → AreMeasured block later → EndsInGlyph fields → AreGlyphless later
       → bytes_of_all block frame (cells 0 0 widths asked keys fields) ≡ to_last_glyph (written 0 (placed 0 widths asked keys (texts_of block (fields ++ later))))
   cells-bytes widths asked keys [] later few measured later_measured ends none =
@@ -187,7 +188,7 @@ module _ (block frame : List ℕ) where
       (gives_row 0 0 widths asked keys f fields later few measured later_measured ends none).bytes
 
   -- a whole line
-  pub line-bytes : (before : List Piece) (widths : List ℕ) (asked : List (Option ℕ)) (keys : List Key) (row : List Field) (count : ℕ)
+  pub line-bytes : (before : List Piece) (widths : List ℕ) (asked : List Asked) (keys : List FormatKey) (row : List Field) (count : ℕ)
       → length row ≤ length widths → AreMeasured block row → EndsInGlyph (take count row) → AreGlyphless (drop count row)
       → bytes_of_all block frame (((before ++ LineFront ∷ []) ++ cells 0 0 widths asked keys (take count row)) ++ LineEnd ∷ [])
       ≡ bytes_of_all block frame before ++ line_of widths asked keys (texts_of block row)

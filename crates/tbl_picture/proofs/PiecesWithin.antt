@@ -1,19 +1,24 @@
 -- The pieces of a line have bytes, and lie within its texts.
-use Rattle.std.proofs.Common.{◌≡◌, ℕ, ◌+◌, ◌-◌, ◌<◌, ◌≤◌, Bool, true, false, List, [], ◌∷◌, ◌++◌, length, Option, refl, arith, if◌then◌else◌, ◌==◌}
+use Rattle.std.proofs.Common.{◌≡◌, ℕ, zero, suc, ◌+◌, ◌-◌, ◌<◌, ◌≤◌, Bool, true, false, List, [], ◌∷◌, ◌++◌, length, refl, arith, if◌then◌else◌, ◌==◌}
 use Rattle.std.proofs.lemmas.List.{length-replicate}
 use Rattle.tbl_picture.specs.Picture.{first_key, shift}
 use Rattle.tbl_layout.specs.Fields.{AreMeasured, IsMeasured, text_of}
 use Rattle.tbl_picture.specs.Pieces.{AreWithin, HaveBytes, bytes_of, cells, end_of, piece_len, some_piece}
 use Rattle.tbl_layout.specs.Widths.{behind, first_asked, separation}
 use Rattle.tbl_layout.specs.declared.data.Field.{Field}
-use Rattle.tbl_format.specs.declared.format.Key.{Key}
 use Rattle.tbl_picture.specs.declared.picture.Piece.{Piece}
 use Rattle.tbl_picture.specs.declared.picture.Piece.TheVariants.{Blanks, Block, LineEnd, LineFront}
 use Rattle.tbl_layout.proofs.Fields.{length-part}
-use Rattle.tbl_format.proofs.FormatBlocks.{some-number}
 use Rattle.tbl_layout.proofs.Elements.{each-append}
 use Rattle.tbl_picture.proofs.Lines.{few_glyphs, field_glyphs}
 use Rattle.tbl_format.proofs.Parts.{length-slice_range}
+use Rattle.tbl_format.specs.declared.format.Asked.{Asked}
+use Rattle.tbl_format.specs.declared.format.FormatKey.{FormatKey}
+
+-- a number that isn't none
+some-number : (n : ℕ) → (n == 0) ≡ false → 0 < n
+some-number zero is = absurd (cc)
+some-number (suc n) is = omega arith
 
 -- a piece that is added has a byte
 HaveBytes-by : (t : Bool) (piece : Piece) → (piece_len piece == 0) ≡ t → HaveBytes (if t then [] else piece ∷ [])
@@ -26,7 +31,7 @@ HaveBytes-some piece = HaveBytes-by (piece_len piece == 0) piece refl
 pub HaveBytes-append : (xs ys : List Piece) → HaveBytes xs → HaveBytes ys → HaveBytes (xs ++ ys)
 HaveBytes-append xs ys all more = each-append (λ (piece : Piece). 0 < piece_len piece) xs ys all more
 
-HaveBytes-cells : (place start : ℕ) (widths : List ℕ) (asked : List (Option ℕ)) (keys : List Key) (fields : List Field)
+HaveBytes-cells : (place start : ℕ) (widths : List ℕ) (asked : List Asked) (keys : List FormatKey) (fields : List Field)
     → HaveBytes (cells place start widths asked keys fields)
 HaveBytes-cells place start [] asked keys [] = tt
 HaveBytes-cells place start [] asked keys (f ∷ fields) = tt
@@ -39,7 +44,7 @@ HaveBytes-cells place start (w ∷ widths) asked keys (f ∷ fields) =
     (HaveBytes-cells (at + f.width) (start + (w + separation (first_asked asked))) widths (behind asked) (behind keys) fields))
 
 -- so do those of a whole line
-pub HaveBytes-line : (before : List Piece) (widths : List ℕ) (asked : List (Option ℕ)) (keys : List Key) (row : List Field)
+pub HaveBytes-line : (before : List Piece) (widths : List ℕ) (asked : List Asked) (keys : List FormatKey) (row : List Field)
     → HaveBytes before → HaveBytes (((before ++ LineFront ∷ []) ++ cells 0 0 widths asked keys row) ++ LineEnd ∷ [])
 HaveBytes-line before widths asked keys row all =
     let front = HaveBytes-append before (LineFront ∷ []) all (omega arith, tt) in
@@ -69,7 +74,7 @@ module _ (block frame : List ℕ) where
   end-within f [] m = omega (arith, glyphs-within f m, m.within)
   end-within f (later ∷ fields) m = m.within
 
-  AreWithin-cells : (place start : ℕ) (widths : List ℕ) (asked : List (Option ℕ)) (keys : List Key) (fields : List Field)
+  AreWithin-cells : (place start : ℕ) (widths : List ℕ) (asked : List Asked) (keys : List FormatKey) (fields : List Field)
       → AreMeasured block fields → AreWithin block frame (cells place start widths asked keys fields)
   AreWithin-cells place start [] asked keys [] measured = tt
   AreWithin-cells place start [] asked keys (f ∷ fields) measured = tt
@@ -84,7 +89,7 @@ module _ (block frame : List ℕ) where
       (AreWithin-some text (length-slice_range block f.from (end_of f fields) (end-within f fields measured.0)))
       (AreWithin-cells (at + f.width) (start + (w + separation (first_asked asked))) widths (behind asked) (behind keys) fields measured.1))
 
-  pub AreWithin-line : (before : List Piece) (widths : List ℕ) (asked : List (Option ℕ)) (keys : List Key) (row : List Field)
+  pub AreWithin-line : (before : List Piece) (widths : List ℕ) (asked : List Asked) (keys : List FormatKey) (row : List Field)
       → AreMeasured block row → AreWithin block frame before
       → AreWithin block frame (((before ++ LineFront ∷ []) ++ cells 0 0 widths asked keys row) ++ LineEnd ∷ [])
   AreWithin-line before widths asked keys row measured all =

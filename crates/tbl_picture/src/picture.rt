@@ -5,7 +5,8 @@ ghost use Rattle.std.specs.Prelude.{drop, min, replicate, slice_index, slice_ran
 ghost use Rattle.std.specs.Prelude.{vec_len, if◌then◌else◌};
 ghost use Rattle.std.specs.List.{AllByRecursion};
 ghost use Rattle.roff_source.specs.Bytes.{blank};
-ghost use Rattle.tbl_picture.specs.Picture.{before_lines, behind_lines, first_key, indenting};
+ghost use Rattle.tbl_picture.specs.Frame.{before_lines, behind_lines, indenting};
+ghost use Rattle.tbl_picture.specs.Picture.{first_key};
 ghost use Rattle.tbl_picture.specs.Picture.{line_of, shift};
 ghost use Rattle.tbl_format.specs.Parts.{IsFront};
 ghost use Rattle.tbl_picture.specs.Pieces.{AreGlyphless, AreWithin, EndsInGlyph};
@@ -16,7 +17,7 @@ ghost use Rattle.tbl_layout.specs.Fields.{texts_of};
 
 use itoa::Buffer;
 use roff_source::at_most;
-use tbl_format::format::Key;
+use tbl_format::format::{Asked, FormatKey, Key};
 use tbl_layout::data::Field;
 use tbl_layout::widths::separation;
 
@@ -141,8 +142,8 @@ pub fn push_some(pieces: &mut Vec<Piece>, piece: Piece)
 pub fn push_line(
     pieces: &mut Vec<Piece>,
     widths: &[usize],
-    asked: &[Option<u32>],
-    keys: &[Key],
+    asked: &[Asked],
+    keys: &[FormatKey],
     row: &[Field],
 )
     requires columns { length row.now ≤ length widths.now }
@@ -186,8 +187,8 @@ fn with_glyphs(row: &[Field]) -> usize
 fn push_cells(
     pieces: &mut Vec<Piece>,
     widths: &[usize],
-    asked: &[Option<u32>],
-    keys: &[Key],
+    asked: &[Asked],
+    keys: &[FormatKey],
     row: &[Field],
 )
     requires columns { length row.now ≤ length widths.now }
@@ -210,7 +211,7 @@ fn push_cells(
         let is_last = column + 1 == row.len();
         push_some(pieces, Piece::Block(field.from, text_end(field, is_last)));
         place = at + field.width;
-        start += width + separation(asked[column]);
+        start += width + separation(asked[column].separation);
     }
 }
 
@@ -222,11 +223,11 @@ fn text_end(field: Field, is_last: bool) -> usize
 }
 
 /// The key of a column: a short row of the format goes on with `l`.
-fn key_at(keys: &[Key], column: usize) -> Key
+fn key_at(keys: &[FormatKey], column: usize) -> Key
     ensures { result ≡ first_key (drop column keys.now) }
 {
     match keys.get(column) {
-        Some(key) => *key,
+        Some(key) => key.key,
         None => Key::Left,
     }
 }
@@ -237,9 +238,15 @@ fn shift(key: Key, spare: usize) -> usize
     ensures most { result ≤ spare }
 {
     match key {
-        Key::Left | Key::NotBuilt => 0,
         Key::Right => spare,
         Key::Center => spare / 2,
+        Key::Left => 0,
+        Key::Numeric => 0,
+        Key::Alphabetic => 0,
+        Key::Spanned => 0,
+        Key::Above => 0,
+        Key::Rule => 0,
+        Key::DoubleRule => 0,
     }
 }
 

@@ -13,7 +13,7 @@ ghost use Rattle.tbl_picture.specs.Pieces.{AreWithin, IsNarrow, some_piece};
 use crate::picture::{Piece, push_line, push_some};
 use std::alloc::{AllocError, Global};
 use std::marker::Model;
-use tbl_format::format::Key;
+use tbl_format::format::{Asked, FormatKey};
 use tbl_layout::data::Field;
 
 /// Pieces, and how far they were given. All its memory is reserved as it is made.
@@ -85,7 +85,7 @@ impl PieceQueue {
     }
 
     /// The pieces of a line of the picture are to give.
-    pub fn set_line(&mut self, widths: &[usize], asked: &[Option<u32>], keys: &[Key], row: &[Field])
+    pub fn set_line(&mut self, widths: &[usize], asked: &[Asked], keys: &[FormatKey], row: &[Field])
         requires columns { length row.now ≤ length widths.now }
         requires asked { length widths.now ≤ length asked.now }
         requires room { 2 * length row.now + 2 ≤ self.old.room }

@@ -2,6 +2,9 @@
 use Rattle.std.proofs.Common.{◌≡◌, ℕ, suc, ◌+◌, ◌<◌, Bool, true, false, not, ◌&&◌, List, [], ◌∷◌, ◌++◌, length, take, drop, fold, Option, Some, None, refl, sym, ap, subst, ◌∙◌, arith, length-append, if◌then◌else◌, ◌==◌}
 use Rattle.std.proofs.lemmas.List.{drop-append-le, drop_all, take-append-le, take_all}
 use Rattle.std.proofs.lemmas.List.Sums.{fold-append}
+use Rattle.tbl_format.proofs.FormatReading.{read-last}
+use Rattle.tbl_format.proofs.Parts.{slice_range-rest}
+use Rattle.std.specs.List.{slice_range}
 use Rattle.roff_source.specs.Bytes.{newline}
 use Rattle.tbl_table.specs.Begun.{begun_in, built_begun, count_of, head_begun}
 use Rattle.tbl_format.specs.Format.{Format, format_byte, format_read, has_some, no_format}
@@ -11,45 +14,59 @@ use Rattle.tbl_table.specs.Table.{columns_of, has_newline, head_columns, head_pl
 use Rattle.tbl_table.specs.declared.begun.Begun.TheVariants.{Front, Keys, Nothing}
 use Rattle.tbl_format.specs.declared.format.FormatPlace.{FormatPlace}
 use Rattle.tbl_format.specs.declared.format.FormatPlace.TheVariants.{AtFault}
-use Rattle.tbl_format.specs.declared.format.KeyCount.{KeyCount}
+use Rattle.tbl_format.specs.declared.key_count.KeyCount.{KeyCount}
 use Rattle.tbl_table.specs.declared.phase.Phase.{Phase}
 use Rattle.tbl_table.specs.declared.phase.Phase.TheVariants.{AtHead, Bad, InData, InFormat}
 
 -- a count is what it counts
 pub counts : (f : Format) → Counts f (count_of f)
-counts f = record { place = refl; has_row = refl; row = refl; columns = refl }
+counts f = record { place = refl; is_further = refl; has_row = refl; row = refl; bars = refl; columns = refl }
 
 pub count_is : (f : Format) (c : KeyCount) → Counts f c → c ≡ count_of f
 count_is f c is =
-    let k = λ (place : FormatPlace) (has_row : Bool) (row columns : ℕ). let count : KeyCount = record { place = place; has_row = has_row; row = row; columns = columns } in count in
-    ap (λ (place : FormatPlace). k place c.has_row c.row c.columns) (sym is.place)
-    ∙ ap (λ (has_row : Bool). k f.place has_row c.row c.columns) (sym is.has_row)
-    ∙ ap (λ (row : ℕ). k f.place (has_some f.rows) row c.columns) (sym is.row)
-    ∙ ap (λ (columns : ℕ). k f.place (has_some f.rows) (length f.row) columns) (sym is.columns)
+    let k = λ (place : FormatPlace) (is_further has_row : Bool) (row bars columns : ℕ). let count : KeyCount = record { place = place; is_further = is_further; has_row = has_row; row = row; bars = bars; columns = columns } in count in
+    ap (λ (place : FormatPlace). k place c.is_further c.has_row c.row c.bars c.columns) (sym is.place)
+    ∙ ap (λ (is_further : Bool). k f.place is_further c.has_row c.row c.bars c.columns) (sym is.is_further)
+    ∙ ap (λ (has_row : Bool). k f.place (has_some f.earlier) has_row c.row c.bars c.columns) (sym is.has_row)
+    ∙ ap (λ (row : ℕ). k f.place (has_some f.earlier) (has_some f.rows) row c.bars c.columns) (sym is.row)
+    ∙ ap (λ (bars : ℕ). k f.place (has_some f.earlier) (has_some f.rows) (length f.row) bars c.columns) (sym is.bars)
+    ∙ ap (λ (columns : ℕ). k f.place (has_some f.earlier) (has_some f.rows) (length f.row) f.bars columns) (sym is.columns)
 
--- behind one byte more
-abbrev pub CountsOn : KeyCount → KeyCount → ℕ → Type 0
-CountsOn old new b = (f : Format) → Counts f old → Counts (format_byte f b) new
+-- behind one byte more of a line
+abbrev pub CountsOn : KeyCount → KeyCount → List ℕ → ℕ → Type 0
+CountsOn old new front b = (f : Format) → Counts f old → Counts (format_byte front f b) new
 
-count-on : (old new : KeyCount) (b : ℕ) (f : Format) → CountsOn old new b → old ≡ count_of f → new ≡ count_of (format_byte f b)
-count-on old new b f on is = count_is (format_byte f b) new (on f (subst (λ (c : KeyCount). Counts f c) (sym is) (counts f)))
+-- the same of what is left of a line from a place on
+pub counts-behind : (line : List ℕ) (old new : KeyCount) (start b : ℕ) → CountsOn old new (slice_range line start (length line)) b → CountsOn old new (drop start line) b
+counts-behind line old new start b on = subst (λ (xs : List ℕ). CountsOn old new xs b) (slice_range-rest line start) on
 
-format-more : (f : Format) (line : List ℕ) (b : ℕ) → format_read f (line ++ b ∷ []) ≡ format_byte (format_read f line) b
-format-more f line b = fold-append format_byte f line (b ∷ [])
+count-on : (old new : KeyCount) (front : List ℕ) (b : ℕ) (f : Format) → CountsOn old new front b → old ≡ count_of f → new ≡ count_of (format_byte front f b)
+count-on old new front b f on is = count_is (format_byte front f b) new (on f (subst (λ (c : KeyCount). Counts f c) (sym is) (counts f)))
 
--- keys of a format
-same-keys : (c d : KeyCount) → Keys c ≡ Keys d → c ≡ d
-same-keys c d is = cc
+-- keys of a format, which begin at a place of their line
+same-keys : (c d : KeyCount) (start s : ℕ) → Keys start c ≡ Keys s d → c ≡ d
+same-keys c d start s is = cc
 
-pub keys-format : (old new : KeyCount) (b : ℕ) (f : Format) (line : List ℕ) → CountsOn old new b → Keys old ≡ Keys (count_of (format_read f line))
-    → new ≡ count_of (format_read f (line ++ b ∷ []))
-keys-format old new b f line on is =
-    count-on old new b (format_read f line) on (same-keys old (count_of (format_read f line)) is) ∙ ap count_of (sym (format-more f line b))
+same-start : (c d : KeyCount) (start s : ℕ) → Keys start c ≡ Keys s d → start ≡ s
+same-start c d start s is = cc
 
-keys-built : (t : Bool) (old new : KeyCount) (b : ℕ) (line : List ℕ) → CountsOn old new b → Keys old ≡ built_begun t line
-    → Keys new ≡ built_begun t (line ++ b ∷ [])
-keys-built true old new b line on is = ap (λ (c : KeyCount). Keys c) (keys-format old new b no_format line on is)
-keys-built false old new b line on is = absurd (cc)
+module _ (old new : KeyCount) (start s b : ℕ) (f : Format) (line rest : List ℕ) (on : CountsOn old new (drop start line) b) (left : drop s line ≡ rest) (is : Keys start old ≡ Keys s (count_of (format_read f rest))) where
+  pub keys-new : new ≡ count_of (format_read f (rest ++ b ∷ []))
+  keys-new =
+      let starts = same-start old (count_of (format_read f rest)) start s is in
+      let front : drop start line ≡ rest = ap (λ (n : ℕ). drop n line) starts ∙ left in
+      count-on old new rest b (format_read f rest) (subst (λ (xs : List ℕ). CountsOn old new xs b) front on) (same-keys old (count_of (format_read f rest)) start s is)
+      ∙ ap count_of (sym (read-last f rest b))
+
+  pub keys-on : Keys start new ≡ Keys s (count_of (format_read f (rest ++ b ∷ [])))
+  keys-on =
+      ap (λ (n : ℕ). Keys n new) (same-start old (count_of (format_read f rest)) start s is)
+      ∙ ap (λ (c : KeyCount). Keys s c) keys-new
+
+keys-built : (t : Bool) (old new : KeyCount) (start s b : ℕ) (line rest : List ℕ) → CountsOn old new (drop start line) b → drop s line ≡ rest → Keys start old ≡ built_begun t s rest
+    → Keys start new ≡ built_begun t s (rest ++ b ∷ [])
+keys-built true old new start s b line rest on left is = keys-on old new start s b no_format line rest on left is
+keys-built false old new start s b line rest on left is = absurd (cc)
 
 module _ (b : ℕ) where
   abbrev pub ends_here : Bool → Bool
@@ -112,33 +129,33 @@ module _ (line : List ℕ) (b : ℕ) where
     pub end-same : options_end (line ++ b ∷ []) ≡ Some end
     end-same = options_end-some b false 0 end line is
 
-    pub head-some : head_begun (options_end (line ++ b ∷ [])) (line ++ b ∷ []) ≡ built_begun (options_read (take end line)).are_built (drop (suc end) line ++ b ∷ [])
+    pub head-some : head_begun (options_end (line ++ b ∷ [])) (line ++ b ∷ []) ≡ built_begun (options_read (take end line)).are_built (suc end) (drop (suc end) line ++ b ∷ [])
     head-some =
         ap (λ (e : Option ℕ). head_begun e (line ++ b ∷ [])) end-same
-        ∙ ap (λ (options : List ℕ). built_begun (options_read options).are_built (drop (suc end) (line ++ b ∷ []))) front-same
-        ∙ ap (λ (rest : List ℕ). built_begun (options_read (take end line)).are_built rest) rest-more
+        ∙ ap (λ (options : List ℕ). built_begun (options_read options).are_built (suc end) (drop (suc end) (line ++ b ∷ []))) front-same
+        ∙ ap (λ (rest : List ℕ). built_begun (options_read (take end line)).are_built (suc end) rest) rest-more
 
-  keys-head : (old new : KeyCount) (end : Option ℕ) → options_end line ≡ end → CountsOn old new b → Keys old ≡ head_begun end line
-      → Keys new ≡ head_begun (options_end (line ++ b ∷ [])) (line ++ b ∷ [])
-  keys-head old new None is on begun = absurd (cc)
-  keys-head old new (Some end) is on begun =
-      keys-built (options_read (take end line)).are_built old new b (drop (suc end) line) on begun ∙ sym (head-some end is)
+  keys-head : (old new : KeyCount) (start : ℕ) (end : Option ℕ) → options_end line ≡ end → CountsOn old new (drop start line) b → Keys start old ≡ head_begun end line
+      → Keys start new ≡ head_begun (options_end (line ++ b ∷ [])) (line ++ b ∷ [])
+  keys-head old new start None is on begun = absurd (cc)
+  keys-head old new start (Some end) is on begun =
+      keys-built (options_read (take end line)).are_built old new start (suc end) b line (drop (suc end) line) on refl begun ∙ sym (head-some end is)
 
-  pub begun-keys : (old new : KeyCount) (phase : Phase) (f : Format) → CountsOn old new b → Keys old ≡ begun_in phase f line
-      → Keys new ≡ begun_in phase f (line ++ b ∷ [])
-  begun-keys old new AtHead f on is = keys-head old new (options_end line) refl on is
-  begun-keys old new InFormat f on is = ap (λ (c : KeyCount). Keys c) (keys-format old new b f line on is)
-  begun-keys old new InData f on is = absurd (cc)
-  begun-keys old new Bad f on is = absurd (cc)
+  pub begun-keys : (old new : KeyCount) (start : ℕ) (phase : Phase) (f : Format) → CountsOn old new (drop start line) b → Keys start old ≡ begun_in phase f line
+      → Keys start new ≡ begun_in phase f (line ++ b ∷ [])
+  begun-keys old new start AtHead f on is = keys-head old new start (options_end line) refl on is
+  begun-keys old new start InFormat f on is = keys-on old new start 0 b f line line on refl is
+  begun-keys old new start InData f on is = absurd (cc)
+  begun-keys old new start Bad f on is = absurd (cc)
 
-  nothing-built : (t : Bool) (rest : List ℕ) → Nothing ≡ built_begun t rest → Nothing ≡ built_begun t (rest ++ b ∷ [])
-  nothing-built true rest is = absurd (cc)
-  nothing-built false rest is = refl
+  nothing-built : (t : Bool) (s : ℕ) (rest : List ℕ) → Nothing ≡ built_begun t s rest → Nothing ≡ built_begun t s (rest ++ b ∷ [])
+  nothing-built true s rest is = absurd (cc)
+  nothing-built false s rest is = refl
 
   nothing-head : (end : Option ℕ) → options_end line ≡ end → Nothing ≡ head_begun end line → Nothing ≡ head_begun (options_end (line ++ b ∷ [])) (line ++ b ∷ [])
   nothing-head None is begun = absurd (cc)
   nothing-head (Some end) is begun =
-      nothing-built (options_read (take end line)).are_built (drop (suc end) line) begun ∙ sym (head-some end is)
+      nothing-built (options_read (take end line)).are_built (suc end) (drop (suc end) line) begun ∙ sym (head-some end is)
 
   pub begun-nothing : (phase : Phase) (f : Format) → Nothing ≡ begun_in phase f line → Nothing ≡ begun_in phase f (line ++ b ∷ [])
   begun-nothing AtHead f is = nothing-head (options_end line) refl is
@@ -147,17 +164,17 @@ module _ (line : List ℕ) (b : ℕ) where
   begun-nothing Bad f is = refl
 
   -- its options haven't ended
-  some-built : (t inside : Bool) (rest : List ℕ) → Front inside ≡ built_begun t rest → ⊥
-  some-built true inside rest is = absurd (cc)
-  some-built false inside rest is = absurd (cc)
+  some-built : (t inside : Bool) (s : ℕ) (rest : List ℕ) → Front inside ≡ built_begun t s rest → ⊥
+  some-built true inside s rest is = absurd (cc)
+  some-built false inside s rest is = absurd (cc)
 
   pub no-end : (inside : Bool) (end : Option ℕ) → options_end line ≡ end → Front inside ≡ head_begun end line → options_end line ≡ None
   no-end inside None is begun = is
-  no-end inside (Some end) is begun = absurd (some-built (options_read (take end line)).are_built inside (drop (suc end) line) begun)
+  no-end inside (Some end) is begun = absurd (some-built (options_read (take end line)).are_built inside (suc end) (drop (suc end) line) begun)
 
   pub inside-is : (inside : Bool) (end : Option ℕ) → options_end line ≡ end → Front inside ≡ head_begun end line → inside ≡ fold bracketed false line
   inside-is inside None is begun = cc
-  inside-is inside (Some end) is begun = absurd (some-built (options_read (take end line)).are_built inside (drop (suc end) line) begun)
+  inside-is inside (Some end) is begun = absurd (some-built (options_read (take end line)).are_built inside (suc end) (drop (suc end) line) begun)
 
   module _ (inside : Bool) (begun : Front inside ≡ head_begun (options_end line) line) where
     end-is : options_end (line ++ b ∷ []) ≡ (if ends_here b inside then Some (length line) else None)
@@ -175,12 +192,14 @@ module _ (line : List ℕ) (b : ℕ) where
         ∙ ap (λ (i : Bool). Front i) (sym (fold-append bracketed false line (b ∷ [])))
         ∙ ap (λ (e : Option ℕ). head_begun e (line ++ b ∷ [])) (sym (end-is ∙ ap (λ (t : Bool). if t then Some (length line) else None) on))
 
-    pub front-end : ends_here b inside ≡ true → built_begun (options_read line).are_built [] ≡ head_begun (options_end (line ++ b ∷ [])) (line ++ b ∷ [])
+    pub front-end : ends_here b inside ≡ true → built_begun (options_read line).are_built (length line + 1) [] ≡ head_begun (options_end (line ++ b ∷ [])) (line ++ b ∷ [])
     front-end ends =
         let front : take (length line) (line ++ b ∷ []) ≡ line = take-append-le (length line) line (b ∷ []) (omega arith) ∙ take_all (length line) line (omega arith) in
         let rest : drop (suc (length line)) (line ++ b ∷ []) ≡ [] = drop_all (suc (length line)) (line ++ b ∷ []) (omega (arith, length-append line (b ∷ []))) in
-        ap (λ (options : List ℕ). built_begun (options_read options).are_built []) (sym front)
-        ∙ ap (λ (xs : List ℕ). built_begun (options_read (take (length line) (line ++ b ∷ []))).are_built xs) (sym rest)
+        let start : length line + 1 ≡ suc (length line) = omega arith in
+        ap (λ (n : ℕ). built_begun (options_read line).are_built n []) start
+        ∙ ap (λ (options : List ℕ). built_begun (options_read options).are_built (suc (length line)) []) (sym front)
+        ∙ ap (λ (xs : List ℕ). built_begun (options_read (take (length line) (line ++ b ∷ []))).are_built (suc (length line)) xs) (sym rest)
         ∙ ap (λ (e : Option ℕ). head_begun e (line ++ b ∷ [])) (sym (end-is ∙ ap (λ (t : Bool). if t then Some (length line) else None) ends))
 
   -- the columns that count
@@ -194,26 +213,30 @@ module _ (line : List ℕ) (b : ℕ) where
       ∙ ap (λ (options : List ℕ). columns_by (options_read options).are_built (drop (suc end) (line ++ b ∷ []))) (front-same end is)
       ∙ ap (λ (rest : List ℕ). columns_by (options_read (take end line)).are_built rest) (rest-more end is)
 
-  columns-built : (t : Bool) (old new : KeyCount) (rest : List ℕ) → CountsOn old new b → Keys old ≡ built_begun t rest
+  columns-built : (t : Bool) (old new : KeyCount) (start s : ℕ) (rest : List ℕ) → CountsOn old new (drop start line) b → drop s line ≡ rest → Keys start old ≡ built_begun t s rest
       → new.columns ≡ columns_by t (rest ++ b ∷ [])
-  columns-built true old new rest on is = ap (λ (c : KeyCount). c.columns) (keys-format old new b no_format rest on is)
-  columns-built false old new rest on is = absurd (cc)
+  columns-built true old new start s rest on left is = ap (λ (c : KeyCount). c.columns) (keys-new old new start s b no_format line rest on left is)
+  columns-built false old new start s rest on left is = absurd (cc)
 
-  pub columns-keys : (old new : KeyCount) (end : Option ℕ) → options_end line ≡ end → CountsOn old new b → Keys old ≡ head_begun end line
+  pub columns-keys : (old new : KeyCount) (start : ℕ) (end : Option ℕ) → options_end line ≡ end → CountsOn old new (drop start line) b → Keys start old ≡ head_begun end line
       → new.columns ≡ head_columns (options_end (line ++ b ∷ [])) (line ++ b ∷ [])
-  columns-keys old new None is on begun = absurd (cc)
-  columns-keys old new (Some end) is on begun =
-      columns-built (options_read (take end line)).are_built old new (drop (suc end) line) on begun ∙ sym (columns-some end is)
+  columns-keys old new start None is on begun = absurd (cc)
+  columns-keys old new start (Some end) is on begun =
+      columns-built (options_read (take end line)).are_built old new start (suc end) (drop (suc end) line) on refl begun ∙ sym (columns-some end is)
 
-  none-built : (t : Bool) (rest more : List ℕ) → Nothing ≡ built_begun t rest → 0 ≡ columns_by t more
-  none-built true rest more is = absurd (cc)
-  none-built false rest more is = refl
+  pub columns-format : (old new : KeyCount) (start : ℕ) (f : Format) → CountsOn old new (drop start line) b → Keys start old ≡ Keys 0 (count_of (format_read f line))
+      → new.columns ≡ columns_of (format_read f (line ++ b ∷ []))
+  columns-format old new start f on is = ap (λ (c : KeyCount). c.columns) (keys-new old new start 0 b f line line on refl is)
+
+  none-built : (t : Bool) (s : ℕ) (rest more : List ℕ) → Nothing ≡ built_begun t s rest → 0 ≡ columns_by t more
+  none-built true s rest more is = absurd (cc)
+  none-built false s rest more is = refl
 
   pub columns-nothing : (end : Option ℕ) → options_end line ≡ end → Nothing ≡ head_begun end line
       → 0 ≡ head_columns (options_end (line ++ b ∷ [])) (line ++ b ∷ [])
   columns-nothing None is begun = absurd (cc)
   columns-nothing (Some end) is begun =
-      none-built (options_read (take end line)).are_built (drop (suc end) line) (drop (suc end) line ++ b ∷ []) begun ∙ sym (columns-some end is)
+      none-built (options_read (take end line)).are_built (suc end) (drop (suc end) line) (drop (suc end) line ++ b ∷ []) begun ∙ sym (columns-some end is)
 
 -- behind options alone there is no column
 nothing-behind : (t : Bool) → 0 ≡ (if t then columns_of (format_read no_format []) else 0)
@@ -251,17 +274,43 @@ module _ (line : List ℕ) (inside : Bool) (begun : Front inside ≡ head_begun 
   columns-none b is = none-by (ends_here b inside) b refl is
 
 -- where the reading stands behind the newline
-place-built : (t : Bool) (old new : KeyCount) (rest : List ℕ) → CountsOn old new newline → Keys old ≡ built_begun t rest
+place-built : (t : Bool) (old new : KeyCount) (start s : ℕ) (line rest : List ℕ) → CountsOn old new (drop start line) newline → drop s line ≡ rest → Keys start old ≡ built_begun t s rest
     → new.place ≡ (if t then (format_read no_format (rest ++ newline ∷ [])).place else AtFault)
-place-built true old new rest on is = ap (λ (c : KeyCount). c.place) (keys-format old new newline no_format rest on is)
-place-built false old new rest on is = absurd (cc)
+place-built true old new start s line rest on left is = ap (λ (c : KeyCount). c.place) (keys-new old new start s newline no_format line rest on left is)
+place-built false old new start s line rest on left is = absurd (cc)
 
-pub place-keys : (line : List ℕ) (old new : KeyCount) (end : Option ℕ) → CountsOn old new newline → Keys old ≡ head_begun end line
+pub place-keys : (line : List ℕ) (old new : KeyCount) (start : ℕ) (end : Option ℕ) → CountsOn old new (drop start line) newline → Keys start old ≡ head_begun end line
     → new.place ≡ head_place end line
-place-keys line old new None on begun = absurd (cc)
-place-keys line old new (Some end) on begun = place-built (options_read (take end line)).are_built old new (drop (suc end) line) on begun
+place-keys line old new start None on begun = absurd (cc)
+place-keys line old new start (Some end) on begun =
+    place-built (options_read (take end line)).are_built old new start (suc end) line (drop (suc end) line) on refl begun
+
+pub place-format : (line : List ℕ) (old new : KeyCount) (start : ℕ) (f : Format) → CountsOn old new (drop start line) newline → Keys start old ≡ Keys 0 (count_of (format_read f line))
+    → new.place ≡ (format_read f (line ++ newline ∷ [])).place
+place-format line old new start f on is = ap (λ (c : KeyCount). c.place) (keys-new old new start 0 newline f line line on refl is)
 
 -- a newline ends no options
 pub newline-goes_on : (inside : Bool) → ends_here newline inside ≡ false
 newline-goes_on true = refl
 newline-goes_on false = refl
+
+-- where nothing of it is known but options, or where nothing counts
+front-by : (line : List ℕ) (inside : Bool) (place : FormatPlace) (end : Option ℕ) → (format_read no_format (line ++ newline ∷ [])).place ≡ place → Front inside ≡ head_begun end line
+    → place ≡ head_place end line
+front-by line inside place None is begun = sym is
+front-by line inside place (Some end) is begun = absurd (some-built line newline (options_read (take end line)).are_built inside (suc end) (drop (suc end) line) begun)
+
+pub place-front : (line : List ℕ) (inside : Bool) (place : FormatPlace) → (format_read no_format (line ++ newline ∷ [])).place ≡ place → Front inside ≡ head_begun (options_end line) line
+    → place ≡ head_place (options_end line) line
+place-front line inside place is begun = front-by line inside place (options_end line) is begun
+
+nothing-place : (t : Bool) (s : ℕ) (rest : List ℕ) → Nothing ≡ built_begun t s rest → AtFault ≡ (if t then (format_read no_format (rest ++ newline ∷ [])).place else AtFault)
+nothing-place true s rest is = absurd (cc)
+nothing-place false s rest is = refl
+
+nothing-by : (line : List ℕ) (end : Option ℕ) → Nothing ≡ head_begun end line → AtFault ≡ head_place end line
+nothing-by line None begun = absurd (cc)
+nothing-by line (Some end) begun = nothing-place (options_read (take end line)).are_built (suc end) (drop (suc end) line) begun
+
+pub place-nothing : (line : List ℕ) → Nothing ≡ head_begun (options_end line) line → AtFault ≡ head_place (options_end line) line
+place-nothing line begun = nothing-by line (options_end line) begun

@@ -54,11 +54,12 @@ module _ (l : TblLimits) (phase : Phase) (begun : Begun) (text : KeptText) (form
         → KeysFit l read line p begun format.format
     data-keys read line p more none = record {
       is = begun-none ∙ none;
-      few = subst (λ (b : Begun). FewKeys (l.columns + length line) b) (sym begun-none) tt;
+      few = subst (λ (b : Begun). FewKeys (l.columns + length line) (length line) b) (sym begun-none) tt;
       keys = omega (arith, fits.keys.keys, more);
       asked = omega (arith, fits.keys.asked, more);
       columns = fits.keys.columns;
       ended = fits.keys.ended;
+      stands = fits.keys.stands;
     }
 
     -- a line goes on

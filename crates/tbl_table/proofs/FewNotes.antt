@@ -1,13 +1,14 @@
 -- How many messages a table has.
-use Rattle.std.proofs.Common.{◌≡◌, ℕ, suc, ◌+◌, ◌≤◌, Bool, true, false, not, ◌&&◌, List, [], ◌∷◌, ◌++◌, length, map, take, drop, Option, Some, None, refl, ap, arith, length-append, if◌then◌else◌}
+use Rattle.std.proofs.Common.{◌≡◌, ℕ, suc, ◌+◌, ◌≤◌, Bool, true, false, not, ◌&&◌, List, [], ◌∷◌, ◌++◌, length, map, take, drop, Option, Some, None, refl, ap, arith, length-append, length-drop, if◌then◌else◌}
 use Rattle.std.proofs.lemmas.List.{length-take}
+use Rattle.tbl_format.proofs.LeftOut.{letters-few, letters-newline}
 use Rattle.roff_source.specs.Bytes.{newline}
 use Rattle.tbl_layout.specs.Data.{judged}
-use Rattle.tbl_format.specs.Format.{format_read}
+use Rattle.tbl_format.specs.Format.{format_read, letters_left_out}
 use Rattle.tbl_kept.specs.Joined.{Joined, behind_joined, ends_joined, goes_on, line_at}
-use Rattle.tbl_format.specs.Notes.{ignored_message, told_at}
-use Rattle.tbl_format.specs.Options.{bracketed, if_word, ignored_behind, ignored_options, is_ignored, nothing_set, option_words, options_end, options_read, separates_options, with_word, words_behind}
-use Rattle.tbl_table.specs.Table.{TableRead, bad, behind_format, closed, closed_line, columns, ended, ended_in, format_line, head_line, line_in, line_read, no_lines, notes, told_at_cut, whole_line, with_judged, with_options, with_pending}
+use Rattle.tbl_format.specs.Notes.{ignored_message, left_out_message, told_at}
+use Rattle.tbl_format.specs.Options.{Said, bracketed, if_word, ignored_behind, ignored_options, is_ignored, is_unknown, nothing_set, option_of, option_of_two, option_words, options_end, options_of, options_read, separates_options, with_said, words_behind}
+use Rattle.tbl_table.specs.Table.{TableRead, bad, behind_format, closed, closed_line, columns, ended, ended_in, format_line, head_line, line_in, line_read, no_lines, notes, told_at_cut, whole_line, with_judged, with_left_out, with_options, with_pending}
 use Rattle.tbl_layout.specs.declared.data.Judged.{Judged}
 use Rattle.tbl_layout.specs.declared.data.Judged.TheVariants.{Refused, Row}
 use Rattle.tbl_format.specs.declared.format.FormatPlace.{FormatPlace}
@@ -59,7 +60,7 @@ closed-done t none = ap (λ (p : Option Joined). closed_line p t) none
 -- behind keys
 format-most : (place : FormatPlace) (n : ℕ) (t : TableRead)
     → length (closed_line (behind_format place n t).pending (behind_format place n t)).notes ≤ length t.notes + 1
-format-most InRows n t = closed-most t.pending (record t { phase = InFormat })
+format-most (InRows part) n t = closed-most t.pending (record t { phase = InFormat })
 format-most AtEnd n t = closed-most t.pending (record t { phase = InData })
 format-most AtFault n t = omega (arith, one-more t.notes (told_at n BadFormat))
 
@@ -81,39 +82,68 @@ words-few inside word (b ∷ text) =
     words-by (not inside && separates_options b) inside word text b
     (omega (arith, words-few inside [] text)) (words-few (bracketed inside b) (word ++ b ∷ []) text)
 
+-- and no more than words
+said-by : (t : Bool) (one two : Said) (xs ys : List Said) (n : ℕ) → length xs ≤ n + 1 → length ys ≤ n → length (if t then one ∷ xs else two ∷ ys) ≤ suc (n + 1)
+said-by true one two xs ys n more few = omega (arith, more)
+said-by false one two xs ys n more few = omega (arith, few)
+
+said-few : (words : List (List ℕ)) → length (options_of words) ≤ length words
+said-few [] = omega arith
+said-few (word ∷ []) = omega arith
+said-few (word ∷ next ∷ words) =
+    let one : Said = record { word = word; option = option_of word } in
+    let two : Said = record { word = word; option = option_of_two word next } in
+    let few = said-by (is_unknown (option_of_two word next)) one two (options_of (next ∷ words)) (options_of words) (length words)
+    (omega (arith, said-few (next ∷ words))) (said-few words) in
+    omega (arith, few)
+
 ignored-by : (t : Bool) (word : List ℕ) (rest : List (List ℕ)) (n : ℕ) → length rest ≤ n → length (if t then word ∷ rest else rest) ≤ suc n
 ignored-by true word rest n few = omega (arith, few)
 ignored-by false word rest n few = omega (arith, few)
 
-ignored-few : (s : Settings) (words : List (List ℕ)) → length (ignored_behind s words) ≤ length words
+ignored-few : (s : Settings) (options : List Said) → length (ignored_behind s options) ≤ length options
 ignored-few s [] = omega arith
-ignored-few s (word ∷ words) =
-    ignored-by (is_ignored s word) word (ignored_behind (with_word s word) words) (length words) (ignored-few (with_word s word) words)
+ignored-few s (said ∷ options) =
+    ignored-by (is_ignored s said) said.word (ignored_behind (with_said s said) options) (length options) (ignored-few (with_said s said) options)
 
 pub ignored-most : (text : List ℕ) → length (ignored_options text) ≤ length text
-ignored-most text = omega (arith, ignored-few nothing_set (option_words text), words-few false [] text)
+ignored-most text =
+    omega (arith, ignored-few nothing_set (options_of (option_words text)), said-few (option_words text), words-few false [] text)
 
 told-count : (n : ℕ) (words : List (List ℕ)) → length (map (λ (word : List ℕ). told_at n (ignored_message word)) words) ≡ length words
 told-count n [] = refl
 told-count n (word ∷ words) = ap (λ (k : ℕ). suc k) (told-count n words)
 
+letters-count : (n : ℕ) (letters : List ℕ) → length (map (λ (letter : ℕ). told_at n (left_out_message letter)) letters) ≡ length letters
+letters-count n [] = refl
+letters-count n (letter ∷ letters) = ap (λ (k : ℕ). suc k) (letters-count n letters)
+
+-- a line of the format leaves out no more than it has bytes
+format_line-most : (n : ℕ) (line : List ℕ) (t : TableRead)
+    → length (closed_line (format_line n line t).pending (format_line n line t)).notes ≤ length t.notes + length line + 1
+format_line-most n line t =
+    let ks = line ++ newline ∷ [] in
+    let letters = letters_left_out t.format ks in
+    let u = with_left_out n ks t in
+    let more = format-most (format_read t.format ks).place n (record u { format = format_read t.format ks }) in
+    let told = map (λ (letter : ℕ). told_at n (left_out_message letter)) letters in
+    let same = ap (λ (ls : List ℕ). length ls) (letters-newline t.format line) in
+    omega (arith, more, length-append t.notes told, letters-count n letters, same, letters-few t.format line)
+
 -- behind a line
 options-by : (built : Bool) (n : ℕ) (line : List ℕ) (t : TableRead)
-    → length (closed_line (if built then format_line n line t else bad n t).pending (if built then format_line n line t else bad n t)).notes ≤ length t.notes + 1
-options-by true n line t =
-    format-most (format_read t.format (line ++ newline ∷ [])).place n (record t { format = format_read t.format (line ++ newline ∷ []) })
+    → length (closed_line (if built then format_line n line t else bad n t).pending (if built then format_line n line t else bad n t)).notes ≤ length t.notes + length line + 1
+options-by true n line t = format_line-most n line t
 options-by false n line t = omega (arith, one-more t.notes (told_at n BadFormat))
 
 head-most : (end : Option ℕ) (n : ℕ) (line : List ℕ) (t : TableRead)
     → length (closed_line (head_line end n line t).pending (head_line end n line t)).notes ≤ length t.notes + length line + 1
-head-most None n line t =
-    let more = format-most (format_read t.format (line ++ newline ∷ [])).place n (record t { format = format_read t.format (line ++ newline ∷ []) }) in
-    omega (arith, more)
+head-most None n line t = format_line-most n line t
 head-most (Some end) n line t =
     let text = take end line in
     let told = map (λ (word : List ℕ). told_at n (ignored_message word)) (ignored_options text) in
     let more = options-by (options_read text).are_built n (drop (suc end) line) (with_options n text t) in
-    omega (arith, more, length-append t.notes told, told-count n (ignored_options text), ignored-most text, length-take end line)
+    omega (arith, more, length-append t.notes told, told-count n (ignored_options text), ignored-most text, length-take end line, length-drop (suc end) line)
 
 data-by : (on : Bool) (n : ℕ) (line : List ℕ) (t : TableRead)
     → length (closed_line (if on then with_pending n line t else whole_line (ends_joined t.pending) n (behind_joined t.pending line) t).pending
@@ -128,9 +158,7 @@ data-by false n line t =
 line-most : (phase : Phase) (n : ℕ) (line : List ℕ) (t : TableRead)
     → length (closed_line (line_in phase n line t).pending (line_in phase n line t)).notes ≤ length (closed_line t.pending t).notes + length line + 1
 line-most AtHead n line t = omega (arith, head-most (options_end line) n line t, closed-least t.pending t)
-line-most InFormat n line t =
-    let more = format-most (format_read t.format (line ++ newline ∷ [])).place n (record t { format = format_read t.format (line ++ newline ∷ []) }) in
-    omega (arith, more, closed-least t.pending t)
+line-most InFormat n line t = omega (arith, format_line-most n line t, closed-least t.pending t)
 line-most InData n line t = omega (arith, data-by (goes_on line) n line t, closed-least t.pending t)
 line-most Bad n line t = omega arith
 

@@ -1,59 +1,77 @@
 -- A format that has ended has a row.
-use Rattle.std.proofs.Common.{◌≡◌, ℕ, ◌<◌, Bool, true, false, List, [], ◌∷◌, ◌++◌, length, Option, Some, None, refl, sym, subst, arith, if◌then◌else◌}
-use Rattle.tbl_format.specs.Format.{Format, at_end, at_fault, behind_key, behind_other, format_byte, format_byte_at, format_read, has_some, is_between, key_of, separates_rows, with_digit, with_digit_of, with_key, with_number, with_whole}
-use Rattle.roff_source.specs.Bytes.{dot, is_digit}
-use Rattle.std.specs.Prelude.{◌==◌}
-use Rattle.tbl_table.specs.Kept.{HasEnd}
+use Rattle.std.proofs.Common.{◌≡◌, ℕ, ◌<◌, Bool, true, false, not, List, [], ◌∷◌, ◌++◌, length, refl, arith}
+use Rattle.tbl_format.specs.Format.{Format, FormatRow, done, fault_if, format_byte, format_byte_at, format_read, has_some, looked_again, read_behind, stepped, with_whole}
+use Rattle.tbl_format.specs.FormatSteps.{step}
 use Rattle.tbl_format.specs.declared.format.FormatPlace.{FormatPlace}
 use Rattle.tbl_format.specs.declared.format.FormatPlace.TheVariants.{AtEnd, AtFault, InRows}
-use Rattle.tbl_format.specs.declared.format.Key.{Key}
-use Rattle.tbl_format.specs.declared.format.Key.TheVariants.{Center, Left, NotBuilt, Right}
+use Rattle.tbl_format.specs.declared.format.RowPart.TheVariants.{BehindKey}
+use Rattle.tbl_format.specs.declared.format_step.Does.{Does}
+use Rattle.tbl_format.specs.declared.format_step.Does.TheVariants.{AddBar, AddKey, DropWidth, EndFormat, EndRow, Equalize, LeaveOut, Nothing, Separate, Stand, Widen}
+use Rattle.tbl_format.proofs.StepPlaces.{EndsFormat, done-keeps, step-end}
+use Rattle.tbl_table.specs.Kept.{HasEnd}
 
 abbrev pub Ended : Format → Type 0
 Ended f = HasEnd f.place f.rows
 
-ended-if : (t : Bool) (f g : Format) → Ended f → Ended g → Ended (if t then f else g)
-ended-if true f g first second = first
-ended-if false f g first second = second
+-- it hasn't ended
+abbrev IsOpen : FormatPlace → Type 0
+IsOpen (InRows part) = Unit {0}
+IsOpen AtEnd = ⊥
+IsOpen AtFault = Unit {0}
 
-in-place : (f : Format) → f.place ≡ InRows → Ended f
-in-place f is = subst (λ (p : FormatPlace). HasEnd p f.rows) (sym is) tt
+open-ended : (place : FormatPlace) (rows : List FormatRow) → IsOpen place → HasEnd place rows
+open-ended (InRows part) rows is = tt
+open-ended AtEnd rows is = absurd is
+open-ended AtFault rows is = tt
 
-some-long : (rows : List (List Key)) → has_some rows ≡ true → 0 < length rows
+some-long : (rows : List FormatRow) → has_some rows ≡ true → 0 < length rows
 some-long [] is = absurd (cc)
 some-long (row ∷ rows) is = omega arith
 
-ended-end : (t : Bool) (f : Format) → has_some f.rows ≡ t → Ended (if t then record f { place = AtEnd } else at_fault f)
-ended-end true f is = some-long f.rows is
+any-long : (place : FormatPlace) (rows : List FormatRow) → 0 < length rows → HasEnd place rows
+any-long (InRows part) rows some = tt
+any-long AtEnd rows some = some
+any-long AtFault rows some = tt
+
+ended-end : (t : Bool) (f : Format) → has_some f.rows ≡ t → Ended (fault_if (not t) f)
+ended-end true f is = any-long f.place f.rows (some-long f.rows is)
 ended-end false f is = tt
 
-ended-key : (f : Format) (key : Key) → Ended (with_key f key)
-ended-key f Left = tt
-ended-key f Right = tt
-ended-key f Center = tt
-ended-key f NotBuilt = tt
+-- behind what a byte does
+ended-open : (does : Does) (f : Format) → IsOpen f.place → Ended (done does f)
+ended-open does f is = open-ended (done does f).place (done does f).rows (done-keeps IsOpen tt does f is)
 
-ended-other : (f : Format) (b : ℕ) → f.place ≡ InRows → Ended (behind_other f b)
-ended-other f b is =
-    let whole : Ended (with_whole f) =
-    ended-if (has_some f.row) (record f { rows = f.rows ++ f.row ∷ []; row = []; number = None }) (record f { number = None })
-    (in-place (record f { rows = f.rows ++ f.row ∷ []; row = []; number = None }) is) (in-place (record f { number = None }) is) in
-    ended-if (separates_rows b) (with_whole f) (if is_between b then record f { number = None } else if b == dot then at_end (with_whole f) else at_fault f) whole
-    (ended-if (is_between b) (record f { number = None }) (if b == dot then at_end (with_whole f) else at_fault f) (in-place (record f { number = None }) is)
-    (ended-if (b == dot) (at_end (with_whole f)) (at_fault f) (ended-end (has_some (with_whole f).rows) (with_whole f) refl) tt))
+ended-done : (place : FormatPlace) (does : Does) (f : Format) → EndsFormat place does → Ended (done does (record f { place = place }))
+ended-done (InRows part) does f ends = ended-open does (record f { place = InRows part }) tt
+ended-done AtEnd Nothing f ends = absurd ends
+ended-done AtEnd (AddKey key) f ends = absurd ends
+ended-done AtEnd AddBar f ends = absurd ends
+ended-done AtEnd (Separate n) f ends = absurd ends
+ended-done AtEnd (Widen n) f ends = absurd ends
+ended-done AtEnd Equalize f ends = absurd ends
+ended-done AtEnd DropWidth f ends = absurd ends
+ended-done AtEnd (Stand standing) f ends = absurd ends
+ended-done AtEnd (LeaveOut letter) f ends = absurd ends
+ended-done AtEnd EndRow f ends = absurd ends
+ended-done AtEnd EndFormat f ends =
+    let whole = with_whole (record f { place = AtEnd }) in ended-end (has_some whole.rows) whole refl
+ended-done AtFault does f ends = ended-open does (record f { place = AtFault }) tt
 
-ended-option : (f : Format) (b : ℕ) (key : Option Key) → f.place ≡ InRows → Ended (behind_key f b key)
-ended-option f b None is = ended-other f b is
-ended-option f b (Some key) is = ended-key f key
+ended-again : (t : Bool) (front : List ℕ) (b : ℕ) (f : Format) → Ended f → Ended (looked_again t front b f)
+ended-again false front b f has = has
+ended-again true front b f has =
+    let s = step BehindKey front b in ended-done s.place s.does f (step-end BehindKey front b)
 
-ended-at : (p : FormatPlace) (f : Format) (b : ℕ) → f.place ≡ p → HasEnd p f.rows → Ended (format_byte_at p f b)
-ended-at InRows f b is has =
-    ended-if (is_digit b) (with_digit_of f b) (behind_key f b (key_of b))
-    (ended-if (has_some f.row) (with_number f (with_digit f.number b)) (at_fault f) (in-place (with_number f (with_digit f.number b)) is) tt)
-    (ended-option f b (key_of b) is)
-ended-at AtEnd f b is has = subst (λ (p : FormatPlace). HasEnd p f.rows) (sym is) has
-ended-at AtFault f b is has = subst (λ (p : FormatPlace). HasEnd p f.rows) (sym is) has
+ended-at : (p : FormatPlace) (front : List ℕ) (f : Format) (b : ℕ) → Ended f → Ended (format_byte_at p front f b)
+ended-at (InRows part) front f b has =
+    let s = step part front b in
+    ended-again s.is_again front b (stepped s f) (ended-done s.place s.does f (step-end part front b))
+ended-at AtEnd front f b has = has
+ended-at AtFault front f b has = has
+
+ended-behind : (front : List ℕ) (f : Format) (bytes : List ℕ) → Ended f → Ended (read_behind front f bytes)
+ended-behind front f [] has = has
+ended-behind front f (b ∷ bytes) has = ended-behind (front ++ b ∷ []) (format_byte front f b) bytes (ended-at f.place front f b has)
 
 pub format-ended : (f : Format) (bytes : List ℕ) → Ended f → Ended (format_read f bytes)
-format-ended f [] has = has
-format-ended f (b ∷ bytes) has = format-ended (format_byte f b) bytes (ended-at f.place f b refl has)
+format-ended f bytes has = ended-behind [] f bytes has

@@ -13,3 +13,8 @@ pub mod PictureGiven
 pub mod JudgedPlaces
 pub mod TableLast
 pub mod TableWhole
+pub mod NextNotesStaying
+pub mod NextFewFields
+pub mod NextFewNotes
+pub mod NextRowsBehind
+pub mod NextFieldSteps

@@ -7,7 +7,7 @@ use Rattle.std.proofs.lemmas.Bool.Decides.{nat_tests}
 use Rattle.std.proofs.lemmas.List.{drop_all, length-map}
 use Rattle.std.proofs.lemmas.List.Sums.{sum_by-cons}
 use Rattle.roff_source.specs.Bytes.{is_dropped, is_silent, tab}
-use Rattle.tbl_format.specs.Format.{Format}
+use Rattle.tbl_format.specs.Format.{Format, FormatRow}
 use Rattle.tbl_table.specs.Output.{CanLine, lines_from}
 use Rattle.tbl_format.specs.RowsServed.{first_format, next_formats, next_of}
 use Rattle.tbl_picture.specs.Picture.{line_of, lines_of}
@@ -15,11 +15,10 @@ use Rattle.tbl_layout.specs.Fields.{AreMeasured, IsMeasured, text_of, texts_of}
 use Rattle.tbl_kept.specs.TableRows.{KeptRows, first_row, texts_in}
 use Rattle.tbl_layout.specs.Widths.{text_width, width_in_text}
 use Rattle.tbl_layout.specs.declared.data.Field.{Field}
-use Rattle.tbl_format.specs.declared.format.Key.{Key}
 use Rattle.tbl_layout.proofs.Fields.{length-part}
 
 -- behind a row of the format that isn't the last
-next-inside : (formats : List (List Key)) (keys : ℕ) → keys + 1 < length formats → next_formats (drop keys formats) ≡ drop (keys + 1) formats
+next-inside : (formats : List FormatRow) (keys : ℕ) → keys + 1 < length formats → next_formats (drop keys formats) ≡ drop (keys + 1) formats
 next-inside [] keys more = absurd (omega (arith, more))
 next-inside (x ∷ []) keys more = absurd (omega (arith, more))
 next-inside (x ∷ y ∷ formats) zero more = let one : 1 ≡ zero + 1 = omega arith in ap (λ (n : ℕ). drop n (x ∷ y ∷ formats)) one
@@ -28,7 +27,7 @@ next-inside (x ∷ y ∷ formats) (suc keys) more =
     next-inside (y ∷ formats) keys (omega (arith, more)) ∙ ap (λ (n : ℕ). drop n (x ∷ y ∷ formats)) same
 
 -- and behind the last
-next-last : (formats : List (List Key)) (keys : ℕ) → keys < length formats → length formats ≤ keys + 1 → next_formats (drop keys formats) ≡ drop keys formats
+next-last : (formats : List FormatRow) (keys : ℕ) → keys < length formats → length formats ≤ keys + 1 → next_formats (drop keys formats) ≡ drop keys formats
 next-last [] keys some last = absurd (omega (arith, some))
 next-last (x ∷ []) zero some last = refl
 next-last (x ∷ []) (suc keys) some last = absurd (omega (arith, some))
@@ -45,7 +44,7 @@ next_stays keys count last =
     let test : nat_lt (keys + 1) count ≡ false = grind (arith, nat_tests) in
     ap (λ (t : Bool). if t then keys + 1 else keys) test
 
-next-drop : (formats : List (List Key)) (keys : ℕ) → keys < length formats → next_formats (drop keys formats) ≡ drop (next_of keys (length formats)) formats
+next-drop : (formats : List FormatRow) (keys : ℕ) → keys < length formats → next_formats (drop keys formats) ≡ drop (next_of keys (length formats)) formats
 next-drop formats keys some = elim (cases_lt (keys + 1) (length formats)) [
   | inl more ↦ next-inside formats keys more ∙ ap (λ (n : ℕ). drop n formats) (sym (next_is keys (length formats) more))
   | inr last ↦ next-last formats keys some last ∙ ap (λ (n : ℕ). drop n formats) (sym (next_stays keys (length formats) last))
@@ -120,7 +119,7 @@ module _ (block : List ℕ) (r : KeptRows) (f : Format) (room row keys : ℕ) (c
         let row_texts = texts_of block (first_row (drop row r.rows)) in
         let formats = drop keys f.rows in
         ap (λ (texts : List (List (List ℕ))). lines_of r.widths f.asked formats texts) (texts-at block r.rows row row-inside)
-        ∙ ap (λ (next : List (List Key)). line_of r.widths f.asked (first_format formats) row_texts ++ lines_of r.widths f.asked next (drop (row + 1) (texts_in block r.rows)))
+        ∙ ap (λ (next : List FormatRow). line_of r.widths f.asked (first_format formats) row_texts ++ lines_of r.widths f.asked next (drop (row + 1) (texts_in block r.rows)))
         (next-drop f.rows keys can.keys_within)
 
     pub CanLine-more : CanLine block r f room (row + 1) (next_of keys (length f.rows))

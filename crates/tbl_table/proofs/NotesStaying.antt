@@ -6,7 +6,7 @@ use Rattle.tbl_format.specs.Format.{Format, format_read}
 use Rattle.tbl_kept.specs.Joined.{Joined, behind_joined, ends_joined, goes_on}
 use Rattle.tbl_table.specs.NotesStay.{Begins, NotesStay}
 use Rattle.tbl_format.specs.Options.{options_end, options_read}
-use Rattle.tbl_table.specs.Table.{TableRead, bad, behind_format, closed, closed_line, columns, ended, ended_in, format_line, head_line, line_in, line_read, notes, told_at_cut, whole_line, with_judged, with_options, with_pending}
+use Rattle.tbl_table.specs.Table.{TableRead, bad, behind_format, closed, closed_line, columns, ended, ended_in, format_line, head_line, line_in, line_read, notes, told_at_cut, whole_line, with_judged, with_left_out, with_options, with_pending}
 use Rattle.tbl_layout.specs.declared.data.Judged.{Judged}
 use Rattle.tbl_layout.specs.declared.data.Judged.TheVariants.{Refused, Row}
 use Rattle.tbl_format.specs.declared.format.FormatPlace.{FormatPlace}
@@ -30,14 +30,15 @@ begins_behind xs ys zs first second = record {
 
 -- behind bytes of the format
 place_stays : (place : FormatPlace) (n : ℕ) (t : TableRead) → Begins t.notes (behind_format place n t).notes
-place_stays InRows n t = begins_same t.notes
+place_stays (InRows part) n t = begins_same t.notes
 place_stays AtEnd n t = begins_same t.notes
 place_stays AtFault n t = begins_longer t.notes _
 
 format_stays : (n : ℕ) (line : List ℕ) (t : TableRead) → Begins t.notes (format_line n line t).notes
 format_stays n line t =
     let f : Format = format_read t.format (line ++ newline ∷ []) in
-    place_stays f.place n (record t { format = f })
+    let u = with_left_out n (line ++ newline ∷ []) t in
+    begins_behind t.notes u.notes (format_line n line t).notes (begins_longer t.notes _) (place_stays f.place n (record u { format = f }))
 
 -- and behind options
 options_stay : (built : Bool) (n : ℕ) (text line : List ℕ) (t : TableRead)

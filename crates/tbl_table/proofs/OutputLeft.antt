@@ -8,7 +8,8 @@ use Rattle.tbl_format.specs.FormatRows.{KeptFormat}
 use Rattle.tbl_kept.specs.Joined.{RiseWithin, unjoined}
 use Rattle.tbl_table.specs.Output.{CanGive, CanLine, IsLast, KeptGiving, coming, following, lines_from}
 use Rattle.tbl_picture.specs.PieceQueue.{KeptPieces, bytes_left}
-use Rattle.tbl_picture.specs.Picture.{before_lines, behind_lines, line_of, picture}
+use Rattle.tbl_picture.specs.Frame.{before_lines, behind_lines, picture}
+use Rattle.tbl_picture.specs.Picture.{line_of}
 use Rattle.tbl_format.specs.RowsServed.{first_format, next_of}
 use Rattle.tbl_picture.specs.Pieces.{AreWithin, bytes_of_all, some_piece}
 use Rattle.tbl_layout.specs.Fields.{texts_of}

@@ -3,6 +3,7 @@ use Rattle.std.proofs.Common.{◌≡◌, ℕ, ◌+◌, ◌*◌, ◌<◌, ◌≤�
 use Rattle.std.proofs.lemmas.Bool.Decides.{nat_tests}
 use Rattle.roff_num.specs.declared.limit.Limit.{Limit}
 use Rattle.roff_num.specs.declared.limit.Limit.TheVariants.{Rows, Width}
+use Rattle.tbl_format.specs.declared.format.Asked.{Asked}
 use Rattle.tbl_format.specs.FormatRows.{KeptFormat}
 use Rattle.tbl_kept.specs.Joined.{Joined, behind_joined}
 use Rattle.tbl_table.specs.Kept.{PartsFit, table_of}
@@ -27,7 +28,7 @@ use Rattle.tbl_table.proofs.DataFits.{columns-same, has-rows}
 use Rattle.tbl_table.proofs.TableReads.{texts-stay}
 
 -- columns that are not too wide
-pub narrow-by : (ws : List ℕ) (asked : List (Option ℕ)) → width_of_all ws asked < 4294967296 → IsNarrow 0 ws asked
+pub narrow-by : (ws : List ℕ) (asked : List Asked) → width_of_all ws asked < 4294967296 → IsNarrow 0 ws asked
 narrow-by [] asked few = tt
 narrow-by (w ∷ ws) asked few = omega (arith, few)
 

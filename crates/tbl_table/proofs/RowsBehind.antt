@@ -6,7 +6,7 @@ use Rattle.tbl_format.specs.Format.{format_read}
 use Rattle.tbl_kept.specs.Joined.{behind_joined, ends_joined, goes_on}
 use Rattle.tbl_format.specs.Options.{options_end, options_read}
 use Rattle.tbl_table.specs.Steps.{ends_row, ends_row_in}
-use Rattle.tbl_table.specs.Table.{TableRead, bad, behind_format, columns, columns_at, columns_in, format_line, head_line, line_in, line_read, rows, rows_behind, whole_line, with_judged, with_options, with_pending}
+use Rattle.tbl_table.specs.Table.{TableRead, bad, behind_format, columns, columns_at, columns_in, format_line, head_line, line_in, line_read, rows, rows_behind, whole_line, with_judged, with_left_out, with_options, with_pending}
 use Rattle.tbl_layout.specs.declared.data.Judged.{Judged}
 use Rattle.tbl_layout.specs.declared.data.Judged.TheVariants.{Refused, Row}
 use Rattle.tbl_format.specs.declared.format.FormatPlace.{FormatPlace}
@@ -16,18 +16,18 @@ use Rattle.tbl_table.specs.declared.phase.Phase.TheVariants.{AtHead, Bad, InData
 
 -- the format changes none
 format-rows : (place : FormatPlace) (n : ℕ) (t : TableRead) → (behind_format place n t).rows ≡ t.rows
-format-rows InRows n t = refl
+format-rows (InRows part) n t = refl
 format-rows AtEnd n t = refl
 format-rows AtFault n t = refl
 
 options-rows : (built : Bool) (n : ℕ) (line : List ℕ) (t : TableRead) → (if built then format_line n line t else bad n t).rows ≡ t.rows
 options-rows true n line t =
-    format-rows (format_read t.format (line ++ newline ∷ [])).place n (record t { format = format_read t.format (line ++ newline ∷ []) })
+    format-rows (format_read t.format (line ++ newline ∷ [])).place n (record (with_left_out n (line ++ newline ∷ []) t) { format = format_read t.format (line ++ newline ∷ []) })
 options-rows false n line t = refl
 
 head-rows : (end : Option ℕ) (n : ℕ) (line : List ℕ) (t : TableRead) → (head_line end n line t).rows ≡ t.rows
 head-rows None n line t =
-    format-rows (format_read t.format (line ++ newline ∷ [])).place n (record t { format = format_read t.format (line ++ newline ∷ []) })
+    format-rows (format_read t.format (line ++ newline ∷ [])).place n (record (with_left_out n (line ++ newline ∷ []) t) { format = format_read t.format (line ++ newline ∷ []) })
 head-rows (Some end) n line t =
     options-rows (options_read (take end line)).are_built n (drop (suc end) line) (with_options n (take end line) t)
 
@@ -49,7 +49,7 @@ pub rows-in : (phase : Phase) (n : ℕ) (line : List ℕ) (t : TableRead)
     → length (line_in phase n line t).rows ≡ length t.rows + (if ends_row_in phase t line then 1 else 0)
 rows-in AtHead n line t = omega (arith, ap (λ rs. length rs) (head-rows (options_end line) n line t))
 rows-in InFormat n line t =
-    omega (arith, ap (λ rs. length rs) (format-rows (format_read t.format (line ++ newline ∷ [])).place n (record t { format = format_read t.format (line ++ newline ∷ []) })))
+    omega (arith, ap (λ rs. length rs) (format-rows (format_read t.format (line ++ newline ∷ [])).place n (record (with_left_out n (line ++ newline ∷ []) t) { format = format_read t.format (line ++ newline ∷ []) })))
 rows-in InData n line t = data-by (goes_on line) n line t
 rows-in Bad n line t = omega arith
 

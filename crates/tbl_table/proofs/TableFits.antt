@@ -1,5 +1,5 @@
 -- The parts of a table hold together in front of its first line, behind more bytes, and behind each line but those of its data.
-use Rattle.std.proofs.Common.{◌≡◌, ℕ, ◌+◌, ◌<◌, ◌≤◌, true, false, List, [], ◌∷◌, ◌++◌, length, Option, Some, None, refl, sym, ap, subst, ◌∙◌, arith, length-append}
+use Rattle.std.proofs.Common.{◌≡◌, ℕ, ◌+◌, ◌-◌, ◌<◌, ◌≤◌, true, false, List, [], ◌∷◌, ◌++◌, length, map, Option, Some, None, refl, sym, ap, subst, ◌∙◌, arith, length-append}
 use Rattle.std.proofs.lemmas.List.{length-replicate}
 use Rattle.std.specs.Prelude.{is_some}
 use Rattle.roff_source.specs.Bytes.{newline}
@@ -8,7 +8,7 @@ use Rattle.tbl_format.specs.Format.{Format, no_format}
 use Rattle.tbl_format.specs.FormatRows.{KeptFormat, key_count, keeping}
 use Rattle.tbl_kept.specs.Joined.{Joined, behind_joined}
 use Rattle.tbl_table.specs.Kept.{HasEnd, HasRooms, KeysFit, NotesFit, PartsFit, PhaseFits, RowsFit, TextFits, faults, opened}
-use Rattle.tbl_format.specs.Notes.{IsWithin, NotesWithin, ignored_message, told_at, told_of, told_of_all}
+use Rattle.tbl_format.specs.Notes.{IsWithin, NotesWithin, ignored_message, left_out_note, told_at, told_of, told_of_all}
 use Rattle.tbl_table.specs.Steps.{fault_noted, is_front, phase_behind, rows_started, with_cause}
 use Rattle.tbl_table.specs.Table.{is_bad_phase}
 use Rattle.tbl_kept.specs.TableNotes.{KeptNotes, no_notes}
@@ -20,11 +20,13 @@ use Rattle.tbl_format.specs.declared.format.FormatPlace.{FormatPlace}
 use Rattle.tbl_format.specs.declared.format.FormatPlace.TheVariants.{AtEnd, AtFault, InRows}
 use Rattle.tbl_format.specs.declared.limits.TblLimits.{TblLimits}
 use Rattle.tbl_format.specs.declared.notes.Cause.{Cause}
-use Rattle.tbl_format.specs.declared.notes.Cause.TheVariants.{BadFormat, OptionIgnored, TooManyFields}
+use Rattle.tbl_format.specs.declared.notes.Cause.TheVariants.{BadFormat, LeftOut, OptionIgnored, TooManyFields}
 use Rattle.tbl_format.specs.declared.notes.KeptNote.{KeptNote}
 use Rattle.tbl_table.specs.declared.phase.Phase.{Phase}
 use Rattle.tbl_table.specs.declared.phase.Phase.TheVariants.{AtHead, Bad, InData, InFormat}
 use Rattle.tbl_format.proofs.Parts.{slice_range-append}
+use Rattle.tbl_format.proofs.StepPlaces.{stands-longer}
+use Rattle.tbl_format.specs.KeyCounts.{StandsOnLine}
 use Rattle.tbl_kept.proofs.RowTexts.{Holds-longer, Holds-start}
 
 -- options within a text are within a longer one
@@ -32,6 +34,7 @@ pub IsWithin-more : (len more : ℕ) (cause : Cause) → len ≤ more → IsWith
 IsWithin-more len more BadFormat le within = tt
 IsWithin-more len more TooManyFields le within = tt
 IsWithin-more len more (OptionIgnored from to) le within = (within.0, omega (arith, le, within.1))
+IsWithin-more len more (LeftOut letter) le within = tt
 
 pub NotesWithin-more : (len more : ℕ) (notes : List KeptNote) → len ≤ more → NotesWithin len notes → NotesWithin more notes
 NotesWithin-more len more [] le within = tt
@@ -43,11 +46,18 @@ pub NotesWithin-append : (len : ℕ) (notes : List KeptNote) (note : KeptNote) �
 NotesWithin-append len [] note is within = (is, tt)
 NotesWithin-append len (n ∷ notes) note is within = (within.0, NotesWithin-append len notes note is within.1)
 
+pub NotesWithin-letters : (len line : ℕ) (notes : List KeptNote) (letters : List ℕ) → NotesWithin len notes
+    → NotesWithin len (notes ++ map (left_out_note line) letters)
+NotesWithin-letters len line [] [] within = tt
+NotesWithin-letters len line [] (letter ∷ letters) within = (tt, NotesWithin-letters len line [] letters tt)
+NotesWithin-letters len line (n ∷ notes) letters within = (within.0, NotesWithin-letters len line notes letters within.1)
+
 -- and say the same
 told_of-longer : (block more : List ℕ) (line : ℕ) (cause : Cause) → IsWithin (length block) cause
     → told_of (block ++ more) (record { line = line; cause = cause }) ≡ told_of block (record { line = line; cause = cause })
 told_of-longer block more line BadFormat within = refl
 told_of-longer block more line TooManyFields within = refl
+told_of-longer block more line (LeftOut letter) within = refl
 told_of-longer block more line (OptionIgnored from to) within =
     ap (λ (word : List ℕ). told_at line (ignored_message word)) (slice_range-append block more from to within.0 within.1)
 
@@ -63,16 +73,21 @@ pub ended-read : (text : KeptText) → length (text_ended text).read ≡ length 
 ended-read text = omega (arith, length-append (text.read ++ text.line) (newline ∷ []), length-append text.read text.line)
 
 -- more keys may be counted than there are
-pub FewKeys-more : (most more : ℕ) (begun : Begun) → most ≤ more → FewKeys most begun → FewKeys more begun
-FewKeys-more most more (Front inside) le few = tt
-FewKeys-more most more (Keys count) le few = (few.0, omega (arith, le, few.1))
-FewKeys-more most more Nothing le few = tt
+pub FewKeys-more : (most more len longer : ℕ) (begun : Begun) → most ≤ more → len ≤ longer → FewKeys most len begun → FewKeys more longer begun
+FewKeys-more most more len longer (Front inside) le on few = tt
+FewKeys-more most more len longer (Keys start count) le on few = record {
+  starts = omega (arith, on, few.starts);
+  is = record { row = few.is.row; place = stands-longer count.place (len - start) (longer - start) (omega (arith, on)) few.is.place };
+  few = omega (arith, le, few.few);
+}
+FewKeys-more most more len longer Nothing le on few = tt
 
-pub few-start : (most : ℕ) (phase : Phase) (f : Format) → length f.row ≤ length f.asked → length f.asked ≤ most → FewKeys most (begun_in phase f [])
-few-start most AtHead f row few = tt
-few-start most InFormat f row few = (row, few)
-few-start most InData f row few = tt
-few-start most Bad f row few = tt
+pub few-start : (most : ℕ) (phase : Phase) (f : Format) → length f.row ≤ length f.asked → length f.asked ≤ most → StandsOnLine 0 f.place
+    → FewKeys most 0 (begun_in phase f [])
+few-start most AtHead f row few stands = tt
+few-start most InFormat f row few stands = record { starts = omega arith; is = record { row = row; place = stands }; few = few }
+few-start most InData f row few stands = tt
+few-start most Bad f row few stands = tt
 
 pub no-fault-by : (phase : Phase) → is_bad_phase phase ≡ false → faults phase ≡ 0
 no-fault-by AtHead is = refl
@@ -139,7 +154,7 @@ module _ (l : TblLimits) (phase : Phase) (begun : Begun) (text : KeptText) (form
       record {
         rooms = fits.rooms;
         bytes = fits.bytes;
-        keys = record { is = refl; few = tt; keys = fits.keys.keys; asked = fits.keys.asked; columns = fits.keys.columns; ended = fits.keys.ended };
+        keys = record { is = refl; few = tt; keys = fits.keys.keys; asked = fits.keys.asked; columns = fits.keys.columns; ended = fits.keys.ended; stands = fits.keys.stands };
         messages = record {
           few = omega (arith, fits.messages.few, front-fault phase front, length-append notes.notes (record { line = number; cause = BadFormat } ∷ []));
           within = within;
@@ -150,16 +165,17 @@ module _ (l : TblLimits) (phase : Phase) (begun : Begun) (text : KeptText) (form
       }
 
   -- few keys are counted
-  pub few-keys : FewKeys 4611686018427387904 begun
+  pub few-keys : FewKeys 4611686018427387904 (length text.line) begun
   few-keys =
-      FewKeys-more (l.columns + length text.line) 4611686018427387904 begun (omega (arith, fits.bytes.most, fits.rooms.small, fits.rooms.narrow)) fits.keys.few
+      FewKeys-more (l.columns + length text.line) 4611686018427387904 (length text.line) (length text.line) begun
+      (omega (arith, fits.bytes.most, fits.rooms.small, fits.rooms.narrow)) (omega arith) fits.keys.few
 
   pub few-bytes : length text.line < 4611686018427387904
   few-bytes = omega (arith, fits.bytes.most, fits.rooms.small)
 
   -- more bytes of the line
   pub push-fits : (more : List ℕ) (new : Begun) → length (text.read ++ text.line) + length more ≤ l.text + 4
-      → new ≡ begun_in phase format.format (text.line ++ more) → FewKeys (l.columns + length text.line + length more) new
+      → new ≡ begun_in phase format.format (text.line ++ more) → FewKeys (l.columns + length text.line + length more) (length text.line + length more) new
       → PartsFit l phase new (record text { line = text.line ++ more }) format rows notes
   push-fits more new room is few =
       let longer = length-append text.line more in
@@ -172,11 +188,14 @@ module _ (l : TblLimits) (phase : Phase) (begun : Begun) (text : KeptText) (form
         };
         keys = record {
           is = is;
-          few = FewKeys-more (l.columns + length text.line + length more) (l.columns + length (text.line ++ more)) new (omega (arith, longer)) few;
+          few =
+              FewKeys-more (l.columns + length text.line + length more) (l.columns + length (text.line ++ more)) (length text.line + length more) (length (text.line ++ more)) new
+              (omega (arith, longer)) (omega (arith, longer)) few;
           keys = fits.keys.keys;
           asked = fits.keys.asked;
           columns = fits.keys.columns;
           ended = fits.keys.ended;
+          stands = fits.keys.stands;
         };
         messages = fits.messages;
         kept = fits.kept;
@@ -194,7 +213,7 @@ module _ (l : TblLimits) (phase : Phase) (begun : Begun) (text : KeptText) (form
       → PartsFit l phase begun (record text { line = text.line ++ more }) format rows notes
   push-data more is room =
       push-fits more begun (omega (arith, room)) (fits.keys.is ∙ data-begun phase format.format text.line (text.line ++ more) is)
-      (FewKeys-more (l.columns + length text.line) (l.columns + length text.line + length more) begun (omega arith) fits.keys.few)
+      (FewKeys-more (l.columns + length text.line) (l.columns + length text.line + length more) (length text.line) (length text.line + length more) begun (omega arith) (omega arith) fits.keys.few)
 
   -- behind the newline of a line that is done
   pub whole-len : length text.settled + length (behind_joined text.pending text.line) ≤ length text.read + length text.line
@@ -211,7 +230,7 @@ module _ (l : TblLimits) (phase : Phase) (begun : Begun) (text : KeptText) (form
   longer-settled = omega (arith, length-append text.settled (behind_joined text.pending text.line ++ newline ∷ []))
 
   -- a line of the format is done, or the options and the keys behind them
-  module _ (g : Format) (kept : KeptNotes) (number : ℕ) (none : text.pending ≡ None) (empty : rows.rows ≡ []) (room : length (text.read ++ text.line) < l.text) (keys : key_count g ≤ length text.read + length text.line + 1) (asked : length g.asked ≤ length text.read + length text.line + 1) (columns : length g.asked ≤ l.columns) (row : length g.row ≤ length g.asked) (few : length kept.notes ≤ length text.read + length text.line) (within : NotesWithin (length (text_ended text).settled) kept.notes) (to_tell : NotesWithin (length (text_ended text).settled) kept.to_tell) (same : kept.note_room ≡ notes.note_room) (ended : HasEnd g.place g.rows) where
+  module _ (g : Format) (kept : KeptNotes) (number : ℕ) (none : text.pending ≡ None) (empty : rows.rows ≡ []) (room : length (text.read ++ text.line) < l.text) (keys : key_count g ≤ length text.read + length text.line + 1) (asked : length g.asked ≤ length text.read + length text.line + 1) (columns : length g.asked ≤ l.columns) (row : length g.row ≤ length g.asked) (few : length kept.notes ≤ length text.read + length text.line + 1) (within : NotesWithin (length (text_ended text).settled) kept.notes) (to_tell : NotesWithin (length (text_ended text).settled) kept.to_tell) (same : kept.note_room ≡ notes.note_room) (ended : HasEnd g.place g.rows) (stands : StandsOnLine 0 g.place) where
     no_rows : length rows.rows ≡ 0
     no_rows = ap (λ rs. length rs) empty
 
@@ -235,11 +254,12 @@ module _ (l : TblLimits) (phase : Phase) (begun : Begun) (text : KeptText) (form
     keys-keys : (p : Phase) → KeysFit l (text_ended text).read [] p (begun_in p g []) g
     keys-keys p = record {
       is = refl;
-      few = few-start (l.columns + 0) p g row (omega (arith, columns));
+      few = few-start (l.columns + 0) p g row (omega (arith, columns)) stands;
       keys = omega (arith, keys, ended-read text);
       asked = omega (arith, asked, ended-read text);
       columns = columns;
       ended = ended;
+      stands = stands;
     }
 
     rows-same : RowsFit l (text_ended text).settled None (text_ended text).read rows
@@ -273,7 +293,7 @@ module _ (l : TblLimits) (phase : Phase) (begun : Begun) (text : KeptText) (form
     }
 
     pub keys-fits : (place : FormatPlace) → HasEnd place g.rows → PartsFit l (phase_behind place) (begun_in (phase_behind place) g []) (text_ended text) (keeping format g) (rows_started place (length g.asked) rows) (fault_noted place number kept)
-    keys-fits InRows has = record {
+    keys-fits (InRows part) has = record {
       rooms = rooms-keys;
       bytes = text-ends room;
       keys = keys-keys InFormat;
@@ -308,11 +328,12 @@ module _ (l : TblLimits) (phase : Phase) (begun : Begun) (text : KeptText) (form
         bytes = text-ends room;
         keys = record {
           is = fits.keys.is ∙ ap (λ (p : Phase). begun_in p format.format text.line) is ∙ ap (λ (p : Phase). begun_in p format.format []) (sym is);
-          few = subst (λ (b : Begun). FewKeys (l.columns + 0) b) (sym (fits.keys.is ∙ ap (λ (p : Phase). begun_in p format.format text.line) is)) tt;
+          few = subst (λ (b : Begun). FewKeys (l.columns + 0) 0 b) (sym (fits.keys.is ∙ ap (λ (p : Phase). begun_in p format.format text.line) is)) tt;
           keys = omega (arith, fits.keys.keys, ended-read text);
           asked = omega (arith, fits.keys.asked, ended-read text);
           columns = fits.keys.columns;
           ended = fits.keys.ended;
+          stands = fits.keys.stands;
         };
         messages = record {
           few = omega (arith, fits.messages.few, ended-read text);
@@ -335,7 +356,7 @@ pub start-fits : (l : TblLimits) (text keys columns note_room : ℕ) (rows : Kep
 start-fits l text keys columns note_room rows rooms = record {
   rooms = rooms;
   bytes = record { few = omega arith; most = omega arith; block = omega arith };
-  keys = record { is = refl; few = tt; keys = omega arith; asked = omega arith; columns = omega arith; ended = tt };
+  keys = record { is = refl; few = tt; keys = omega arith; asked = omega arith; columns = omega arith; ended = tt; stands = tt };
   messages = record { few = omega arith; within = tt; telling = tt };
   kept = record { few = omega arith; most = omega arith; fields = omega arith; holds = Holds-start [] (starting rows 0) 0 refl refl };
   by_phase = record { no_bytes = refl; alone = refl; no_keys = refl; no_rows = refl; no_notes = refl; untold = refl };

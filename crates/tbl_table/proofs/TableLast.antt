@@ -11,7 +11,7 @@ use Rattle.tbl_kept.specs.Joined.{Joined, behind_joined, ends_joined, goes_on}
 use Rattle.tbl_table.specs.Kept.{PartsFit, PhaseFits, RowsFit, TextFits, faults}
 use Rattle.tbl_format.specs.Notes.{NotesWithin, told_at, told_of, told_of_all}
 use Rattle.tbl_table.specs.Steps.{fault_noted, judged_line, notes_judged, phase_at_last, phase_judged}
-use Rattle.tbl_table.specs.Table.{TableRead, behind_format, closed, closed_line, columns, is_bad, is_bad_phase, line_in, line_read, notes, whole_line, with_judged, with_pending}
+use Rattle.tbl_table.specs.Table.{TableRead, behind_format, closed, closed_line, columns, is_bad, is_bad_phase, line_in, line_read, notes, whole_line, with_judged, with_left_out, with_pending}
 use Rattle.tbl_kept.specs.TableNotes.{KeptNotes}
 use Rattle.tbl_kept.specs.TableRows.{KeptRows}
 use Rattle.tbl_kept.specs.TableText.{KeptText, text_whole}
@@ -60,10 +60,10 @@ module _ (l : TblLimits) (phase : Phase) (begun : Begun) (text : KeptText) (form
   -- a line of the options or the format
   module _ (kept : KeptNotes) (number : ℕ) (empty : rows.rows ≡ []) (row : length format.format.row ≤ length format.format.asked) (few : length kept.notes ≤ length text.read + length text.line) (within : NotesWithin (length (text_whole text).settled) kept.notes) (to_tell : NotesWithin (length (text_whole text).settled) kept.to_tell) (same : kept.note_room ≡ notes.note_room) where
     pub last-keys-fits : (place : FormatPlace) → PartsFit l (phase_at_last place) (begun_in (phase_at_last place) format.format []) (text_whole text) format rows (fault_noted place number kept)
-    last-keys-fits InRows = record {
+    last-keys-fits (InRows part) = record {
       rooms = record { text = fits.rooms.text; keys = fits.rooms.keys; columns = fits.rooms.columns; fields = fits.rooms.fields; rows = fits.rooms.rows; widths = fits.rooms.widths; notes = same ∙ fits.rooms.notes; small = fits.rooms.small; narrow = fits.rooms.narrow; wide = fits.rooms.wide };
       bytes = whole-bytes;
-      keys = record { is = refl; few = few-start (l.columns + 0) InFormat format.format row (omega (arith, fits.keys.columns)); keys = omega (arith, fits.keys.keys, whole-read); asked = omega (arith, fits.keys.asked, whole-read); columns = fits.keys.columns; ended = fits.keys.ended };
+      keys = record { is = refl; few = few-start (l.columns + 0) InFormat format.format row (omega (arith, fits.keys.columns)) fits.keys.stands; keys = omega (arith, fits.keys.keys, whole-read); asked = omega (arith, fits.keys.asked, whole-read); columns = fits.keys.columns; ended = fits.keys.ended; stands = fits.keys.stands };
       messages = record { few = omega (arith, few, whole-read); within = within; telling = to_tell };
       kept = whole-rows;
       by_phase = (refl, empty);
@@ -71,7 +71,7 @@ module _ (l : TblLimits) (phase : Phase) (begun : Begun) (text : KeptText) (form
     last-keys-fits AtEnd = record {
       rooms = record { text = fits.rooms.text; keys = fits.rooms.keys; columns = fits.rooms.columns; fields = fits.rooms.fields; rows = fits.rooms.rows; widths = fits.rooms.widths; notes = same ∙ fits.rooms.notes; small = fits.rooms.small; narrow = fits.rooms.narrow; wide = fits.rooms.wide };
       bytes = whole-bytes;
-      keys = record { is = refl; few = few-start (l.columns + 0) InFormat format.format row (omega (arith, fits.keys.columns)); keys = omega (arith, fits.keys.keys, whole-read); asked = omega (arith, fits.keys.asked, whole-read); columns = fits.keys.columns; ended = fits.keys.ended };
+      keys = record { is = refl; few = few-start (l.columns + 0) InFormat format.format row (omega (arith, fits.keys.columns)) fits.keys.stands; keys = omega (arith, fits.keys.keys, whole-read); asked = omega (arith, fits.keys.asked, whole-read); columns = fits.keys.columns; ended = fits.keys.ended; stands = fits.keys.stands };
       messages = record { few = omega (arith, few, whole-read); within = within; telling = to_tell };
       kept = whole-rows;
       by_phase = (refl, empty);
@@ -79,7 +79,7 @@ module _ (l : TblLimits) (phase : Phase) (begun : Begun) (text : KeptText) (form
     last-keys-fits AtFault = record {
       rooms = record { text = fits.rooms.text; keys = fits.rooms.keys; columns = fits.rooms.columns; fields = fits.rooms.fields; rows = fits.rooms.rows; widths = fits.rooms.widths; notes = same ∙ fits.rooms.notes; small = fits.rooms.small; narrow = fits.rooms.narrow; wide = fits.rooms.wide };
       bytes = whole-bytes;
-      keys = record { is = refl; few = tt; keys = omega (arith, fits.keys.keys, whole-read); asked = omega (arith, fits.keys.asked, whole-read); columns = fits.keys.columns; ended = fits.keys.ended };
+      keys = record { is = refl; few = tt; keys = omega (arith, fits.keys.keys, whole-read); asked = omega (arith, fits.keys.asked, whole-read); columns = fits.keys.columns; ended = fits.keys.ended; stands = fits.keys.stands };
       messages = record {
         few = omega (arith, few, whole-read, length-append kept.notes (record { line = number; cause = BadFormat } ∷ []));
         within = NotesWithin-append (length (text_whole text).settled) kept.notes (record { line = number; cause = BadFormat }) tt within;
@@ -139,7 +139,7 @@ module _ (l : TblLimits) (phase : Phase) (begun : Begun) (text : KeptText) (form
 
 -- what keys tell, by where their reading stands
 abbrev pub said_behind : FormatPlace → ℕ → List Told → List Told
-said_behind InRows n said = said
+said_behind (InRows part) n said = said
 said_behind AtEnd n said = said
 said_behind AtFault n said = said ++ told_at n BadFormatMessage ∷ []
 
@@ -149,7 +149,7 @@ said-more block ns note said is = map-append (told_of block) ns (note ∷ []) �
 
 pub fault-said : (block : List ℕ) (place : FormatPlace) (n : ℕ) (kept : KeptNotes) (said : List Told) → told_of_all block kept.notes ≡ said
     → told_of_all block (fault_noted place n kept).notes ≡ said_behind place n said
-fault-said block InRows n kept said is = is
+fault-said block (InRows part) n kept said is = is
 fault-said block AtEnd n kept said is = is
 fault-said block AtFault n kept said is = said-more block kept.notes (record { line = n; cause = BadFormat }) said is
 
@@ -158,13 +158,13 @@ closed-done t none = ap (λ (p : Option Joined). closed_line p t) none
 
 keys-said-by : (place : FormatPlace) (n : ℕ) (t : TableRead) → t.pending ≡ None
     → (closed_line (behind_format place n t).pending (behind_format place n t)).notes ≡ said_behind place n t.notes
-keys-said-by InRows n t none = ap (λ (u : TableRead). u.notes) (closed-done (record t { phase = InFormat }) none)
+keys-said-by (InRows part) n t none = ap (λ (u : TableRead). u.notes) (closed-done (record t { phase = InFormat }) none)
 keys-said-by AtEnd n t none = ap (λ (u : TableRead). u.notes) (closed-done (record t { phase = InData }) none)
 keys-said-by AtFault n t none = refl
 
 keys-bad-by : (place : FormatPlace) (n : ℕ) (t : TableRead) → t.pending ≡ None
     → is_bad_phase (closed_line (behind_format place n t).pending (behind_format place n t)).phase ≡ is_bad_phase (phase_at_last place)
-keys-bad-by InRows n t none = ap (λ (u : TableRead). is_bad_phase u.phase) (closed-done (record t { phase = InFormat }) none)
+keys-bad-by (InRows part) n t none = ap (λ (u : TableRead). is_bad_phase u.phase) (closed-done (record t { phase = InFormat }) none)
 keys-bad-by AtEnd n t none = ap (λ (u : TableRead). is_bad_phase u.phase) (closed-done (record t { phase = InData }) none)
 keys-bad-by AtFault n t none = refl
 
@@ -173,17 +173,17 @@ module _ (n : ℕ) (line : List ℕ) (t : TableRead) (is : t.phase ≡ InFormat)
   g : Format
   g = format_read t.format (line ++ newline ∷ [])
 
-  pub keys-said : notes (closed (line_read n line t)) ≡ said_behind (format_read t.format (line ++ newline ∷ [])).place n t.notes
+  pub keys-said : notes (closed (line_read n line t)) ≡ said_behind (format_read t.format (line ++ newline ∷ [])).place n (with_left_out n (line ++ newline ∷ []) t).notes
   unfolding notes closed line_read g
   keys-said =
       ap (λ (p : Phase). notes (closed (line_in p n line t))) is
-      ∙ keys-said-by g.place n (record t { format = g }) none
+      ∙ keys-said-by g.place n (record (with_left_out n (line ++ newline ∷ []) t) { format = g }) none
 
   pub keys-bad : is_bad (closed (line_read n line t)) ≡ is_bad_phase (phase_at_last (format_read t.format (line ++ newline ∷ [])).place)
   unfolding is_bad closed line_read g
   keys-bad =
       ap (λ (p : Phase). is_bad (closed (line_in p n line t))) is
-      ∙ keys-bad-by g.place n (record t { format = g }) none
+      ∙ keys-bad-by g.place n (record (with_left_out n (line ++ newline ∷ []) t) { format = g }) none
 
 -- what a whole line of the data tells
 abbrev pub said_judged : Judged → ℕ → List Told → List Told

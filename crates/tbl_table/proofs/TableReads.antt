@@ -1,5 +1,5 @@
 -- What the parts of a table are behind each line.
-use Rattle.std.proofs.Common.{◌≡◌, ℕ, suc, ◌+◌, ◌-◌, ◌≤◌, true, List, [], ◌∷◌, ◌++◌, length, take, drop, Option, Some, None, refl, sym, ap, subst, ◌∙◌, arith, append-nil, length-append}
+use Rattle.std.proofs.Common.{◌≡◌, ℕ, suc, ◌+◌, ◌-◌, ◌≤◌, true, List, [], ◌∷◌, ◌++◌, length, map, take, drop, Option, Some, None, refl, sym, ap, subst, ◌∙◌, arith, append-nil, length-append}
 use Rattle.std.specs.Prelude.{is_some}
 use Rattle.std.specs.List.{slice_range}
 use Rattle.std.proofs.lemmas.List.{drop_at, map-append, take_at}
@@ -9,7 +9,7 @@ use Rattle.tbl_format.specs.Format.{Format}
 use Rattle.tbl_format.specs.FormatRows.{KeptFormat, keeping}
 use Rattle.tbl_kept.specs.Joined.{Joined, behind_joined, ends_joined}
 use Rattle.tbl_table.specs.Kept.{PartsFit, PhaseFits, opened, reading_of, table_of}
-use Rattle.tbl_format.specs.Notes.{told_at, told_of, told_of_all}
+use Rattle.tbl_format.specs.Notes.{left_out_message, left_out_note, told_at, told_of, told_of_all}
 use Rattle.tbl_layout.specs.Fields.{fields_from}
 use Rattle.tbl_table.specs.Reading.{Reading}
 use Rattle.tbl_table.specs.Steps.{ended_with, fault_noted, judged_line, notes_judged, phase_behind, phase_judged, rows_judged, rows_started}
@@ -31,6 +31,7 @@ use Rattle.tbl_format.specs.declared.notes.KeptNote.{KeptNote}
 use Rattle.tbl_format.specs.declared.options.Options.{Options}
 use Rattle.tbl_table.specs.declared.phase.Phase.{Phase}
 use Rattle.tbl_table.specs.declared.phase.Phase.TheVariants.{Bad, InData, InFormat}
+use Rattle.tbl_format.proofs.LeftOut.{told-letters}
 use Rattle.tbl_format.proofs.Parts.{slice_range-rest}
 use Rattle.tbl_kept.proofs.RowTexts.{texts-line, texts_in-longer}
 use Rattle.tbl_table.proofs.TableFits.{told-longer}
@@ -60,6 +61,17 @@ pub told-more : (block : List ℕ) (notes : List KeptNote) (note : KeptNote) (sa
 told-more block notes note said is =
     map-append (told_of block) notes (note ∷ []) ∙ ap (λ (ts : List Told). ts ++ told_of block note ∷ []) is
 
+-- and those of what is left out of the format
+abbrev pub told_of_letters : ℕ → List ℕ → List Told
+told_of_letters n letters = map (λ (letter : ℕ). told_at n (left_out_message letter)) letters
+
+pub letters-said : (block : List ℕ) (notes : List KeptNote) (line : ℕ) (letters : List ℕ) (said : List Told) → told_of_all block notes ≡ said
+    → told_of_all block (notes ++ map (left_out_note line) letters) ≡ said ++ told_of_letters line letters
+letters-said block notes line letters said is =
+    map-append (told_of block) notes (map (left_out_note line) letters)
+    ∙ ap (λ (ts : List Told). told_of_all block notes ++ ts) (told-letters block line letters)
+    ∙ ap (λ (ts : List Told). ts ++ told_of_letters line letters) is
+
 -- a line lies at the end of what is done
 pub slice-last : (settled line more : List ℕ) → slice_range (settled ++ (line ++ more)) (length settled) (length settled + length line) ≡ line
 slice-last settled line more =
@@ -85,7 +97,7 @@ module _ (l : TblLimits) (phase : Phase) (begun : Begun) (options : Options) (te
     behind-keys : (place : FormatPlace)
         → table_of (phase_behind place) options (text_ended text) (keeping format g) (rows_started place (length g.asked) rows) (fault_noted place number kept)
         ≡ behind_format place number (made phase options g text.pending (texts_in text.settled rows.rows) said)
-    behind-keys InRows =
+    behind-keys (InRows part) =
         made-same InFormat options g None text.pending _ _ _ _ (sym none) (texts-stay (behind_joined text.pending text.line ++ newline ∷ [])) says
     behind-keys AtEnd =
         made-same InData options g None text.pending _ _ _ _ (sym none) (ap (λ (rs : List (List Field)). texts_in text.settled rs) (sym empty)) says
@@ -178,7 +190,7 @@ module _ (l : TblLimits) (phase : Phase) (begun : Begun) (options : Options) (te
 
 -- what is to tell stays
 pub untold-fault : (place : FormatPlace) (n : ℕ) (k : KeptNotes) → (fault_noted place n k).to_tell ≡ k.to_tell
-untold-fault InRows n k = refl
+untold-fault (InRows part) n k = refl
 untold-fault AtEnd n k = refl
 untold-fault AtFault n k = refl
 

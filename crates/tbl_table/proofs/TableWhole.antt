@@ -2,7 +2,7 @@
 use Rattle.std.proofs.Common.{◌≡◌, ℕ, suc, ◌+◌, ◌<◌, ◌≤◌, Bool, true, false, List, [], ◌∷◌, ◌++◌, length, take, drop, Option, Some, None, refl, sym, ap, subst, ◌∙◌, arith, append-nil, length-append, if◌then◌else◌}
 use Rattle.roff_source.specs.Bytes.{newline}
 use Rattle.tbl_table.specs.Begun.{FewKeys, begun_in}
-use Rattle.tbl_format.specs.Format.{Format, format_read, no_format}
+use Rattle.tbl_format.specs.Format.{Format, format_read, letters_left_out, no_format}
 use Rattle.tbl_format.specs.FormatRows.{KeptFormat}
 use Rattle.tbl_kept.specs.Joined.{Joined, behind_joined}
 use Rattle.tbl_table.specs.Kept.{PartsFit, PhaseFits, faults}
@@ -10,8 +10,8 @@ use Rattle.tbl_format.specs.Notes.{NotesWithin, told_of_all}
 use Rattle.std.specs.Prelude.{IfSome, unwrap_or}
 use Rattle.tbl_format.specs.Options.{options_end, options_read}
 use Rattle.tbl_table.specs.Reading.{Reading, last_read}
-use Rattle.tbl_table.specs.Steps.{fault_noted, options_told, phase_at_last}
-use Rattle.tbl_table.specs.Table.{TableRead, bad, behind_format, closed, closed_line, format_line, head_line, head_place, is_bad, is_bad_phase, line_in, line_read, notes, with_options}
+use Rattle.tbl_table.specs.Steps.{built_letters, fault_noted, head_letters, options_told, phase_at_last}
+use Rattle.tbl_table.specs.Table.{TableRead, bad, behind_format, closed, closed_line, format_line, head_line, head_place, is_bad, is_bad_phase, line_in, line_read, notes, with_left_out, with_options}
 use Rattle.tbl_kept.specs.TableNotes.{KeptNotes}
 use Rattle.tbl_kept.specs.TableRows.{KeptRows}
 use Rattle.tbl_kept.specs.TableText.{KeptText, block_of, text_whole}
@@ -25,9 +25,10 @@ use Rattle.tbl_format.specs.declared.notes.KeptNote.{KeptNote}
 use Rattle.tbl_table.specs.declared.phase.Phase.{Phase}
 use Rattle.tbl_table.specs.declared.phase.Phase.TheVariants.{Bad, InFormat}
 use Rattle.tbl_table.proofs.BegunLines.{options_end-within}
+use Rattle.tbl_format.proofs.LeftOut.{letters-newline}
 use Rattle.tbl_kept.proofs.RowTexts.{Holds-longer}
 use Rattle.tbl_table.proofs.TableFits.{NotesWithin-append, NotesWithin-more, opened-most, whole-len}
-use Rattle.tbl_table.proofs.TableReads.{told-more}
+use Rattle.tbl_table.proofs.TableReads.{told-more, told_of_letters}
 
 module _ (l : TblLimits) (phase : Phase) (begun : Begun) (text : KeptText) (format : KeptFormat) (rows : KeptRows) (notes : KeptNotes) (fits : PartsFit l phase begun text format rows notes) where
   pub whole-longer : length text.settled ≤ length (block_of text)
@@ -35,7 +36,7 @@ module _ (l : TblLimits) (phase : Phase) (begun : Begun) (text : KeptText) (form
 
   -- all bytes are of complete lines, whatever is reported of the last
   pub whole-fits : (p : Phase) (new : Begun) (kept : KeptNotes) → length (text.read ++ text.line) ≤ l.text → new ≡ begun_in p format.format []
-      → FewKeys (l.columns + 0) new → length kept.notes ≤ length text.read + length text.line + faults p → NotesWithin (length (block_of text)) kept.notes
+      → FewKeys (l.columns + 0) 0 new → length kept.notes ≤ length text.read + length text.line + faults p → NotesWithin (length (block_of text)) kept.notes
       → NotesWithin (length (block_of text)) kept.to_tell → kept.note_room ≡ notes.note_room
       → PhaseFits p (block_of text) None format.format rows kept → PartsFit l p new (text_whole text) format rows kept
   whole-fits p new kept room is counted few within to_tell same by_phase =
@@ -66,6 +67,7 @@ module _ (l : TblLimits) (phase : Phase) (begun : Begun) (text : KeptText) (form
           asked = omega (arith, fits.keys.asked, read);
           columns = fits.keys.columns;
           ended = fits.keys.ended;
+          stands = fits.keys.stands;
         };
         messages = record { few = omega (arith, few, read); within = within; telling = to_tell };
         kept = record {
@@ -81,11 +83,11 @@ module _ (l : TblLimits) (phase : Phase) (begun : Begun) (text : KeptText) (form
   module _ (kept : KeptNotes) (number : ℕ) (room : length (text.read ++ text.line) ≤ l.text) (empty : rows.rows ≡ []) (row : length format.format.row ≤ length format.format.asked) (few : length kept.notes ≤ length text.read + length text.line) (within : NotesWithin (length (block_of text)) kept.notes) (to_tell : NotesWithin (length (block_of text)) kept.to_tell) (same : kept.note_room ≡ notes.note_room) where
     whole-format : PartsFit l InFormat (begun_in InFormat format.format []) (text_whole text) format rows kept
     whole-format =
-        whole-fits InFormat (begun_in InFormat format.format []) kept room refl (row, omega (arith, fits.keys.columns)) (omega (arith, few)) within to_tell same (refl, empty)
+        whole-fits InFormat (begun_in InFormat format.format []) kept room refl (record { starts = omega arith; is = record { row = row; place = fits.keys.stands }; few = omega (arith, fits.keys.columns) }) (omega (arith, few)) within to_tell same (refl, empty)
 
     pub whole-keys : (place : FormatPlace)
         → PartsFit l (phase_at_last place) (begun_in (phase_at_last place) format.format []) (text_whole text) format rows (fault_noted place number kept)
-    whole-keys InRows = whole-format
+    whole-keys (InRows part) = whole-format
     whole-keys AtEnd = whole-format
     whole-keys AtFault =
         let note : KeptNote = record { line = number; cause = BadFormat } in
@@ -98,7 +100,7 @@ module _ (l : TblLimits) (phase : Phase) (begun : Begun) (text : KeptText) (form
       let one = opened-most text.pending in
       let begun_is = fits.keys.is ∙ ap (λ (p : Phase). begun_in p format.format text.line) is in
       whole-fits phase begun notes room (begun_is ∙ ap (λ (p : Phase). begun_in p format.format []) (sym is))
-      (subst (λ (b : Begun). FewKeys (l.columns + 0) b) (sym begun_is) tt) (omega (arith, fits.messages.few))
+      (subst (λ (b : Begun). FewKeys (l.columns + 0) 0 b) (sym begun_is) tt) (omega (arith, fits.messages.few))
       (NotesWithin-more (length text.settled) (length (block_of text)) notes.notes whole-longer fits.messages.within)
       (NotesWithin-more (length text.settled) (length (block_of text)) notes.to_tell whole-longer fits.messages.telling) refl
       (subst (λ (p : Phase). PhaseFits p (block_of text) None format.format rows notes) (sym is) refl)
@@ -123,12 +125,12 @@ closed-same t none = done-by t.pending t none
 
 -- what the last line of keys makes of the table
 behind-none : (place : FormatPlace) (n : ℕ) (t : TableRead) → t.pending ≡ None → (behind_format place n t).pending ≡ None
-behind-none InRows n t none = none
+behind-none (InRows part) n t none = none
 behind-none AtEnd n t none = none
 behind-none AtFault n t none = refl
 
 behind-bad : (place : FormatPlace) (n : ℕ) (t : TableRead) → is_bad_phase (phase_at_last place) ≡ is_bad_phase (behind_format place n t).phase
-behind-bad InRows n t = refl
+behind-bad (InRows part) n t = refl
 behind-bad AtEnd n t = refl
 behind-bad AtFault n t = refl
 
@@ -143,7 +145,7 @@ bad-built : (built : Bool) (n : ℕ) (line : List ℕ) (t : TableRead) → t.pen
 bad-built true n line t none no_keys =
     let ks = line ++ newline ∷ [] in
     ap (λ (f : Format). is_bad_phase (phase_at_last (format_read f ks).place)) (sym no_keys)
-    ∙ bad-keys (format_read t.format ks).place n (record t { format = format_read t.format ks }) none
+    ∙ bad-keys (format_read t.format ks).place n (record (with_left_out n ks t) { format = format_read t.format ks }) none
 bad-built false n line t none no_keys = bad-keys AtFault n t none
 
 -- and a first line
@@ -157,7 +159,7 @@ bad-head (Some end) n line t none no_keys =
 module _ (block : List ℕ) (kept : KeptNotes) where
   behind-told : (place : FormatPlace) (n : ℕ) (t : TableRead) → told_of_all block kept.notes ≡ t.notes
       → told_of_all block (fault_noted place n kept).notes ≡ (behind_format place n t).notes
-  behind-told InRows n t says = says
+  behind-told (InRows part) n t says = says
   behind-told AtEnd n t says = says
   behind-told AtFault n t says = told-more block kept.notes (record { line = n; cause = BadFormat }) t.notes says
 
@@ -167,19 +169,22 @@ module _ (block : List ℕ) (kept : KeptNotes) where
       let u = behind_format place n t in
       behind-told place n t says ∙ sym (notes-by u u.notes refl) ∙ ap notes (sym (closed-same u (behind-none place n t none)))
 
-  told-built : (built : Bool) (n : ℕ) (line : List ℕ) (t : TableRead) → t.pending ≡ None → t.format ≡ no_format → told_of_all block kept.notes ≡ t.notes
+  told-built : (built : Bool) (n : ℕ) (line : List ℕ) (t : TableRead) → t.pending ≡ None → t.format ≡ no_format
+      → told_of_all block kept.notes ≡ t.notes ++ told_of_letters n (built_letters built t.format line)
       → told_of_all block (fault_noted (if built then (format_read no_format (line ++ newline ∷ [])).place else AtFault) n kept).notes
       ≡ notes (closed (if built then format_line n line t else bad n t))
   told-built true n line t none no_keys says =
       let ks = line ++ newline ∷ [] in
+      let said = says ∙ ap (λ (ls : List ℕ). t.notes ++ told_of_letters n ls) (sym (letters-newline t.format line)) in
       ap (λ (f : Format). told_of_all block (fault_noted (format_read f ks).place n kept).notes) (sym no_keys)
-      ∙ told-keys (format_read t.format ks).place n (record t { format = format_read t.format ks }) none says
-  told-built false n line t none no_keys says = told-keys AtFault n t none says
+      ∙ told-keys (format_read t.format ks).place n (record (with_left_out n ks t) { format = format_read t.format ks }) none said
+  told-built false n line t none no_keys says = told-keys AtFault n t none (says ∙ append-nil t.notes)
 
   pub told-head : (end : Option ℕ) (n : ℕ) (line : List ℕ) (t : TableRead) → t.pending ≡ None → t.format ≡ no_format
-      → told_of_all block kept.notes ≡ t.notes ++ options_told end n line
+      → told_of_all block kept.notes ≡ (t.notes ++ options_told end n line) ++ told_of_letters n (head_letters end t.format line)
       → told_of_all block (fault_noted (head_place end line) n kept).notes ≡ notes (closed (head_line end n line t))
-  told-head None n line t none no_keys says = told-built true n line t none no_keys (says ∙ append-nil t.notes)
+  told-head None n line t none no_keys says =
+      told-built true n line t none no_keys (says ∙ ap (λ (ts : List Told). ts ++ told_of_letters n (letters_left_out t.format line)) (append-nil t.notes))
   told-head (Some end) n line t none no_keys says =
       told-built (options_read (take end line)).are_built n (drop (suc end) line) (with_options n (take end line) t) none no_keys says
 
@@ -209,6 +214,10 @@ head-whole text empty none =
 pub end-within : (end : Option ℕ) (line : List ℕ) → end ≡ options_end line → IfSome end (λ e. e ≤ length line)
 end-within None line is = tt
 end-within (Some end) line is = omega (arith, options_end-within false 0 end line (sym is))
+
+pub end-less : (end : Option ℕ) (line : List ℕ) → end ≡ options_end line → IfSome end (λ e. e < length line)
+end-less None line is = tt
+end-less (Some end) line is = omega (arith, options_end-within false 0 end line (sym is))
 
 pub end-few : (end : Option ℕ) (line : List ℕ) → end ≡ options_end line → unwrap_or end 0 ≤ length line
 end-few None line is = omega arith

@@ -1,35 +1,48 @@
 -- What is known of a line of the options or the format before it has ended.
-use Rattle.std.specs.Prelude.{ℕ, suc, ◌≤◌, Bool, false, List, length, take, drop, fold, Option, None, Some, if◌then◌else◌}
+use Rattle.std.specs.Prelude.{ℕ, suc, ◌-◌, ◌≤◌, Bool, false, List, length, take, drop, fold, Option, None, Some, if◌then◌else◌}
 use Rattle.tbl_format.specs.Format.{Format, format_read, has_some, no_format}
+use Rattle.tbl_format.specs.KeyCounts.{IsCount}
 use Rattle.tbl_format.specs.Options.{bracketed, options_end, options_read}
 use Rattle.tbl_table.specs.declared.begun.Begun.{Begun}
 use Rattle.tbl_table.specs.declared.begun.Begun.TheVariants.{Front, Keys, Nothing}
-use Rattle.tbl_format.specs.declared.format.KeyCount.{KeyCount}
+use Rattle.tbl_format.specs.declared.key_count.KeyCount.{KeyCount}
 use Rattle.tbl_table.specs.declared.phase.Phase.{Phase}
 use Rattle.tbl_table.specs.declared.phase.Phase.TheVariants.{AtHead, Bad, InData, InFormat}
 
 -- what counts of a format's keys
 abbrev pub count_of : Format → KeyCount
-count_of f = record { place = f.place; has_row = has_some f.rows; row = length f.row; columns = length f.asked }
+count_of f = record {
+  place = f.place;
+  is_further = has_some f.earlier;
+  has_row = has_some f.rows;
+  row = length f.row;
+  bars = f.bars;
+  columns = length f.asked;
+}
 
--- behind options, by whether they can be laid out
-abbrev pub built_begun : Bool → List ℕ → Begun
-built_begun is_built line = if is_built then Keys (count_of (format_read no_format line)) else Nothing
+-- behind options that end before a place, by whether they are laid out
+abbrev pub built_begun : Bool → ℕ → List ℕ → Begun
+built_begun is_built start line = if is_built then Keys start (count_of (format_read no_format line)) else Nothing
 
 -- of the first line, by where its options end
 abbrev pub head_begun : Option ℕ → List ℕ → Begun
 head_begun None line = Front (fold bracketed false line)
-head_begun (Some end) line = built_begun (options_read (take end line)).are_built (drop (suc end) line)
+head_begun (Some end) line = built_begun (options_read (take end line)).are_built (suc end) (drop (suc end) line)
 
 -- by what is read, of the format so far and the bytes of the line
 abbrev pub begun_in : Phase → Format → List ℕ → Begun
 begun_in AtHead f line = head_begun (options_end line) line
-begun_in InFormat f line = Keys (count_of (format_read f line))
+begun_in InFormat f line = Keys 0 (count_of (format_read f line))
 begun_in InData f line = Nothing
 begun_in Bad f line = Nothing
 
--- there are at most so many columns, and no row has more keys
-abbrev pub FewKeys : ℕ → Begun → Type 0
-FewKeys most (Front inside) = Unit {0}
-FewKeys most (Keys count) = (count.row ≤ count.columns) × (count.columns ≤ most)
-FewKeys most Nothing = Unit {0}
+-- of so many bytes of the line the keys have a part, and there are at most so many columns
+pub record KeysWithin (most len start : ℕ) (count : KeyCount) : Type 0 where
+  pub starts : start ≤ len
+  pub is : IsCount (len - start) count
+  pub few : count.columns ≤ most
+
+abbrev pub FewKeys : ℕ → ℕ → Begun → Type 0
+FewKeys most len (Front inside) = Unit {0}
+FewKeys most len (Keys start count) = KeysWithin most len start count
+FewKeys most len Nothing = Unit {0}

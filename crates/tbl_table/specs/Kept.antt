@@ -1,8 +1,9 @@
 -- What the parts of a table hold together.
 use Rattle.std.specs.Prelude.{◌≡◌, ℕ, ◌+◌, ◌*◌, ◌≤◌, ◌<◌, min, List, [], ◌++◌, length, Option, None, Some}
 use Rattle.tbl_table.specs.Begun.{FewKeys, begun_in}
-use Rattle.tbl_format.specs.Format.{Format, no_format}
+use Rattle.tbl_format.specs.Format.{Format, FormatRow, no_format}
 use Rattle.tbl_format.specs.FormatRows.{KeptFormat, key_count}
+use Rattle.tbl_format.specs.KeyCounts.{StandsOnLine}
 use Rattle.tbl_kept.specs.Joined.{Joined, behind_joined}
 use Rattle.tbl_format.specs.Notes.{NotesWithin, told_of_all}
 use Rattle.tbl_table.specs.Output.{CanGive, coming}
@@ -14,7 +15,6 @@ use Rattle.tbl_kept.specs.TableText.{KeptText}
 use Rattle.tbl_table.specs.declared.begun.Begun.{Begun}
 use Rattle.tbl_format.specs.declared.format.FormatPlace.{FormatPlace}
 use Rattle.tbl_format.specs.declared.format.FormatPlace.TheVariants.{AtEnd, AtFault, InRows}
-use Rattle.tbl_format.specs.declared.format.Key.{Key}
 use Rattle.tbl_format.specs.declared.limits.TblLimits.{TblLimits}
 use Rattle.tbl_format.specs.declared.notes.KeptNote.{KeptNote}
 use Rattle.tbl_format.specs.declared.options.Options.{Options}
@@ -65,19 +65,20 @@ pub record TextFits (l : TblLimits) (settled : List ℕ) (pending : Option Joine
   pub block : length (settled ++ behind_joined pending []) ≤ length read
 
 -- a format that has ended has a row
-abbrev pub HasEnd : FormatPlace → List (List Key) → Type 0
-HasEnd InRows rows = Unit {0}
+abbrev pub HasEnd : FormatPlace → List FormatRow → Type 0
+HasEnd (InRows part) rows = Unit {0}
 HasEnd AtEnd rows = 0 < length rows
 HasEnd AtFault rows = Unit {0}
 
 -- the line that is begun, and the keys
 pub record KeysFit (l : TblLimits) (read line : List ℕ) (phase : Phase) (begun : Begun) (f : Format) : Type 0 where
   pub is : begun ≡ begun_in phase f line
-  pub few : FewKeys (l.columns + length line) begun
+  pub few : FewKeys (l.columns + length line) (length line) begun
   pub keys : key_count f ≤ length read
   pub asked : length f.asked ≤ length read
   pub columns : length f.asked ≤ l.columns
   pub ended : HasEnd f.place f.rows
+  pub stands : StandsOnLine 0 f.place
 
 -- a line that goes on, and a fault, have a message yet to come, or that came
 abbrev pub opened : Option Joined → ℕ

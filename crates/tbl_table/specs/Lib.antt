@@ -5,3 +5,9 @@ pub mod Kept
 pub mod Steps
 pub mod Begun
 pub mod Output
+pub mod TableRead
+pub mod DataRead
+pub mod TableNext
+pub mod MayTell
+pub mod NextNotes
+pub mod NextFields

@@ -1,11 +1,11 @@
 -- What a line of a table does to the parts that keep it.
-use Rattle.std.specs.Prelude.{ℕ, Bool, true, false, not, ◌&&◌, List, [], ◌∷◌, ◌++◌, Option, None, Some, map, take, if◌then◌else◌}
+use Rattle.std.specs.Prelude.{ℕ, suc, drop, Bool, true, false, not, ◌&&◌, List, [], ◌∷◌, ◌++◌, Option, None, Some, map, take, if◌then◌else◌}
 use Rattle.roff_source.specs.Bytes.{newline}
 use Rattle.tbl_layout.specs.Data.{is_row, judged}
-use Rattle.tbl_format.specs.Format.{Format, format_read}
+use Rattle.tbl_format.specs.Format.{Format, format_read, letters_left_out}
 use Rattle.tbl_kept.specs.Joined.{behind_joined, goes_on, line_at}
-use Rattle.tbl_format.specs.Notes.{ignored_message, told_at}
-use Rattle.tbl_format.specs.Options.{ignored_options}
+use Rattle.tbl_format.specs.Notes.{ignored_message, left_out_note, told_at}
+use Rattle.tbl_format.specs.Options.{ignored_options, options_read}
 use Rattle.tbl_table.specs.Reading.{Reading}
 use Rattle.tbl_table.specs.Table.{TableRead, columns}
 use Rattle.tbl_kept.specs.TableNotes.{KeptNotes}
@@ -27,7 +27,7 @@ with_cause line cause k = record k { notes = k.notes ++ record { line = line; ca
 
 -- what is read behind keys, by where their reading stands
 abbrev pub phase_behind : FormatPlace → Phase
-phase_behind InRows = InFormat
+phase_behind (InRows part) = InFormat
 phase_behind AtEnd = InData
 phase_behind AtFault = Bad
 
@@ -38,15 +38,27 @@ built_format are_built f keys = if are_built then format_read f keys else f
 abbrev pub built_place : Bool → Format → List ℕ → FormatPlace
 built_place are_built f keys = if are_built then (format_read f keys).place else AtFault
 
+-- what is left out of them
+abbrev pub built_letters : Bool → Format → List ℕ → List ℕ
+built_letters are_built f keys = if are_built then letters_left_out f keys else []
+
+abbrev pub letters_noted : ℕ → List ℕ → KeptNotes → KeptNotes
+letters_noted line letters k = record k { notes = k.notes ++ map (left_out_note line) letters }
+
+-- of a first line, by where its options end
+abbrev pub head_letters : Option ℕ → Format → List ℕ → List ℕ
+head_letters None f line = letters_left_out f line
+head_letters (Some end) f line = built_letters (options_read (take end line)).are_built f (drop (suc end) line)
+
 -- the rows begin behind the format
 abbrev pub rows_started : FormatPlace → ℕ → KeptRows → KeptRows
-rows_started InRows columns k = k
+rows_started (InRows part) columns k = k
 rows_started AtEnd columns k = starting k columns
 rows_started AtFault columns k = k
 
 -- a fault is reported
 abbrev pub fault_noted : FormatPlace → ℕ → KeptNotes → KeptNotes
-fault_noted InRows line k = k
+fault_noted (InRows part) line k = k
 fault_noted AtEnd line k = k
 fault_noted AtFault line k = with_cause line BadFormat k
 
@@ -97,7 +109,7 @@ ended_with t r = record { table = t; read = r.read ++ r.line ++ newline ∷ []; 
 
 -- what is read behind the last line of keys, which has no newline, and what is reported of it
 abbrev pub phase_at_last : FormatPlace → Phase
-phase_at_last InRows = InFormat
+phase_at_last (InRows part) = InFormat
 phase_at_last AtEnd = InFormat
 phase_at_last AtFault = Bad
 

@@ -2,11 +2,12 @@
 use Rattle.std.specs.Prelude.{ℕ, suc, ◌-◌, Bool, true, false, List, [], ◌∷◌, ◌++◌, length, map, take, drop, Option, None, Some, if◌then◌else◌, ◌==◌}
 use Rattle.roff_source.specs.Bytes.{newline}
 use Rattle.tbl_layout.specs.Data.{judged, kept_fields}
-use Rattle.tbl_format.specs.Format.{Format, format_read, no_format}
+use Rattle.tbl_format.specs.Format.{Format, format_read, letters_left_out, no_format}
 use Rattle.tbl_kept.specs.Joined.{Joined, behind_joined, ends_joined, goes_on, line_at}
-use Rattle.tbl_format.specs.Notes.{ignored_message, told_at}
+use Rattle.tbl_format.specs.Notes.{ignored_message, left_out_message, told_at}
 use Rattle.tbl_format.specs.Options.{ignored_options, no_options, options_end, options_read}
-use Rattle.tbl_picture.specs.Picture.{indent, lines_of, picture}
+use Rattle.tbl_picture.specs.Frame.{indent, picture}
+use Rattle.tbl_picture.specs.Picture.{lines_of}
 use Rattle.tbl_layout.specs.Widths.{width_of_all, widths}
 use Rattle.tbl_layout.specs.declared.data.Judged.{Judged}
 use Rattle.tbl_layout.specs.declared.data.Judged.TheVariants.{Refused, Row}
@@ -49,16 +50,21 @@ bad n t = record t { phase = Bad; pending = None; notes = t.notes ++ told_at n B
 
 -- behind bytes of the format, by where its reading stands
 abbrev pub behind_format : FormatPlace → ℕ → TableRead → TableRead
-behind_format InRows n t = record t { phase = InFormat }
+behind_format (InRows part) n t = record t { phase = InFormat }
 behind_format AtEnd n t = record t { phase = InData }
 behind_format AtFault n t = bad n t
+
+-- what is left out of a line of the format
+abbrev pub with_left_out : ℕ → List ℕ → TableRead → TableRead
+with_left_out n line t = record t { notes = t.notes ++ map (λ letter. told_at n (left_out_message letter)) (letters_left_out t.format line) }
 
 -- bytes of the format
 abbrev pub with_format : ℕ → Format → TableRead → TableRead
 with_format n f t = behind_format f.place n (record t { format = f })
 
 abbrev pub format_line : ℕ → List ℕ → TableRead → TableRead
-format_line n line t = with_format n (format_read t.format (line ++ newline ∷ [])) t
+format_line n line t =
+    with_format n (format_read t.format (line ++ newline ∷ [])) (with_left_out n (line ++ newline ∷ []) t)
 
 -- options, with a message for each that is ignored, and the format behind them
 abbrev pub with_options : ℕ → List ℕ → TableRead → TableRead

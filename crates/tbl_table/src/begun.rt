@@ -11,7 +11,8 @@ ghost use Rattle.tbl_table.specs.Table.{columns_of, head_columns, head_place};
 ghost use Rattle.tbl_table.specs.declared.begun.Begun.TheVariants.{Front, Keys};
 
 use crate::phase::Phase;
-use tbl_format::format::{FormatPlace, KeyCount};
+use tbl_format::format::FormatPlace;
+use tbl_format::key_count::KeyCount;
 use tbl_format::options::{bracketed, read_options};
 
 /// What is known of the line that is begun.
@@ -19,8 +20,8 @@ use tbl_format::options::{bracketed, read_options};
 pub enum Begun {
     /// It is of options, or of a format without options; within brackets or not.
     Front(bool),
-    /// It is of keys.
-    Keys(KeyCount),
+    /// From this place on it is of keys, of which so much counts.
+    Keys(usize, KeyCount),
     /// Nothing of it counts.
     Nothing,
 }
@@ -32,7 +33,7 @@ impl Begun {
     {
         match phase {
             Phase::AtHead => Begun::Front(false),
-            Phase::InFormat => Begun::Keys(count),
+            Phase::InFormat => Begun::Keys(0, count),
             Phase::InData => Begun::Nothing,
             Phase::Bad => Begun::Nothing,
         }
@@ -41,46 +42,47 @@ impl Begun {
     /// What is known behind one byte more of this line.
     #[inline(always)]
     pub fn behind(self, line: &[u8], byte: u8) -> Begun
-        requires { FewKeys (2 ^ 62) self }
+        requires { FewKeys (2 ^ 62) (length line.now) self }
         ensures value { (phase : Phase) (f : Format) → self ≡ begun_in phase f line.now
             → result ≡ begun_in phase f (line.now ++ byte ∷ []) }
-        ensures few { (most : ℕ) → FewKeys most self → FewKeys (most + 1) result }
+        ensures few { (most : ℕ) → FewKeys most (length line.now) self
+            → FewKeys (most + 1) (length line.now + 1) result }
     {
         match self {
             Begun::Front(inside) => front_behind(inside, line, byte),
-            Begun::Keys(count) => Begun::Keys(count.behind(byte)),
+            Begun::Keys(start, count) => { Begun::Keys(start, count.behind(&line[start..], byte)) }
             Begun::Nothing => Begun::Nothing,
         }
     }
 
     /// How many columns count behind one byte more of this line.
     pub fn columns_with(self, line: &[u8], byte: u8) -> usize
-        requires keys { FewKeys (2 ^ 62) self }
+        requires keys { FewKeys (2 ^ 62) (length line.now) self }
         requires few { length line.now < 2 ^ 62 }
         ensures head { self ≡ head_begun (options_end line.now) line.now
             → result ≡ head_columns (options_end (line.now ++ byte ∷ [])) (line.now ++ byte ∷ []) }
-        ensures format { (f : Format) → self ≡ Keys (count_of (format_read f line.now))
+        ensures format { (f : Format) → self ≡ Keys 0 (count_of (format_read f line.now))
             → result ≡ columns_of (format_read f (line.now ++ byte ∷ [])) }
     {
         match self {
             Begun::Front(_) => front_columns(line, byte),
-            Begun::Keys(count) => count.behind(byte).columns,
+            Begun::Keys(start, count) => count.behind(&line[start..], byte).columns,
             Begun::Nothing => 0,
         }
     }
 
     /// Where the reading of the format stands behind this line's newline.
     pub fn place_at_end(self, line: &[u8]) -> FormatPlace
-        requires keys { FewKeys (2 ^ 62) self }
+        requires keys { FewKeys (2 ^ 62) (length line.now) self }
         requires few { length line.now < 2 ^ 62 }
         ensures head { self ≡ head_begun (options_end line.now) line.now
             → result ≡ head_place (options_end line.now) line.now }
-        ensures format { (f : Format) → self ≡ Keys (count_of (format_read f line.now))
+        ensures format { (f : Format) → self ≡ Keys 0 (count_of (format_read f line.now))
             → result ≡ (format_read f (line.now ++ newline ∷ [])).place }
     {
         match self {
             Begun::Front(_) => whole_line(line).place,
-            Begun::Keys(count) => count.behind(b'\n').place,
+            Begun::Keys(start, count) => count.behind(&line[start..], b'\n').place,
             Begun::Nothing => FormatPlace::AtFault,
         }
     }
@@ -91,7 +93,7 @@ impl Begun {
 fn front_behind(inside: bool, line: &[u8], byte: u8) -> Begun
     ensures value { Front inside ≡ head_begun (options_end line.now) line.now
         → result ≡ head_begun (options_end (line.now ++ byte ∷ [])) (line.now ++ byte ∷ []) }
-    ensures few { (most : ℕ) → FewKeys most result }
+    ensures few { (most : ℕ) → FewKeys most (length line.now + 1) result }
 {
     if ends_options(inside, byte) {
         return keys_behind(line);
@@ -108,11 +110,12 @@ fn ends_options(inside: bool, byte: u8) -> bool
 
 /// Behind these options.
 fn keys_behind(options: &[u8]) -> Begun
-    ensures value { result ≡ built_begun (options_read options.now).are_built [] }
-    ensures few { (most : ℕ) → FewKeys most result }
+    ensures value { result
+        ≡ built_begun (options_read options.now).are_built (length options.now + 1) [] }
+    ensures few { (most : ℕ) → FewKeys most (length options.now + 1) result }
 {
     if read_options(options).are_built {
-        Begun::Keys(KeyCount::NONE)
+        Begun::Keys(options.len() + 1, KeyCount::NONE)
     } else {
         Begun::Nothing
     }
@@ -136,5 +139,5 @@ fn whole_line(line: &[u8]) -> KeyCount
     requires { length line.now < 2 ^ 62 }
     ensures { Counts (format_read no_format (line.now ++ newline ∷ [])) result }
 {
-    KeyCount::NONE.behind_all(line).behind(b'\n')
+    KeyCount::NONE.behind_all(line).behind(line, b'\n')
 }

@@ -8,7 +8,7 @@ ghost use Rattle.tbl_format.specs.FormatRows.{KeptFormat};
 ghost use Rattle.tbl_kept.specs.Joined.{RiseWithin, unjoined};
 ghost use Rattle.tbl_format.specs.Parts.{IsFront};
 ghost use Rattle.tbl_format.specs.RowsServed.{next_of};
-ghost use Rattle.tbl_picture.specs.Picture.{picture};
+ghost use Rattle.tbl_picture.specs.Frame.{picture};
 ghost use Rattle.tbl_picture.specs.PieceQueue.{bytes_left};
 ghost use Rattle.tbl_picture.specs.Pieces.{AreWithin};
 ghost use Rattle.tbl_kept.specs.TableRows.{KeptRows};

@@ -1,15 +1,17 @@
 //! What a line of a table does to the parts that keep it.
 
-ghost use Rattle.std.specs.Prelude.{◌≡◌, ◌+◌, ◌-◌, ◌<◌, ◌≤◌, ◌++◌, [], length, slice_range, take};
-ghost use Rattle.std.specs.Prelude.{true, IfSome, unwrap_or, if◌then◌else◌};
+ghost use Rattle.std.specs.Prelude.{◌≡◌, ◌+◌, ◌-◌, ◌<◌, ◌≤◌, ◌^◌, ◌++◌, [], length, slice_range};
+ghost use Rattle.std.specs.Prelude.{true, IfSome, take, unwrap_or, if◌then◌else◌};
 ghost use Rattle.tbl_layout.specs.Data.{is_row, kept_fields};
-ghost use Rattle.tbl_format.specs.Format.{format_read};
+ghost use Rattle.tbl_format.specs.Format.{Format, format_read, letters_left_out};
+ghost use Rattle.tbl_format.specs.KeyCounts.{Counts, IsCount, StandsOnLine};
 ghost use Rattle.tbl_format.specs.FormatRows.{key_count, keeping};
 ghost use Rattle.tbl_kept.specs.Joined.{ends_joined, goes_on};
 ghost use Rattle.tbl_format.specs.Notes.{NotesWithin, told_of_all};
 ghost use Rattle.tbl_layout.specs.Fields.{fields_from};
-ghost use Rattle.tbl_table.specs.Steps.{built_format, built_place, fault_noted, judged_line};
-ghost use Rattle.tbl_table.specs.Steps.{notes_judged, phase_at_last, phase_behind, options_told};
+ghost use Rattle.tbl_table.specs.Steps.{built_format, built_letters, built_place, fault_noted};
+ghost use Rattle.tbl_table.specs.Steps.{head_letters, judged_line, letters_noted, notes_judged};
+ghost use Rattle.tbl_table.specs.Steps.{options_told, phase_at_last, phase_behind};
 ghost use Rattle.tbl_table.specs.Steps.{phase_judged, rows_judged, rows_started, surplus_line};
 ghost use Rattle.tbl_table.specs.Steps.{surplus_noted, with_cause};
 ghost use Rattle.tbl_kept.specs.TableRows.{fields_of};
@@ -19,7 +21,9 @@ ghost use Rattle.tbl_table.specs.declared.phase.Phase.TheVariants.{Bad};
 use crate::phase::Phase;
 use tbl_format::format::FormatPlace;
 use tbl_format::format_rows::FormatRows;
+use tbl_format::key_count::KeyCount;
 use tbl_format::notes::{Cause, KeptNote};
+use tbl_format::options::read_options;
 use tbl_kept::table_notes::TableNotes;
 use tbl_kept::table_rows::TableRows;
 use tbl_kept::table_text::TableText;
@@ -51,14 +55,17 @@ pub fn take_keys(
     requires columns { length (format_read format.old.format keys.now).asked
         ≤ format.old.column_room }
     requires row_columns { rows.old.column_room ≡ format.old.column_room }
-    requires notes { length notes.old.notes < notes.old.note_room }
+    requires place { StandsOnLine 0 format.old.format.place }
+    requires few { length format.old.format.asked + length keys.now < 2 ^ 63 }
+    requires notes { length notes.old.notes + length keys.now < notes.old.note_room }
     ensures format { format.new ≡ keeping format.old (format_read format.old.format keys.now) }
     ensures phase { result ≡ phase_behind (format_read format.old.format keys.now).place }
     ensures rows { rows.new ≡ rows_started (format_read format.old.format keys.now).place
         (length (format_read format.old.format keys.now).asked) rows.old }
-    ensures notes { notes.new
-        ≡ fault_noted (format_read format.old.format keys.now).place line notes.old }
+    ensures notes { notes.new ≡ fault_noted (format_read format.old.format keys.now).place line
+        (letters_noted line (letters_left_out format.old.format keys.now) notes.old) }
 {
+    notes.push_left_out(format.count(), keys, line);
     format.take_all(keys);
     go_behind_keys(format.place(), format.columns(), rows, notes, line)
 }
@@ -76,14 +83,16 @@ pub fn take_built_keys(
     requires columns { are_built ≡ true → length (format_read format.old.format keys.now).asked
         ≤ format.old.column_room }
     requires row_columns { rows.old.column_room ≡ format.old.column_room }
-    requires notes { length notes.old.notes < notes.old.note_room }
+    requires place { StandsOnLine 0 format.old.format.place }
+    requires few { length format.old.format.asked + length keys.now < 2 ^ 63 }
+    requires notes { length notes.old.notes + length keys.now < notes.old.note_room }
     ensures format { format.new ≡ keeping format.old
         (built_format are_built format.old.format keys.now) }
     ensures phase { result ≡ phase_behind (built_place are_built format.old.format keys.now) }
     ensures rows { rows.new ≡ rows_started (built_place are_built format.old.format keys.now)
         (length (format_read format.old.format keys.now).asked) rows.old }
-    ensures notes { notes.new
-        ≡ fault_noted (built_place are_built format.old.format keys.now) line notes.old }
+    ensures notes { notes.new ≡ fault_noted (built_place are_built format.old.format keys.now) line
+        (letters_noted line (built_letters are_built format.old.format keys.now) notes.old) }
 {
     if are_built {
         return take_keys(format, rows, notes, keys, line);
@@ -106,7 +115,7 @@ pub fn go_behind_keys(
     ensures notes { notes.new ≡ fault_noted place line notes.old }
 {
     match place {
-        FormatPlace::InRows => Phase::InFormat,
+        FormatPlace::InRows(_) => Phase::InFormat,
         FormatPlace::AtEnd => {
             rows.start(columns);
             Phase::InData
@@ -205,7 +214,7 @@ pub fn tell_keys(place: FormatPlace, notes: &mut TableNotes, line: u32) -> Phase
     ensures notes { notes.new ≡ fault_noted place line notes.old }
 {
     match place {
-        FormatPlace::InRows => Phase::InFormat,
+        FormatPlace::InRows(_) => Phase::InFormat,
         FormatPlace::AtEnd => Phase::InFormat,
         FormatPlace::AtFault => refuse(notes, line),
     }
@@ -251,5 +260,53 @@ pub fn tell_options(end: Option<usize>, notes: &mut TableNotes, block: &[u8], li
     match end {
         Some(end) => notes.push_ignored(block, 0, end, line),
         None => {}
+    }
+}
+
+/// Reports what is left out of the keys of a first line without a newline, whose options end there,
+/// where so much was counted before it.
+pub fn tell_head_letters(
+    end: Option<usize>,
+    count: KeyCount,
+    notes: &mut TableNotes,
+    block: &[u8],
+    line: u32,
+)
+    requires end { IfSome end (λ e. e < length block.now) }
+    requires is { IsCount 0 count }
+    requires few { count.columns + length block.now < 2 ^ 63 }
+    requires room { length notes.old.notes + (length block.now - unwrap_or end 0)
+        ≤ notes.old.note_room }
+    ensures { (f : Format) → Counts f count → notes.new
+        ≡ letters_noted line (head_letters end f block.now) notes.old }
+{
+    match end {
+        None => notes.push_left_out(count, block, line),
+        Some(end) => tell_built_letters(
+            read_options(&block[..end]).are_built,
+            count,
+            notes,
+            &block[end + 1..],
+            line,
+        ),
+    }
+}
+
+/// Reports what is left out of keys behind options, if these are laid out.
+fn tell_built_letters(
+    are_built: bool,
+    count: KeyCount,
+    notes: &mut TableNotes,
+    keys: &[u8],
+    line: u32,
+)
+    requires is { IsCount 0 count }
+    requires few { count.columns + length keys.now < 2 ^ 63 }
+    requires room { length notes.old.notes + length keys.now ≤ notes.old.note_room }
+    ensures { (f : Format) → Counts f count → notes.new
+        ≡ letters_noted line (built_letters are_built f keys.now) notes.old }
+{
+    if are_built {
+        notes.push_left_out(count, keys, line);
     }
 }

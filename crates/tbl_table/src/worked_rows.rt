@@ -6,7 +6,7 @@ ghost use Rattle.tbl_table.specs.Table.{notes_after, picture_after};
 ghost use Rattle.tbl_format.specs.declared.message.Message.TheVariants.{BadFormat, TooManyFields};
 
 /// Tables that are laid out.
-#[tactic(auto, unfolding(crate::specs::Table::no_lines, crate::specs::Table::line_read, crate::specs::Table::closed, crate::specs::Table::ended, crate::specs::Table::notes, crate::specs::Table::output))]
+#[tactic(auto, unfolding(tbl_format::specs::FormatSteps::step, crate::specs::Table::no_lines, crate::specs::Table::line_read, crate::specs::Table::closed, crate::specs::Table::ended, crate::specs::Table::notes, crate::specs::Table::output))]
 pub fn pictures()
     ensures columns { picture_after (codes "l r." ∷ codes "a\tbb" ∷ codes "longer\tc" ∷ [])
         ≡ Some (codes ".nr TF \\n(.u\n.nf\n\\&a        bb\n\\&longer    c\n.if \\n(TF .fi\n") }
@@ -19,7 +19,7 @@ pub fn pictures()
 {}
 
 /// Tables that are reported.
-#[tactic(auto, unfolding(crate::specs::Table::no_lines, crate::specs::Table::line_read, crate::specs::Table::closed, crate::specs::Table::ended, crate::specs::Table::notes, crate::specs::Table::output))]
+#[tactic(auto, unfolding(tbl_format::specs::FormatSteps::step, crate::specs::Table::no_lines, crate::specs::Table::line_read, crate::specs::Table::closed, crate::specs::Table::ended, crate::specs::Table::notes, crate::specs::Table::output))]
 pub fn reports()
     ensures box_option { picture_after (codes "box;" ∷ codes "l." ∷ []) ≡ None }
     ensures box_note { notes_after (codes "box;" ∷ codes "l." ∷ []) ≡ told_at 1 BadFormat ∷ [] }

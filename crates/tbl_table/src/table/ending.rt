@@ -2,7 +2,7 @@
 
 ghost use Rattle.std.specs.Prelude.{◌≡◌, ℕ, ◌+◌, ◌-◌, ◌<◌, ◌≤◌, ◌^◌, min, ◌++◌, [], true, None};
 ghost use Rattle.std.specs.Prelude.{is_some};
-ghost use Rattle.tbl_picture.specs.Picture.{indent};
+ghost use Rattle.tbl_picture.specs.Frame.{indent};
 ghost use Rattle.tbl_table.specs.Reading.{bytes_read, given_at_end, limit_at_end, limit_of};
 ghost use Rattle.tbl_table.specs.Reading.{output_or_read, told_at_end};
 ghost use Rattle.tbl_table.specs.Steps.{is_front};

@@ -9,7 +9,7 @@ use super::Table;
 use crate::begun::Begun;
 use crate::phase::Phase;
 use crate::table_steps::{
-    goes_on, judged_line, tell_judged, tell_keys, tell_options, without_joint,
+    goes_on, judged_line, tell_head_letters, tell_judged, tell_keys, tell_options, without_joint,
 };
 use tbl_format::options::options_end;
 
@@ -97,6 +97,13 @@ impl Table {
         self.giving.give_nothing();
         self.text.complete();
         tell_options(end, &mut self.notes, self.text.block(), number);
+        tell_head_letters(
+            end,
+            self.format.count(),
+            &mut self.notes,
+            self.text.block(),
+            number,
+        );
         self.phase = tell_keys(place, &mut self.notes, number);
         self.begun = Begun::at_start(self.phase, self.format.count());
     }
@@ -115,6 +122,8 @@ impl Table {
     {
         let place = self.begun.place_at_end(self.text.line());
         self.giving.give_nothing();
+        self.notes
+            .push_left_out(self.format.count(), self.text.line(), number);
         self.text.complete();
         self.phase = tell_keys(place, &mut self.notes, number);
         self.begun = Begun::at_start(self.phase, self.format.count());

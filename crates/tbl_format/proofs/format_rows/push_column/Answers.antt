@@ -1,4 +1,5 @@
-use Rattle.std.proofs.Common.{◌≡◌, ◌∷◌, [], length, None, sym, ap, ◌∙◌, arith, length-append}
+use Rattle.std.proofs.Common.{◌≡◌, ◌∷◌, [], length, sym, ap, ◌∙◌, arith, length-append}
+use Rattle.tbl_format.specs.Format.{nothing_asked}
 use Rattle.tbl_format.proofs.FormatBlocks.{with_columns-kept, with_columns-longer}
 use Rattle.tbl_format.proofs.format_rows.push_column.Goals as goal
 
@@ -7,7 +8,7 @@ push_reserved-requires c =
     let asked = c.args.asked.now in
     let same : c.args.count ≡ length asked.items = omega (arith, c.if-count-len.true, c.len.ensures, asked.ok.0) in
     let longer = ap length (with_columns-longer asked.items c.args.count same) in
-    omega (arith, c.requires.room, longer, length-append asked.items (None ∷ []), asked.ok.0)
+    omega (arith, c.requires.room, longer, length-append asked.items (nothing_asked ∷ []), asked.ok.0)
 
 pub returns-then-count-len-clause-items : goal.returns-then-count-len-clause-items
 returns-then-count-len-clause-items c =

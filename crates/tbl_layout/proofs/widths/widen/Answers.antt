@@ -1,5 +1,5 @@
 use Rattle.std.proofs.Common.{sym, ◌∙◌, arith}
-use Rattle.tbl_layout.proofs.Columns.{widened-end}
+use Rattle.tbl_layout.proofs.Widened.{widened-end}
 use Rattle.tbl_layout.proofs.widths.widen.Goals as goal
 
 pub returns : goal.returns

@@ -1,15 +1,20 @@
-use Rattle.std.proofs.Common.{not, refl, sym, ap, ◌∙◌, arith}
-use Rattle.tbl_format.proofs.FormatBlocks.{has_some-parts}
-use Rattle.tbl_format.proofs.FormatReading.{has_some-count}
+use Rattle.std.proofs.Common.{refl, sym, arith}
+use Rattle.tbl_format.specs.FormatRows.{rows_kept}
+use Rattle.tbl_format.proofs.FormatBlocks.{length-rows}
+use Rattle.tbl_format.proofs.FormatReading.{has_some-drop, has_some-take}
 use Rattle.tbl_format.proofs.format_rows.FormatRows.count.Goals as goal
 
 pub returns-clause-value : goal.returns-clause-value
 returns-clause-value c =
     let old = c.self.inside in
     let row = rw (← c.self.view_is) at c.row_len.ensures in
+    let all = rows_kept old.keys.items old.ends.items old.row_bars.items in
+    let count = length-rows old.keys.items old.ends.items old.row_bars.items in
     rw (← c.self.view_is) (record {
       place = refl;
-      has_row = has_some-parts old.keys.items 0 old.ends.items ∙ has_some-count old.ends.items _ old.ends.ok.0 ∙ ap not (sym c.is_empty.ensures);
+      is_further = has_some-take all old.first (omega (arith, c.self.invariant.first, count));
+      has_row = sym (has_some-drop all old.first c.len.result (omega (arith, c.len.ensures, old.ends.ok.0, count)));
       row = sym row;
-      columns = omega (arith, c.len.ensures, old.asked.ok.0);
+      bars = refl;
+      columns = omega (arith, c.len-2.ensures, old.asked.ok.0);
     })

@@ -1,7 +1,7 @@
 use Rattle.std.proofs.Common.{◌≡◌, ℕ, List, ◌++◌, ap, ◌∙◌}
 use Rattle.tbl_table.specs.Kept.{table_of}
 use Rattle.tbl_table.specs.Output.{lines_from}
-use Rattle.tbl_picture.specs.Picture.{indent, picture}
+use Rattle.tbl_picture.specs.Frame.{indent, picture}
 use Rattle.tbl_table.specs.Table.{picture_width}
 use Rattle.tbl_kept.specs.TableText.{block_of}
 use Rattle.tbl_table.proofs.PictureGiven.{picture-can, picture-lines}

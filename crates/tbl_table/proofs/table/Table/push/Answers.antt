@@ -8,10 +8,11 @@ invariant_of-self c =
     let fits = c.self.invariant.parts in
     let room = rw (← c.self.view_is) at c.requires.room in
     let value = rw c.line.ensures at c.behind-self-inside.ensures.value in
+    let few = rw c.line.ensures at c.behind-self-inside.ensures.few in
     record {
       parts = rw c.push.ensures
           (push-fits a.limits a.phase a.begun a.text a.format a.rows a.notes fits (c.args.byte ∷ []) c.behind-self-inside.result (omega (arith, room))
-          (value a.phase a.format.format fits.keys.is) (c.behind-self-inside.ensures.few (a.limits.columns + length a.text.line) fits.keys.few));
+          (value a.phase a.format.format fits.keys.is) (few (a.limits.columns + length a.text.line) fits.keys.few));
       giving = c.give_nothing.ensures.nothing.can c.push.new.self a.rows a.format;
       pieces = c.give_nothing.ensures.room ∙ c.self.invariant.pieces;
     }

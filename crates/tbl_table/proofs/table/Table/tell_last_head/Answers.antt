@@ -1,9 +1,11 @@
-use Rattle.std.proofs.Common.{◌≡◌, ℕ, List, [], ◌++◌, Option, length, length-append, append-nil, sym, ap, subst, ◌∙◌, arith}
+use Rattle.std.proofs.Common.{◌≡◌, ℕ, map, List, [], ◌++◌, Option, length, length-append, append-nil, sym, ap, subst, ◌∙◌, arith}
 use Rattle.tbl_table.specs.Begun.{begun_in, head_begun}
 use Rattle.tbl_table.specs.Kept.{table_of}
-use Rattle.tbl_format.specs.Notes.{NotesWithin, told_of_all}
+use Rattle.std.proofs.lemmas.List.{length-map}
+use Rattle.tbl_format.specs.KeyCounts.{StandsOnLine}
+use Rattle.tbl_format.specs.Notes.{NotesWithin, left_out_note, told_of_all}
 use Rattle.tbl_format.specs.Options.{options_end}
-use Rattle.tbl_table.specs.Steps.{fault_noted, options_told, phase_at_last}
+use Rattle.tbl_table.specs.Steps.{fault_noted, head_letters, letters_noted, options_told, phase_at_last}
 use Rattle.tbl_table.specs.Table.{TableRead, closed, head_place, is_bad, notes}
 use Rattle.tbl_kept.specs.TableNotes.{KeptNotes}
 use Rattle.tbl_kept.specs.TableText.{KeptText, block_of}
@@ -11,8 +13,10 @@ use Rattle.tbl_format.specs.declared.format.FormatPlace.{FormatPlace}
 use Rattle.tbl_table.specs.declared.phase.Phase.{Phase}
 use Rattle.tbl_table.specs.declared.phase.Phase.TheVariants.{AtHead}
 use Rattle.tbl_table.proofs.BegunLines.{count_is}
-use Rattle.tbl_table.proofs.TableOptions.{at-head}
-use Rattle.tbl_table.proofs.TableWhole.{bad-head, end-few, end-within, head-whole, is_bad-by, line-by, notes-by, told-head, whole-keys}
+use Rattle.tbl_table.proofs.TableOptions.{at-head, head-letters-bound}
+use Rattle.tbl_table.proofs.TableFits.{NotesWithin-letters}
+use Rattle.tbl_table.proofs.TableReads.{letters-said}
+use Rattle.tbl_table.proofs.TableWhole.{bad-head, end-few, end-less, end-within, head-whole, is_bad-by, line-by, notes-by, told-head, whole-keys}
 use Rattle.tbl_table.proofs.table.Table.tell_last_head.Goals as goal
 
 pub tell_options-requires-clause-block : goal.tell_options-requires-clause-block
@@ -35,7 +39,66 @@ tell_keys-self-inside-requires c =
     let room = rw (← c.self.view_is) at c.requires.room in
     let nothing = at-head a.limits a.phase a.begun a.options a.text a.format a.rows a.notes fits is in
     let end_is : c.options_end-end.result ≡ options_end line = c.options_end-end.ensures ∙ ap (λ (xs : List ℕ). options_end xs) c.line.ensures in
-    omega (arith, c.tell_options.ensures.few, c.tell_options.ensures.room, fits.rooms.notes, ap (λ ns. length ns) nothing.no_notes, end-few c.options_end-end.result line end_is, room, length-append a.text.read a.text.line)
+    let block : c.block-2.result.now ≡ line =
+    c.block-2.ensures ∙ ap (λ (t : KeptText). block_of t) c.complete.ensures ∙ append-nil (block_of a.text) ∙ head-whole a.text nothing.no_bytes nothing.alone in
+    let f = a.format.format in
+    let noted = c.tell_head_letters.ensures f c.count.ensures.value in
+    let letters = head_letters c.options_end-end.result f c.block-2.result.now in
+    let most = head-letters-bound c.options_end-end.result f c.block-2.result.now (rw block (end-less c.options_end-end.result line end_is)) in
+    omega (
+      arith,
+      c.tell_options.ensures.few,
+      c.tell_options.ensures.room,
+      fits.rooms.notes,
+      ap (λ ns. length ns) nothing.no_notes,
+      room,
+      length-append a.text.read a.text.line,
+      ap (λ (k : KeptNotes). length k.notes) noted,
+      ap (λ (k : KeptNotes). k.note_room) noted,
+      most,
+      ap (λ (xs : List ℕ). length xs) block,
+      length-append c.tell_options.new.notes.notes (map (left_out_note c.args.number) letters),
+      length-map letters (left_out_note c.args.number),
+    )
+
+pub tell_head_letters-requires-clause-end : goal.tell_head_letters-requires-clause-end
+tell_head_letters-requires-clause-end c =
+    let a = c.self.inside in
+    let line : List ℕ = a.text.line in
+    let is = rw (← c.self.view_is) at c.requires.phase in
+    let nothing = at-head a.limits a.phase a.begun a.options a.text a.format a.rows a.notes c.self.invariant.parts is in
+    let block : c.block-2.result.now ≡ line =
+    c.block-2.ensures ∙ ap (λ (t : KeptText). block_of t) c.complete.ensures ∙ append-nil (block_of a.text) ∙ head-whole a.text nothing.no_bytes nothing.alone in
+    let end_is : c.options_end-end.result ≡ options_end line = c.options_end-end.ensures ∙ ap (λ (xs : List ℕ). options_end xs) c.line.ensures in
+    rw block (end-less c.options_end-end.result line end_is)
+
+pub tell_head_letters-requires-clause-is : goal.tell_head_letters-requires-clause-is
+tell_head_letters-requires-clause-is c =
+    record { row = c.count.ensures.row; place = subst (StandsOnLine 0) c.count.ensures.value.place c.self.invariant.parts.keys.stands }
+
+pub tell_head_letters-requires-clause-few : goal.tell_head_letters-requires-clause-few
+tell_head_letters-requires-clause-few c =
+    let a = c.self.inside in
+    let fits = c.self.invariant.parts in
+    let line : List ℕ = a.text.line in
+    let is = rw (← c.self.view_is) at c.requires.phase in
+    let nothing = at-head a.limits a.phase a.begun a.options a.text a.format a.rows a.notes fits is in
+    let block : c.block-2.result.now ≡ line =
+    c.block-2.ensures ∙ ap (λ (t : KeptText). block_of t) c.complete.ensures ∙ append-nil (block_of a.text) ∙ head-whole a.text nothing.no_bytes nothing.alone in
+    rw block (omega (arith, c.count.ensures.value.columns, fits.keys.asked, fits.bytes.most, fits.rooms.small))
+
+pub tell_head_letters-requires-clause-room : goal.tell_head_letters-requires-clause-room
+tell_head_letters-requires-clause-room c =
+    let a = c.self.inside in
+    let fits = c.self.invariant.parts in
+    let line : List ℕ = a.text.line in
+    let is = rw (← c.self.view_is) at c.requires.phase in
+    let room = rw (← c.self.view_is) at c.requires.room in
+    let nothing = at-head a.limits a.phase a.begun a.options a.text a.format a.rows a.notes fits is in
+    let block : c.block-2.result.now ≡ line =
+    c.block-2.ensures ∙ ap (λ (t : KeptText). block_of t) c.complete.ensures ∙ append-nil (block_of a.text) ∙ head-whole a.text nothing.no_bytes nothing.alone in
+    let end_is : c.options_end-end.result ≡ options_end line = c.options_end-end.ensures ∙ ap (λ (xs : List ℕ). options_end xs) c.line.ensures in
+    rw block (omega (arith, c.tell_options.ensures.few, c.tell_options.ensures.room, fits.rooms.notes, ap (λ ns. length ns) nothing.no_notes, end-few c.options_end-end.result line end_is, room, length-append a.text.read a.text.line))
 
 pub invariant_of-self : goal.invariant_of-self
 invariant_of-self c =
@@ -50,15 +113,23 @@ invariant_of-self c =
     let kept : KeptNotes = c.tell_options.new.notes in
     let place : FormatPlace = c.place_at_end-place.result in
     let phase = c.tell_keys-self-inside.ensures.phase in
-    let counts = c.count.ensures.value in
+    let counts = c.count-2.ensures.value in
+    let block_2 : c.block-2.result.now ≡ block_of a.text = c.block-2.ensures ∙ ap (λ (t : KeptText). block_of t) c.complete.ensures ∙ append-nil (block_of a.text) in
+    let f = a.format.format in
+    let letters = head_letters c.options_end-end.result f c.block-2.result.now in
+    let noted : c.tell_head_letters.new.notes ≡ letters_noted c.args.number letters kept = c.tell_head_letters.ensures f c.count.ensures.value in
+    let notes = rw noted at c.tell_keys-self-inside.ensures.notes in
+    let block_line : c.block-2.result.now ≡ line = block_2 ∙ head-whole a.text nothing.no_bytes nothing.alone in
+    let most = head-letters-bound c.options_end-end.result f c.block-2.result.now (rw block_line (end-less c.options_end-end.result line end_is)) in
     let begun : c.at_start-self-inside.result ≡ begun_in (phase_at_last place) a.format.format [] =
-    c.at_start-self-inside.ensures a.format.format (count_is a.format.format c.count.result counts) ∙ ap (λ (p : Phase). begun_in p a.format.format []) phase in
+    c.at_start-self-inside.ensures a.format.format (count_is a.format.format c.count-2.result counts) ∙ ap (λ (p : Phase). begun_in p a.format.format []) phase in
     let within : NotesWithin (length (block_of a.text)) kept.notes = rw block at c.tell_options.ensures.within in
     let to_tell : NotesWithin (length (block_of a.text)) kept.to_tell = subst (λ ns. NotesWithin (length (block_of a.text)) ns) (sym c.tell_options.ensures.none) tt in
     record {
-      parts = rw (c.complete.ensures, c.tell_keys-self-inside.ensures.notes, phase, begun)
-          (whole-keys a.limits a.phase a.begun a.text a.format a.rows a.notes fits kept c.args.number room nothing.no_rows (omega (arith, counts.row, counts.columns, c.count.ensures.row))
-          (omega (arith, c.tell_options.ensures.few, ap (λ ns. length ns) nothing.no_notes, end-few c.options_end-end.result line end_is)) within to_tell c.tell_options.ensures.room place);
+      parts = rw (c.complete.ensures, notes, phase, begun)
+          (whole-keys a.limits a.phase a.begun a.text a.format a.rows a.notes fits (letters_noted c.args.number letters kept) c.args.number room nothing.no_rows (omega (arith, counts.row, counts.columns, c.count-2.ensures.row))
+          (omega (arith, c.tell_options.ensures.few, ap (λ ns. length ns) nothing.no_notes, most, ap (λ (xs : List ℕ). length xs) block_line, length-append kept.notes (map (left_out_note c.args.number) letters), length-map letters (left_out_note c.args.number)))
+          (NotesWithin-letters (length (block_of a.text)) c.args.number kept.notes letters within) to_tell c.tell_options.ensures.room place);
       giving = c.give_nothing.ensures.nothing.can c.complete.new.self a.rows a.format;
       pieces = c.give_nothing.ensures.room ∙ c.self.invariant.pieces;
     }
@@ -105,13 +176,24 @@ returns-clause-told c =
     let begun : a.begun ≡ head_begun (options_end line) line = fits.keys.is ∙ ap (λ (p : Phase). begun_in p a.format.format line) is in
     let head = rw c.line-2.ensures at c.place_at_end-place.ensures.head in
     let place : FormatPlace = head_place (options_end line) line in
-    let noted : c.tell_keys-self-inside.new.notes ≡ fault_noted place c.args.number kept =
-    c.tell_keys-self-inside.ensures.notes ∙ ap (λ (p : FormatPlace). fault_noted p c.args.number kept) (head begun) in
+    let f = a.format.format in
+    let block_2 : c.block-2.result.now ≡ line =
+    c.block-2.ensures ∙ ap (λ (t : KeptText). block_of t) c.complete.ensures ∙ append-nil (block_of a.text) ∙ head-whole a.text nothing.no_bytes nothing.alone in
+    let letters = head_letters (options_end line) f line in
+    let all : KeptNotes = letters_noted c.args.number letters kept in
+    let left : c.tell_head_letters.new.notes ≡ all =
+    c.tell_head_letters.ensures f c.count.ensures.value
+    ∙ ap (λ (e : Option ℕ). letters_noted c.args.number (head_letters e f c.block-2.result.now) kept) end_is
+    ∙ ap (λ (xs : List ℕ). letters_noted c.args.number (head_letters (options_end line) f xs) kept) block_2 in
+    let noted : c.tell_keys-self-inside.new.notes ≡ fault_noted place c.args.number all =
+    c.tell_keys-self-inside.ensures.notes ∙ ap (λ (p : FormatPlace). fault_noted p c.args.number c.tell_head_letters.new.notes) (head begun)
+    ∙ ap (λ (k : KeptNotes). fault_noted place c.args.number k) left in
     rw (← c.self.view_is)
-    (notes-by new (told_of_all (block_of a.text) (fault_noted place c.args.number kept).notes)
+    (notes-by new (told_of_all (block_of a.text) (fault_noted place c.args.number all).notes)
     (ap (λ (k : KeptText). told_of_all k.settled c.tell_keys-self-inside.new.notes.notes) c.complete.ensures
     ∙ ap (λ (k : KeptNotes). told_of_all (block_of a.text) k.notes) noted)
-    ∙ told-head (block_of a.text) kept (options_end line) c.args.number line t nothing.alone nothing.no_keys says
+    ∙ told-head (block_of a.text) all (options_end line) c.args.number line t nothing.alone nothing.no_keys
+    (letters-said (block_of a.text) kept.notes c.args.number letters (t.notes ++ options_told (options_end line) c.args.number line) says)
     ∙ ap (λ (u : TableRead). notes (closed u)) (sym (line-by t AtHead c.args.number line is)))
 
 pub returns-clause-bytes : goal.returns-clause-bytes

@@ -1,0 +1,127 @@
+//! Worked formats: what the definitions make of their lines.
+
+ghost use Rattle.std.specs.Prelude.{◌≡◌, [], ◌∷◌, None, Some, codes, true, false};
+ghost use Rattle.tbl_format.specs.Format.{format_read, further, letters_left_out, no_format};
+ghost use Rattle.tbl_format.specs.Format.{nothing_asked, plain_key};
+ghost use Rattle.tbl_format.specs.FormatWorked.{all_done, does_in};
+ghost use Rattle.tbl_format.specs.declared.format.FormatPlace.TheVariants.{AtEnd, AtFault, InRows};
+ghost use Rattle.tbl_format.specs.declared.format.Key.TheVariants.{Above, Alphabetic, Center};
+ghost use Rattle.tbl_format.specs.declared.format.Key.TheVariants.{DoubleRule, Left, Numeric, Right};
+ghost use Rattle.tbl_format.specs.declared.format.Key.TheVariants.{Rule, Spanned};
+ghost use Rattle.tbl_format.specs.declared.format.RowPart.TheVariants.{AtKeys, BehindKey};
+ghost use Rattle.tbl_format.specs.declared.format.Standing.TheVariants.{Bottom, Middle, Top};
+ghost use Rattle.tbl_format.specs.declared.format_step.Does.TheVariants.{AddBar, AddKey, DropWidth};
+ghost use Rattle.tbl_format.specs.declared.format_step.Does.TheVariants.{EndFormat, EndRow};
+ghost use Rattle.tbl_format.specs.declared.format_step.Does.TheVariants.{Equalize, LeaveOut};
+ghost use Rattle.tbl_format.specs.declared.format_step.Does.TheVariants.{Separate, Stand, Widen};
+
+/// Keys, bars, the ends of rows, and that of the format.
+pub fn keys()
+    ensures texts { does_in (codes "Lr C\tn,a.")
+        ≡ (
+          AddKey Left ∷ AddKey Right ∷ AddKey Center ∷ AddKey Numeric ∷ EndRow
+              ∷ AddKey Alphabetic ∷ EndFormat ∷ [],
+          AtEnd,
+        ) }
+    ensures others { does_in (codes "^s_-=\n")
+        ≡ (
+          AddKey Above ∷ AddKey Spanned ∷ AddKey Rule ∷ AddKey Rule ∷ AddKey DoubleRule
+              ∷ EndRow ∷ [],
+          InRows AtKeys,
+        ) }
+    ensures bars { does_in (codes "| l||r |.")
+        ≡ (AddBar ∷ AddKey Left ∷ AddBar ∷ AddBar ∷ AddKey Right ∷ AddBar ∷ EndFormat ∷ [], AtEnd) }
+    ensures behind_the_end { does_in (codes "l.?3") ≡ (AddKey Left ∷ EndFormat ∷ [], AtEnd) }
+    ensures none { does_in (codes "lq.") ≡ (AddKey Left ∷ [], AtFault) }
+{}
+
+/// Numbers, and letters without effect, or that say where a cell stands.
+pub fn letters()
+    ensures numbers { does_in (codes "l10c 2147483648,")
+        ≡ (
+          AddKey Left ∷ Separate 10 ∷ AddKey Center ∷ Separate 2147483647 ∷ EndRow ∷ [],
+          InRows AtKeys,
+        ) }
+    ensures no_key { does_in (codes "3l.") ≡ ([], AtFault) }
+    ensures behind_bar { does_in (codes "l|3") ≡ (AddKey Left ∷ AddBar ∷ [], AtFault) }
+    ensures of_cells { does_in (codes "lZ t Deb")
+        ≡ (
+          AddKey Left ∷ DropWidth ∷ Stand Top ∷ Stand Bottom ∷ Equalize ∷ [],
+          InRows BehindKey,
+        ) }
+    ensures without_effect { does_in (codes "lbIUp12v-3r")
+        ≡ (AddKey Left ∷ AddKey Right ∷ [], InRows BehindKey) }
+    ensures no_size { does_in (codes "lp +1") ≡ (AddKey Left ∷ [], AtFault) }
+    ensures fonts { does_in (codes "lf.f(CW)fBIrFR.")
+        ≡ (AddKey Left ∷ AddKey Right ∷ EndFormat ∷ [], AtEnd) }
+    ensures no_font { does_in (codes "lf\n") ≡ (AddKey Left ∷ [], AtFault) }
+    ensures left_out { does_in (codes "lmxyXM(zz)r.")
+        ≡ (
+          AddKey Left ∷ LeaveOut 109 ∷ LeaveOut 88 ∷ LeaveOut 77 ∷ AddKey Right ∷ EndFormat ∷ [],
+          AtEnd,
+        ) }
+    ensures no_macro { does_in (codes "lmx\n") ≡ (AddKey Left ∷ [], AtFault) }
+{}
+
+/// Widths: digits alone, or an expression in brackets, in columns of the page.
+#[tactic(auto, unfolding(roff_num::specs::Expressions::folded_onto, roff_num::specs::Expressions::operand_within, roff_num::specs::Expressions::value_at))]
+pub fn widths()
+    ensures digits { does_in (codes "lw9n")
+        ≡ (AddKey Left ∷ Widen 9 ∷ AddKey Numeric ∷ [], InRows BehindKey) }
+    ensures end { does_in (codes "lW12.5") ≡ (AddKey Left ∷ Widen 12 ∷ EndFormat ∷ [], AtEnd) }
+    ensures brackets { does_in (codes "lw((1+2)*3u)r")
+        ≡ (AddKey Left ∷ Widen 9 ∷ AddKey Right ∷ [], InRows BehindKey) }
+    ensures rounded { does_in (codes "lw(36u)")
+        ≡ (AddKey Left ∷ Widen 2 ∷ [], InRows BehindKey) }
+    ensures none { does_in (codes "lw(0)w(-5)")
+        ≡ (AddKey Left ∷ Widen 0 ∷ Widen 0 ∷ [], InRows BehindKey) }
+    ensures no_digit { does_in (codes "lw r") ≡ (AddKey Left ∷ [], AtFault) }
+    ensures no_number { does_in (codes "lw()") ≡ (AddKey Left ∷ [], AtFault) }
+    ensures more { does_in (codes "lw(3 )") ≡ (AddKey Left ∷ [], AtFault) }
+    ensures open { does_in (codes "lw((3)\n") ≡ (AddKey Left ∷ [], AtFault) }
+{}
+
+/// What a format keeps: rows of keys with bars in front and behind, and what each column is asked
+/// for in all rows.
+#[tactic(auto, unfolding(roff_num::specs::Expressions::folded_onto, roff_num::specs::Expressions::operand_within, roff_num::specs::Expressions::value_at))]
+pub fn formats()
+    ensures rows { all_done (does_in (codes "| l || rtz |\nc.")).0 no_format ≡ record {
+      earlier = [];
+      rows = record {
+        keys = plain_key 1 Left
+            ∷ record { bars = 2; key = Right; standing = Top; has_no_width = true } ∷ [];
+        bars = 1;
+      } ∷ record { keys = plain_key 0 Center ∷ []; bars = 0 } ∷ [];
+      row = [];
+      bars = 0;
+      asked = nothing_asked ∷ nothing_asked ∷ [];
+      place = InRows AtKeys;
+    } }
+    ensures columns { (all_done (does_in (codes "l5w4 r, lw3e7,l c2r.")).0 no_format).asked
+        ≡ record { separation = Some 7; least = Some 4; is_equal = true }
+        ∷ record { separation = Some 2; least = None; is_equal = false } ∷ nothing_asked ∷ [] }
+    ensures no_width { (all_done (does_in (codes "lw(0)")).0 no_format).asked
+        ≡ record { separation = None; least = Some 0; is_equal = false } ∷ [] }
+    ensures further { (all_done (does_in (codes "^ r.")).0
+        (further (all_done (does_in (codes "l3.")).0 no_format))).earlier
+        ≡ record { keys = plain_key 0 Left ∷ []; bars = 0 } ∷ [] }
+    ensures first_columns { (all_done (does_in (codes "s")).0 no_format).place ≡ AtFault }
+    ensures first_rows { (all_done (does_in (codes "l ^")).0 no_format).place ≡ AtFault }
+    ensures later_rows { (all_done (does_in (codes "l,^")).0 no_format).place ≡ InRows AtKeys }
+    ensures bars { (all_done (does_in (codes "l||")).0 no_format).place ≡ InRows AtKeys }
+    ensures third_bar { (all_done (does_in (codes "l|| |")).0 no_format).place ≡ AtFault }
+    ensures bars_alone { (all_done (does_in (codes "l,|\n")).0 no_format).place ≡ AtFault }
+    ensures no_row { (all_done (does_in (codes ",\n .")).0 no_format).place ≡ AtFault }
+{}
+
+/// What is read of them today, where not all is laid out.
+#[tactic(auto, unfolding(crate::specs::FormatSteps::step))]
+pub fn readings()
+    ensures laid_out { (format_read no_format (codes "l xR3,c.")).place ≡ AtEnd }
+    ensures left_out { letters_left_out no_format (codes "lxmabr X,c.") ≡ 120 ∷ 109 ∷ 88 ∷ [] }
+    ensures behind_a_fault { letters_left_out no_format (codes "lxn x,c.") ≡ 120 ∷ [] }
+    ensures bar { (format_read no_format (codes "l|l.")).place ≡ AtFault }
+    ensures key { (format_read no_format (codes "ln.")).place ≡ AtFault }
+    ensures counted { (format_read no_format (codes "lns.")).asked
+        ≡ nothing_asked ∷ nothing_asked ∷ [] }
+{}

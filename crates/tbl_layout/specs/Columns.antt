@@ -1,0 +1,215 @@
+-- The columns of a table: how wide they are, and where they begin (Lesk, "Tbl": Format, Formatting).
+use Rattle.std.specs.Prelude.{ℕ, suc, ◌+◌, ◌-◌, ◌*◌, ◌/◌, ◌≤◌, max, Bool, true, false, not, ◌&&◌, List, [], ◌∷◌, length, map, Contains, Option, None, Some, unwrap_or, if◌then◌else◌, ◌==◌}
+use Rattle.tbl_format.specs.declared.format.Asked.{Asked}
+use Rattle.tbl_format.specs.declared.format.Key.{Key}
+use Rattle.tbl_format.specs.declared.format.Key.TheVariants.{Alphabetic, Center, Numeric, Right}
+use Rattle.tbl_layout.specs.Entries.{Block, Command, Content, Element, Row, Text, field_at, is_number, key_at}
+use Rattle.tbl_layout.specs.Widths.{separation}
+use Rattle.tbl_layout.specs.declared.columns.Column.{Column}
+use Rattle.tbl_layout.specs.declared.columns.Needs.{Needs}
+use Rattle.tbl_layout.specs.declared.columns.Stands.{Stands}
+use Rattle.tbl_layout.specs.declared.columns.Stands.TheVariants.{Alone, Apart, InStrip, Nowhere}
+use Rattle.tbl_text.specs.BlockLines.{has_word, lines_of, widest}
+use Rattle.tbl_text.specs.BlockWords.{Part, parts_of}
+use Rattle.tbl_text.specs.Measuring.{measured}
+use Rattle.tbl_text.specs.declared.measure.Split.{Split}
+
+-- an entry that isn't split, by its key
+abbrev pub unsplit : Key → ℕ → Stands
+unsplit Alphabetic columns = InStrip columns
+unsplit (_) columns = Alone columns
+
+-- a text, by where it is split
+abbrev pub text_stands : Key → ℕ → Option Split → Stands
+text_stands key columns None = unsplit key columns
+text_stands key columns (Some s) = Apart s.left (columns - s.left)
+
+-- a block that has no word is no entry; else it is as wide as its widest line
+abbrev pub block_stands : ℕ → Key → List Part → Stands
+block_stands measure key parts = if has_word parts then unsplit key (widest (lines_of measure parts)) else Nowhere
+
+-- the entry that a field is under its key; its column gives its blocks this measure
+abbrev pub stands : ℕ → Key → Content → Stands
+stands measure key (Text []) = Nowhere
+stands measure key (Text (b ∷ bytes)) = let m = measured (is_number key) (b ∷ bytes) in text_stands key m.width m.split
+stands measure key (Block lines) = block_stands measure key (parts_of lines)
+
+-- the greatest of some numbers, 0 of none
+abbrev pub greatest : List ℕ → ℕ
+greatest [] = 0
+greatest (n ∷ numbers) = max n (greatest numbers)
+
+-- what an entry adds to its column: alone, in the strip of entries under `a`, which has a place in front, and to the two strips of
+-- entries that are split
+abbrev pub alone : Stands → ℕ
+alone (Alone columns) = columns
+alone (_) = 0
+
+abbrev pub in_strip : Stands → ℕ
+in_strip (InStrip columns) = columns + 1
+in_strip (_) = 0
+
+abbrev pub left_of : Stands → ℕ
+left_of (Apart left right) = left
+left_of (_) = 0
+
+abbrev pub right_of : Stands → ℕ
+right_of (Apart left right) = right
+right_of (_) = 0
+
+-- what entries need, and with one more
+abbrev pub needs_of : List Stands → Needs
+needs_of entries = record {
+  alone = greatest (map alone entries);
+  strip = greatest (map in_strip entries);
+  left = greatest (map left_of entries);
+  right = greatest (map right_of entries);
+}
+
+abbrev pub needing : Needs → Stands → Needs
+needing n entry = record {
+  alone = max n.alone (alone entry);
+  strip = max n.strip (in_strip entry);
+  left = max n.left (left_of entry);
+  right = max n.right (right_of entry);
+}
+
+-- the width of a column, by what is asked of it and what its entries need: the parts of split ones stand side by side
+abbrev pub width_by : Asked → Needs → ℕ
+width_by asked n = greatest (unwrap_or asked.least 0 ∷ n.alone ∷ n.strip ∷ (n.left + n.right) ∷ [])
+
+abbrev pub width_of : Asked → List Stands → ℕ
+width_of asked entries = width_by asked (needs_of entries)
+
+-- so many columns of the page are enough for a column: for what is asked of it, for each entry that stands alone or, with a place
+-- in front, in the strip, and for the left part of each split entry beside the right part of any
+pub record Holds (asks : Asked) (entries : List Stands) (width : ℕ) : Type 0 where
+  pub asked : unwrap_or asks.least 0 ≤ width
+  pub alone : (columns : ℕ) → Contains entries (Alone columns) → columns ≤ width
+  pub strip : (columns : ℕ) → Contains entries (InStrip columns) → columns + 1 ≤ width
+  pub sides : (left right left_other right_other : ℕ) → Contains entries (Apart left right) → Contains entries (Apart left_other right_other)
+      → left + right_other ≤ width
+
+-- the width of a column is enough, and whatever is enough is no less
+pub record IsLeast (asked : Asked) (entries : List Stands) : Type 0 where
+  pub holds : Holds asked entries (width_of asked entries)
+  pub least : (width : ℕ) → Holds asked entries width → width_of asked entries ≤ width
+
+-- the measure of a column's blocks, where the table has so many columns: what is asked of it, else its part of the line
+abbrev pub measure_of : ℕ → ℕ → Asked → ℕ
+measure_of line_length count asked = unwrap_or asked.least (max 1 (line_length / (count + 1)))
+
+-- the entries of a column, whose blocks have this measure
+abbrev pub entries_of : ℕ → ℕ → List Element → List Stands
+entries_of measure column [] = []
+entries_of measure column (Row keys fields ∷ elements) =
+    stands measure (key_at keys column) (field_at fields column) ∷ entries_of measure column elements
+entries_of measure column (Command bytes ∷ elements) = entries_of measure column elements
+
+-- the columns of a table that has so many, from one on: what their entries need
+abbrev pub columns_from : ℕ → ℕ → List Element → ℕ → List Asked → List Column
+columns_from line_length count elements column [] = []
+columns_from line_length count elements column (a ∷ asked) =
+    let measure = measure_of line_length count a in
+    record { needs = needs_of (entries_of measure column elements); measure = measure; width = 0; start = 0 }
+    ∷ columns_from line_length count elements (suc column) asked
+
+-- each gets the width that it needs
+abbrev pub with_widths : List Asked → List Column → List Column
+with_widths [] columns = columns
+with_widths (a ∷ asked) [] = []
+with_widths (a ∷ asked) (c ∷ columns) = record c { width = width_by a c.needs } ∷ with_widths asked columns
+
+-- the width of a column, if it is to be as wide as others, and with such a width
+abbrev pub equal_width : Asked → Column → ℕ
+equal_width a c = if a.is_equal then c.width else 0
+
+abbrev pub made_equal : ℕ → Asked → Column → Column
+made_equal width a c = if a.is_equal then record c { width = width } else c
+
+abbrev pub equal_widths : List Asked → List Column → List ℕ
+equal_widths [] columns = []
+equal_widths (a ∷ asked) [] = []
+equal_widths (a ∷ asked) (c ∷ columns) = equal_width a c ∷ equal_widths asked columns
+
+abbrev pub with_equal : ℕ → List Asked → List Column → List Column
+with_equal width [] columns = columns
+with_equal width (a ∷ asked) [] = []
+with_equal width (a ∷ asked) (c ∷ columns) = made_equal width a c ∷ with_equal width asked columns
+
+-- those with `e` get the width of the widest of them
+abbrev pub equalled : List Asked → List Column → List Column
+equalled asked columns = with_equal (greatest (equal_widths asked columns)) asked columns
+
+-- the gaps in front of columns, the first of which is this one: in front of each other one its separation from the one before it
+abbrev pub gaps_from : ℕ → List Asked → List ℕ
+gaps_from gap [] = []
+gaps_from gap (a ∷ asked) = gap ∷ gaps_from (separation a.separation) asked
+
+-- nothing is in front of the first column of a table
+abbrev pub gaps : List Asked → List ℕ
+gaps asked = gaps_from 0 asked
+
+-- all of some numbers
+abbrev pub total : List ℕ → ℕ
+total [] = 0
+total (n ∷ numbers) = n + total numbers
+
+-- the width of columns with their gaps
+abbrev pub width_of_all : List Column → List ℕ → ℕ
+width_of_all columns gaps = total (map (λ c. c.width) columns) + total gaps
+
+-- the part of so many columns more that falls to a front of all gaps: none where these are nothing
+abbrev pub share : ℕ → ℕ → ℕ → ℕ
+share more front all = if all == 0 then 0 else more * front / all
+
+-- gaps in whose front so much of all lies, with their parts of what is spread, in proportion
+abbrev pub spread : ℕ → ℕ → ℕ → List ℕ → List ℕ
+spread more all front [] = []
+spread more all front (gap ∷ gaps) = (gap + (share more (front + gap) all - share more front all)) ∷ spread more all (front + gap) gaps
+
+-- where columns begin, each behind its gap
+abbrev pub placed : ℕ → List ℕ → List Column → List Column
+placed place [] columns = columns
+placed place (gap ∷ gaps) [] = []
+placed place (gap ∷ gaps) (c ∷ columns) = record c { start = place + gap } ∷ placed (place + gap + c.width) gaps columns
+
+-- how many columns of the page are spread over the gaps, so that the picture is as wide as the line
+abbrev pub lacking : Bool → ℕ → ℕ → ℕ → ℕ
+lacking is_expanded line_length width all = if is_expanded && not (all == 0) then line_length - width else 0
+
+-- a table's columns, and how wide its picture is
+pub record Laid : Type 0 where
+  pub columns : List Column
+  pub width : ℕ
+
+-- so many columns of the page are spread over all gaps
+abbrev pub placed_with : ℕ → List Asked → List Column → List Column
+placed_with more asked columns = placed 0 (spread more (total (gaps asked)) 0 (gaps asked)) columns
+
+abbrev pub laid_with : ℕ → ℕ → List Asked → List Column → Laid
+laid_with more width asked columns = record { columns = placed_with more asked columns; width = width + more }
+
+abbrev pub laid_by : Bool → ℕ → List Asked → List Column → Laid
+laid_by is_expanded line_length asked columns =
+    let width = width_of_all columns (gaps asked) in
+    laid_with (lacking is_expanded line_length width (total (gaps asked))) width asked columns
+
+-- the columns of these elements, by what is asked of each
+abbrev pub laid : Bool → ℕ → List Asked → List Element → Laid
+laid is_expanded line_length asked elements =
+    laid_by is_expanded line_length asked
+    (equalled asked (with_widths asked (columns_from line_length (length asked) elements 0 asked)))
+
+-- where an entry begins in its column
+abbrev pub shift : Key → ℕ → ℕ
+shift Right spare = spare
+shift Center spare = spare / 2
+shift Numeric spare = spare / 2
+shift (_) spare = 0
+
+abbrev pub place_in : Column → Key → Stands → ℕ
+place_in c key Nowhere = 0
+place_in c key (Apart left right) = (c.width - (c.needs.left + c.needs.right)) / 2 + (c.needs.left - left)
+place_in c key (InStrip columns) = max 1 ((c.width - (c.needs.strip - 1)) / 2)
+place_in c key (Alone columns) = shift key (c.width - columns)

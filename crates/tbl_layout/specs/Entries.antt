@@ -1,0 +1,87 @@
+-- What stands in the columns of a table, and on which lines (Lesk, "Tbl": Data, Text Blocks).
+use Rattle.std.specs.Prelude.{ℕ, Bool, true, false, List, [], ◌∷◌, ◌++◌, map, take, drop, replicate, sum_by, get_or, Option, Some, None}
+use Rattle.roff_source.specs.Bytes.{blank}
+use Rattle.tbl_format.specs.Format.{FormatRow}
+use Rattle.tbl_format.specs.declared.format.Key.{Key}
+use Rattle.tbl_format.specs.declared.format.Key.TheVariants.{Left, Numeric}
+use Rattle.tbl_text.specs.BlockLines.{leading, lines_of}
+use Rattle.tbl_text.specs.BlockWords.{Word, Part, EmptyLine, OneWord, parts_of}
+use Rattle.tbl_text.specs.Measuring.{measured}
+use Rattle.tbl_text.specs.declared.measure.Measured.{Measured}
+use Rattle.tbl_text.specs.declared.measure.Split.{Split}
+
+-- a field: a text, or a text block by its lines, of which requests are passed over
+pub data Content : Type 0 where
+  Text : (bytes : List ℕ) → Content
+  Block : (lines : List (List ℕ)) → Content
+
+-- what stands in a table: a row of fields, with the row of the format that serves it, or a command
+pub data Element : Type 0 where
+  Row : (format : FormatRow) (fields : List Content) → Element
+  Command : (bytes : List ℕ) → Element
+
+-- the key and the field of a column: short rows of the format go on with `l`, and those of the data with empty fields
+abbrev pub key_at : FormatRow → ℕ → Key
+key_at format column = get_or (map (λ k. k.key) format.keys) column Left
+
+abbrev pub field_at : List Content → ℕ → Content
+field_at fields column = get_or fields column (Text [])
+
+-- whether texts under a key are numbers, which are split
+abbrev pub is_number : Key → Bool
+is_number Numeric = true
+is_number (_) = false
+
+-- a text on a line of the picture: its bytes, those up to its last glyph, and its columns
+pub record Run : Type 0 where
+  pub bytes : List ℕ
+  pub to_glyph : List ℕ
+  pub columns : ℕ
+
+-- so many blanks
+abbrev pub blanks : ℕ → Run
+blanks count = record { bytes = replicate count blank; to_glyph = []; columns = count }
+
+-- bytes without the `\&` at which they are split
+abbrev pub without : Option Split → List ℕ → List ℕ
+without None bytes = bytes
+without (Some s) bytes = take s.end bytes ++ drop s.behind bytes
+
+-- a text that measures so much
+abbrev pub run_of : Measured → List ℕ → Run
+run_of m text = record { bytes = without m.split text; to_glyph = without m.split (take m.glyphs text); columns = m.width }
+
+-- a word of a block
+abbrev pub run_of_word : Word → Run
+run_of_word w = record { bytes = w.text; to_glyph = w.to_glyph; columns = w.columns }
+
+-- words of a line of a block, each behind its gap
+abbrev pub further_words : List Part → List Run
+further_words [] = []
+further_words (EmptyLine ∷ parts) = further_words parts
+further_words (OneWord w ∷ parts) = blanks w.gap ∷ run_of_word w ∷ further_words parts
+
+-- a line of a block
+abbrev pub block_line : List Part → List Run
+block_line [] = []
+block_line (EmptyLine ∷ parts) = further_words parts
+block_line (OneWord w ∷ parts) = blanks (leading w) ∷ run_of_word w ∷ further_words parts
+
+-- the lines of a field, under its key; its column gives its blocks this measure
+abbrev pub lines_of_field : ℕ → Key → Content → List (List Run)
+lines_of_field measure key (Text []) = []
+lines_of_field measure key (Text (b ∷ bytes)) = (run_of (measured (is_number key) (b ∷ bytes)) (b ∷ bytes) ∷ []) ∷ []
+lines_of_field measure key (Block lines) = map block_line (lines_of measure (parts_of lines))
+
+-- the columns of what stands on a line
+abbrev pub columns_of : List Run → ℕ
+columns_of runs = sum_by (λ run. run.columns) runs
+
+-- what stands on a line, up to its last glyph
+abbrev pub before_glyphs : Run → List ℕ → List ℕ
+before_glyphs run [] = run.to_glyph
+before_glyphs run (b ∷ bytes) = run.bytes ++ b ∷ bytes
+
+abbrev pub up_to_last_glyph : List Run → List ℕ
+up_to_last_glyph [] = []
+up_to_last_glyph (run ∷ runs) = before_glyphs run (up_to_last_glyph runs)

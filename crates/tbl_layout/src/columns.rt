@@ -1,0 +1,282 @@
+//! The columns of a table: how wide they are, and where they begin (Lesk, "Tbl": Format,
+//! Formatting).
+
+ghost use Rattle.std.specs.Prelude.{◌≡◌, ◌+◌, ◌-◌, ◌<◌, ◌^◌, min};
+ghost use Rattle.tbl_layout.specs.Columns.{equal_width, equal_widths, equalled, gaps, greatest};
+ghost use Rattle.tbl_layout.specs.Columns.{lacking, made_equal, measure_of, needing, place_in};
+ghost use Rattle.tbl_layout.specs.Columns.{placed_with, share, shift, total, unsplit, width_by};
+ghost use Rattle.tbl_layout.specs.Columns.{width_of_all, with_equal, with_widths};
+
+use crate::widths::separation;
+use tbl_format::format::{Asked, Key};
+
+/// How an entry stands in its column. The numbers are columns of the page.
+#[derive(Clone, Copy)]
+pub enum Stands {
+    /// Nowhere: it has no text.
+    Nowhere,
+    /// Split in two: the part left of its column's units, and the part right of them.
+    Apart(u32, u32),
+    /// In the strip of the entries under `a`.
+    InStrip(u32),
+    /// Alone.
+    Alone(u32),
+}
+
+/// What the entries of a column need, in columns of the page.
+#[derive(Clone, Copy)]
+pub struct Needs {
+    /// The widest entry that stands alone.
+    pub alone: u32,
+    /// The widest entry under `a`, with a place in front.
+    pub strip: usize,
+    /// The widest part left of units.
+    pub left: u32,
+    /// The widest part right of units.
+    pub right: u32,
+}
+
+/// A column: what its entries need, and at last how wide it is and where it begins.
+#[derive(Clone, Copy)]
+pub struct Column {
+    /// What its entries need.
+    pub needs: Needs,
+    /// The measure of its blocks.
+    pub measure: u64,
+    /// How wide it is.
+    pub width: usize,
+    /// Where it begins.
+    pub start: usize,
+}
+
+impl Needs {
+    /// No entry.
+    pub const NOTHING: Needs = Needs {
+        alone: 0,
+        strip: 0,
+        left: 0,
+        right: 0,
+    };
+
+    /// With an entry more.
+    #[inline]
+    pub fn with(self, entry: Stands) -> Needs
+        ensures { result ≡ needing self entry }
+    {
+        match entry {
+            Stands::Nowhere => self,
+            Stands::Apart(left, right) => Needs {
+                alone: self.alone,
+                strip: self.strip,
+                left: self.left.max(left),
+                right: self.right.max(right),
+            },
+            Stands::InStrip(columns) => Needs {
+                alone: self.alone,
+                strip: self.strip.max(columns as usize + 1),
+                left: self.left,
+                right: self.right,
+            },
+            Stands::Alone(columns) => Needs {
+                alone: self.alone.max(columns),
+                strip: self.strip,
+                left: self.left,
+                right: self.right,
+            },
+        }
+    }
+
+    /// The least width that holds all entries, and what is asked.
+    fn width(self, asked: Asked) -> usize
+        ensures { result ≡ width_by asked self }
+    {
+        let sides = self.left as usize + self.right as usize;
+        let entries = (self.alone as usize).max(self.strip).max(sides);
+        entries.max(asked.least.unwrap_or(0) as usize)
+    }
+}
+
+/// An entry that isn't split, by its key.
+#[inline]
+pub fn unsplit(key: Key, columns: u32) -> Stands
+    ensures { result ≡ unsplit key columns }
+{
+    match key {
+        Key::Alphabetic => Stands::InStrip(columns),
+        _ => Stands::Alone(columns),
+    }
+}
+
+/// The measure of the blocks of a column, in a table of so many: what is asked of it, else its part
+/// of the line.
+pub fn block_measure(line_length: u32, columns: usize, asked: Asked) -> u64
+    requires { columns < 2 ^ 63 }
+    ensures { result ≡ measure_of line_length columns asked }
+{
+    match asked.least {
+        Some(least) => u64::from(least),
+        None => (u64::from(line_length) / (columns as u64 + 1)).max(1),
+    }
+}
+
+/// Gives each column the width that it needs, and those with `e` the greatest of these.
+pub fn set_widths(columns: &mut [Column], asked: &[Asked])
+    ensures { columns.new ≡ equalled asked.now (with_widths asked.now columns.old) }
+{
+    set_needed(columns, asked);
+    let width = equal_width(columns, asked);
+    set_equal(columns, asked, width);
+}
+
+/// Gives each column the width that it needs.
+fn set_needed(columns: &mut [Column], asked: &[Asked])
+    ensures { columns.new ≡ with_widths asked.now columns.old }
+{
+    for at in 0..columns.len().min(asked.len()) {
+        let mut column = columns[at];
+        column.width = column.needs.width(asked[at]);
+        columns[at] = column;
+    }
+}
+
+/// The greatest width of a column with `e`.
+fn equal_width(columns: &[Column], asked: &[Asked]) -> usize
+    ensures { result ≡ greatest (equal_widths asked.now columns.now) }
+{
+    let mut width: usize = 0;
+    for at in 0..columns.len().min(asked.len()) {
+        width = width.max(columns[at].equal_width(asked[at]));
+    }
+    width
+}
+
+/// Gives each column with `e` a width.
+fn set_equal(columns: &mut [Column], asked: &[Asked], width: usize)
+    ensures { columns.new ≡ with_equal width asked.now columns.old }
+{
+    for at in 0..columns.len().min(asked.len()) {
+        columns[at] = columns[at].made_equal(asked[at], width);
+    }
+}
+
+/// The gaps between columns, or 2^64 - 1 if they are more.
+pub fn all_gaps(asked: &[Asked]) -> usize
+    ensures { result ≡ min (total (gaps asked.now)) (2 ^ 64 - 1) }
+{
+    let mut all: usize = 0;
+    let mut gap = 0;
+    for at in 0..asked.len() {
+        all = all.saturating_add(gap);
+        gap = separation(asked[at].separation);
+    }
+    all
+}
+
+/// The width of columns with the gaps between them, or 2^64 - 1 if it is greater.
+pub fn width_of_all(columns: &[Column], asked: &[Asked]) -> usize
+    ensures { result ≡ min (width_of_all columns.now (gaps asked.now)) (2 ^ 64 - 1) }
+{
+    let mut width: usize = 0;
+    for column in columns {
+        width = width.saturating_add(column.width);
+    }
+    width.saturating_add(all_gaps(asked))
+}
+
+/// How many columns of the page are spread over gaps, so that a picture of a width is as wide as
+/// the line.
+pub fn lacking(is_expanded: bool, line_length: u32, width: usize, gaps: usize) -> usize
+    ensures value { result ≡ lacking is_expanded line_length width gaps }
+    ensures most { result < 2 ^ 32 }
+{
+    if is_expanded && gaps != 0 {
+        (line_length as usize).saturating_sub(width)
+    } else {
+        0
+    }
+}
+
+/// Gives each column its place. So many columns of the page more are spread over the gaps.
+pub fn set_starts(columns: &mut [Column], asked: &[Asked], more: usize)
+    requires { width_of_all columns.old (gaps asked.now) + more < 2 ^ 32 }
+    ensures { columns.new ≡ placed_with more asked.now columns.old }
+{
+    let all = all_gaps(asked);
+    let mut place = 0;
+    let mut front = 0;
+    let mut gap = 0;
+    for at in 0..columns.len().min(asked.len()) {
+        let mut column = columns[at];
+        let before = share(more, front, all);
+        front += gap;
+        column.start = place + (gap + (share(more, front, all).saturating_sub(before)));
+        columns[at] = column;
+        place = column.start + column.width;
+        gap = separation(asked[at].separation);
+    }
+}
+
+/// The part of what is spread that falls to a front of all gaps.
+fn share(more: usize, front: usize, all: usize) -> usize
+    requires more { more < 2 ^ 32 }
+    requires front { front < 2 ^ 32 }
+    ensures { result ≡ share more front all }
+{
+    if all == 0 { 0 } else { more * front / all }
+}
+
+impl Column {
+    /// Its width, if it has `e`.
+    fn equal_width(self, asked: Asked) -> usize
+        ensures { result ≡ equal_width asked self }
+    {
+        if asked.is_equal { self.width } else { 0 }
+    }
+
+    /// With a width, if it has `e`.
+    fn made_equal(self, asked: Asked, width: usize) -> Column
+        ensures { result ≡ made_equal width asked self }
+    {
+        if asked.is_equal {
+            return Column {
+                needs: self.needs,
+                measure: self.measure,
+                width,
+                start: self.start,
+            };
+        }
+        self
+    }
+
+    /// Where an entry begins in it, by the key.
+    #[inline]
+    pub fn place_of(self, key: Key, entry: Stands) -> usize
+        ensures { result ≡ place_in self key entry }
+    {
+        match entry {
+            Stands::Nowhere => 0,
+            Stands::Apart(left, _) => {
+                let sides = self.needs.left as usize + self.needs.right as usize;
+                self.width.saturating_sub(sides) / 2
+                    + (self.needs.left as usize).saturating_sub(left as usize)
+            }
+            Stands::InStrip(_) => {
+                let strip = self.needs.strip.saturating_sub(1);
+                (self.width.saturating_sub(strip) / 2).max(1)
+            }
+            Stands::Alone(columns) => { shift(key, self.width.saturating_sub(columns as usize)) }
+        }
+    }
+}
+
+/// How far an entry that stands alone is moved, by the key and the columns to spare.
+#[inline]
+fn shift(key: Key, spare: usize) -> usize
+    ensures { result ≡ shift key spare }
+{
+    match key {
+        Key::Right => spare,
+        Key::Center | Key::Numeric => spare / 2,
+        _ => 0,
+    }
+}

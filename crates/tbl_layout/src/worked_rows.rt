@@ -1,0 +1,53 @@
+//! Worked lines and columns: what the definitions give for them.
+
+ghost use Rattle.std.specs.Prelude.{◌≡◌, [], ◌∷◌, Some, None, true, false, codes, map};
+ghost use Rattle.tbl_format.specs.Format.{nothing_asked, plain_key};
+ghost use Rattle.tbl_format.specs.declared.format.Key.TheVariants.{Alphabetic, Center, Left};
+ghost use Rattle.tbl_format.specs.declared.format.Key.TheVariants.{Numeric, Right};
+ghost use Rattle.tbl_layout.specs.Columns.{stands, width_of};
+ghost use Rattle.tbl_layout.specs.DataLines.{block_line_kind, ends_in_block, ends_row};
+ghost use Rattle.tbl_layout.specs.DataLines.{is_laid_out, line_kind, without_opening};
+ghost use Rattle.tbl_layout.specs.Entries.{Block, Command as OneCommand, Row as OneRow};
+ghost use Rattle.tbl_layout.specs.Entries.{Text as OneText};
+ghost use Rattle.tbl_layout.specs.declared.columns.Stands.TheVariants.{Alone, Apart, InStrip};
+ghost use Rattle.tbl_layout.specs.declared.columns.Stands.TheVariants.{Nowhere};
+ghost use Rattle.tbl_layout.specs.declared.data_lines.BlockLineKind.TheVariants.{End, Request};
+ghost use Rattle.tbl_layout.specs.declared.data_lines.BlockLineKind.TheVariants.{Text};
+ghost use Rattle.tbl_layout.specs.declared.data_lines.LineKind.TheVariants.{Command, Formats};
+ghost use Rattle.tbl_layout.specs.declared.data_lines.LineKind.TheVariants.{Row, Rule};
+
+/// What lines are.
+pub fn lines()
+    ensures rule { line_kind (codes "=") ≡ Rule }
+    ensures no_rule { line_kind (codes "_ ") ≡ Row }
+    ensures formats { line_kind (codes ".T&\tx") ≡ Formats }
+    ensures no_formats { line_kind (codes ".T&x") ≡ Command }
+    ensures dot { line_kind (codes ".") ≡ Command }
+    ensures number { line_kind (codes ".5") ≡ Row }
+    ensures end { block_line_kind (codes "T}x:y") ≡ End }
+    ensures request { block_line_kind (codes ".5") ≡ Request }
+    ensures text { block_line_kind (codes "_") ≡ Text }
+    ensures built { map is_laid_out
+        (codes "_ " ∷ codes "\\_ " ∷ codes "\\R" ∷ codes "\\R\\" ∷ codes "\\Rab" ∷ [])
+        ≡ true ∷ true ∷ true ∷ true ∷ true ∷ [] }
+    ensures unbuilt { map is_laid_out
+        (codes "_" ∷ codes "\\^" ∷ codes "\\R " ∷ codes "\\R-" ∷ [])
+        ≡ false ∷ false ∷ false ∷ false ∷ [] }
+    ensures opening { ends_in_block (codes "a" ∷ codes "  T{ " ∷ []) ≡ true }
+    ensures in_front { without_opening (codes "T{" ∷ codes "T{" ∷ []) ≡ codes "T{" ∷ [] }
+    ensures row_ends { ends_row false 58 (codes "T{:x") ≡ true }
+    ensures row_goes_on { ends_row true 58 (codes "T}T{:T{") ≡ false }
+{}
+
+/// How entries stand, and how wide their columns are.
+pub fn entries()
+    ensures number { stands 9 Numeric (OneText (codes "12.5")) ≡ Apart 2 2 }
+    ensures units { stands 9 Numeric (OneText (codes "7")) ≡ Apart 1 0 }
+    ensures none { stands 9 Numeric (OneText (codes "none")) ≡ Alone 4 }
+    ensures ampersand { stands 9 Numeric (OneText (codes "3\\&x")) ≡ Apart 1 1 }
+    ensures strip { stands 9 Alphabetic (OneText (codes "ab")) ≡ InStrip 2 }
+    ensures empty { stands 9 Alphabetic (OneText []) ≡ Nowhere }
+    ensures block { stands 4 Left (Block (codes "one two" ∷ [])) ≡ Alone 3 }
+    ensures blanks { stands 4 Left (Block (codes "  " ∷ [])) ≡ Nowhere }
+    ensures sides { width_of nothing_asked (Apart 1 3 ∷ Apart 2 0 ∷ Alone 4 ∷ []) ≡ 5 }
+{}

@@ -1,0 +1,22 @@
+-- How many messages a table has at the most, as far as it is read.
+use Rattle.std.specs.Prelude.{ℕ, ◌+◌, length, Option, None, Some}
+use Rattle.tbl_kept.specs.Joined.{Joined}
+use Rattle.tbl_table.specs.TableRead.{TableRead}
+use Rattle.tbl_table.specs.declared.phase.Phase.{Phase}
+use Rattle.tbl_table.specs.declared.phase.Phase.TheVariants.{AtHead, Bad, InData, InFormat}
+
+-- of a line that goes on, one for each byte, and one for what the line is
+abbrev pub line_may_tell : Option Joined → ℕ
+line_may_tell None = 0
+line_may_tell (Some j) = length j.bytes + 1
+
+-- of a fault, if there was none: behind it nothing is told
+abbrev pub fault_may_come : Phase → ℕ
+fault_may_come AtHead = 1
+fault_may_come InFormat = 1
+fault_may_come InData = 1
+fault_may_come Bad = 0
+
+-- those that it has, and these
+unfoldable pub may_tell : TableRead → ℕ
+may_tell t = length t.notes + line_may_tell t.pending + fault_may_come t.phase

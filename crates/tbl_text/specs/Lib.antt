@@ -1,0 +1,10 @@
+pub mod Items
+pub mod Measuring
+pub mod MeasuredSoFar
+pub mod Laws
+pub mod BlockWords
+pub mod BlockLines
+pub mod BlockPlaces
+pub mod BlockRuns
+pub mod FilledLines
+pub mod BlockLaws

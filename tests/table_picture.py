@@ -1,0 +1,148 @@
+"""The picture of a table: widths, blocks, lines (part of the model of tests/tables.py)."""
+import table_items
+from table_items import BLANK, Item, columns_of
+
+APART = 3
+
+
+class Text:
+    """An entry that is a text, under a key: its lines of items, how wide it is, and for `n` how wide its left part is."""
+
+    def __init__(self, source, key):
+        text = [item for item in table_items.items(source)]
+        there = [item for item in text if item.what != "dropped"]
+        split = table_items.split_place(there) if key == b"n" else None
+        self.left = None
+        if split:
+            place, goes = split
+            self.left = columns_of(there[:place])
+            if goes:
+                text.remove(there[place])
+        self.lines, self.columns = [text], columns_of(text)
+
+
+class Block:
+    """An entry that is a block, filled to a measure."""
+
+    left = None
+
+    def __init__(self, lines, measure):
+        self.lines = filled(lines, measure)
+        self.columns = max(map(columns_of, self.lines), default=0)
+        self.is_empty = not any(self.lines)
+
+
+def filled(lines, measure):
+    """The lines of a block, each of so many columns as long as it has more than one word."""
+    done, line, behind = [], None, 1
+    for source in lines:
+        words = table_items.words(source)
+        if (words is None or words and words[0].gap) and line is not None:
+            done.append(line)
+            line = None
+        if words is None:
+            done.append([])
+            continue
+        for number, word in enumerate(words):
+            lead = word.gap if number == 0 else 0
+            gap = behind if number == 0 else word.gap
+            text = blanks(lead) + word.text
+            if line is not None and columns_of(line) + gap + columns_of(text) <= measure:
+                line += blanks(gap) + text
+            else:
+                done += [line] if line is not None else []
+                line = text
+        if words:
+            behind = 2 if words[-1].ends_sentence else 1
+    return done + ([line] if line is not None else [])
+
+
+def blanks(count):
+    return [Item(BLANK, "blank", BLANK, 1)] * count
+
+
+class Picture:
+    """What a table that was read looks like on a line of this length."""
+
+    def __init__(self, table, length):
+        self.table, self.length, self.count = table, length, table.keys
+        self.apart = [table.apart.get(column, APART) for column in range(self.count - 1)]
+        self.rows = [row if isinstance(row, bytes) else self.entries(row) for row in table.elements]
+        self.widths = [self.width_of(column) for column in range(self.count)]
+        widest = max((self.widths[column] for column in table.equal), default=0)
+        self.widths = [widest if column in table.equal else width for column, width in enumerate(self.widths)]
+        if table.is_expanded:
+            self.expand()
+        self.width = sum(self.widths) + sum(self.apart)
+
+    def entries(self, row):
+        """For each column the key of a row and its entry, or none."""
+        cells = row.cells + [b""] * (self.count - len(row.cells))
+        return [self.entry(column, row.keys[column:column + 1] or b"l", cell) for column, cell in enumerate(cells)]
+
+    def entry(self, column, key, cell):
+        if isinstance(cell, list):
+            measure = self.table.least.get(column)
+            return key, Block(cell, max(1, self.length // (self.count + 1)) if measure is None else measure)
+        return key, Text(cell, key) if cell else None
+
+    def of_column(self, column):
+        """The keys and entries of a column."""
+        entries = [row[column] for row in self.rows if not isinstance(row, bytes)]
+        return [(key, entry) for key, entry in entries if entry and not (isinstance(entry, Block) and entry.is_empty)]
+
+    def width_of(self, column):
+        """The least width that holds what is asked for, and all entries."""
+        entries = self.of_column(column)
+        whole = [entry.columns + (key == b"a") for key, entry in entries if entry.left is None]
+        left, right = self.parts(column)
+        return max([self.table.least.get(column, 0), left + right, *whole])
+
+    def parts(self, column):
+        """The widest left and right parts of a column's entries that are split."""
+        split = [entry for _, entry in self.of_column(column) if entry.left is not None]
+        return max((entry.left for entry in split), default=0), max((entry.columns - entry.left for entry in split), default=0)
+
+    def expand(self):
+        missing, whole = max(0, self.length - sum(self.widths) - sum(self.apart)), sum(self.apart)
+        if whole:
+            fronts = [sum(self.apart[:number]) for number in range(len(self.apart) + 1)]
+            self.apart = [apart + missing * fronts[number + 1] // whole - missing * fronts[number] // whole
+                          for number, apart in enumerate(self.apart)]
+
+    def place(self, column, key, entry):
+        """How far from its column's first place an entry stands."""
+        spare = self.widths[column] - entry.columns
+        if key == b"a":
+            strip = max(other.columns for under, other in self.of_column(column) if under == b"a")
+            return max(1, (self.widths[column] - strip) // 2)
+        if entry.left is not None:
+            left, right = self.parts(column)
+            return (self.widths[column] - left - right) // 2 + left - entry.left
+        return {b"l": 0, b"r": spare, b"c": spare // 2, b"n": spare // 2}[key]
+
+    def lines(self):
+        """The lines of a row after each other, and commands."""
+        for row in self.rows:
+            if isinstance(row, bytes):
+                yield row
+                continue
+            for number in range(max([1] + [len(entry.lines) for _, entry in row if entry])):
+                yield b"\\&" + self.line(row, number)
+
+    def line(self, row, number):
+        """A line of a row, up to its last glyph."""
+        line, start = [], 0
+        for column, (key, entry) in enumerate(row):
+            if entry and number < len(entry.lines) and entry.lines[number]:
+                line += blanks(start + self.place(column, key, entry) - columns_of(line)) + entry.lines[number]
+            start += self.widths[column] + (self.apart + [0])[column]
+        while line and line[-1].what != "glyph":
+            line.pop()
+        return b"".join(item.source for item in line)
+
+    def written(self):
+        indent = max(0, self.length - self.width) // 2 if self.table.is_centred else 0
+        around = [b".in +%dn\n" % indent, b".in -%dn\n" % indent] if indent else [b"", b""]
+        body = b"".join(line + b"\n" for line in self.lines())
+        return b".nr TF \\n(.u\n.nf\n" + around[0] + body + around[1] + b".if \\n(TF .fi\n"
