@@ -14,13 +14,15 @@
     bench/make_text.py diverting MEGABYTES  the same, which isn't read
     bench/make_text.py loop MEGABYTES       macros that call each other until so many bytes of them were read; writes nothing
     bench/make_text.py tables MEGABYTES     tables of 200 rows of three columns, with a line of text before each
+    bench/make_text.py measured MEGABYTES   the same with escapes in half of the fields
+    bench/make_text.py blocks MEGABYTES     tables of 20 rows of two columns, of which one has blocks of forty words
 """
 import functools
 import random
 import sys
 
 KINDS = ("text", "requests", "registers", "code", "skipped", "macros", "springs", "pages", "headers", "diversions",
-         "diverting", "loop", "tables")
+         "diverting", "loop", "tables", "measured", "blocks")
 
 MEGABYTE = 1_000_000
 
@@ -195,10 +197,16 @@ LOOPED = '.\\\\" counted in a register\n.nr a +1\n.if \\\\na<0 .tm below\n'
 
 CALLERS = "bc"
 
-# What stands around the rows of a table, and how many rows it has.
-TABLE = (".TS\nl l r.\n", ".TE\n")
+# The formats of tables, and how many rows they have.
+FORMATS = {"tables": "l l r.", "measured": "l l r.", "blocks": "l lw(40)."}
 
-TABLE_ROWS = 200
+TABLE_ROWS = {"tables": 200, "measured": 200, "blocks": 20}
+
+# The words of a block, and of a line of it.
+BLOCK_WORDS, LINE_WORDS = 40, 10
+
+# A field with escapes: the first word, and what stands behind it.
+MEASURED = ["\\fB{}\\fR{}", "{} \\(em{}", "{}\\-off{}"]
 
 
 class Writer:
@@ -248,25 +256,43 @@ class Writer:
             depth = min(max(depth + self.between(-1, 1), 0), 6)
         return lines
 
-    def table_row(self):
-        """Returns a line of a table: a thing, a place, and a number."""
+    def table_row(self, kind):
+        """Returns a row of a table: a thing, a place, and a number; some of them with escapes, or the thing and a block."""
         thing = " ".join(self.one_of(WORDS) for _ in range(self.between(2, 4)))
+        if kind == "blocks":
+            return f"{thing}\tT{{\n{self.block()}T}}\n"
         place = " ".join(self.one_of(WORDS).capitalize() for _ in range(self.between(1, 3)))
-        return f"{thing}\t{place}\t{self.between(1, 99999)}\n"
+        fields = [thing, place, str(self.between(1, 99999))]
+        if kind == "measured":
+            fields = [self.measured(field) if self.random() < 0.5 else field for field in fields]
+        return "\t".join(fields) + "\n"
 
-    def tables(self, size):
+    def measured(self, field):
+        """Returns a field with an escape or two."""
+        word, blank, rest = field.partition(" ")
+        return self.one_of(MEASURED).format(word, blank + rest)
+
+    def block(self):
+        """Returns the lines of a block."""
+        words = []
+        while len(words) < BLOCK_WORDS:
+            words += self.sentence()
+        lines = [words[at:at + LINE_WORDS] for at in range(0, BLOCK_WORDS, LINE_WORDS)]
+        return "".join(" ".join(line) + "\n" for line in lines)
+
+    def tables(self, kind, size):
         """Returns whole tables, with a line of text before each, of so many bytes at most."""
         text, length = [], 0
         while True:
-            part = " ".join(self.sentence()) + "\n" + self.table(TABLE_ROWS)
+            part = " ".join(self.sentence()) + "\n" + self.table(TABLE_ROWS[kind], kind)
             length += len(part)
             if length > size:
                 return "".join(text).encode()
             text.append(part)
 
-    def table(self, rows):
+    def table(self, rows, kind="tables"):
         """Returns a table of so many rows."""
-        return TABLE[0] + "".join(self.table_row() for _ in range(rows)) + TABLE[1]
+        return f".TS\n{FORMATS[kind]}\n" + "".join(self.table_row(kind) for _ in range(rows)) + ".TE\n"
 
     def document(self, kind, size):
         """Returns so many bytes of text, cut at a line's end."""
@@ -326,8 +352,8 @@ def write_document(kind, size, file, number=0):
     if kind == "loop":
         file.write(loop(size))
         return
-    if kind == "tables":
-        file.write(Writer(number).tables(size))
+    if kind in FORMATS:
+        file.write(Writer(number).tables(kind, size))
         return
     around = {
         "skipped": SKIPPED,

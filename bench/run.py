@@ -32,7 +32,8 @@ MEGABYTE = 1_000_000
 COUNTED_SIZE = 0.3
 # Documents for the memory at the limits that hold where none is given.
 DEFAULT_WORKS = (("nroff", "text", 1), ("nroff", "text", 10), ("nroff", "text", 40), ("nroff", "macros", 5),
-                 ("nroff", "loop", 30), ("tbl", "text", 40), ("both", "text", 40), ("tbl", "tables", 5), ("both", "tables", 5))
+                 ("nroff", "loop", 30), ("tbl", "text", 40), ("both", "text", 40), ("tbl", "tables", 5), ("both", "tables", 5), ("tbl", "measured", 5),
+                 ("both", "measured", 5), ("tbl", "blocks", 5), ("both", "blocks", 5))
 MOST_MEMORY = 8
 # One table of so many rows, and one of four times as many, with the options that let them pass, and how often each is read.
 FEW_ROWS = 5_000
@@ -45,12 +46,19 @@ ROWS_ROUNDS = 7
 FEW_BYTES = 64_000
 GROWING = (
     ("one field", ".TS\nl.\n", "x", "\n.TE\n"),
+    ("one field of escapes", ".TS\nl.\n", "\\&", "\n.TE\n"),
     ("one row of fields", ".TS\nl l.\na", "\tbc", "\n.TE\n"),
     ("joined lines", ".TS\nl.\n", "ab\\\n", "\n.TE\n"),
     ("format rows", ".TS\nl", "\nr 3", ".\na\n.TE\n"),
     ("letters of the format", ".TS\nl", "fBp+2", ".\na\n.TE\n"),
+    ("widths of the format", ".TS\nl", "w(9)e", ".\na\n.TE\n"),
+    ("messages", ".TS\nl.\n", "\\nx", "\n.TE\n"),
+    ("messages of joined lines", ".TS\nl.\n", "\\c\\\n", "\n.TE\n"),
     ("messages of the format", ".TS\nl", "x ", ".\na\n.TE\n"),
     ("messages of the options", ".TS\n", "abc ", ";l.\na\n.TE\n"),
+    ("one block", ".TS\nl lw(40).\na\tT{\n", "some words of a block\n", "T}\n.TE\n"),
+    ("one line of a block", ".TS\nl lw(40).\na\tT{\n", "some words of a block ", "\nT}\n.TE\n"),
+    ("further formats", ".TS\nl.\n", ".T&\nl\nr.\n", "a\n.TE\n"),
 )
 GROWING_OPTIONS = ("--width", "1000000")
 MOST_GROWTH = 4.5
@@ -160,11 +168,26 @@ WORKS = (
 
 WORKS_ON_TABLES = (
     Work("Tables", "tables", 0.67,
-         Aim(speed, "MB/s", least=4),
-         Aim(times("groff"), "times as fast as groff -t", least=10),
+         Aim(speed, "MB/s", least=8),
+         Aim(times("groff"), "times as fast as groff -t", least=20),
+         Aim(instructions, "instructions a byte", most=253),
          rounds=10, command="both"),
     Work("Tables for nroff", "tables", 0.67,
-         Aim(instructions, "instructions a byte", most=180),
+         Aim(instructions, "instructions a byte", most=106),
+         rounds=10, command="tbl"),
+    Work("Measured", "measured", 0.67,
+         Aim(speed, "MB/s", least=8),
+         Aim(times("groff"), "times as fast as groff -t", least=20),
+         rounds=10, command="both"),
+    Work("Measured for nroff", "measured", 0.67,
+         Aim(instructions, "instructions a byte", most=200),
+         rounds=10, command="tbl"),
+    Work("Blocks", "blocks", 1,
+         Aim(speed, "MB/s", least=8),
+         Aim(times("groff"), "times as fast as groff -t", least=20),
+         rounds=10, command="both"),
+    Work("Blocks for nroff", "blocks", 1,
+         Aim(instructions, "instructions a byte", most=250),
          rounds=10, command="tbl"),
     Work("Text without tables", "text", 50,
          Aim(times("roff nroff"), "times as fast as nroff alone", least=0.9),

@@ -24,9 +24,9 @@ PROGRAM = os.path.join(os.path.dirname(HERE), "crates", "roff", "out", "roff")
 
 SIZE = 300_000
 PRELUDE = b".nh\n"
-KINDS = ("text", "requests", "registers", "code", "macros", "loop", "skipped", "pages", "diversions", "tables")
+KINDS = ("text", "requests", "registers", "code", "macros", "loop", "skipped", "pages", "diversions", "tables", "measured", "blocks")
 # The command that a kind of document is for, where it isn't `nroff`.
-COMMANDS = {"tables": "both"}
+COMMANDS = {"tables": "both", "measured": "both", "blocks": "both"}
 
 # The stages, and the modules or functions of each. The longest name that a function begins with decides. The compiler
 # puts `Engine::format` into `job::run`, or that into `program::run_over`, with the turn of a byte that stands ready and

@@ -598,17 +598,6 @@ TABLES = {
     "commands": (b".TS\nl.\n", b".x\n", b".TE\n", 3 * 4_999, (), None, PICTURE + 9 * b".x\n"),
     "rest_of_an_end": (b".TS\nl.\na\n.TE ", b".TS ", b"\n", 10 * MEGABYTE, (), None, OF_ONE_CELL[:-1] + b" .TS .TS"),
 }
-# Of these and the next ones what isn't laid out yet, with the limit that stops `both` where lines pass: such a table is
-# `bad format`. What comes to be laid out loses its line here.
-PASSING = dict.fromkeys((
-    "letters_of_a_format", "widths_of_a_format", "field_of_escapes", "field_of_fonts", "field_of_characters",
-    "field_of_widths", "field_of_widths_and_motions", "field_of_a_name", "field_of_names_in_names",
-    "field_of_names_in_brackets", "field_of_backslashes", "field_of_dots_and_digits", "fields_under_all_keys",
-    "block_of_short_words", "block_of_short_lines", "block_of_empty_lines", "block_of_words_on_one_line",
-    "block_of_a_word_without_width", "block_of_runs_that_print_nothing", "blocks_in_one_row", "blocks_behind_the_columns",
-    "block_in_each_cell", "further_formats", "further_formats_without_rows", "commands", "notes_of_one_field",
-    "notes_of_joined_lines", "notes_of_a_block", "notes_of_a_block_of_joined_lines"))
-PASSING |= dict.fromkeys(("width_of_noughts", "width_of_operands", "block_of_a_word", "block_of_blanks"), "line")
 # Tables that tell much: what stands in front, what is repeated, what stands behind, how often, whether each repetition ends
 # a line of the input, and what each tells.
 NOTES = 65_000
@@ -940,8 +929,6 @@ def check_tables(folder, name):
     """The same of one with tables, by both commands."""
     *parts, options, limit, beginning = TABLES[name]
     limits = limit if isinstance(limit, dict) else dict.fromkeys(("tbl", "both"), limit)
-    if name in PASSING:
-        limits, beginning = {"tbl": None, "both": PASSING[name]}, (parts[0] + parts[1])[:SHOWN]
     wrong = check_beside_a_quarter(folder, name + ", tbl", parts, options, limits["tbl"], beginning, "tbl")
     return wrong + check_beside_a_quarter(folder, name + ", both", parts, options, limits["both"], b"", "both")
 
@@ -1012,8 +999,6 @@ def check_told_in_order(folder, name):
     for times in (count, count // 4):
         run, more = formatted(folder, name, front + times * text + behind, (), "tbl")
         wanted = b"".join(b"tbl: line %d: %s\n" % (first + number * is_line, what) for number in range(times))
-        if name in PASSING:
-            wanted = b"tbl: line 3: bad format\n"
         if (run.given[0], run.given[2]) != (0, wanted):
             wrong.append("%s: status %d, and %d bytes of messages for %d" % (name, run.given[0], len(run.given[2]), len(wanted)))
         wrong += more

@@ -1,5 +1,5 @@
 #!/usr/bin/env python3
-"""Counts the built program's instructions on seven small documents, beside those that are stored.
+"""Counts the built program's instructions on nine small documents, beside those that are stored.
 
     tests/instructions.py [PROGRAM]        # crates/roff/out/roff, if none is given
     tests/instructions.py --store          # stores what the built program takes now
@@ -26,7 +26,7 @@ STORED = TOP / "tests" / "instructions.txt"
 SIZE = 60_000
 # A kind of document, and the command that formats it.
 KINDS = {"text": "nroff", "requests": "nroff", "registers": "nroff", "macros": "nroff", "headers": "nroff", "diversions": "nroff",
-         "tables": "both"}
+         "tables": "both", "measured": "tbl", "blocks": "tbl"}
 MORE = 1.05
 
 
@@ -70,7 +70,7 @@ def main():
         return
     before, failures = stored(), 0
     for kind, count in counts.items():
-        ratio = count / before[kind]
+        ratio = count / before.get(kind, count)
         failures += ratio > MORE
         print(f"{kind:9} {count / SIZE:7.1f} instructions a byte, {100 * (ratio - 1):+5.1f} %{'  too many' if ratio > MORE else ''}")
     print(f"{len(counts)} kinds, {failures} of them dearer by more than a twentieth")

@@ -11,14 +11,11 @@ KEYS = b"lrcnas^_-="
 
 # What isn't laid out yet: it is `bad format` where it stands. What comes to be laid out loses its line, or its place in one.
 NOT_YET = {
-    "options": (b"box", b"frame", b"allbox", b"doublebox", b"doubleframe", b"expand"),
-    "keys": b"s^_-=na",
-    "bars and letters": b"|zwe",
-    "lines": ("rule", "command", "further format"),
-    "fields": ("rule", "repeated", "from above", "text block"),
-    "bytes of fields": BACKSLASH + TAB,
-    # Rows that aren't laid out don't count for the limit on rows either.
-    "counts": ("rule", "row"),
+    "options": (b"box", b"frame", b"allbox", b"doublebox", b"doubleframe"),
+    "keys": b"s^_-=",
+    "bars and letters": b"|z",
+    "lines": ("rule",),
+    "fields": ("rule", "repeated", "from above"),
 }
 
 
@@ -316,7 +313,7 @@ class Table:
         if self.block is not None:
             self.line_of_block(line, numbers)
         elif kind_of_line(line) in NOT_YET["lines"]:
-            self.refuse("rule", numbers[0])
+            self.refuse(numbers[0])
         elif kind_of_line(line) == "further format":
             self.in_data, self.formats, self.next = False, [], 0
         elif kind_of_line(line) == "command":
@@ -327,9 +324,9 @@ class Table:
             self.next += 1
             self.fields(line, numbers, 0)
 
-    def refuse(self, what, number, is_counted=True):
+    def refuse(self, number, is_counted=True):
         """A rule or a row that isn't laid out."""
-        self.count += is_counted and not self.is_closing and what not in NOT_YET["counts"]
+        self.count += is_counted and not self.is_closing
         raise Bad(number)
 
     def line_of_block(self, line, numbers):
@@ -354,17 +351,12 @@ class Table:
         for field in fields[:len(fields) - opens]:
             if len(self.row.cells) < self.keys:
                 if kind_of(field) in NOT_YET["fields"]:
-                    self.refuse("row", numbers[at], not opens)
-                for place, byte in enumerate(field, at):
-                    if byte in NOT_YET["bytes of fields"]:
-                        self.refuse("row", numbers[place], not opens)
+                    self.refuse(numbers[at], not opens)
                 self.notes(field, numbers, at)
             elif surplus is None:
                 surplus = numbers[at - 1]
             self.row.cells.append(field)
             at += len(field) + 1
-        if opens and "text block" in NOT_YET["fields"]:
-            self.refuse("row", numbers[at + fields[-1].index(b"T")])
         if opens:
             if len(self.row.cells) == self.keys and surplus is None:
                 surplus = numbers[at - 1]

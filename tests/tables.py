@@ -64,8 +64,7 @@ AROUND = (b".TS\nl%.\na\n.TE\n", b".TS\n%l.\na\n.TE\n", b".TS\nl % r.\na\tb\n.TE
 
 def is_laid_out(piece):
     """Whether a piece of the data can be laid out."""
-    is_refused = kind_of_line(piece) in NOT_YET["lines"] or kind_of(piece) in NOT_YET["fields"]
-    return not is_refused and not any(byte in NOT_YET["bytes of fields"] for byte in piece)
+    return kind_of_line(piece) not in NOT_YET["lines"] and kind_of(piece) not in NOT_YET["fields"]
 
 
 def is_asked(piece):
@@ -115,7 +114,7 @@ def data_line(chance, columns, separator, blocks):
         return row(chance, columns, separator, blocks)
     if kind < 0.93:
         return joined(chance, chance.choice(some(chance, LINES_OF_DATA if chance.random() < 0.4 else LINES_OF_DATA[3:7])))
-    if kind < 0.96 and not (chance.is_plain and "further format" in NOT_YET["lines"]):
+    if kind < 0.96:
         return b".T&" + chance.choice([b"", b" x", b"\t"]) + b"\n" + formats(chance, columns)
     return b"".join(chance.choices(some(chance, PIECES), k=chance.randint(0, 6)))
 
@@ -151,8 +150,6 @@ def table(chance, separator_tried):
                 separator = bare[4:5]
         out += chance.choice([b" ", b",", b", ", b"\t"]).join(options) + b";" + chance.choice([b"\n", b"\n", b"", b" "])
     columns, blocks = chance.randint(1, 4), chance.choice([0, 0, 0.1, 0.4])
-    if chance.is_plain and "text block" in NOT_YET["fields"]:
-        blocks = 0
     out += formats(chance, columns) + b"\n"
     for _ in range(chance.randint(0, 6)):
         out += data_line(chance, columns, separator, blocks) + b"\n"

@@ -16,3 +16,5 @@ mod registers;
 mod requests;
 #[cfg(test)]
 mod sinks;
+#[cfg(test)]
+mod tables;

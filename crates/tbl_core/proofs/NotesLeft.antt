@@ -19,10 +19,11 @@ use Rattle.tbl_core.specs.Machine.{Now, Place, Outside, RestOfStart, Inside, Sta
 use Rattle.tbl_format.specs.Messages.{told_item, told_items}
 use Rattle.tbl_core.specs.NotesLeft.{most_behind, most_here, noted, notes_left}
 use Rattle.tbl_table.specs.Reading.{Reading, begun, byte_read, bytes_read, given_at_end, last_read, limit_at_end, line_ended, told_behind}
-use Rattle.tbl_table.specs.Table.{TableRead, closed, is_bad, notes, told_at_cut}
+use Rattle.tbl_table.specs.MayTell.{may_tell}
+use Rattle.tbl_table.specs.Table.{TableRead, closed, is_bad, line_read, notes, told_at_cut}
 use Rattle.tbl_core.specs.Tables.{TablesState, IsGiven, byte_step, ending_step, handed}
 use Rattle.tbl_core.specs.Yields.{behind_step}
-use Rattle.tbl_table.proofs.FewNotes.{few_at_cut, few_at_end, few_behind_line, none_at_first}
+use Rattle.tbl_table.proofs.FewNotes.{few_at_cut, few_at_end, few_behind_line, few_closed, one_at_first}
 
 -- messages among items
 noted-append : (xs ys : List Item) → noted (xs ++ ys) ≡ noted xs + noted ys
@@ -65,7 +66,7 @@ name_most false = omega arith
 
 -- at a table's end
 few_ended : (l : TblLimits) (limit : Option Limit) (count : Count) (t : TableRead) (line_length : ℕ) (bytes : List ℕ) (front : Front) (more : ℕ)
-    → length (notes (closed t)) + 3 ≤ more
+    → may_tell t + 3 ≤ more
     → IsFew (5 * (l.bytes - count.taken) + more) l (record {
       out = told_items (told_behind limit count.line line_length t) ++ told_items (own_told l count.line limit) ++ map OneByte bytes;
       behind = standing_behind limit (record { count = count; place = Outside front });
@@ -75,7 +76,7 @@ few_ended l None count t line_length bytes front more few =
     omega (arith, few, all, few_at_end count.line line_length t, name_most (is_name front))
 few_ended l (Some limit) count t line_length bytes front more few =
     let all = noted-all (told_behind (Some limit) count.line line_length t) (limit_told l limit count.line ∷ []) bytes in
-    omega (arith, few, all)
+    omega (arith, few, all, few_closed t)
 
 -- behind a byte of a table
 few_reading : (t : Bool) (line b : ℕ) (front : Front) (r : Reading)
@@ -89,11 +90,11 @@ few_inside l None b count front r = let few = few_reading (b == newline) count.l
 few_inside l (Some limit) b count front r = few_stops _ l limit count.line (told_at_cut r.table) (omega (arith, few_at_cut r.table))
 
 -- outside tables
-few_at_start : (t : Bool) → most_here (if t then Inside Nothing begun else RestOfStart) ≤ 4
-few_at_start true = let none = ap length none_at_first in omega (arith, none)
+few_at_start : (t : Bool) → most_here (if t then Inside Nothing begun else RestOfStart) ≤ 5
+few_at_start true = omega (arith, one_at_first)
 few_at_start false = omega arith
 
-few_outside : (t : Bool) (front : Front) (b : ℕ) → most_here (if t then on_start_line b else Outside (front_behind start_letter front b)) ≤ 4
+few_outside : (t : Bool) (front : Front) (b : ℕ) → most_here (if t then on_start_line b else Outside (front_behind start_letter front b)) ≤ 5
 few_outside true front b = few_at_start (b == newline)
 few_outside false front b = let few = name_most (is_name (front_behind start_letter front b)) in omega (arith, few)
 
@@ -140,9 +141,9 @@ not_ended_few line true = omega arith
 not_ended_few line false = omega arith
 
 -- the last line, if one is begun
-last_few : (line : ℕ) (t : TableRead) (read bytes : List ℕ) → length (notes (last_read line (record { table = t; read = read; line = bytes }))) ≤ length (notes (closed t)) + length bytes + 1
-last_few line t read [] = omega arith
-last_few line t read (b ∷ bytes) = few_behind_line line (b ∷ bytes) t
+last_few : (line : ℕ) (t : TableRead) (read bytes : List ℕ) → length (notes (last_read line (record { table = t; read = read; line = bytes }))) ≤ may_tell t + length bytes + 1
+last_few line t read [] = omega (arith, few_closed t)
+last_few line t read (b ∷ bytes) = omega (arith, few_closed (line_read line (b ∷ bytes) t), few_behind_line line (b ∷ bytes) t)
 
 few_passes : (over : Bool) (l : TblLimits) (count : Count) (r : Reading)
     → IsFew (5 * (l.bytes - count.taken) + most_here (Inside Nothing r) + 1) l (passes_table over l count r)

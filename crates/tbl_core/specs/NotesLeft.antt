@@ -4,7 +4,7 @@ use Rattle.roff_source.specs.Tape.{Item, OneByte, OneNote, Answer, Gives, Ends}
 use Rattle.tbl_format.specs.declared.limits.TblLimits.{TblLimits}
 use Rattle.tbl_core.specs.Lines.{is_name}
 use Rattle.tbl_core.specs.Machine.{Place, Outside, RestOfStart, Inside, Standing, Reads, Over}
-use Rattle.tbl_table.specs.Table.{closed, notes}
+use Rattle.tbl_table.specs.MayTell.{may_tell}
 use Rattle.tbl_core.specs.Tables.{TablesState}
 
 -- how many messages are among these items
@@ -19,11 +19,11 @@ gives_byte (Gives (OneByte b)) = true
 gives_byte (Gives (OneNote message)) = false
 gives_byte (Ends ending) = false
 
--- as many as may come without a further byte: of a table fewer than it has bytes, but for some
+-- as many as may come without a further byte
 abbrev pub most_here : Place → ℕ
 most_here (Outside front) = if is_name front then 1 else 0
 most_here RestOfStart = 1
-most_here (Inside front r) = length (notes (closed r.table)) + length r.line + 4
+most_here (Inside front r) = may_tell r.table + length r.line + 4
 
 -- as many as may come: those here, those of the tables that fewer bytes than the limit have, and that of a limit
 abbrev pub most_behind : TblLimits → Standing → ℕ

@@ -8,7 +8,7 @@ use Rattle.tbl_core.specs.Machine.{Now, Place, Outside, RestOfStart, Inside, Sta
 use Rattle.tbl_core.specs.Passing.{IsWithinLine}
 use Rattle.tbl_table.specs.Reading.{Reading, all_read, bytes_read}
 use Rattle.tbl_table.specs.Table.{columns}
-use Rattle.tbl_table.specs.declared.phase.Phase.TheVariants.{InData}
+use Rattle.tbl_data.specs.declared.phase.Phase.TheVariants.{InData}
 
 -- how the run stands behind bytes of a line of a table
 abbrev pub line_read_in : List ℕ → Count → Place → Now

@@ -12,4 +12,4 @@ pub use gathered::GatheredSource;
 pub use source::TblSource;
 pub use tbl_format::limits::TblLimits;
 pub use tbl_format::message::{Message, OptionText, Told};
-pub use tbl_table::worked_rows;
+pub use tbl_table::worked_tables;

@@ -1,6 +1,6 @@
 //! The machine over bytes: what is given for each.
 
-ghost use Rattle.std.specs.Prelude.{◌≡◌, ◌≤◌, ◌++◌, [], true, Some, IfOk, IfSome, option_to_list};
+ghost use Rattle.std.specs.Prelude.{◌≡◌, ◌+◌, ◌<◌, ◌≤◌, ◌++◌, [], true, Some, IfOk, IfSome, option_to_list};
 ghost use Rattle.std.specs.Prelude.{length, map};
 ghost use Rattle.std.specs.Option.{MatchOption};
 ghost use Rattle.roff_source.specs.Tape.{Ended, Failed, OneByte, answer_of};
@@ -13,6 +13,8 @@ ghost use Rattle.tbl_core.specs.Tables.{begun_behind, byte_step, counted_step, e
 ghost use Rattle.tbl_core.specs.Tables.{line_of, position_behind, position_on_start_line};
 ghost use Rattle.tbl_core.specs.Tables.{stopped_by, told_at};
 ghost use Rattle.tbl_core.specs.Yields.{at_start, behind_step};
+ghost use Rattle.tbl_table.specs.Reading.{byte_read, bytes_read, given_at_end, limit_at_end};
+ghost use Rattle.tbl_table.specs.Reading.{told_at_end};
 
 mod passing;
 mod reading;
@@ -223,8 +225,12 @@ impl Tables {
             }
             Position::Inside(front) => {
                 if front.is_name() && ends_name(byte) {
-                    self.table.push(byte);
-                    let limit = self.table.finish(self.count.line, self.line_length);
+                    let limit = finish_behind(
+                        &mut self.table,
+                        self.count.line,
+                        byte,
+                        self.line_length,
+                    );
                     self.own = own_told(self.limits, limit, self.count.line);
                     self.position = position_behind(limit, front.behind(b'S', byte));
                     return None;
@@ -315,6 +321,25 @@ fn begin_behind(table: &mut Table, byte: u8) -> Position
     } else {
         Position::RestOfStart
     }
+}
+
+/// The byte behind the name of the line that ends a table.
+#[inline(always)]
+fn finish_behind(table: &mut Table, line: u32, byte: u8, line_length: u32) -> Option<Limit>
+    requires room { length (bytes_read table.old.reading) < table.old.limits.text + 4 }
+    ensures answer { result
+        ≡ limit_at_end table.old.limits line_length table.old.reading.table }
+    ensures told { table.new.told
+        ≡ told_at_end table.old.limits line line_length table.old.reading.table }
+    ensures to_come { table.new.to_come
+        ≡ given_at_end table.old.limits line line_length (byte_read byte table.old.reading) }
+    ensures limits { table.new.limits ≡ table.old.limits }
+{
+    if byte == b'\n' {
+        return table.finish_line(line, line_length);
+    }
+    table.push(byte);
+    table.finish(line, line_length)
 }
 
 /// A byte of a table that ends neither it nor the run.

@@ -6,7 +6,7 @@ use Rattle.tbl_format.specs.FormatRows.{key_count, keys_of, rows_kept, rows_with
 use Rattle.tbl_format.specs.Parts.{EndWithin, last_end, parts_ending}
 use Rattle.tbl_format.specs.declared.format.Asked.{Asked}
 use Rattle.tbl_format.specs.declared.format.FormatKey.{FormatKey}
-use Rattle.tbl_format.specs.RowsServed.{first_format}
+use Rattle.tbl_format.specs.RowsServed.{first_format, row_at}
 use Rattle.tbl_format.specs.declared.format.FormatPlace.{FormatPlace}
 use Rattle.tbl_format.specs.declared.format.FormatPlace.TheVariants.{InRows}
 use Rattle.tbl_format.specs.declared.format.RowPart.TheVariants.{AtKeys}
@@ -261,3 +261,26 @@ row-read keys ends row_bars first at start end some start_is end_is =
     sym (ap first_format (drop-drop first at (rows_kept keys ends row_bars))
     ∙ with-first (parts_ending keys 0 ends) row_bars (first + at)
     ∙ ap first_keys (part-read keys ends (first + at) start end some start_is end_is))
+
+-- and among the rows of all formats
+first-row_at : (rows : List FormatRow) (at : ℕ) → first_format (drop at rows) ≡ (row_at rows at).keys
+first-row_at [] zero = refl
+first-row_at [] (suc at) = refl
+first-row_at (row ∷ rows) zero = refl
+first-row_at (row ∷ rows) (suc at) = first-row_at rows at
+
+module _ (keys : List FormatKey) (ends row_bars : List ℕ) (first : ℕ) where
+  abbrev kept : List FormatRow
+  kept = rows_kept keys ends row_bars
+
+  pub count-all : length (take first kept ++ drop first kept) ≡ length ends
+  count-all = ap length (take-append-drop first kept) ∙ length-rows keys ends row_bars
+
+  pub row_of_all-read : (at start end : ℕ) → at < length ends
+      → start ≡ get_or (0 ∷ ends) at 0 → end ≡ get_or ends at 0
+      → slice_range keys start end ≡ (row_at (take first kept ++ drop first kept) at).keys
+  row_of_all-read at start end some start_is end_is =
+      sym (ap (λ (rows : List FormatRow). (row_at rows at).keys) (take-append-drop first kept)
+      ∙ sym (first-row_at kept at)
+      ∙ with-first (parts_ending keys 0 ends) row_bars at
+      ∙ ap first_keys (part-read keys ends at start end some start_is end_is))

@@ -1,8 +1,8 @@
 -- What is left out of a line of a format, byte by byte.
-use Rattle.std.proofs.Common.{◌≡◌, ℕ, suc, ◌+◌, ◌<◌, ◌≤◌, Bool, true, false, List, [], ◌∷◌, ◌++◌, Option, Some, None, length, map, take, drop, get_or, refl, sym, ap, ◌∙◌, arith, append-nil, append_assoc, length-append, if◌then◌else◌}
+use Rattle.std.proofs.Common.{◌≡◌, ℕ, ◌+◌, ◌<◌, ◌≤◌, Bool, true, false, List, [], ◌∷◌, ◌++◌, Option, Some, None, length, map, take, drop, get_or, refl, sym, ap, ◌∙◌, arith, append_assoc, length-append, if◌then◌else◌}
 use Rattle.std.proofs.lemmas.List.{at_drop_more, map-append, take_more}
 use Rattle.roff_source.specs.Bytes.{newline}
-use Rattle.tbl_format.specs.Format.{Format, format_byte, format_read, if_letter, last_does, left_out, left_out_at, left_out_behind, letters_left_out, read_behind}
+use Rattle.tbl_format.specs.Format.{Format, format_byte, format_read, if_letter, last_does, left_out, left_out_at, left_out_behind, letters_left_out}
 use Rattle.tbl_format.specs.FormatSteps.{again, step, step_of, widening, width_of}
 use Rattle.tbl_format.specs.LaidOut.{is_laid_out}
 use Rattle.tbl_format.specs.Notes.{left_out_message, left_out_note, told_at, told_of_all}
@@ -13,7 +13,7 @@ use Rattle.tbl_format.specs.declared.format.RowPart.TheVariants.{AtFont, AtKeys,
 use Rattle.tbl_format.specs.declared.format_step.FormatStep.{FormatStep}
 use Rattle.tbl_format.specs.declared.message.Told.{Told}
 use Rattle.tbl_format.specs.declared.notes.KeptNote.{KeptNote}
-use Rattle.tbl_format.proofs.FormatReading.{read-append, read-more}
+use Rattle.tbl_format.proofs.FormatReading.{read-more}
 
 -- one byte more
 pub letters-more : (line : ℕ) (f : Format) (bytes : List ℕ) (at : ℕ) (place : FormatPlace) (kept new all : List KeptNote) → at < length bytes

@@ -2,15 +2,13 @@
 -- here.
 use Rattle.std.specs.Prelude.{Bool, true, false}
 use Rattle.tbl_format.specs.declared.format.Key.{Key}
-use Rattle.tbl_format.specs.declared.format.Key.TheVariants.{Above, Alphabetic, DoubleRule, Numeric, Rule, Spanned}
+use Rattle.tbl_format.specs.declared.format.Key.TheVariants.{Above, DoubleRule, Rule, Spanned}
 use Rattle.tbl_format.specs.declared.format_step.Does.{Does}
-use Rattle.tbl_format.specs.declared.format_step.Does.TheVariants.{AddBar, AddKey, DropWidth, Equalize, Widen}
+use Rattle.tbl_format.specs.declared.format_step.Does.TheVariants.{AddBar, AddKey, DropWidth}
 use Rattle.tbl_format.specs.declared.options.TableOption.{TableOption}
-use Rattle.tbl_format.specs.declared.options.TableOption.TheVariants.{AllBox, Box, DoubleBox, Expand}
+use Rattle.tbl_format.specs.declared.options.TableOption.TheVariants.{AllBox, Box, DoubleBox}
 
 abbrev pub is_key_laid_out : Key → Bool
-is_key_laid_out Numeric = false
-is_key_laid_out Alphabetic = false
 is_key_laid_out Spanned = false
 is_key_laid_out Above = false
 is_key_laid_out Rule = false
@@ -20,13 +18,10 @@ is_key_laid_out key = true
 abbrev pub is_laid_out : Does → Bool
 is_laid_out (AddKey key) = is_key_laid_out key
 is_laid_out AddBar = false
-is_laid_out (Widen columns) = false
-is_laid_out Equalize = false
 is_laid_out DropWidth = false
 is_laid_out does = true
 
 abbrev pub is_option_laid_out : TableOption → Bool
-is_option_laid_out Expand = false
 is_option_laid_out Box = false
 is_option_laid_out AllBox = false
 is_option_laid_out DoubleBox = false

@@ -2,10 +2,10 @@
 use Rattle.std.specs.Prelude.{ℕ, ◌≤◌, List, map, slice_range, take}
 use Rattle.std.specs.List.{AllByRecursion}
 use Rattle.tbl_format.specs.declared.message.Message.{Message}
-use Rattle.tbl_format.specs.declared.message.Message.TheVariants.{BadFormat as BadFormatMessage, LeftOut as LeftOutMessage, OptionIgnored as OptionIgnoredMessage, TooManyFields as TooManyFieldsMessage}
+use Rattle.tbl_format.specs.declared.message.Message.TheVariants.{BadFormat as BadFormatMessage, LeftOut as LeftOutMessage, NotMeasured as NotMeasuredMessage, OptionIgnored as OptionIgnoredMessage, RequestInTextBlock as RequestInTextBlockMessage, TooManyFields as TooManyFieldsMessage}
 use Rattle.tbl_format.specs.declared.message.Told.{Told}
 use Rattle.tbl_format.specs.declared.notes.Cause.{Cause}
-use Rattle.tbl_format.specs.declared.notes.Cause.TheVariants.{BadFormat, LeftOut, OptionIgnored, TooManyFields}
+use Rattle.tbl_format.specs.declared.notes.Cause.TheVariants.{BadFormat, LeftOut, NotMeasured, OptionIgnored, RequestInTextBlock, TooManyFields}
 use Rattle.tbl_format.specs.declared.notes.KeptNote.{KeptNote}
 
 -- the message of an option that is ignored has 32 bytes of it at the most
@@ -22,6 +22,8 @@ message_of block BadFormat = BadFormatMessage
 message_of block TooManyFields = TooManyFieldsMessage
 message_of block (OptionIgnored from to) = ignored_message (slice_range block from to)
 message_of block (LeftOut letter) = left_out_message letter
+message_of block (NotMeasured b) = NotMeasuredMessage b
+message_of block RequestInTextBlock = RequestInTextBlockMessage
 
 -- what is left out, as it is kept
 abbrev pub left_out_note : ℕ → ℕ → KeptNote
@@ -43,6 +45,8 @@ IsWithin len BadFormat = Unit {0}
 IsWithin len TooManyFields = Unit {0}
 IsWithin len (OptionIgnored from to) = (from ≤ to) × (to ≤ len)
 IsWithin len (LeftOut letter) = Unit {0}
+IsWithin len (NotMeasured b) = Unit {0}
+IsWithin len RequestInTextBlock = Unit {0}
 
 abbrev pub NotesWithin : ℕ → List KeptNote → Type 0
 NotesWithin len notes = AllByRecursion (λ note. IsWithin len note.cause) notes

@@ -6,7 +6,7 @@ ghost use Rattle.tbl_format.specs.Format.{asked_by, asking, format_byte, format_
 ghost use Rattle.tbl_format.specs.Format.{greater, is_misplaced, no_format, said_by, with_columns};
 ghost use Rattle.tbl_format.specs.KeyCounts.{Counts, IsOnLine, StandsOnLine};
 ghost use Rattle.tbl_format.specs.Parts.{last_end};
-ghost use Rattle.tbl_format.specs.RowsServed.{first_format};
+ghost use Rattle.tbl_format.specs.RowsServed.{all_rows, first_format, row_at};
 
 use crate::format::{Asked, FormatKey, FormatPlace, Key, RowPart};
 use crate::format_step::{Does, FormatStep, step};
@@ -295,6 +295,28 @@ impl FormatRows {
     {
         let row = self.first + at;
         &self.keys.as_slice()[part_start(self.ends.as_slice(), row)..self.ends[row]]
+    }
+
+    /// How many rows of all formats are whole.
+    pub fn all_rows(&self) -> usize
+        ensures { result ≡ length (all_rows self.now.format) }
+    {
+        self.ends.len()
+    }
+
+    /// How many of them are of formats before this one.
+    pub fn earlier_rows(&self) -> usize
+        ensures { result ≡ length self.now.format.earlier }
+    {
+        self.first
+    }
+
+    /// The keys of one of them.
+    pub fn row_of_all(&self, at: usize) -> &[FormatKey]
+        requires { at < length (all_rows self.now.format) }
+        ensures { result.now ≡ (row_at (all_rows self.now.format) at).keys }
+    {
+        &self.keys.as_slice()[part_start(self.ends.as_slice(), at)..self.ends[at]]
     }
 
     /// What counts of its keys.

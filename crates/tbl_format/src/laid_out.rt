@@ -12,8 +12,6 @@ fn is_key_laid_out(key: Key) -> bool
     ensures { result ≡ is_key_laid_out key }
 {
     match key {
-        Key::Numeric => false,
-        Key::Alphabetic => false,
         Key::Spanned => false,
         Key::Above => false,
         Key::Rule => false,
@@ -21,6 +19,8 @@ fn is_key_laid_out(key: Key) -> bool
         Key::Left => true,
         Key::Right => true,
         Key::Center => true,
+        Key::Numeric => true,
+        Key::Alphabetic => true,
     }
 }
 
@@ -31,11 +31,11 @@ pub fn is_laid_out(does: Does) -> bool
     match does {
         Does::AddKey(key) => is_key_laid_out(key),
         Does::AddBar => false,
-        Does::Widen(_) => false,
-        Does::Equalize => false,
         Does::DropWidth => false,
         Does::Nothing => true,
         Does::Separate(_) => true,
+        Does::Widen(_) => true,
+        Does::Equalize => true,
         Does::Stand(_) => true,
         Does::LeaveOut(_) => true,
         Does::EndRow => true,
@@ -48,11 +48,11 @@ pub fn is_option_laid_out(option: TableOption) -> bool
     ensures { result ≡ is_option_laid_out option }
 {
     match option {
-        TableOption::Expand => false,
         TableOption::Box => false,
         TableOption::AllBox => false,
         TableOption::DoubleBox => false,
         TableOption::Center => true,
+        TableOption::Expand => true,
         TableOption::Separator(_) => true,
         TableOption::WithoutEffect => true,
         TableOption::Unknown => true,

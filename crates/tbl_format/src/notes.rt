@@ -15,9 +15,13 @@ pub enum Cause {
     /// A row has more fields than the format has columns.
     TooManyFields,
     /// An option that is ignored, by where it lies in the block.
-    OptionIgnored(usize, usize),
+    OptionIgnored(u32, u32),
     /// What is left out of the format, by its letter.
     LeftOut(u8),
+    /// An item of a text that isn't measured, by its byte.
+    NotMeasured(u8),
+    /// A request in a text block.
+    RequestInTextBlock,
 }
 
 /// A message that is kept.
@@ -44,9 +48,11 @@ impl KeptNote {
                 Cause::BadFormat => Message::BadFormat,
                 Cause::TooManyFields => Message::TooManyFields,
                 Cause::OptionIgnored(from, to) => {
-                    Message::OptionIgnored(option_text(&block[from..to]))
+                    Message::OptionIgnored(option_text(&block[from as usize..to as usize]))
                 }
                 Cause::LeftOut(letter) => Message::LeftOut(letter),
+                Cause::NotMeasured(byte) => Message::NotMeasured(byte),
+                Cause::RequestInTextBlock => Message::RequestInTextBlock,
             },
         }
     }

@@ -1,6 +1,6 @@
 //! The options of a table: what its first line says up to a `;` (Lesk, "Tbl": Options).
 
-ghost use Rattle.std.specs.Prelude.{◌≡◌, ◌+◌, ◌-◌, ◌≤◌, ◌++◌, length, map, slice_range};
+ghost use Rattle.std.specs.Prelude.{◌≡◌, ◌+◌, ◌-◌, ◌<◌, ◌≤◌, ◌^◌, ◌++◌, length, map, slice_range};
 ghost use Rattle.std.specs.Prelude.{not, ◌&&◌, ◌||◌, vec_capacity, vec_len};
 ghost use Rattle.tbl_format.specs.Notes.{NotesWithin, ignored_message, told_at, told_of_all};
 ghost use Rattle.tbl_format.specs.Options.{bracketed, ignored_options, is_unknown, options_end};
@@ -85,6 +85,7 @@ pub fn read_options(text: &[u8]) -> Settings
 pub fn push_ignored(notes: &mut Vec<KeptNote>, block: &[u8], from: usize, to: usize, line: u32)
     requires order { from ≤ to }
     requires block { to ≤ length block.now }
+    requires small { length block.now < 2 ^ 32 }
     requires room { vec_len notes.old + (to - from) ≤ vec_capacity notes.old }
     requires within { NotesWithin (length block.now) notes.old.items }
     ensures told { told_of_all block.now notes.new.items ≡ told_of_all block.now notes.old.items
@@ -123,6 +124,7 @@ fn take_word(
     requires held { IsHeld (length block.now) read }
     requires order { from ≤ to }
     requires block { to ≤ length block.now }
+    requires small { length block.now < 2 ^ 32 }
     requires room { vec_len notes.old + (read.to - read.from) ≤ vec_capacity notes.old }
     requires within { NotesWithin (length block.now) notes.old.items }
     ensures value { result ≡ behind_word block.now read from to }
@@ -148,6 +150,7 @@ fn take_word(
 /// Behind the last word: keeps a message for it, if it is ignored.
 fn push_last(notes: &mut Vec<KeptNote>, read: OptionsRead, block: &[u8], line: u32)
     requires held { IsHeld (length block.now) read }
+    requires small { length block.now < 2 ^ 32 }
     requires room { vec_len notes.old + (read.to - read.from) ≤ vec_capacity notes.old }
     requires within { NotesWithin (length block.now) notes.old.items }
     ensures told { told_of_all block.now notes.new.items ≡ told_of_all block.now notes.old.items
@@ -163,6 +166,7 @@ fn push_last(notes: &mut Vec<KeptNote>, read: OptionsRead, block: &[u8], line: u
 /// Keeps a message for the word that waits, if it is ignored.
 fn push_if(notes: &mut Vec<KeptNote>, is_ignored: bool, read: OptionsRead, block: &[u8], line: u32)
     requires held { IsHeld (length block.now) read }
+    requires small { length block.now < 2 ^ 32 }
     requires room { vec_len notes.old + length (ignored_by is_ignored (held_word block.now read))
         ≤ vec_capacity notes.old }
     requires within { NotesWithin (length block.now) notes.old.items }
@@ -178,7 +182,7 @@ fn push_if(notes: &mut Vec<KeptNote>, is_ignored: bool, read: OptionsRead, block
     if is_ignored {
         notes.push_reserved(KeptNote {
             line,
-            cause: Cause::OptionIgnored(read.from, read.to),
+            cause: Cause::OptionIgnored(read.from as u32, read.to as u32),
         });
     }
 }

@@ -117,11 +117,11 @@ pub fn formats()
 /// What is read of them today, where not all is laid out.
 #[tactic(auto, unfolding(crate::specs::FormatSteps::step))]
 pub fn readings()
-    ensures laid_out { (format_read no_format (codes "l xR3,c.")).place ≡ AtEnd }
+    ensures laid_out { (format_read no_format (codes "l xR3,cen,a.")).place ≡ AtEnd }
     ensures left_out { letters_left_out no_format (codes "lxmabr X,c.") ≡ 120 ∷ 109 ∷ 88 ∷ [] }
-    ensures behind_a_fault { letters_left_out no_format (codes "lxn x,c.") ≡ 120 ∷ [] }
+    ensures behind_a_fault { letters_left_out no_format (codes "lx= x,c.") ≡ 120 ∷ [] }
     ensures bar { (format_read no_format (codes "l|l.")).place ≡ AtFault }
-    ensures key { (format_read no_format (codes "ln.")).place ≡ AtFault }
-    ensures counted { (format_read no_format (codes "lns.")).asked
+    ensures key { (format_read no_format (codes "l_.")).place ≡ AtFault }
+    ensures counted { (format_read no_format (codes "l=s.")).asked
         ≡ nothing_asked ∷ nothing_asked ∷ [] }
 {}

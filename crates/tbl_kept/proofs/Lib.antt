@@ -1,2 +1,13 @@
 pub mod TextBlocks
+pub mod AskedJoints
 pub mod RowTexts
+pub mod KeptFields
+pub mod ColumnsHeld
+pub mod RowsKeeping
+pub mod RowPlaces
+pub mod Stepping
+pub mod RowsFilled
+pub mod BlocksHeld
+pub mod RowSteps
+pub mod RowsNext
+pub mod RowsLaidOut

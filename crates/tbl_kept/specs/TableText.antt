@@ -1,8 +1,8 @@
 -- The bytes of a table, as they are kept while they are read.
-use Rattle.std.specs.Prelude.{◌≡◌, ℕ, ◌+◌, ◌-◌, ◌*◌, ◌≤◌, ◌<◌, List, [], ◌∷◌, ◌++◌, length, take, drop, Option, None, Some, vec_capacity}
+use Rattle.std.specs.Prelude.{◌≡◌, ℕ, ◌+◌, ◌-◌, ◌*◌, ◌≤◌, ◌<◌, List, [], ◌∷◌, ◌++◌, length, take, drop, nat_lt, if◌then◌else◌, Option, None, Some, vec_capacity}
 use Rattle.std.specs.List.{slice_range}
 use Rattle.roff_source.specs.Bytes.{newline}
-use Rattle.tbl_kept.specs.Joined.{Joined, RiseWithin, behind_joined, ends_joined, unjoined}
+use Rattle.tbl_kept.specs.Joined.{Joined, RiseWithin, behind_joined, ends_joined, line_at, unjoined}
 use Rattle.tbl_kept.specs.declared.table_text.Joint.{Joint}
 use Rattle.tbl_kept.specs.declared.table_text.TableText.TheInside.{Inside}
 
@@ -85,6 +85,24 @@ pub record Lies (block : List ℕ) (joints : List Joint) (line_start open_start 
   pub alone : length joints ≤ open_joints → open_start ≡ line_start
   pub count : open_joints ≤ length joints
 
+-- lines of the input are by these joints what they are by those, for all places from one on
+pub record StaysBehind (start place : ℕ) (joints behind : List Joint) : Type 0 where
+  pub line : (later number : ℕ) → place ≤ later → line_at (ends_of start behind) later number ≡ line_at (ends_of start joints) later number
+
+-- the number of the line that ends at the first joint
+abbrev pub line_first : List Joint → ℕ → ℕ
+line_first [] number = number
+line_first (j ∷ joints) number = j.line
+
+-- from which joint on a place is looked for
+abbrev pub asked_from : ℕ → ℕ → ℕ → ℕ → ℕ
+asked_from place asked_place open_joints asked_joint = if nat_lt place asked_place then open_joints else asked_joint
+
+-- the joint that was asked last
+pub record IsAsked (joints : List Joint) (open_start open_joints asked_place asked_joint : ℕ) : Type 0 where
+  pub within : asked_joint ≤ length joints
+  pub passed : StaysBehind open_start asked_place (drop open_joints joints) (drop asked_joint joints)
+
 -- and the room is reserved
 pub record IsSound (a : Inside) : Type 0 where
   pub block : a.text_room + 4 ≤ vec_capacity a.block
@@ -92,3 +110,4 @@ pub record IsSound (a : Inside) : Type 0 where
   pub few : length a.block.items + 2 * length a.joints.items ≤ a.text_room + 4
   pub most : a.text_room < 4294967296
   pub lies : Lies a.block.items a.joints.items a.line_start a.open_start a.open_joints
+  pub asked : IsAsked a.joints.items a.open_start a.open_joints a.asked_place a.asked_joint

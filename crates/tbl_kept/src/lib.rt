@@ -2,6 +2,8 @@
 //! to Format Tables").
 #![tactic(auto)]
 
+pub mod held_columns;
+pub mod rows;
 pub mod table_notes;
 pub mod table_rows;
 pub mod table_text;

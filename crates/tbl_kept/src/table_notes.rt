@@ -71,6 +71,7 @@ impl TableNotes {
     pub fn push_ignored(&mut self, block: &[u8], from: usize, to: usize, line: u32)
         requires order { from ≤ to }
         requires block { to ≤ length block.now }
+        requires small { length block.now < 2 ^ 32 }
         requires room { length self.old.notes + (to - from) ≤ self.old.note_room }
         requires within { NotesWithin (length block.now) self.old.notes }
         requires none { self.old.to_tell ≡ [] }

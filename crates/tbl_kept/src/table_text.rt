@@ -1,10 +1,11 @@
 //! The bytes of a table, as they are kept while they are read.
 
-ghost use Rattle.std.specs.Prelude.{◌≡◌, ◌+◌, ◌<◌, ◌≤◌, ◌++◌, [], ◌∷◌, length, drop, true, is_some};
+ghost use Rattle.std.specs.Prelude.{◌≡◌, ℕ, ◌+◌, ◌<◌, ◌≤◌, ◌++◌, [], ◌∷◌, length, drop, true, is_some};
 ghost use Rattle.std.specs.Prelude.{IfOk, vec_capacity, vec_len};
 ghost use Rattle.tbl_kept.specs.Joined.{RiseWithin, behind_joined, ends_joined, goes_on, line_at};
 ghost use Rattle.tbl_kept.specs.Joined.{unjoined};
 ghost use Rattle.tbl_kept.specs.TableText.{block_of, no_text, text_closed, text_ended};
+ghost use Rattle.tbl_kept.specs.TableText.{StaysBehind, asked_from, ends_of, line_first};
 ghost use Rattle.tbl_kept.specs.TableText.{text_joined, text_whole};
 
 use std::alloc::{AllocError, Global};
@@ -30,6 +31,10 @@ pub struct TableText {
     /// Where the first of the lines starts that are joined to it, and how many joints were before.
     open_start: usize,
     open_joints: usize,
+    /// The place that was asked last in the line that goes on, and the first joint behind it: places
+    /// that are asked in order take one pass over the joints.
+    asked_place: usize,
+    asked_joint: usize,
     text_room: usize,
 }
 
@@ -58,6 +63,8 @@ impl TableText {
             line_start: 0,
             open_start: 0,
             open_joints: 0,
+            asked_place: 0,
+            asked_joint: 0,
             text_room,
         })
     }
@@ -71,6 +78,8 @@ impl TableText {
         self.line_start = 0;
         self.open_start = 0;
         self.open_joints = 0;
+        self.asked_place = 0;
+        self.asked_joint = 0;
     }
 
     /// A byte of the line that is begun, but its newline.
@@ -101,6 +110,8 @@ impl TableText {
         self.line_start = self.block.len();
         self.open_start = self.line_start;
         self.open_joints = self.joints.len();
+        self.asked_place = 0;
+        self.asked_joint = self.open_joints;
     }
 
     /// The newline behind a line that goes on: it vanishes, as does the backslash.
@@ -123,6 +134,8 @@ impl TableText {
     {
         self.open_start = self.line_start;
         self.open_joints = self.joints.len();
+        self.asked_place = 0;
+        self.asked_joint = self.open_joints;
     }
 
     /// All bytes are of complete lines.
@@ -132,6 +145,8 @@ impl TableText {
         self.line_start = self.block.len();
         self.open_start = self.line_start;
         self.open_joints = self.joints.len();
+        self.asked_place = 0;
+        self.asked_joint = self.open_joints;
     }
 
     /// How many bytes were read.
@@ -172,17 +187,16 @@ impl TableText {
     }
 
     /// The line of the input on which a byte of the joined line stands, the last of which has this
-    /// number.
-    pub fn line_at(&self, place: usize, number: u32) -> u32
-        ensures { result ≡ line_at (ends_joined self.now.pending) place number }
+    /// number. Places that are asked in order take one pass over the joints.
+    pub fn line_at(&mut self, place: usize, number: u32) -> u32
+        ensures value { result ≡ line_at (ends_joined self.old.pending) place number }
+        ensures same { self.new ≡ self.old }
     {
-        for at in self.open_joints..self.joints.len() {
-            let joint = self.joints[at];
-            if place < joint.place.saturating_sub(self.open_start) {
-                return joint.line;
-            }
-        }
-        number
+        let from = asked_from(place, self.asked_place, self.open_joints, self.asked_joint);
+        let at = joint_behind(self.joints.as_slice(), self.open_start, from, place);
+        self.asked_place = place;
+        self.asked_joint = at;
+        line_of(self.joints.as_slice(), at, number)
     }
 
     /// All bytes, lines of the data joined.
@@ -227,4 +241,42 @@ fn append(block: &mut Vec<u8>, bytes: &[u8])
     ensures capacity { vec_capacity block.old ≤ vec_capacity block.new }
 {
     block.extend_from_slice(bytes).unwrap();
+}
+
+/// From which joint on a place is looked for: from the one that was asked last, if it isn't before
+/// the place that was asked then.
+fn asked_from(place: usize, asked_place: usize, open_joints: usize, asked_joint: usize) -> usize
+    ensures { result ≡ asked_from place asked_place open_joints asked_joint }
+{
+    if place < asked_place {
+        open_joints
+    } else {
+        asked_joint
+    }
+}
+
+/// The first joint behind a place of the line that begins there, from a joint on.
+fn joint_behind(joints: &[Joint], start: usize, from: usize, place: usize) -> usize
+    requires { from ≤ length joints.now }
+    ensures within { result ≤ length joints.now }
+    ensures passed { StaysBehind start place (drop from joints.now) (drop result joints.now) }
+    ensures first { (number : ℕ) → line_at (ends_of start (drop result joints.now)) place number
+        ≡ line_first (drop result joints.now) number }
+{
+    for at in from..joints.len() {
+        if place < joints[at].place.saturating_sub(start) {
+            return at;
+        }
+    }
+    joints.len()
+}
+
+/// The number of the line that ends at a joint, if there is one, else this one.
+fn line_of(joints: &[Joint], at: usize, number: u32) -> u32
+    ensures { result ≡ line_first (drop at joints.now) number }
+{
+    match joints.get(at) {
+        Some(joint) => joint.line,
+        None => number,
+    }
 }

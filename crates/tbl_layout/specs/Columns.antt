@@ -195,11 +195,15 @@ laid_by is_expanded line_length asked columns =
     let width = width_of_all columns (gaps asked) in
     laid_with (lacking is_expanded line_length width (total (gaps asked))) width asked columns
 
--- the columns of these elements, by what is asked of each
+-- the columns of these elements with their widths, by what is asked of each
+abbrev pub columns_laid : ℕ → List Asked → List Element → List Column
+columns_laid line_length asked elements =
+    equalled asked (with_widths asked (columns_from line_length (length asked) elements 0 asked))
+
+-- and with their places
 abbrev pub laid : Bool → ℕ → List Asked → List Element → Laid
 laid is_expanded line_length asked elements =
-    laid_by is_expanded line_length asked
-    (equalled asked (with_widths asked (columns_from line_length (length asked) elements 0 asked)))
+    laid_by is_expanded line_length asked (columns_laid line_length asked elements)
 
 -- where an entry begins in its column
 abbrev pub shift : Key → ℕ → ℕ

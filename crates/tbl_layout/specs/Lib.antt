@@ -5,3 +5,4 @@ pub mod Columns
 pub mod Widths
 pub mod Glyphs
 pub mod Fields
+pub mod KeptEntries

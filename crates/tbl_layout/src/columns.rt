@@ -3,6 +3,7 @@
 
 ghost use Rattle.std.specs.Prelude.{◌≡◌, ◌+◌, ◌-◌, ◌<◌, ◌^◌, min};
 ghost use Rattle.tbl_layout.specs.Columns.{equal_width, equal_widths, equalled, gaps, greatest};
+ghost use Rattle.tbl_layout.specs.Columns.{in_strip};
 ghost use Rattle.tbl_layout.specs.Columns.{lacking, made_equal, measure_of, needing, place_in};
 ghost use Rattle.tbl_layout.specs.Columns.{placed_with, share, shift, total, unsplit, width_by};
 ghost use Rattle.tbl_layout.specs.Columns.{width_of_all, with_equal, with_widths};
@@ -18,18 +19,18 @@ pub enum Stands {
     /// Split in two: the part left of its column's units, and the part right of them.
     Apart(u32, u32),
     /// In the strip of the entries under `a`.
-    InStrip(u32),
+    InStrip(u64),
     /// Alone.
-    Alone(u32),
+    Alone(u64),
 }
 
 /// What the entries of a column need, in columns of the page.
 #[derive(Clone, Copy)]
 pub struct Needs {
     /// The widest entry that stands alone.
-    pub alone: u32,
+    pub alone: u64,
     /// The widest entry under `a`, with a place in front.
-    pub strip: usize,
+    pub strip: u64,
     /// The widest part left of units.
     pub left: u32,
     /// The widest part right of units.
@@ -61,6 +62,7 @@ impl Needs {
     /// With an entry more.
     #[inline]
     pub fn with(self, entry: Stands) -> Needs
+        requires { in_strip entry < 2 ^ 64 }
         ensures { result ≡ needing self entry }
     {
         match entry {
@@ -73,7 +75,7 @@ impl Needs {
             },
             Stands::InStrip(columns) => Needs {
                 alone: self.alone,
-                strip: self.strip.max(columns as usize + 1),
+                strip: self.strip.max(columns + 1),
                 left: self.left,
                 right: self.right,
             },
@@ -91,14 +93,14 @@ impl Needs {
         ensures { result ≡ width_by asked self }
     {
         let sides = self.left as usize + self.right as usize;
-        let entries = (self.alone as usize).max(self.strip).max(sides);
+        let entries = (self.alone as usize).max(self.strip as usize).max(sides);
         entries.max(asked.least.unwrap_or(0) as usize)
     }
 }
 
 /// An entry that isn't split, by its key.
 #[inline]
-pub fn unsplit(key: Key, columns: u32) -> Stands
+pub fn unsplit(key: Key, columns: u64) -> Stands
     ensures { result ≡ unsplit key columns }
 {
     match key {
@@ -226,6 +228,14 @@ fn share(more: usize, front: usize, all: usize) -> usize
 }
 
 impl Column {
+    /// A column without an entry.
+    pub const EMPTY: Column = Column {
+        needs: Needs::NOTHING,
+        measure: 0,
+        width: 0,
+        start: 0,
+    };
+
     /// Its width, if it has `e`.
     fn equal_width(self, asked: Asked) -> usize
         ensures { result ≡ equal_width asked self }
@@ -261,7 +271,7 @@ impl Column {
                     + (self.needs.left as usize).saturating_sub(left as usize)
             }
             Stands::InStrip(_) => {
-                let strip = self.needs.strip.saturating_sub(1);
+                let strip = (self.needs.strip as usize).saturating_sub(1);
                 (self.width.saturating_sub(strip) / 2).max(1)
             }
             Stands::Alone(columns) => { shift(key, self.width.saturating_sub(columns as usize)) }

@@ -255,7 +255,7 @@ pub fn push_fields(
 }
 
 /// How many bytes a field has that begins a text.
-pub(crate) fn field_len(separator: u8, text: &[u8]) -> usize
+pub fn field_len(separator: u8, text: &[u8]) -> usize
     ensures value { result ≡ prefix_len (λ b. not (b == separator)) text.now }
     ensures within { result ≤ length text.now }
 {

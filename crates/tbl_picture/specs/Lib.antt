@@ -1,5 +1,9 @@
 pub mod Frame
 pub mod Picture
 pub mod PictureLines
+pub mod RowsLeft
+pub mod RowsWalked
+pub mod Walks
 pub mod Pieces
 pub mod PieceQueue
+pub mod Giving

@@ -2,5 +2,8 @@
 //! Tables").
 #![tactic(auto)]
 
+pub mod giving;
 pub mod picture;
 pub mod piece_queue;
+pub mod row_columns;
+pub mod walk;

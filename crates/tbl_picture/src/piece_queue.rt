@@ -1,14 +1,14 @@
 //! Pieces that are to give, of which a front was given.
 
 ghost use Rattle.std.specs.Prelude.{◌≡◌, ℕ, ◌+◌, ◌*◌, ◌<◌, ◌≤◌, ◌^◌, List, [], ◌∷◌, ◌++◌, length};
-ghost use Rattle.std.specs.Prelude.{drop, IfOk, true};
+ghost use Rattle.std.specs.Prelude.{drop, IfOk, true, false};
 ghost use Rattle.std.specs.List.{AllByRecursion};
 ghost use Rattle.std.specs.Option.{MatchOption};
 ghost use Rattle.tbl_format.specs.Format.{has_some};
 ghost use Rattle.tbl_picture.specs.Picture.{line_of};
 ghost use Rattle.tbl_format.specs.Parts.{IsFront};
 ghost use Rattle.tbl_layout.specs.Fields.{AreMeasured, texts_of};
-ghost use Rattle.tbl_picture.specs.Pieces.{AreWithin, IsNarrow, some_piece};
+ghost use Rattle.tbl_picture.specs.Pieces.{AreWithin, IsNarrow, bytes_of, piece_len, some_piece};
 
 use crate::picture::{Piece, push_line, push_some};
 use std::alloc::{AllocError, Global};
@@ -38,11 +38,12 @@ impl Model for PieceQueue {
 }
 
 impl PieceQueue {
-    ghost use Rattle.tbl_picture.specs.PieceQueue.{bytes_left, holding};
+    ghost use Rattle.tbl_picture.specs.PieceQueue.{Adds, bytes_left, holding, with_piece};
 
     /// No piece, with room for so many.
     pub fn new(alloc: Global, room: usize) -> Result<Self, AllocError>
-        ensures { IfOk result (λ q. q ≡ record { pieces = []; offset = 0; room = room }) }
+        ensures { IfOk result (λ q. q
+            ≡ record { pieces = []; offset = 0; room = room; taken = 0 }) }
     {
         Ok(PieceQueue {
             pieces: Vec::with_capacity(alloc, room)?,
@@ -103,6 +104,27 @@ impl PieceQueue {
         self.piece = 0;
         self.offset = 0;
         push_line(&mut self.pieces, widths, asked, keys, row);
+    }
+
+    /// Whether so many pieces more can be added.
+    pub fn has_room(&self, count: usize) -> bool
+        ensures yes { result ≡ true → self.now.taken + count ≤ self.now.room }
+        ensures no { result ≡ false → self.now.room < self.now.taken + count }
+    {
+        let taken = self.pieces.len();
+        taken <= self.room && count <= self.room - taken
+    }
+
+    /// A piece more is to give, if it has a byte.
+    pub fn add(&mut self, piece: Piece)
+        requires { self.old.taken < self.old.room }
+        ensures value { self.new ≡ with_piece piece self.old }
+        ensures adds { (block frame : List ℕ)
+            → length (bytes_of block frame piece) ≡ piece_len piece
+            → Adds block frame 1 self.old self.new (bytes_of block frame piece) }
+        ensures few { self.new.taken ≤ self.old.taken + 1 }
+    {
+        push_some(&mut self.pieces, piece);
     }
 
     /// Whether a piece is left.

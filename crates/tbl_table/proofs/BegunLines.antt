@@ -15,8 +15,8 @@ use Rattle.tbl_table.specs.declared.begun.Begun.TheVariants.{Front, Keys, Nothin
 use Rattle.tbl_format.specs.declared.format.FormatPlace.{FormatPlace}
 use Rattle.tbl_format.specs.declared.format.FormatPlace.TheVariants.{AtFault}
 use Rattle.tbl_format.specs.declared.key_count.KeyCount.{KeyCount}
-use Rattle.tbl_table.specs.declared.phase.Phase.{Phase}
-use Rattle.tbl_table.specs.declared.phase.Phase.TheVariants.{AtHead, Bad, InData, InFormat}
+use Rattle.tbl_data.specs.declared.phase.Phase.{Phase}
+use Rattle.tbl_data.specs.declared.phase.Phase.TheVariants.{AtHead, Bad, InData, InFormat}
 
 -- a count is what it counts
 pub counts : (f : Format) → Counts f (count_of f)

@@ -1,171 +1,143 @@
--- How many messages a table has.
-use Rattle.std.proofs.Common.{◌≡◌, ℕ, suc, ◌+◌, ◌≤◌, Bool, true, false, not, ◌&&◌, List, [], ◌∷◌, ◌++◌, length, map, take, drop, Option, Some, None, refl, ap, arith, length-append, length-drop, if◌then◌else◌}
+-- How many messages a table may have, line by line.
+use Rattle.std.proofs.Common.{◌≡◌, ℕ, suc, ◌+◌, ◌-◌, ◌≤◌, Bool, true, false, List, [], ◌∷◌, ◌++◌, length, map, take, drop, Option, Some, None, refl, ap, arith, length-append, length-drop, if◌then◌else◌}
 use Rattle.std.proofs.lemmas.List.{length-take}
-use Rattle.tbl_format.proofs.LeftOut.{letters-few, letters-newline}
 use Rattle.roff_source.specs.Bytes.{newline}
-use Rattle.tbl_layout.specs.Data.{judged}
-use Rattle.tbl_format.specs.Format.{format_read, letters_left_out}
-use Rattle.tbl_kept.specs.Joined.{Joined, behind_joined, ends_joined, goes_on, line_at}
-use Rattle.tbl_format.specs.Notes.{ignored_message, left_out_message, told_at}
-use Rattle.tbl_format.specs.Options.{Said, bracketed, if_word, ignored_behind, ignored_options, is_ignored, is_unknown, nothing_set, option_of, option_of_two, option_words, options_end, options_of, options_read, separates_options, with_said, words_behind}
-use Rattle.tbl_table.specs.Table.{TableRead, bad, behind_format, closed, closed_line, columns, ended, ended_in, format_line, head_line, line_in, line_read, no_lines, notes, told_at_cut, whole_line, with_judged, with_left_out, with_options, with_pending}
-use Rattle.tbl_layout.specs.declared.data.Judged.{Judged}
-use Rattle.tbl_layout.specs.declared.data.Judged.TheVariants.{Refused, Row}
+use Rattle.tbl_format.specs.Format.{Format, format_byte, format_read, if_letter, left_out_at, left_out_behind, letters_left_out}
+use Rattle.tbl_format.specs.Notes.{ignored_message, told_at}
+use Rattle.tbl_format.specs.Options.{ignored_options, options_end, options_read}
 use Rattle.tbl_format.specs.declared.format.FormatPlace.{FormatPlace}
 use Rattle.tbl_format.specs.declared.format.FormatPlace.TheVariants.{AtEnd, AtFault, InRows}
-use Rattle.tbl_format.specs.declared.message.Message.TheVariants.{BadFormat, TooManyFields}
+use Rattle.tbl_format.specs.declared.message.Message.TheVariants.{BadFormat, LeftOut}
 use Rattle.tbl_format.specs.declared.message.Told.{Told}
-use Rattle.tbl_format.specs.declared.options.Settings.{Settings}
-use Rattle.tbl_table.specs.declared.phase.Phase.{Phase}
-use Rattle.tbl_table.specs.declared.phase.Phase.TheVariants.{AtHead, Bad, InData, InFormat}
+use Rattle.tbl_kept.specs.Joined.{Joined, behind_joined, ends_joined, goes_on}
+use Rattle.tbl_data.specs.DataRead.{closed_block, whole_line, with_pending}
+use Rattle.tbl_table.specs.MayTell.{fault_may_come, line_may_tell, may_tell}
+use Rattle.tbl_table.specs.Table.{behind_format, closed, closed_line, ended, ended_in, format_line, head_line, left_out_notes, line_in, line_read, notes, told_at_cut, with_options}
+use Rattle.tbl_data.specs.TableRead.{RowBegun, TableRead, bad, no_lines, with_notes}
+use Rattle.tbl_data.specs.declared.phase.Phase.{Phase}
+use Rattle.tbl_data.specs.declared.phase.Phase.TheVariants.{AtHead, Bad, InData, InFormat}
+use Rattle.tbl_table.proofs.IgnoredOptions.{ignored-most}
+use Rattle.tbl_table.proofs.FewFields.{whole_most, whole_pending}
 
--- none at first
-pub none_at_first : notes (closed no_lines) ≡ []
-unfolding notes closed no_lines
-none_at_first = refl
+-- a fault alone at first
+pub one_at_first : may_tell no_lines ≡ 1
+unfolding may_tell no_lines
+one_at_first = refl
 
 one-more : (ts : List Told) (t : Told) → length (ts ++ t ∷ []) ≡ length ts + 1
 one-more ts t = length-append ts (t ∷ [])
 
--- a whole line of the data has one at most
-pub judged-most : (j : Judged) (ends : List (ℕ × ℕ)) (n : ℕ) (line : List ℕ) (t : TableRead)
-    → length (with_judged j ends n line t).notes ≤ length t.notes + 1
-judged-most (Refused place) ends n line t = omega (arith, one-more t.notes (told_at (line_at ends place n) BadFormat))
-judged-most (Row None) ends n line t = omega arith
-judged-most (Row (Some place)) ends n line t = omega (arith, one-more t.notes (told_at (line_at ends place n) TooManyFields))
+-- of letters that are left out there are no more than bytes
+letter-few : (letter : Option ℕ) → length (if_letter letter) ≤ 1
+letter-few None = omega arith
+letter-few (Some letter) = omega arith
 
-pub judged-least : (j : Judged) (ends : List (ℕ × ℕ)) (n : ℕ) (line : List ℕ) (t : TableRead)
-    → length t.notes ≤ length (with_judged j ends n line t).notes
-judged-least (Refused place) ends n line t = omega (arith, one-more t.notes (told_at (line_at ends place n) BadFormat))
-judged-least (Row None) ends n line t = omega arith
-judged-least (Row (Some place)) ends n line t = omega (arith, one-more t.notes (told_at (line_at ends place n) TooManyFields))
+letters-few : (front : List ℕ) (f : Format) (bytes : List ℕ) → length (left_out_behind front f bytes) ≤ length bytes
+letters-few front f [] = omega arith
+letters-few front f (b ∷ bytes) =
+    let here = if_letter (left_out_at f.place front b) in
+    let further = left_out_behind (front ++ b ∷ []) (format_byte front f b) bytes in
+    omega (arith, letter-few (left_out_at f.place front b), letters-few (front ++ b ∷ []) (format_byte front f b) bytes, length-append here further)
 
-pub judged-none : (j : Judged) (ends : List (ℕ × ℕ)) (n : ℕ) (line : List ℕ) (t : TableRead) → (with_judged j ends n line t).pending ≡ None
-judged-none (Refused place) ends n line t = refl
-judged-none (Row None) ends n line t = refl
-judged-none (Row (Some place)) ends n line t = refl
+letters-told : (n : ℕ) (letters : List ℕ) → length (map (λ (letter : ℕ). told_at n (LeftOut letter)) letters) ≡ length letters
+letters-told n [] = refl
+letters-told n (letter ∷ letters) = ap (λ (k : ℕ). suc k) (letters-told n letters)
 
--- and where a line that goes on is closed
-closed-most : (pending : Option Joined) (t : TableRead) → length (closed_line pending t).notes ≤ length t.notes + 1
-closed-most None t = omega arith
-closed-most (Some j) t = judged-most (judged t.options.separator (columns t) j.bytes) j.ends 0 j.bytes t
+-- options that are ignored
+ignored-told : (n : ℕ) (words : List (List ℕ)) → length (map (λ (word : List ℕ). told_at n (ignored_message word)) words) ≡ length words
+ignored-told n [] = refl
+ignored-told n (word ∷ words) = ap (λ (k : ℕ). suc k) (ignored-told n words)
 
-pub closed-least : (pending : Option Joined) (t : TableRead) → length t.notes ≤ length (closed_line pending t).notes
-closed-least None t = omega arith
-closed-least (Some j) t = judged-least (judged t.options.separator (columns t) j.bytes) j.ends 0 j.bytes t
+-- what may be told of a table where there is no fault yet
+abbrev may-tell-yet : TableRead → ℕ
+may-tell-yet t = length t.notes + line_may_tell t.pending + 1
 
-closed-done : (t : TableRead) → t.pending ≡ None → closed_line t.pending t ≡ t
-closed-done t none = ap (λ (p : Option Joined). closed_line p t) none
+fault-few : (phase : Phase) → fault_may_come phase ≤ 1
+fault-few AtHead = omega arith
+fault-few InFormat = omega arith
+fault-few InData = omega arith
+fault-few Bad = omega arith
 
--- behind keys
-format-most : (place : FormatPlace) (n : ℕ) (t : TableRead)
-    → length (closed_line (behind_format place n t).pending (behind_format place n t)).notes ≤ length t.notes + 1
-format-most (InRows part) n t = closed-most t.pending (record t { phase = InFormat })
-format-most AtEnd n t = closed-most t.pending (record t { phase = InData })
-format-most AtFault n t = omega (arith, one-more t.notes (told_at n BadFormat))
+-- behind a line of the format
+place-few : (place : FormatPlace) (n : ℕ) (t : TableRead) → may_tell (behind_format place n t) ≤ may-tell-yet t
+unfolding may_tell
+place-few (InRows part) n t = omega arith
+place-few AtEnd n t = omega arith
+place-few AtFault n t = omega (arith, one-more t.notes (told_at n BadFormat))
 
--- of a text no more options are ignored than it has bytes
-word-few : (word : List ℕ) → length (if_word word) ≤ length word
-word-few [] = omega arith
-word-few (b ∷ word) = omega arith
+format-few : (n : ℕ) (line : List ℕ) (t : TableRead) → may_tell (format_line n line t) ≤ may-tell-yet t + length line + 1
+format-few n line t =
+    let whole = line ++ newline ∷ [] in
+    let told = left_out_notes n t.format whole in
+    let f = format_read t.format whole in
+    omega (arith, place-few f.place n (record (with_notes told t) { format = f }), length-append t.notes told, letters-told n (letters_left_out t.format whole), letters-few [] t.format whole, length-append line (newline ∷ []))
 
-words-by : (t inside : Bool) (word text : List ℕ) (b : ℕ) → length (words_behind inside [] text) ≤ length text
-    → length (words_behind (bracketed inside b) (word ++ b ∷ []) text) ≤ length (word ++ b ∷ []) + length text
-    → length (if t then if_word word ++ words_behind inside [] text else words_behind (bracketed inside b) (word ++ b ∷ []) text) ≤ length word + suc (length text)
-words-by true inside word text b separated other =
-    omega (arith, separated, word-few word, length-append (if_word word) (words_behind inside [] text))
-words-by false inside word text b separated other = omega (arith, other, length-append word (b ∷ []))
-
-words-few : (inside : Bool) (word text : List ℕ) → length (words_behind inside word text) ≤ length word + length text
-words-few inside word [] = omega (arith, word-few word)
-words-few inside word (b ∷ text) =
-    words-by (not inside && separates_options b) inside word text b
-    (omega (arith, words-few inside [] text)) (words-few (bracketed inside b) (word ++ b ∷ []) text)
-
--- and no more than words
-said-by : (t : Bool) (one two : Said) (xs ys : List Said) (n : ℕ) → length xs ≤ n + 1 → length ys ≤ n → length (if t then one ∷ xs else two ∷ ys) ≤ suc (n + 1)
-said-by true one two xs ys n more few = omega (arith, more)
-said-by false one two xs ys n more few = omega (arith, few)
-
-said-few : (words : List (List ℕ)) → length (options_of words) ≤ length words
-said-few [] = omega arith
-said-few (word ∷ []) = omega arith
-said-few (word ∷ next ∷ words) =
-    let one : Said = record { word = word; option = option_of word } in
-    let two : Said = record { word = word; option = option_of_two word next } in
-    let few = said-by (is_unknown (option_of_two word next)) one two (options_of (next ∷ words)) (options_of words) (length words)
-    (omega (arith, said-few (next ∷ words))) (said-few words) in
-    omega (arith, few)
-
-ignored-by : (t : Bool) (word : List ℕ) (rest : List (List ℕ)) (n : ℕ) → length rest ≤ n → length (if t then word ∷ rest else rest) ≤ suc n
-ignored-by true word rest n few = omega (arith, few)
-ignored-by false word rest n few = omega (arith, few)
-
-ignored-few : (s : Settings) (options : List Said) → length (ignored_behind s options) ≤ length options
-ignored-few s [] = omega arith
-ignored-few s (said ∷ options) =
-    ignored-by (is_ignored s said) said.word (ignored_behind (with_said s said) options) (length options) (ignored-few (with_said s said) options)
-
-pub ignored-most : (text : List ℕ) → length (ignored_options text) ≤ length text
-ignored-most text =
-    omega (arith, ignored-few nothing_set (options_of (option_words text)), said-few (option_words text), words-few false [] text)
-
-told-count : (n : ℕ) (words : List (List ℕ)) → length (map (λ (word : List ℕ). told_at n (ignored_message word)) words) ≡ length words
-told-count n [] = refl
-told-count n (word ∷ words) = ap (λ (k : ℕ). suc k) (told-count n words)
-
-letters-count : (n : ℕ) (letters : List ℕ) → length (map (λ (letter : ℕ). told_at n (left_out_message letter)) letters) ≡ length letters
-letters-count n [] = refl
-letters-count n (letter ∷ letters) = ap (λ (k : ℕ). suc k) (letters-count n letters)
-
--- a line of the format leaves out no more than it has bytes
-format_line-most : (n : ℕ) (line : List ℕ) (t : TableRead)
-    → length (closed_line (format_line n line t).pending (format_line n line t)).notes ≤ length t.notes + length line + 1
-format_line-most n line t =
-    let ks = line ++ newline ∷ [] in
-    let letters = letters_left_out t.format ks in
-    let u = with_left_out n ks t in
-    let more = format-most (format_read t.format ks).place n (record u { format = format_read t.format ks }) in
-    let told = map (λ (letter : ℕ). told_at n (left_out_message letter)) letters in
-    let same = ap (λ (ls : List ℕ). length ls) (letters-newline t.format line) in
-    omega (arith, more, length-append t.notes told, letters-count n letters, same, letters-few t.format line)
-
--- behind a line
-options-by : (built : Bool) (n : ℕ) (line : List ℕ) (t : TableRead)
-    → length (closed_line (if built then format_line n line t else bad n t).pending (if built then format_line n line t else bad n t)).notes ≤ length t.notes + length line + 1
-options-by true n line t = format_line-most n line t
-options-by false n line t = omega (arith, one-more t.notes (told_at n BadFormat))
-
-head-most : (end : Option ℕ) (n : ℕ) (line : List ℕ) (t : TableRead)
-    → length (closed_line (head_line end n line t).pending (head_line end n line t)).notes ≤ length t.notes + length line + 1
-head-most None n line t = format_line-most n line t
-head-most (Some end) n line t =
-    let text = take end line in
+-- and of options
+options-few : (built : Bool) (n : ℕ) (text line : List ℕ) (t : TableRead)
+    → may_tell (if built then format_line n line (with_options n text t) else bad n (with_options n text t)) ≤ may-tell-yet t + length text + length line + 1
+unfolding may_tell
+options-few true n text line t =
     let told = map (λ (word : List ℕ). told_at n (ignored_message word)) (ignored_options text) in
-    let more = options-by (options_read text).are_built n (drop (suc end) line) (with_options n text t) in
-    omega (arith, more, length-append t.notes told, told-count n (ignored_options text), ignored-most text, length-take end line, length-drop (suc end) line)
+    omega (arith, format-few n line (with_options n text t), length-append t.notes told, ignored-told n (ignored_options text), ignored-most text)
+options-few false n text line t =
+    let told = map (λ (word : List ℕ). told_at n (ignored_message word)) (ignored_options text) in
+    omega (arith, one-more (t.notes ++ told) (told_at n BadFormat), length-append t.notes told, ignored-told n (ignored_options text), ignored-most text)
 
-data-by : (on : Bool) (n : ℕ) (line : List ℕ) (t : TableRead)
-    → length (closed_line (if on then with_pending n line t else whole_line (ends_joined t.pending) n (behind_joined t.pending line) t).pending
-    (if on then with_pending n line t else whole_line (ends_joined t.pending) n (behind_joined t.pending line) t)).notes ≤ length t.notes + 1
-data-by true n line t = closed-most (with_pending n line t).pending (with_pending n line t)
-data-by false n line t =
-    let j = judged t.options.separator (columns t) (behind_joined t.pending line) in
+length-parts : (end : ℕ) (line : List ℕ) → length (take end line) + length (drop (suc end) line) ≤ length line
+length-parts end line = omega (arith, length-take end line, length-drop (suc end) line)
+
+head-few : (end : Option ℕ) (n : ℕ) (line : List ℕ) (t : TableRead) → may_tell (head_line end n line t) ≤ may-tell-yet t + length line + 1
+head-few None n line t = format-few n line t
+head-few (Some end) n line t =
+    omega (arith, options-few (options_read (take end line)).are_built n (take end line) (drop (suc end) line) t, length-parts end line)
+
+-- and of the data
+joined-len : (pending : Option Joined) (line : List ℕ) → length (behind_joined pending line) ≤ line_may_tell pending + length line
+joined-len None line = omega arith
+joined-len (Some j) line = omega (arith, length-append j.bytes line)
+
+joined-less : (pending : Option Joined) (line : List ℕ) → length (behind_joined pending line) + 1 ≤ line_may_tell pending + length line + 1
+joined-less pending line = omega (arith, joined-len pending line)
+
+data-few : (on : Bool) (n : ℕ) (line : List ℕ) (t : TableRead)
+    → may_tell (if on then with_pending n line t else whole_line (ends_joined t.pending) n (behind_joined t.pending line) t) ≤ may-tell-yet t + length line + 1
+unfolding may_tell
+data-few true n line t =
+    omega (arith, joined-less t.pending (take (length line - 1) line), fault-few t.phase, length-take (length line - 1) line)
+data-few false n line t =
     let done = whole_line (ends_joined t.pending) n (behind_joined t.pending line) t in
-    let same = ap (λ (u : TableRead). length u.notes) (closed-done done (judged-none j (ends_joined t.pending) n (behind_joined t.pending line) t)) in
-    omega (arith, same, judged-most j (ends_joined t.pending) n (behind_joined t.pending line) t)
+    let none = ap line_may_tell (whole_pending (ends_joined t.pending) n (behind_joined t.pending line) t) in
+    omega (arith, whole_most (ends_joined t.pending) n (behind_joined t.pending line) t, none, fault-few done.phase, joined-len t.pending line)
 
-line-most : (phase : Phase) (n : ℕ) (line : List ℕ) (t : TableRead)
-    → length (closed_line (line_in phase n line t).pending (line_in phase n line t)).notes ≤ length (closed_line t.pending t).notes + length line + 1
-line-most AtHead n line t = omega (arith, head-most (options_end line) n line t, closed-least t.pending t)
-line-most InFormat n line t = omega (arith, format_line-most n line t, closed-least t.pending t)
-line-most InData n line t = omega (arith, data-by (goes_on line) n line t, closed-least t.pending t)
-line-most Bad n line t = omega arith
+yet-now : (phase : Phase) (t : TableRead) → t.phase ≡ phase → fault_may_come phase ≡ 1 → may-tell-yet t ≡ may_tell t
+unfolding may_tell
+yet-now phase t is one = omega (arith, ap fault_may_come is, one)
 
--- at most one for each byte of a line
-pub few_behind_line : (line : ℕ) (bytes : List ℕ) (t : TableRead) → length (notes (closed (line_read line bytes t))) ≤ length (notes (closed t)) + length bytes + 1
-unfolding notes closed line_read
-few_behind_line line bytes t = line-most t.phase line bytes t
+line-few : (phase : Phase) (n : ℕ) (line : List ℕ) (t : TableRead) → t.phase ≡ phase → may_tell (line_in phase n line t) ≤ may_tell t + length line + 1
+line-few AtHead n line t is = omega (arith, head-few (options_end line) n line t, yet-now AtHead t is refl)
+line-few InFormat n line t is = omega (arith, format-few n line t, yet-now InFormat t is refl)
+line-few InData n line t is = omega (arith, data-few (goes_on line) n line t, yet-now InData t is refl)
+line-few Bad n line t is = omega arith
+
+-- at most one more for each byte of a line, and one for its newline
+pub few_behind_line : (line : ℕ) (bytes : List ℕ) (t : TableRead) → may_tell (line_read line bytes t) ≤ may_tell t + length bytes + 1
+unfolding line_read
+few_behind_line line bytes t = line-few t.phase line bytes t refl
+
+-- no more where it is closed
+closed-few : (pending : Option Joined) (t : TableRead) → length (closed_line pending t).notes ≤ length t.notes + line_may_tell pending
+closed-few None t = omega arith
+closed-few (Some j) t = omega (arith, whole_most j.ends 0 j.bytes t)
+
+block-same : (begun : Option RowBegun) (t : TableRead) → length (closed_block begun t).notes ≡ length t.notes
+block-same None t = refl
+block-same (Some row) t = refl
+
+pub few_closed : (t : TableRead) → length (notes (closed t)) ≤ may_tell t
+unfolding notes closed may_tell
+few_closed t =
+    let whole = closed_line t.pending t in
+    omega (arith, closed-few t.pending t, block-same whole.begun whole)
 
 ended-most : (phase : Phase) (n : ℕ) (t : TableRead) → length (ended_in phase n t).notes ≤ length t.notes + 1
 ended-most AtHead n t = omega (arith, one-more t.notes (told_at n BadFormat))
@@ -174,11 +146,14 @@ ended-most InData n t = omega arith
 ended-most Bad n t = omega arith
 
 -- one more at most at its end
-pub few_at_end : (line line_length : ℕ) (t : TableRead) → length (notes (ended line line_length t)) ≤ length (notes (closed t)) + 1
+pub few_at_end : (line line_length : ℕ) (t : TableRead) → length (notes (ended line line_length t)) ≤ may_tell t + 1
 unfolding notes ended closed
-few_at_end line line_length t = ended-most (closed_line t.pending t).phase line (closed_line t.pending t)
+few_at_end line line_length t =
+    let whole = closed_line t.pending t in
+    let done = closed_block whole.begun whole in
+    omega (arith, ended-most done.phase line done, few_closed t)
 
 -- no more where it is cut
-pub few_at_cut : (t : TableRead) → length (told_at_cut t) ≤ length (notes (closed t))
-unfolding told_at_cut notes closed
-few_at_cut t = closed-least t.pending t
+pub few_at_cut : (t : TableRead) → length (told_at_cut t) ≤ may_tell t
+unfolding told_at_cut notes may_tell
+few_at_cut t = omega arith

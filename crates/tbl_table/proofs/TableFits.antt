@@ -1,72 +1,33 @@
--- The parts of a table hold together in front of its first line, behind more bytes, and behind each line but those of its data.
-use Rattle.std.proofs.Common.{◌≡◌, ℕ, ◌+◌, ◌-◌, ◌<◌, ◌≤◌, true, false, List, [], ◌∷◌, ◌++◌, length, map, Option, Some, None, refl, sym, ap, subst, ◌∙◌, arith, length-append}
-use Rattle.std.proofs.lemmas.List.{length-replicate}
+-- The parts of a table hold together in front of its first line, and behind more bytes of a line.
+use Rattle.std.proofs.Common.{◌≡◌, ◌==◌, ℕ, ◌+◌, ◌-◌, ◌<◌, ◌≤◌, min, All, true, false, List, [], ◌∷◌, ◌++◌, length, Option, Some, None, refl, sym, ap, subst, ◌∙◌, arith, append_assoc, length-append}
 use Rattle.std.specs.Prelude.{is_some}
+use Rattle.std.proofs.lemmas.List.Elements.{All-append, All-nil}
+use Rattle.roff_escape.specs.EscapeTexts.{KeptEscapes}
 use Rattle.roff_source.specs.Bytes.{newline}
-use Rattle.tbl_table.specs.Begun.{FewKeys, begun_in}
+use Rattle.tbl_data.specs.TableData.{BadFits, DataFits, FormatFits}
+use Rattle.tbl_data.specs.declared.phase.Phase.{Phase}
+use Rattle.tbl_data.specs.declared.phase.Phase.TheVariants.{AtHead, Bad, InData, InFormat}
+use Rattle.tbl_data.specs.declared.table_data.OpenBlock.TheVariants.{Nothing as NoBlock}
+use Rattle.tbl_data.specs.declared.table_data.TableData.{TableData}
 use Rattle.tbl_format.specs.Format.{Format, no_format}
-use Rattle.tbl_format.specs.FormatRows.{KeptFormat, key_count, keeping}
+use Rattle.tbl_format.specs.KeyCounts.{StandsOnLine}
+use Rattle.tbl_format.specs.Notes.{NotesWithin, told_of_all}
+use Rattle.tbl_format.specs.RowsServed.{all_rows}
+use Rattle.tbl_format.specs.declared.limits.TblLimits.{TblLimits}
+use Rattle.tbl_format.specs.declared.notes.Cause.TheVariants.{BadFormat}
+use Rattle.tbl_format.specs.declared.notes.KeptNote.{KeptNote}
+use Rattle.tbl_format.proofs.StepPlaces.{stands-longer}
 use Rattle.tbl_kept.specs.Joined.{Joined, behind_joined}
-use Rattle.tbl_table.specs.Kept.{HasEnd, HasRooms, KeysFit, NotesFit, PartsFit, PhaseFits, RowsFit, TextFits, faults, opened}
-use Rattle.tbl_format.specs.Notes.{IsWithin, NotesWithin, ignored_message, left_out_note, told_at, told_of, told_of_all}
-use Rattle.tbl_table.specs.Steps.{fault_noted, is_front, phase_behind, rows_started, with_cause}
-use Rattle.tbl_table.specs.Table.{is_bad_phase}
-use Rattle.tbl_kept.specs.TableNotes.{KeptNotes, no_notes}
-use Rattle.tbl_kept.specs.TableRows.{KeptRows, fields_of, starting}
-use Rattle.tbl_kept.specs.TableText.{KeptText, no_text, text_ended}
+use Rattle.tbl_kept.specs.TableText.{KeptText, block_of, no_text, text_ended}
+use Rattle.tbl_kept.proofs.RowsKeeping.{RowBegunKept-first, RowsKept-none}
+use Rattle.tbl_table.specs.Begun.{FewKeys, begun_in}
+use Rattle.tbl_table.specs.Kept.{FaultRead, FormatReads, HasRooms, KeysFit, NotesFit, PartsFit, PhaseFits, RowsFit, TextFits, data_read, kept_in, row_open}
+use Rattle.tbl_table.specs.MayTell.{fault_may_come, line_may_tell}
+use Rattle.tbl_table.specs.Steps.{data_refused, emptied, is_front}
 use Rattle.tbl_table.specs.declared.begun.Begun.{Begun}
 use Rattle.tbl_table.specs.declared.begun.Begun.TheVariants.{Front, Keys, Nothing}
-use Rattle.tbl_format.specs.declared.format.FormatPlace.{FormatPlace}
-use Rattle.tbl_format.specs.declared.format.FormatPlace.TheVariants.{AtEnd, AtFault, InRows}
-use Rattle.tbl_format.specs.declared.limits.TblLimits.{TblLimits}
-use Rattle.tbl_format.specs.declared.notes.Cause.{Cause}
-use Rattle.tbl_format.specs.declared.notes.Cause.TheVariants.{BadFormat, LeftOut, OptionIgnored, TooManyFields}
-use Rattle.tbl_format.specs.declared.notes.KeptNote.{KeptNote}
-use Rattle.tbl_table.specs.declared.phase.Phase.{Phase}
-use Rattle.tbl_table.specs.declared.phase.Phase.TheVariants.{AtHead, Bad, InData, InFormat}
-use Rattle.tbl_format.proofs.Parts.{slice_range-append}
-use Rattle.tbl_format.proofs.StepPlaces.{stands-longer}
-use Rattle.tbl_format.specs.KeyCounts.{StandsOnLine}
-use Rattle.tbl_kept.proofs.RowTexts.{Holds-longer, Holds-start}
-
--- options within a text are within a longer one
-pub IsWithin-more : (len more : ℕ) (cause : Cause) → len ≤ more → IsWithin len cause → IsWithin more cause
-IsWithin-more len more BadFormat le within = tt
-IsWithin-more len more TooManyFields le within = tt
-IsWithin-more len more (OptionIgnored from to) le within = (within.0, omega (arith, le, within.1))
-IsWithin-more len more (LeftOut letter) le within = tt
-
-pub NotesWithin-more : (len more : ℕ) (notes : List KeptNote) → len ≤ more → NotesWithin len notes → NotesWithin more notes
-NotesWithin-more len more [] le within = tt
-NotesWithin-more len more (note ∷ notes) le within =
-    (IsWithin-more len more note.cause le within.0, NotesWithin-more len more notes le within.1)
-
-pub NotesWithin-append : (len : ℕ) (notes : List KeptNote) (note : KeptNote) → IsWithin len note.cause → NotesWithin len notes
-    → NotesWithin len (notes ++ note ∷ [])
-NotesWithin-append len [] note is within = (is, tt)
-NotesWithin-append len (n ∷ notes) note is within = (within.0, NotesWithin-append len notes note is within.1)
-
-pub NotesWithin-letters : (len line : ℕ) (notes : List KeptNote) (letters : List ℕ) → NotesWithin len notes
-    → NotesWithin len (notes ++ map (left_out_note line) letters)
-NotesWithin-letters len line [] [] within = tt
-NotesWithin-letters len line [] (letter ∷ letters) within = (tt, NotesWithin-letters len line [] letters tt)
-NotesWithin-letters len line (n ∷ notes) letters within = (within.0, NotesWithin-letters len line notes letters within.1)
-
--- and say the same
-told_of-longer : (block more : List ℕ) (line : ℕ) (cause : Cause) → IsWithin (length block) cause
-    → told_of (block ++ more) (record { line = line; cause = cause }) ≡ told_of block (record { line = line; cause = cause })
-told_of-longer block more line BadFormat within = refl
-told_of-longer block more line TooManyFields within = refl
-told_of-longer block more line (LeftOut letter) within = refl
-told_of-longer block more line (OptionIgnored from to) within =
-    ap (λ (word : List ℕ). told_at line (ignored_message word)) (slice_range-append block more from to within.0 within.1)
-
-pub told-longer : (block more : List ℕ) (notes : List KeptNote) → NotesWithin (length block) notes
-    → told_of_all (block ++ more) notes ≡ told_of_all block notes
-told-longer block more [] within = refl
-told-longer block more (note ∷ notes) within =
-    ap (λ t. t ∷ told_of_all (block ++ more) notes) (told_of-longer block more note.line note.cause within.0)
-    ∙ ap (λ ts. told_of block note ∷ ts) (told-longer block more notes within.1)
+use Rattle.tbl_table.proofs.DataLies.{lies-kept}
+use Rattle.tbl_table.proofs.NotesKept.{NotesWithin-append}
 
 -- what was read is longer by a line and its newline, where the line is done
 pub ended-read : (text : KeptText) → length (text_ended text).read ≡ length text.read + length text.line + 1
@@ -89,80 +50,145 @@ few-start most InFormat f row few stands = record { starts = omega arith; is = r
 few-start most InData f row few stands = tt
 few-start most Bad f row few stands = tt
 
-pub no-fault-by : (phase : Phase) → is_bad_phase phase ≡ false → faults phase ≡ 0
-no-fault-by AtHead is = refl
-no-fault-by InFormat is = refl
-no-fault-by InData is = refl
-no-fault-by Bad is = absurd (cc)
-
-pub front-fault : (phase : Phase) → is_front phase ≡ true → faults phase ≡ 0
+pub front-fault : (phase : Phase) → is_front phase ≡ true → fault_may_come phase ≡ 1
 front-fault AtHead is = refl
 front-fault InFormat is = refl
 front-fault InData is = refl
 front-fault Bad is = absurd (cc)
 
-pub opened-most : (pending : Option Joined) → opened pending ≤ 1
-opened-most None = omega arith
-opened-most (Some j) = omega arith
+pub front-kept : (phase : Phase) (n : ℕ) → is_front phase ≡ true → kept_in phase n ≡ n
+front-kept AtHead n is = refl
+front-kept InFormat n is = refl
+front-kept InData n is = refl
+front-kept Bad n is = absurd (cc)
 
-some-none : (pending : Option Joined) → pending ≡ None → is_some pending ≡ true → ⊥
+pub kept-most : (phase : Phase) (n : ℕ) → kept_in phase n ≤ n
+kept-most AtHead n = omega arith
+kept-most InFormat n = omega arith
+kept-most InData n = omega arith
+kept-most Bad n = omega arith
+
+pub some-none : (pending : Option Joined) → pending ≡ None → is_some pending ≡ true → ⊥
 some-none None is some = absurd (cc)
 some-none (Some j) is some = absurd (cc)
 
-pub open-by : (phase : Phase) (settled : List ℕ) (pending : Option Joined) (f : Format) (rows : KeptRows) (notes : KeptNotes)
-    → PhaseFits phase settled pending f rows notes → is_some pending ≡ true → phase ≡ InData
-open-by AtHead settled pending f rows notes fits some = absurd (some-none pending fits.alone some)
-open-by InFormat settled pending f rows notes fits some = absurd (some-none pending fits.0 some)
-open-by InData settled pending f rows notes fits some = refl
-open-by Bad settled pending f rows notes fits some = absurd (some-none pending fits some)
+pub open-by : (phase : Phase) (settled : List ℕ) (pending : Option Joined) (d : TableData) → PhaseFits phase settled pending d → is_some pending ≡ true
+    → phase ≡ InData
+open-by AtHead settled pending d fits some = absurd (some-none pending fits.alone some)
+open-by InFormat settled pending d fits some = absurd (some-none pending fits.alone some)
+open-by InData settled pending d fits some = refl
+open-by Bad settled pending d fits some = absurd (some-none pending fits.alone some)
 
 pub behind-len : (pending : Option Joined) (line : List ℕ) → length (behind_joined pending line) ≡ length (behind_joined pending []) + length line
 behind-len None line = omega arith
 behind-len (Some j) line = omega (arith, length-append j.bytes line, length-append j.bytes [])
 
-module _ (l : TblLimits) (phase : Phase) (begun : Begun) (text : KeptText) (format : KeptFormat) (rows : KeptRows) (notes : KeptNotes) (fits : PartsFit l phase begun text format rows notes) where
-  -- all messages are to tell
-  tell-phase : (p : Phase) → PhaseFits p text.settled text.pending format.format rows notes
-      → PhaseFits p text.settled text.pending format.format rows (record notes { to_tell = notes.notes })
-  tell-phase AtHead nothing = record {
-    no_bytes = nothing.no_bytes;
-    alone = nothing.alone;
-    no_keys = nothing.no_keys;
-    no_rows = nothing.no_rows;
-    no_notes = nothing.no_notes;
-    untold = nothing.no_notes;
-  }
-  tell-phase InFormat fits = fits
-  tell-phase InData fits = fits
-  tell-phase Bad fits = fits
+pub behind-append : (pending : Option Joined) (line more : List ℕ) → behind_joined pending (line ++ more) ≡ behind_joined pending line ++ more
+behind-append None line more = refl
+behind-append (Some j) line more = sym (append_assoc j.bytes line more)
 
-  pub tell-fits : PartsFit l phase begun text format rows (record notes { to_tell = notes.notes })
-  tell-fits = record {
-    rooms = fits.rooms;
+-- where options or a format are read
+pub front-reads : (phase : Phase) (settled : List ℕ) (pending : Option Joined) (d : TableData) → is_front phase ≡ true → PhaseFits phase settled pending d
+    → FormatReads settled pending d
+front-reads AtHead settled pending d is fits = record { alone = fits.alone; fits = fits.fits }
+front-reads InFormat settled pending d is fits = fits
+front-reads InData settled pending d is fits = absurd (cc)
+front-reads Bad settled pending d is fits = absurd (cc)
+
+-- the messages lie within the bytes
+pub notes-within : (phase : Phase) (settled : List ℕ) (pending : Option Joined) (d : TableData) → PhaseFits phase settled pending d
+    → NotesWithin (length settled) d.notes.notes
+notes-within AtHead settled pending d fits = fits.fits.notes
+notes-within InFormat settled pending d fits = fits.fits.notes
+notes-within InData settled pending d fits = fits.fits.notes
+notes-within Bad settled pending d fits = fits.fits.notes
+
+-- messages are told, or a text was read
+abbrev pub telling : List KeptNote → KeptEscapes → TableData → TableData
+telling to_tell escapes d = record d { notes = record d.notes { to_tell = to_tell }; escapes = escapes }
+
+module _ (settled : List ℕ) (pending : Option Joined) (d : TableData) (to_tell : List KeptNote) (escapes : KeptEscapes) where
+  telling-format : FormatFits settled d → FormatFits settled (telling to_tell escapes d)
+  telling-format fits =
+      record { kept = fits.kept; closed = fits.closed; none = fits.none; columns = fits.columns; first = fits.first; notes = fits.notes }
+
+  pub telling-phase : (phase : Phase) → (phase ≡ AtHead → to_tell ≡ []) → PhaseFits phase settled pending d → PhaseFits phase settled pending (telling to_tell escapes d)
+  telling-phase AtHead none fits = record {
+    no_bytes = fits.no_bytes;
+    alone = fits.alone;
+    no_keys = fits.no_keys;
+    no_rows = fits.no_rows;
+    no_notes = fits.no_notes;
+    untold = none refl;
+    fits = telling-format fits.fits;
+  }
+  telling-phase InFormat none fits = record { alone = fits.alone; fits = telling-format fits.fits }
+  telling-phase InData none fits = record {
+    fits = record {
+      kept = fits.fits.kept;
+      block = fits.fits.block;
+      columns = fits.fits.columns;
+      first = fits.fits.first;
+      serves = fits.fits.serves;
+      whole = fits.fits.whole;
+      notes = fits.fits.notes;
+    };
+    behind = fits.behind;
+  }
+  telling-phase Bad none fits =
+      record { alone = fits.alone; lies = fits.lies; fits = record { closed = fits.fits.closed; notes = fits.fits.notes } }
+
+no-note : {note : KeptNote} {rest : List KeptNote} → note ∷ rest ≡ [] → ⊥
+no-note is = absurd (cc)
+
+head-untold : (phase : Phase) (settled : List ℕ) (pending : Option Joined) (d : TableData) → PhaseFits phase settled pending d → phase ≡ AtHead
+    → (d.notes.notes ≡ []) × (d.notes.to_tell ≡ [])
+head-untold phase settled pending d fits is =
+    let nothing = subst (λ (p : Phase). PhaseFits p settled pending d) is fits in (nothing.no_notes, nothing.untold)
+
+module _ (l : TblLimits) (phase : Phase) (begun : Begun) (text : KeptText) (d : TableData) (fits : PartsFit l phase begun text d) where
+  telling-rooms : (to_tell : List KeptNote) (escapes : KeptEscapes) → HasRooms l text.text_room (telling to_tell escapes d)
+  telling-rooms to_tell escapes = record {
+    text = fits.rooms.text;
+    keys = fits.rooms.keys;
+    asked = fits.rooms.asked;
+    entries = fits.rooms.entries;
+    elements = fits.rooms.elements;
+    columns = fits.rooms.columns;
+    notes = fits.rooms.notes;
+    small = fits.rooms.small;
+    narrow = fits.rooms.narrow;
+    wide = fits.rooms.wide;
+  }
+
+  -- some messages are to tell
+  telling-fits : (to_tell : List KeptNote) (escapes : KeptEscapes) → NotesWithin (length text.settled) to_tell → (phase ≡ AtHead → to_tell ≡ [])
+      → PartsFit l phase begun text (telling to_tell escapes d)
+  telling-fits to_tell escapes within none = record {
+    rooms = telling-rooms to_tell escapes;
     bytes = fits.bytes;
     keys = fits.keys;
-    messages = record { few = fits.messages.few; within = fits.messages.within; telling = fits.messages.within };
-    kept = fits.kept;
-    by_phase = tell-phase phase fits.by_phase;
+    rows = record { entries = fits.rows.entries; elements = fits.rows.elements };
+    messages = record { few = fits.messages.few; telling = within };
+    by_phase = telling-phase text.settled text.pending d to_tell escapes phase none fits.by_phase;
   }
 
-  -- it lacks the end of its format
-  pub refuse-fits : (number : ℕ) → is_front phase ≡ true → text.pending ≡ None
-      → PartsFit l Bad Nothing text format rows (record (with_cause number BadFormat notes) { to_tell = (with_cause number BadFormat notes).notes })
-  refuse-fits number front none =
-      let within = NotesWithin-append (length text.settled) notes.notes (record { line = number; cause = BadFormat }) tt fits.messages.within in
-      record {
-        rooms = fits.rooms;
-        bytes = fits.bytes;
-        keys = record { is = refl; few = tt; keys = fits.keys.keys; asked = fits.keys.asked; columns = fits.keys.columns; ended = fits.keys.ended; stands = fits.keys.stands };
-        messages = record {
-          few = omega (arith, fits.messages.few, front-fault phase front, length-append notes.notes (record { line = number; cause = BadFormat } ∷ []));
-          within = within;
-          telling = within;
-        };
-        kept = fits.kept;
-        by_phase = none;
-      }
+  -- all of them
+  pub tell-fits : PartsFit l phase begun text (record d { notes = record d.notes { to_tell = d.notes.notes } })
+  tell-fits =
+      telling-fits d.notes.notes d.escapes (notes-within phase text.settled text.pending d fits.by_phase)
+      (λ is. (head-untold phase text.settled text.pending d fits.by_phase is).0)
+
+  -- one fewer
+  pub told-fits : (note : KeptNote) (rest : List KeptNote) → d.notes.to_tell ≡ note ∷ rest → PartsFit l phase begun text (telling rest d.escapes d)
+  told-fits note rest is =
+      telling-fits rest d.escapes (subst (λ (ns : List KeptNote). NotesWithin (length text.settled) ns) is fits.messages.telling).1
+      (λ head. absurd (no-note (sym is ∙ (head-untold phase text.settled text.pending d fits.by_phase head).1)))
+
+  -- those that were
+  pub escapes-fits : (escapes : KeptEscapes) → PartsFit l phase begun text (record d { escapes = escapes })
+  escapes-fits escapes =
+      telling-fits d.notes.to_tell escapes fits.messages.telling (λ is. (head-untold phase text.settled text.pending d fits.by_phase is).1)
 
   -- few keys are counted
   pub few-keys : FewKeys 4611686018427387904 (length text.line) begun
@@ -174,10 +200,10 @@ module _ (l : TblLimits) (phase : Phase) (begun : Begun) (text : KeptText) (form
   few-bytes = omega (arith, fits.bytes.most, fits.rooms.small)
 
   -- more bytes of the line
-  pub push-fits : (more : List ℕ) (new : Begun) → length (text.read ++ text.line) + length more ≤ l.text + 4
-      → new ≡ begun_in phase format.format (text.line ++ more) → FewKeys (l.columns + length text.line + length more) (length text.line + length more) new
-      → PartsFit l phase new (record text { line = text.line ++ more }) format rows notes
-  push-fits more new room is few =
+  pub push-fits : (more : List ℕ) (new : Begun) → length (text.read ++ text.line) + length more ≤ l.text + 4 → All (λ b. (b == newline) ≡ false) more
+      → new ≡ begun_in phase d.format.format (text.line ++ more) → FewKeys (l.columns + length text.line + length more) (length text.line + length more) new
+      → PartsFit l phase new (record text { line = text.line ++ more }) d
+  push-fits more new room none is few =
       let longer = length-append text.line more in
       record {
         rooms = fits.rooms;
@@ -185,6 +211,9 @@ module _ (l : TblLimits) (phase : Phase) (begun : Begun) (text : KeptText) (form
           few = fits.bytes.few;
           most = omega (arith, room, longer, length-append text.read text.line);
           block = fits.bytes.block;
+          one_line =
+              subst (λ (bytes : List ℕ). All (λ b. (b == newline) ≡ false) bytes) (sym (behind-append text.pending text.line more))
+              (All-append (λ b. (b == newline) ≡ false) (behind_joined text.pending text.line) more fits.bytes.one_line none);
         };
         keys = record {
           is = is;
@@ -194,11 +223,12 @@ module _ (l : TblLimits) (phase : Phase) (begun : Begun) (text : KeptText) (form
           keys = fits.keys.keys;
           asked = fits.keys.asked;
           columns = fits.keys.columns;
+          rows = fits.keys.rows;
           ended = fits.keys.ended;
           stands = fits.keys.stands;
         };
+        rows = fits.rows;
         messages = fits.messages;
-        kept = fits.kept;
         by_phase = fits.by_phase;
       }
 
@@ -209,155 +239,79 @@ module _ (l : TblLimits) (phase : Phase) (begun : Begun) (text : KeptText) (form
   data-begun InData f line other is = refl
   data-begun Bad f line other is = cc
 
-  pub push-data : (more : List ℕ) → phase ≡ InData → length (text.read ++ text.line) + length more ≤ l.text
-      → PartsFit l phase begun (record text { line = text.line ++ more }) format rows notes
-  push-data more is room =
-      push-fits more begun (omega (arith, room)) (fits.keys.is ∙ data-begun phase format.format text.line (text.line ++ more) is)
+  pub push-data : (more : List ℕ) → phase ≡ InData → length (text.read ++ text.line) + length more ≤ l.text → All (λ b. (b == newline) ≡ false) more
+      → PartsFit l phase begun (record text { line = text.line ++ more }) d
+  push-data more is room none =
+      push-fits more begun (omega (arith, room)) none (fits.keys.is ∙ data-begun phase d.format.format text.line (text.line ++ more) is)
       (FewKeys-more (l.columns + length text.line) (l.columns + length text.line + length more) (length text.line) (length text.line + length more) begun (omega arith) (omega arith) fits.keys.few)
 
-  -- behind the newline of a line that is done
-  pub whole-len : length text.settled + length (behind_joined text.pending text.line) ≤ length text.read + length text.line
-  whole-len = omega (arith, behind-len text.pending text.line, fits.bytes.block, length-append text.settled (behind_joined text.pending []))
-
-  pub text-ends : length (text.read ++ text.line) < l.text → TextFits l (text_ended text).settled None [] (text_ended text).read
-  text-ends room = record {
-    few = omega (arith, room, ended-read text, length-append text.read text.line);
-    most = omega (arith, room, ended-read text, length-append text.read text.line);
-    block = omega (arith, ended-read text, whole-len, length-append (text_ended text).settled [], length-append text.settled (behind_joined text.pending text.line ++ newline ∷ []), length-append (behind_joined text.pending text.line) (newline ∷ []));
-  }
-
-  pub longer-settled : length text.settled ≤ length (text_ended text).settled
-  longer-settled = omega (arith, length-append text.settled (behind_joined text.pending text.line ++ newline ∷ []))
-
-  -- a line of the format is done, or the options and the keys behind them
-  module _ (g : Format) (kept : KeptNotes) (number : ℕ) (none : text.pending ≡ None) (empty : rows.rows ≡ []) (room : length (text.read ++ text.line) < l.text) (keys : key_count g ≤ length text.read + length text.line + 1) (asked : length g.asked ≤ length text.read + length text.line + 1) (columns : length g.asked ≤ l.columns) (row : length g.row ≤ length g.asked) (few : length kept.notes ≤ length text.read + length text.line + 1) (within : NotesWithin (length (text_ended text).settled) kept.notes) (to_tell : NotesWithin (length (text_ended text).settled) kept.to_tell) (same : kept.note_room ≡ notes.note_room) (ended : HasEnd g.place g.rows) (stands : StandsOnLine 0 g.place) where
-    no_rows : length rows.rows ≡ 0
-    no_rows = ap (λ rs. length rs) empty
-
-    no_fields : fields_of rows.rows ≡ 0
-    no_fields = ap (λ rs. fields_of rs) empty
-
-    rooms-keys : HasRooms l text.text_room format.key_room format.column_room rows.field_room rows.row_room rows.column_room kept.note_room
-    rooms-keys = record {
-      text = fits.rooms.text;
-      keys = fits.rooms.keys;
-      columns = fits.rooms.columns;
-      fields = fits.rooms.fields;
-      rows = fits.rooms.rows;
-      widths = fits.rooms.widths;
-      notes = same ∙ fits.rooms.notes;
-      small = fits.rooms.small;
-      narrow = fits.rooms.narrow;
-      wide = fits.rooms.wide;
-    }
-
-    keys-keys : (p : Phase) → KeysFit l (text_ended text).read [] p (begun_in p g []) g
-    keys-keys p = record {
-      is = refl;
-      few = few-start (l.columns + 0) p g row (omega (arith, columns)) stands;
-      keys = omega (arith, keys, ended-read text);
-      asked = omega (arith, asked, ended-read text);
-      columns = columns;
-      ended = ended;
-      stands = stands;
-    }
-
-    rows-same : RowsFit l (text_ended text).settled None (text_ended text).read rows
-    rows-same = record {
-      few = omega (arith, no_rows, ended-read text);
-      most = omega (arith, no_rows);
-      fields = omega (arith, no_fields);
-      holds = Holds-longer text.settled (behind_joined text.pending text.line ++ newline ∷ []) rows fits.kept.holds;
-    }
-
-    rows-none : RowsFit l (text_ended text).settled None (text_ended text).read (starting rows (length g.asked))
-    rows-none = record {
-      few = omega (arith, ended-read text);
-      most = omega arith;
-      fields = omega arith;
-      holds = Holds-start (text_ended text).settled (starting rows (length g.asked)) (length g.asked) refl refl;
-    }
-
-    notes-same : (p : Phase) → NotesFit (text_ended text).settled None (text_ended text).read p kept.notes kept.to_tell
-    notes-same p = record {
-      few = omega (arith, few, ended-read text);
-      within = within;
-      telling = to_tell;
-    }
-
-    notes-fault : NotesFit (text_ended text).settled None (text_ended text).read Bad (with_cause number BadFormat kept).notes kept.to_tell
-    notes-fault = record {
-      few = omega (arith, few, ended-read text, length-append kept.notes (record { line = number; cause = BadFormat } ∷ []));
-      within = NotesWithin-append (length (text_ended text).settled) kept.notes (record { line = number; cause = BadFormat }) tt within;
-      telling = to_tell;
-    }
-
-    pub keys-fits : (place : FormatPlace) → HasEnd place g.rows → PartsFit l (phase_behind place) (begun_in (phase_behind place) g []) (text_ended text) (keeping format g) (rows_started place (length g.asked) rows) (fault_noted place number kept)
-    keys-fits (InRows part) has = record {
-      rooms = rooms-keys;
-      bytes = text-ends room;
-      keys = keys-keys InFormat;
-      messages = notes-same InFormat;
-      kept = rows-same;
-      by_phase = (refl, empty);
-    }
-    keys-fits AtEnd has = record {
-      rooms = rooms-keys;
-      bytes = text-ends room;
-      keys = keys-keys InData;
-      messages = notes-same InData;
-      kept = rows-none;
-      by_phase = (length-replicate (length g.asked) 0, has);
-    }
-    keys-fits AtFault has = record {
-      rooms = rooms-keys;
-      bytes = text-ends room;
-      keys = keys-keys Bad;
-      messages = notes-fault;
-      kept = rows-same;
-      by_phase = refl;
-    }
-
-  -- a line behind a fault is done
-  pub bad-fits : phase ≡ Bad → length (text.read ++ text.line) < l.text → PartsFit l phase begun (text_ended text) format rows notes
-  bad-fits is room =
-      let none : text.pending ≡ None = subst (λ (p : Phase). PhaseFits p text.settled text.pending format.format rows notes) is fits.by_phase in
-      let one = opened-most text.pending in
+  -- it lacks the end of its format
+  pub refuse-fits : (number : ℕ) → is_front phase ≡ true
+      → PartsFit l Bad Nothing text
+      (let e = data_refused number d in record e { notes = record e.notes { to_tell = e.notes.notes } })
+  refuse-fits number front =
+      let reads = front-reads phase text.settled text.pending d front fits.by_phase in
+      let note : KeptNote = record { line = number; cause = BadFormat } in
+      let within = NotesWithin-append (length text.settled) d.notes.notes note tt reads.fits.notes in
       record {
-        rooms = fits.rooms;
-        bytes = text-ends room;
+        rooms = record {
+          text = fits.rooms.text;
+          keys = fits.rooms.keys;
+          asked = fits.rooms.asked;
+          entries = fits.rooms.entries;
+          elements = fits.rooms.elements;
+          columns = fits.rooms.columns;
+          notes = fits.rooms.notes;
+          small = fits.rooms.small;
+          narrow = fits.rooms.narrow;
+          wide = fits.rooms.wide;
+        };
+        bytes = fits.bytes;
         keys = record {
-          is = fits.keys.is ∙ ap (λ (p : Phase). begun_in p format.format text.line) is ∙ ap (λ (p : Phase). begun_in p format.format []) (sym is);
-          few = subst (λ (b : Begun). FewKeys (l.columns + 0) 0 b) (sym (fits.keys.is ∙ ap (λ (p : Phase). begun_in p format.format text.line) is)) tt;
-          keys = omega (arith, fits.keys.keys, ended-read text);
-          asked = omega (arith, fits.keys.asked, ended-read text);
+          is = refl;
+          few = tt;
+          keys = fits.keys.keys;
+          asked = fits.keys.asked;
           columns = fits.keys.columns;
+          rows = fits.keys.rows;
           ended = fits.keys.ended;
           stands = fits.keys.stands;
         };
+        rows = record { entries = omega (arith, fits.rows.entries); elements = omega (arith, fits.rows.elements) };
         messages = record {
-          few = omega (arith, fits.messages.few, ended-read text);
-          within = NotesWithin-more (length text.settled) (length (text_ended text).settled) notes.notes longer-settled fits.messages.within;
-          telling = NotesWithin-more (length text.settled) (length (text_ended text).settled) notes.to_tell longer-settled fits.messages.telling;
+          few = omega (arith, fits.messages.few, front-fault phase front, length-append d.notes.notes (note ∷ []));
+          telling = within;
         };
-        kept = record {
-          few = omega (arith, fits.kept.few, ended-read text);
-          most = omega (arith, fits.kept.most);
-          fields = omega (arith, fits.kept.fields, longer-settled);
-          holds = Holds-longer text.settled (behind_joined text.pending text.line ++ newline ∷ []) rows fits.kept.holds;
+        by_phase = record {
+          alone = reads.alone;
+          lies = lies-kept text.settled (all_rows d.format.format) d.rows reads.fits.kept.all;
+          fits = record { closed = reads.fits.closed; notes = within };
         };
-        by_phase = subst (λ (p : Phase). PhaseFits p (text_ended text).settled None format.format rows notes) (sym is) refl;
       }
 
 -- a table without a line
-pub start-fits : (l : TblLimits) (text keys columns note_room : ℕ) (rows : KeptRows)
-    → HasRooms l text keys columns rows.field_room rows.row_room rows.column_room note_room
-    → PartsFit l AtHead (Front false) (no_text text) (record { format = no_format; key_room = keys; column_room = columns }) (starting rows 0) (no_notes note_room)
-start-fits l text keys columns note_room rows rooms = record {
+pub start-fits : (l : TblLimits) (text : ℕ) (d : TableData) → HasRooms l text (emptied d)
+    → PartsFit l AtHead (Front false) (no_text text) (emptied d)
+start-fits l text d rooms = record {
   rooms = rooms;
-  bytes = record { few = omega arith; most = omega arith; block = omega arith };
-  keys = record { is = refl; few = tt; keys = omega arith; asked = omega arith; columns = omega arith; ended = tt; stands = tt };
-  messages = record { few = omega arith; within = tt; telling = tt };
-  kept = record { few = omega arith; most = omega arith; fields = omega arith; holds = Holds-start [] (starting rows 0) 0 refl refl };
-  by_phase = record { no_bytes = refl; alone = refl; no_keys = refl; no_rows = refl; no_notes = refl; untold = refl };
+  bytes = record { few = omega arith; most = omega arith; block = omega arith; one_line = All-nil (λ b. (b == newline) ≡ false) };
+  keys = record { is = refl; few = tt; keys = omega arith; asked = omega arith; columns = omega arith; rows = record { few = omega arith; wide = λ some. absurd (omega (arith, some)) }; ended = tt; stands = tt };
+  rows = record { entries = omega arith; elements = omega arith };
+  messages = record { few = omega arith; telling = tt };
+  by_phase = record {
+    no_bytes = refl;
+    alone = refl;
+    no_keys = refl;
+    no_rows = refl;
+    no_notes = refl;
+    untold = refl;
+    fits = record {
+      kept = RowBegunKept-first [] [] (emptied d).rows 0 refl (RowsKept-none [] [] d.rows.entry_room d.rows.element_room d.rows.column_room);
+      closed = refl;
+      none = refl;
+      columns = omega arith;
+      first = refl;
+      notes = tt;
+    };
+  };
 }

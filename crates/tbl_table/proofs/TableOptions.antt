@@ -1,37 +1,43 @@
 -- The first line of a table.
-use Rattle.std.proofs.Common.{◌≡◌, ℕ, suc, ◌+◌, ◌-◌, ◌<◌, ◌≤◌, Bool, true, false, List, [], ◌∷◌, ◌++◌, length, take, drop, fold, Option, Some, None, refl, sym, ap, subst, ◌∙◌, arith, append-nil, length-drop, if◌then◌else◌}
+use Rattle.std.proofs.Common.{◌≡◌, ℕ, suc, ◌+◌, ◌-◌, ◌<◌, ◌≤◌, Bool, true, false, List, [], ◌∷◌, ◌++◌, length, map, take, drop, fold, Option, Some, None, refl, sym, ap, subst, ◌∙◌, arith, append-nil, length-append, length-drop, if◌then◌else◌}
+use Rattle.std.specs.Prelude.{IfSome, unwrap_or}
 use Rattle.std.specs.List.{slice_range}
-use Rattle.std.proofs.lemmas.List.{drop-append-le, take-append-le}
+use Rattle.std.proofs.lemmas.List.{drop-append-le, length-map, take-append-le}
 use Rattle.roff_source.specs.Bytes.{newline}
-use Rattle.tbl_table.specs.Begun.{begun_in, head_begun}
+use Rattle.tbl_data.specs.TableData.{begun_by}
+use Rattle.tbl_data.specs.TableRead.{TableRead, bad}
+use Rattle.tbl_data.specs.declared.phase.Phase.{Phase}
+use Rattle.tbl_data.specs.declared.phase.Phase.TheVariants.{AtHead}
+use Rattle.tbl_data.specs.declared.table_data.TableData.{TableData}
 use Rattle.tbl_format.specs.Format.{Format, format_read, letters_left_out, no_format}
-use Rattle.tbl_format.specs.FormatRows.{KeptFormat, key_count, keeping}
+use Rattle.tbl_format.specs.FormatRows.{key_count}
 use Rattle.tbl_format.specs.KeyCounts.{StandsOnLine}
-use Rattle.tbl_kept.specs.Joined.{Joined, behind_joined}
-use Rattle.tbl_table.specs.Kept.{NothingRead, PartsFit, PhaseFits, reading_of}
-use Rattle.tbl_format.specs.Notes.{NotesWithin, told_of_all}
+use Rattle.tbl_format.specs.Notes.{NotesWithin, left_out_note, told_of_all}
 use Rattle.tbl_format.specs.Options.{bracketed, options_end, options_read}
-use Rattle.tbl_table.specs.Steps.{built_format, built_letters, head_letters, built_place, ended_with, fault_noted, letters_noted, phase_behind, rows_started}
-use Rattle.tbl_table.specs.Table.{TableRead, bad, behind_format, columns_behind, columns_of, format_line, head_columns}
-use Rattle.tbl_kept.specs.TableNotes.{KeptNotes}
-use Rattle.tbl_kept.specs.TableRows.{KeptRows, texts_in}
-use Rattle.tbl_kept.specs.TableText.{KeptText, block_of, text_ended}
-use Rattle.tbl_table.specs.declared.begun.Begun.{Begun}
-use Rattle.tbl_table.specs.declared.begun.Begun.TheVariants.{Front}
+use Rattle.tbl_format.specs.RowsServed.{all_rows}
 use Rattle.tbl_format.specs.declared.format.FormatPlace.TheVariants.{AtFault}
 use Rattle.tbl_format.specs.declared.limits.TblLimits.{TblLimits}
 use Rattle.tbl_format.specs.declared.message.Told.{Told}
 use Rattle.tbl_format.specs.declared.options.Options.{Options}
-use Rattle.tbl_table.specs.declared.phase.Phase.{Phase}
-use Rattle.tbl_table.specs.declared.phase.Phase.TheVariants.{AtHead}
-use Rattle.tbl_table.proofs.BegunLines.{columns-some, columns-whole, newline-goes_on}
-use Rattle.tbl_table.proofs.FormatEnds.{format-ended}
-use Rattle.tbl_format.proofs.FormatReading.{columns-read-most, keys-read as format-keys-read}
+use Rattle.tbl_format.proofs.FormatReading.{columns-read, columns-read-most, keys-read as keys-read-most, line-stands}
 use Rattle.tbl_format.proofs.LeftOut.{letters-few}
-use Rattle.std.specs.Prelude.{IfSome, unwrap_or}
 use Rattle.tbl_format.proofs.Parts.{slice_range-rest}
-use Rattle.tbl_table.proofs.TableFits.{keys-fits}
-use Rattle.tbl_table.proofs.TableReads.{keys-read, letters-said, made, told_of_letters}
+use Rattle.tbl_kept.specs.Joined.{Joined, behind_joined}
+use Rattle.tbl_kept.specs.Rows.{elements_of}
+use Rattle.tbl_kept.specs.TableNotes.{KeptNotes}
+use Rattle.tbl_kept.specs.TableText.{KeptText, block_of, text_ended}
+use Rattle.tbl_layout.specs.KeptEntries.{content_of}
+use Rattle.tbl_table.specs.Begun.{begun_in, head_begun}
+use Rattle.tbl_table.specs.Kept.{NothingRead, PartsFit, PhaseFits, kept_in, reading_of}
+use Rattle.tbl_table.specs.Steps.{built_format, built_letters, built_place, ended_with, head_letters, letters_noted, phase_behind, with_built_keys}
+use Rattle.tbl_table.specs.Table.{behind_format, columns_behind, columns_of, format_line, head_columns}
+use Rattle.tbl_table.specs.declared.begun.Begun.{Begun}
+use Rattle.tbl_table.specs.declared.begun.Begun.TheVariants.{Front}
+use Rattle.tbl_table.proofs.BegunLines.{columns-some, columns-whole, newline-goes_on}
+use Rattle.tbl_table.proofs.FormatEnds.{Extends-refl, format-ended, format-extends, rows-keyed}
+use Rattle.tbl_table.proofs.FormatLines.{IsCounted, format-behind, keys-fits, keys-read, untold-behind}
+use Rattle.tbl_table.proofs.FormatTaken.{made}
+use Rattle.tbl_table.proofs.NotesKept.{NotesWithin-letters, letters-said, told_of_letters}
 
 -- the columns of a first line with its newline
 pub columns-head-none : (line : List ℕ) → options_end line ≡ None
@@ -45,47 +51,86 @@ pub columns-head-some : (line : List ℕ) (end : ℕ) → options_end line ≡ S
     → head_columns (options_end (line ++ newline ∷ [])) (line ++ newline ∷ []) ≡ columns_behind (take end line) (drop (suc end) line ++ newline ∷ [])
 columns-head-some line end is = columns-some line newline end is
 
-module _ (l : TblLimits) (phase : Phase) (begun : Begun) (options : Options) (text : KeptText) (format : KeptFormat) (rows : KeptRows) (notes : KeptNotes) (fits : PartsFit l phase begun text format rows notes) where
+module _ (l : TblLimits) (phase : Phase) (begun : Begun) (text : KeptText) (d : TableData) (fits : PartsFit l phase begun text d) where
   -- before the first line
-  pub at-head : phase ≡ AtHead → NothingRead text.settled text.pending format.format rows notes
-  at-head is = subst (λ (p : Phase). PhaseFits p text.settled text.pending format.format rows notes) is fits.by_phase
+  pub at-head : phase ≡ AtHead → NothingRead text.settled text.pending d
+  at-head is = subst (λ (p : Phase). PhaseFits p text.settled text.pending d) is fits.by_phase
 
   -- its options and the keys behind them are done
-  module _ (keys : List ℕ) (kept : KeptNotes) (number : ℕ) (none : text.pending ≡ None) (empty : rows.rows ≡ []) (no_keys : format.format ≡ no_format) (room : length (text.read ++ text.line) < l.text) (few : length kept.notes ≤ length text.read + length text.line + 1) (within : NotesWithin (length (text_ended text).settled) kept.notes) (to_tell : NotesWithin (length (text_ended text).settled) kept.to_tell) (same : kept.note_room ≡ notes.note_room) (stands : StandsOnLine 0 (format_read format.format keys).place) where
-    pub options-fits : (are_built : Bool) → key_count (built_format are_built format.format keys) ≤ length text.read + length text.line + 1
-        → length (built_format are_built format.format keys).asked ≤ length text.read + length text.line + 1
-        → length (built_format are_built format.format keys).asked ≤ l.columns
-        → length (built_format are_built format.format keys).row ≤ length (built_format are_built format.format keys).asked
-        → PartsFit l (phase_behind (built_place are_built format.format keys))
-        (begun_in (phase_behind (built_place are_built format.format keys)) (built_format are_built format.format keys) []) (text_ended text)
-        (keeping format (built_format are_built format.format keys))
-        (rows_started (built_place are_built format.format keys) (length (format_read format.format keys).asked) rows)
-        (fault_noted (built_place are_built format.format keys) number kept)
-    options-fits true counted asked columns row =
-        keys-fits l phase begun text format rows notes fits (format_read format.format keys) kept number none empty room counted asked columns row few within to_tell same
-        (format-ended format.format keys fits.keys.ended) stands (format_read format.format keys).place (format-ended format.format keys fits.keys.ended)
-    options-fits false counted asked columns row =
-        keys-fits l phase begun text format rows notes fits format.format kept number none empty room counted asked columns row few within to_tell same fits.keys.ended fits.keys.stands AtFault tt
+  module _ (nothing : NothingRead text.settled text.pending d) (all : (n : ℕ) → kept_in phase n ≡ n) (keys : List ℕ) (kept : KeptNotes) (number : ℕ) (room : length (text.read ++ text.line) < l.text) (within : NotesWithin (length (text_ended text).settled) kept.notes) (to_tell : NotesWithin (length (text_ended text).settled) kept.to_tell) (same : kept.note_room ≡ d.notes.note_room) where
+    noted-within : (letters : List ℕ) → NotesWithin (length (text_ended text).settled) (letters_noted number letters kept).notes
+    noted-within letters = NotesWithin-letters (length (text_ended text).settled) number kept.notes letters within
 
-  module _ (keys : List ℕ) (kept : KeptNotes) (number : ℕ) (none : text.pending ≡ None) (empty : rows.rows ≡ []) (said : List Told) (says : told_of_all (text_ended text).settled kept.notes ≡ said) (before : Options) where
-    -- the table with these options
-    abbrev pub with_options_said : TableRead
-    with_options_said = made phase options format.format text.pending (texts_in text.settled rows.rows) said
+    few-without : (letters : List ℕ) → length (letters_noted number letters kept).notes ≤ length text.read + length text.line + 1
+        → length kept.notes ≤ length text.read + length text.line + 1
+    few-without letters few = omega (arith, few, length-append kept.notes (map (left_out_note number) letters))
 
-    pub options-made : (are_built : Bool) (line : List ℕ) → keys ≡ line ++ newline ∷ []
-        → reading_of (phase_behind (built_place are_built format.format keys)) options (text_ended text)
-        (keeping format (built_format are_built format.format keys))
-        (rows_started (built_place are_built format.format keys) (length (format_read format.format keys).asked) rows)
-        (fault_noted (built_place are_built format.format keys) number (letters_noted number (built_letters are_built format.format keys) kept))
-        ≡ ended_with (if are_built then format_line number line with_options_said else bad number with_options_said) (reading_of phase before text format rows notes)
-    options-made true line is =
-        let letters = letters_left_out format.format keys in
-        keys-read l phase begun options text format rows notes fits before (format_read format.format keys) (letters_noted number letters kept) number none empty (said ++ told_of_letters number letters)
-        (letters-said (text_ended text).settled kept.notes number letters said says) (format_read format.format keys).place
-        ∙ ap (λ (ks : List ℕ). ended_with (behind_format (format_read format.format ks).place number (made phase options (format_read format.format ks) text.pending (texts_in text.settled rows.rows) (said ++ told_of_letters number (letters_left_out format.format ks)))) (reading_of phase before text format rows notes)) is
-    options-made false line is =
-        keys-read l phase begun options text format rows notes fits before format.format (letters_noted number [] kept) number none empty said
-        (letters-said (text_ended text).settled kept.notes number [] said says ∙ append-nil said) AtFault
+    pub options-fits : (are_built : Bool) → IsCounted l (length text.read + length text.line + 1) (built_format are_built d.format.format keys)
+        → length (letters_noted number (built_letters are_built d.format.format keys) kept).notes ≤ length text.read + length text.line + 1
+        → PartsFit l (phase_behind (built_place are_built d.format.format keys))
+        (begun_in (phase_behind (built_place are_built d.format.format keys)) (built_format are_built d.format.format keys) []) (text_ended text)
+        (with_built_keys are_built number keys (record d { notes = kept }))
+    options-fits true counted few =
+        keys-fits l phase begun text d fits (format_read d.format.format keys) (letters_noted number (letters_left_out d.format.format keys) kept) number
+        (record { alone = nothing.alone; fits = nothing.fits }) all (format-extends d.format.format keys) (columns-read [] d.format.format keys) room counted few
+        (noted-within (letters_left_out d.format.format keys)) to_tell same (format_read d.format.format keys).place (format-ended d.format.format keys fits.keys.ended)
+    options-fits false counted few =
+        keys-fits l phase begun text d fits d.format.format kept number (record { alone = nothing.alone; fits = nothing.fits }) all (Extends-refl d.format.format) (omega arith) room counted
+        (few-without [] few) within to_tell same AtFault tt
+
+    module _ (options before : Options) (said : List Told) (says : told_of_all (text_ended text).settled kept.notes ≡ said) where
+      -- the table with these options
+      abbrev pub with_options_said : TableRead
+      with_options_said =
+          made phase options d.format.format (d.keys - length d.format.format.earlier) text.pending (begun_by d.open (map (content_of text.settled) d.rows.row))
+          (elements_of text.settled (all_rows d.format.format) d.rows.elements) said
+
+      pub options-made : (are_built : Bool) (line : List ℕ) → keys ≡ line ++ newline ∷ [] → IsCounted l (length text.read + length text.line + 1) (built_format are_built d.format.format keys)
+          → length (letters_noted number (built_letters are_built d.format.format keys) kept).notes ≤ length text.read + length text.line + 1
+          → reading_of (phase_behind (built_place are_built d.format.format keys)) options (text_ended text) (with_built_keys are_built number keys (record d { notes = kept }))
+          ≡ ended_with (if are_built then format_line number line with_options_said else bad number with_options_said) (reading_of phase before text d)
+      options-made true line is counted few =
+          keys-read l phase begun text d fits (format_read d.format.format keys) (letters_noted number (letters_left_out d.format.format keys) kept) number
+          (record { alone = nothing.alone; fits = nothing.fits }) all (format-extends d.format.format keys) (columns-read [] d.format.format keys) room counted few
+          (noted-within (letters_left_out d.format.format keys)) to_tell same options before (said ++ told_of_letters number (letters_left_out d.format.format keys))
+          (letters-said (text_ended text).settled kept.notes number (letters_left_out d.format.format keys) said says) (format_read d.format.format keys).place
+          ∙ ap (λ (ks : List ℕ). ended_with (behind_format (format_read d.format.format ks).place number (made phase options (format_read d.format.format ks) (d.keys - length d.format.format.earlier) text.pending (begun_by d.open (map (content_of text.settled) d.rows.row)) (elements_of text.settled (all_rows d.format.format) d.rows.elements) (said ++ told_of_letters number (letters_left_out d.format.format ks)))) (reading_of phase before text d)) is
+      options-made false line is counted few =
+          keys-read l phase begun text d fits d.format.format kept number (record { alone = nothing.alone; fits = nothing.fits }) all (Extends-refl d.format.format) (omega arith) room counted
+          (few-without [] few) within to_tell same options before said says AtFault
+
+pub built-is : (are_built : Bool) (number : ℕ) (keys : List ℕ) (d : TableData) → (with_built_keys are_built number keys d).format.format ≡ built_format are_built d.format.format keys
+built-is true number keys d =
+    format-behind (format_read d.format.format keys).place number (letters_noted number (letters_left_out d.format.format keys) d.notes) (format_read d.format.format keys) d
+built-is false number keys d = refl
+
+pub built-untold : (are_built : Bool) (number : ℕ) (keys : List ℕ) (d : TableData) → (with_built_keys are_built number keys d).notes.to_tell ≡ d.notes.to_tell
+built-untold true number keys d =
+    untold-behind (format_read d.format.format keys).place number (letters_noted number (letters_left_out d.format.format keys) d.notes) (format_read d.format.format keys) d
+built-untold false number keys d = refl
+
+-- what is counted of keys that count
+pub built-counted : (l : TblLimits) (len : ℕ) (f : Format) (keys line : List ℕ) (are_built : Bool) → keys ≡ line ++ newline ∷ [] → IsCounted l len f
+    → length (built_format are_built f keys).asked ≤ l.columns → length (built_format are_built f keys).row ≤ length (built_format are_built f keys).asked
+    → IsCounted l (len + length keys) (built_format are_built f keys)
+built-counted l len f keys line true is counted columns row = record {
+  keys = omega (arith, keys-read-most [] f keys, counted.keys);
+  asked = omega (arith, columns-read-most [] f keys, counted.asked);
+  columns = columns;
+  row = row;
+  rows = rows-keyed f (format_read f keys) (format-extends f keys) counted.rows;
+  ended = format-ended f keys counted.ended;
+  stands = subst (λ (ks : List ℕ). StandsOnLine 0 (format_read f ks).place) (sym is) (line-stands f line);
+}
+built-counted l len f keys line false is counted columns row = record {
+  keys = omega (arith, counted.keys);
+  asked = omega (arith, counted.asked);
+  columns = counted.columns;
+  row = counted.row;
+  rows = counted.rows;
+  ended = counted.ended;
+  stands = counted.stands;
+}
 
 -- the block of a first line alone
 pub head-settled : (text : KeptText) → text.settled ≡ [] → text.pending ≡ None → (text_ended text).settled ≡ text.line ++ newline ∷ []
@@ -109,15 +154,6 @@ pub head-options : (line block : List ℕ) (end : ℕ) → block ≡ line ++ new
 head-options line block end is within =
     let same : end - 0 ≡ end = omega arith in
     ap (λ (n : ℕ). take n block) same ∙ ap (λ (xs : List ℕ). take end xs) is ∙ take-append-le end line (newline ∷ []) (omega (arith, within))
-
--- what was counted of keys that count
-pub record Bounds (f : Format) (ks : List ℕ) (g : Format) : Type 0 where
-  pub keys : key_count g ≤ key_count f + length ks
-  pub asked : length g.asked ≤ length f.asked + length ks
-
-pub built-bounds : (f : Format) (ks : List ℕ) (are_built : Bool) → Bounds f ks (built_format are_built f ks)
-built-bounds f ks true = record { keys = format-keys-read [] f ks; asked = columns-read-most [] f ks }
-built-bounds f ks false = record { keys = omega arith; asked = omega arith }
 
 pub columns-bound : (f : Format) (ks : List ℕ) (are_built : Bool) (most : ℕ) → f ≡ no_format
     → (if are_built then columns_of (format_read no_format ks) else 0) ≤ most → length (built_format are_built f ks).asked ≤ most

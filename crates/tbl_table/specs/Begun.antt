@@ -6,8 +6,8 @@ use Rattle.tbl_format.specs.Options.{bracketed, options_end, options_read}
 use Rattle.tbl_table.specs.declared.begun.Begun.{Begun}
 use Rattle.tbl_table.specs.declared.begun.Begun.TheVariants.{Front, Keys, Nothing}
 use Rattle.tbl_format.specs.declared.key_count.KeyCount.{KeyCount}
-use Rattle.tbl_table.specs.declared.phase.Phase.{Phase}
-use Rattle.tbl_table.specs.declared.phase.Phase.TheVariants.{AtHead, Bad, InData, InFormat}
+use Rattle.tbl_data.specs.declared.phase.Phase.{Phase}
+use Rattle.tbl_data.specs.declared.phase.Phase.TheVariants.{AtHead, Bad, InData, InFormat}
 
 -- what counts of a format's keys
 abbrev pub count_of : Format → KeyCount

@@ -1,13 +1,10 @@
 pub mod Table
 pub mod NotesStay
+pub mod MayTell
+pub mod Few
 pub mod Reading
 pub mod Kept
 pub mod Steps
 pub mod Begun
-pub mod Output
-pub mod TableRead
-pub mod DataRead
-pub mod TableNext
-pub mod MayTell
-pub mod NextNotes
-pub mod NextFields
+pub mod Laying
+pub mod Passing

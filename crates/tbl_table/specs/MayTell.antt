@@ -1,9 +1,9 @@
 -- How many messages a table has at the most, as far as it is read.
 use Rattle.std.specs.Prelude.{ℕ, ◌+◌, length, Option, None, Some}
 use Rattle.tbl_kept.specs.Joined.{Joined}
-use Rattle.tbl_table.specs.TableRead.{TableRead}
-use Rattle.tbl_table.specs.declared.phase.Phase.{Phase}
-use Rattle.tbl_table.specs.declared.phase.Phase.TheVariants.{AtHead, Bad, InData, InFormat}
+use Rattle.tbl_data.specs.TableRead.{TableRead}
+use Rattle.tbl_data.specs.declared.phase.Phase.{Phase}
+use Rattle.tbl_data.specs.declared.phase.Phase.TheVariants.{AtHead, Bad, InData, InFormat}
 
 -- of a line that goes on, one for each byte, and one for what the line is
 abbrev pub line_may_tell : Option Joined → ℕ

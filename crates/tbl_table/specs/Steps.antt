@@ -1,29 +1,55 @@
 -- What a line of a table does to the parts that keep it.
-use Rattle.std.specs.Prelude.{ℕ, suc, drop, Bool, true, false, not, ◌&&◌, List, [], ◌∷◌, ◌++◌, Option, None, Some, map, take, if◌then◌else◌}
+use Rattle.std.specs.Prelude.{◌≡◌, ◌≤◌, ◌+◌, ℕ, suc, drop, nat_lt, Bool, true, false, List, [], ◌∷◌, ◌++◌, length, Option, None, Some, map, take, if◌then◌else◌}
+use Rattle.roff_num.specs.declared.limit.Limit.{Limit}
+use Rattle.roff_num.specs.declared.limit.Limit.TheVariants.{Width}
 use Rattle.roff_source.specs.Bytes.{newline}
-use Rattle.tbl_layout.specs.Data.{is_row, judged}
-use Rattle.tbl_format.specs.Format.{Format, format_read, letters_left_out}
-use Rattle.tbl_kept.specs.Joined.{behind_joined, goes_on, line_at}
+use Rattle.tbl_format.specs.Format.{Format, format_read, letters_left_out, no_format}
+use Rattle.tbl_format.specs.FormatRows.{keeping}
 use Rattle.tbl_format.specs.Notes.{ignored_message, left_out_note, told_at}
 use Rattle.tbl_format.specs.Options.{ignored_options, options_read}
+use Rattle.tbl_kept.specs.Rows.{cleared, entries_of, no_rows, with_columns}
+use Rattle.tbl_layout.specs.KeptEntries.{content_of}
+use Rattle.tbl_data.specs.DataRead.{closed_block}
+use Rattle.tbl_data.specs.TableData.{DataFits, SameRooms, begun_by, table_by}
+use Rattle.tbl_format.specs.declared.options.Options.{Options}
+use Rattle.tbl_kept.specs.TableNotes.{KeptNotes, no_notes}
+use Rattle.tbl_data.specs.declared.phase.Phase.{Phase}
+use Rattle.tbl_data.specs.declared.phase.Phase.TheVariants.{AtHead, Bad, InData, InFormat}
+use Rattle.tbl_data.specs.declared.table_data.OpenBlock.{OpenBlock}
+use Rattle.tbl_data.specs.declared.table_data.OpenBlock.TheVariants.{Dropped, Kept, Nothing}
+use Rattle.tbl_data.specs.declared.table_data.TableData.{TableData}
+use Rattle.tbl_picture.specs.Giving.{with_newline}
 use Rattle.tbl_table.specs.Reading.{Reading}
-use Rattle.tbl_table.specs.Table.{TableRead, columns}
-use Rattle.tbl_kept.specs.TableNotes.{KeptNotes}
-use Rattle.tbl_kept.specs.TableRows.{KeptRows, starting, with_fields}
-use Rattle.tbl_layout.specs.declared.data.Field.{Field}
-use Rattle.tbl_layout.specs.declared.data.Judged.{Judged}
-use Rattle.tbl_layout.specs.declared.data.Judged.TheVariants.{Refused, Row}
+use Rattle.tbl_table.specs.Table.{TableRead}
 use Rattle.tbl_format.specs.declared.format.FormatPlace.{FormatPlace}
 use Rattle.tbl_format.specs.declared.format.FormatPlace.TheVariants.{AtEnd, AtFault, InRows}
 use Rattle.tbl_format.specs.declared.message.Told.{Told}
 use Rattle.tbl_format.specs.declared.notes.Cause.{Cause}
-use Rattle.tbl_format.specs.declared.notes.Cause.TheVariants.{BadFormat, TooManyFields}
-use Rattle.tbl_table.specs.declared.phase.Phase.{Phase}
-use Rattle.tbl_table.specs.declared.phase.Phase.TheVariants.{AtHead, Bad, InData, InFormat}
+use Rattle.tbl_format.specs.declared.notes.Cause.TheVariants.{BadFormat}
 
 -- one message more
 abbrev pub with_cause : ℕ → Cause → KeptNotes → KeptNotes
 with_cause line cause k = record k { notes = k.notes ++ record { line = line; cause = cause } ∷ [] }
+
+-- nothing is kept
+abbrev pub emptied : TableData → TableData
+emptied d = record d {
+  format = keeping d.format no_format;
+  keys = 0;
+  rows = cleared d.rows;
+  «open» = Nothing;
+  notes = no_notes d.notes.note_room;
+}
+
+-- there is so much room, for keys, fields, rows and commands, and for columns
+abbrev pub roomy : ℕ → ℕ → TableData → TableData
+roomy text columns d = record d {
+  format = record { format = no_format; key_room = text; column_room = columns };
+  keys = 0;
+  rows = no_rows text text columns;
+  «open» = Nothing;
+  notes = no_notes (text + 2);
+}
 
 -- what is read behind keys, by where their reading stands
 abbrev pub phase_behind : FormatPlace → Phase
@@ -31,7 +57,37 @@ phase_behind (InRows part) = InFormat
 phase_behind AtEnd = InData
 phase_behind AtFault = Bad
 
+-- what is left out of keys
+abbrev pub letters_noted : ℕ → List ℕ → KeptNotes → KeptNotes
+letters_noted line letters k = record k { notes = k.notes ++ map (left_out_note line) letters }
+
+-- a fault is reported
+abbrev pub fault_noted : FormatPlace → ℕ → KeptNotes → KeptNotes
+fault_noted (InRows part) line k = k
+fault_noted AtEnd line k = k
+fault_noted AtFault line k = with_cause line BadFormat k
+
+abbrev pub data_refused : ℕ → TableData → TableData
+data_refused line d = record d { notes = with_cause line BadFormat d.notes }
+
+-- the rows go on behind the format: its first serves the next
+abbrev pub data_behind : FormatPlace → ℕ → TableData → TableData
+data_behind (InRows part) line d = d
+data_behind AtEnd line d =
+    record d { keys = length d.format.format.earlier; rows = with_columns (length d.format.format.asked) d.rows }
+data_behind AtFault line d = data_refused line d
+
+-- behind keys
+abbrev pub with_keys : ℕ → List ℕ → TableData → TableData
+with_keys line keys d =
+    let f = format_read d.format.format keys in
+    data_behind f.place line
+    (record d { format = keeping d.format f; notes = letters_noted line (letters_left_out d.format.format keys) d.notes })
+
 -- keys behind options, which count where these can be laid out; else there is a fault
+abbrev pub with_built_keys : Bool → ℕ → List ℕ → TableData → TableData
+with_built_keys are_built line keys d = if are_built then with_keys line keys d else data_refused line d
+
 abbrev pub built_format : Bool → Format → List ℕ → Format
 built_format are_built f keys = if are_built then format_read f keys else f
 
@@ -42,66 +98,10 @@ built_place are_built f keys = if are_built then (format_read f keys).place else
 abbrev pub built_letters : Bool → Format → List ℕ → List ℕ
 built_letters are_built f keys = if are_built then letters_left_out f keys else []
 
-abbrev pub letters_noted : ℕ → List ℕ → KeptNotes → KeptNotes
-letters_noted line letters k = record k { notes = k.notes ++ map (left_out_note line) letters }
-
 -- of a first line, by where its options end
 abbrev pub head_letters : Option ℕ → Format → List ℕ → List ℕ
 head_letters None f line = letters_left_out f line
 head_letters (Some end) f line = built_letters (options_read (take end line)).are_built f (drop (suc end) line)
-
--- the rows begin behind the format
-abbrev pub rows_started : FormatPlace → ℕ → KeptRows → KeptRows
-rows_started (InRows part) columns k = k
-rows_started AtEnd columns k = starting k columns
-rows_started AtFault columns k = k
-
--- a fault is reported
-abbrev pub fault_noted : FormatPlace → ℕ → KeptNotes → KeptNotes
-fault_noted (InRows part) line k = k
-fault_noted AtEnd line k = k
-fault_noted AtFault line k = with_cause line BadFormat k
-
--- behind a whole line of the data, by what it is
-abbrev pub phase_judged : Judged → Phase
-phase_judged (Refused place) = Bad
-phase_judged (Row surplus) = InData
-
-abbrev pub rows_judged : Judged → List Field → KeptRows → KeptRows
-rows_judged (Refused place) row k = k
-rows_judged (Row surplus) row k = with_fields k row
-
--- what is reported of it, on this line
-abbrev pub surplus_noted : Option ℕ → ℕ → KeptNotes → KeptNotes
-surplus_noted None line k = k
-surplus_noted (Some place) line k = with_cause line TooManyFields k
-
-abbrev pub notes_judged : Judged → ℕ → KeptNotes → KeptNotes
-notes_judged (Refused place) line k = with_cause line BadFormat k
-notes_judged (Row surplus) line k = surplus_noted surplus line k
-
--- the line of the input that is reported
-abbrev pub surplus_line : Option ℕ → List (ℕ × ℕ) → ℕ → ℕ
-surplus_line None ends n = n
-surplus_line (Some place) ends n = line_at ends place n
-
-abbrev pub judged_line : Judged → List (ℕ × ℕ) → ℕ → ℕ
-judged_line (Refused place) ends n = line_at ends place n
-judged_line (Row surplus) ends n = surplus_line surplus ends n
-
--- whether a line of the data is a row, or the end of one
-abbrev pub ends_data_row : TableRead → List ℕ → Bool
-ends_data_row t line = not (goes_on line) && is_row (judged t.options.separator (columns t) (behind_joined t.pending line))
-
--- the same of a line, by what is read
-abbrev pub ends_row_in : Phase → TableRead → List ℕ → Bool
-ends_row_in AtHead t line = false
-ends_row_in InFormat t line = false
-ends_row_in InData t line = ends_data_row t line
-ends_row_in Bad t line = false
-
-abbrev pub ends_row : TableRead → List ℕ → Bool
-ends_row t line = ends_row_in t.phase t line
 
 -- behind a line that makes this of the table
 abbrev pub ended_with : TableRead → Reading → Reading
@@ -124,3 +124,34 @@ is_front AtHead = true
 is_front InFormat = true
 is_front InData = false
 is_front Bad = false
+
+-- whether a text block is open
+abbrev pub is_open : OpenBlock → Bool
+is_open Nothing = false
+is_open Kept = true
+is_open Dropped = true
+
+-- the block that is open ends
+pub record BlockEnds (old new : TableData) : Type 0 where
+  pub table : (options : Options) (bytes : List ℕ) → DataFits bytes old
+      → table_by InData options bytes new ≡ closed_block (begun_by old.open (map (content_of bytes) old.rows.row)) (table_by InData options bytes old)
+  pub fits : (bytes : List ℕ) → DataFits bytes old → DataFits bytes new
+  pub entries : entries_of new.rows ≤ entries_of old.rows
+  pub elements : length new.rows.elements ≤ length old.rows.elements + 1
+  pub closed : new.open ≡ Nothing
+  pub notes : new.notes ≡ old.notes
+  pub format : new.format ≡ old.format
+  pub rooms : SameRooms old new
+
+-- the limit on the width that a picture meets
+abbrev pub width_met : ℕ → ℕ → Option Limit
+width_met most width = if nat_lt most width then Some Width else None
+
+-- what is given where no limit is met
+abbrev pub given_within : Option Limit → List ℕ → List ℕ
+given_within None bytes = bytes
+given_within (Some limit) bytes = []
+
+-- the line that ends a table, and a newline behind it or none
+abbrev pub behind_line : Bool → Reading → Reading
+behind_line has_newline r = record r { line = with_newline has_newline r.line }

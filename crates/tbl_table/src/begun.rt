@@ -5,12 +5,13 @@ ghost use Rattle.std.specs.Prelude.{length};
 ghost use Rattle.roff_source.specs.Bytes.{newline};
 ghost use Rattle.tbl_table.specs.Begun.{FewKeys, begun_in, built_begun, count_of, head_begun};
 ghost use Rattle.tbl_format.specs.Format.{Format, format_read, no_format};
-ghost use Rattle.tbl_format.specs.KeyCounts.{Counts};
+ghost use Rattle.tbl_format.specs.KeyCounts.{Counts, IsCount};
 ghost use Rattle.tbl_format.specs.Options.{options_end, options_read, semicolon};
 ghost use Rattle.tbl_table.specs.Table.{columns_of, head_columns, head_place};
+ghost use Rattle.tbl_data.specs.declared.phase.Phase.TheVariants.{AtHead};
 ghost use Rattle.tbl_table.specs.declared.begun.Begun.TheVariants.{Front, Keys};
 
-use crate::phase::Phase;
+use tbl_data::phase::Phase;
 use tbl_format::format::FormatPlace;
 use tbl_format::key_count::KeyCount;
 use tbl_format::options::{bracketed, read_options};
@@ -34,6 +35,22 @@ impl Begun {
         match phase {
             Phase::AtHead => Begun::Front(false),
             Phase::InFormat => Begun::Keys(0, count),
+            Phase::InData => Begun::Nothing,
+            Phase::Bad => Begun::Nothing,
+        }
+    }
+
+    /// Of a line behind the first, where so much of the format was counted before it.
+    pub fn on_line(phase: Phase, count: KeyCount, line: &[u8]) -> Begun
+        requires phase { phase ≡ AtHead → ⊥ }
+        requires is { IsCount 0 count }
+        requires few { count.columns + length line.now < 2 ^ 63 }
+        ensures value { (f : Format) → Counts f count → result ≡ begun_in phase f line.now }
+        ensures few { FewKeys (count.columns + length line.now) (length line.now) result }
+    {
+        match phase {
+            Phase::AtHead => Begun::Front(false),
+            Phase::InFormat => Begun::Keys(0, count.behind_all(line)),
             Phase::InData => Begun::Nothing,
             Phase::Bad => Begun::Nothing,
         }

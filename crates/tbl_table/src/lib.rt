@@ -2,10 +2,8 @@
 #![tactic(auto)]
 
 pub mod begun;
-pub mod next_laws;
-pub mod output;
-pub mod phase;
+pub mod laws;
+mod laying;
 pub mod table;
 pub mod table_steps;
-pub mod worked_rows;
 pub mod worked_tables;

@@ -1,31 +1,29 @@
 //! The table that is being read.
 
-ghost use Rattle.std.specs.Prelude.{◌≡◌, ℕ, ◌+◌, ◌-◌, ◌<◌, ◌≤◌, ◌++◌, [], ◌∷◌, true, drop, length};
+ghost use Rattle.roff_source.specs.Bytes.{newline};
+ghost use Rattle.std.specs.Prelude.{◌≡◌, ◌==◌, false, All, ℕ, ◌+◌, ◌-◌, ◌<◌, ◌≤◌, ◌++◌, [], ◌∷◌, true, drop, length};
 ghost use Rattle.std.specs.Prelude.{IfOk};
 ghost use Rattle.std.specs.Option.{MatchOption};
-ghost use Rattle.tbl_layout.specs.Data.{judged};
 ghost use Rattle.tbl_format.specs.Parts.{IsFront};
 ghost use Rattle.tbl_table.specs.Reading.{all_read, byte_read, bytes_read, kept_nothing};
 ghost use Rattle.tbl_table.specs.Table.{columns, columns_at, rows_behind, told_at_cut};
-ghost use Rattle.tbl_table.specs.declared.phase.Phase.TheVariants.{InData};
+ghost use Rattle.tbl_data.specs.declared.phase.Phase.TheVariants.{InData};
 
 mod ending;
 mod lines;
 mod passing;
 
 use crate::begun::Begun;
-use crate::output::Giving;
-use crate::phase::Phase;
+use crate::table_steps::{clear_data, new_data};
 use std::alloc::{AllocError, Global};
 use std::marker::Model;
-use tbl_format::format_rows::FormatRows;
+use tbl_data::phase::Phase;
+use tbl_data::table_data::TableData;
 use tbl_format::limits::TblLimits;
 use tbl_format::message::Told;
 use tbl_format::options::{NO_OPTIONS, Options};
-use tbl_kept::table_notes::TableNotes;
-use tbl_kept::table_rows::TableRows;
 use tbl_kept::table_text::TableText;
-use tbl_layout::data::{Judged, judge};
+use tbl_picture::giving::Giving;
 
 /// The table that is being read, or that is being given. All its memory is reserved as it is made.
 #[derive(Drop)]
@@ -36,9 +34,7 @@ pub struct Table {
     /// The line of the options or the format that is begun.
     begun: Begun,
     options: Options,
-    format: FormatRows,
-    rows: TableRows,
-    notes: TableNotes,
+    kept: TableData,
     giving: Giving,
 }
 
@@ -56,28 +52,24 @@ impl Model for Table {
 
 impl Table {
     /// No table, with room for one within the limits.
-    #[tactic(auto, unfolding(crate::specs::Table::no_lines))]
+    #[tactic(auto, unfolding(tbl_data::specs::TableRead::no_lines))]
     pub fn new(alloc: Global, limits: TblLimits) -> Result<Table, AllocError>
         ensures { IfOk result (λ t. t ≡ kept_nothing limits) }
     {
-        let text = limits.text as usize;
-        let rows = limits.rows.min(limits.text) as usize + 1;
-        let columns = limits.columns.min(limits.text) as usize;
+        let columns = limits.columns.min(limits.text);
         Ok(Table {
             limits,
             text: TableText::new(alloc, limits.text)?,
             phase: Phase::AtHead,
             begun: Begun::Front(false),
             options: NO_OPTIONS,
-            format: FormatRows::new(alloc, text, columns)?,
-            rows: TableRows::new(alloc, text + rows, rows, columns)?,
-            notes: TableNotes::new(alloc, text + 2)?,
-            giving: Giving::new(alloc, limits.columns.min(limits.text))?,
+            kept: new_data(alloc, limits.text, columns)?,
+            giving: Giving::new(alloc, columns)?,
         })
     }
 
     /// A table begins.
-    #[tactic(auto, unfolding(crate::specs::Table::no_lines))]
+    #[tactic(auto, unfolding(tbl_data::specs::TableRead::no_lines))]
     pub fn begin(&mut self)
         ensures { self.new ≡ kept_nothing self.old.limits }
     {
@@ -85,9 +77,7 @@ impl Table {
         self.phase = Phase::AtHead;
         self.begun = Begun::Front(false);
         self.options = NO_OPTIONS;
-        self.format.clear();
-        self.rows.start(0);
-        self.notes.clear();
+        clear_data(&mut self.kept);
         self.giving.give_nothing();
     }
 
@@ -95,6 +85,7 @@ impl Table {
     #[inline(always)]
     pub fn push(&mut self, byte: u8)
         requires room { length (bytes_read self.old.reading) < self.old.limits.text + 4 }
+        requires line { (byte == newline) ≡ false }
         ensures { self.new ≡ record self.old
             { reading = byte_read byte self.old.reading; to_come = [] } }
     {
@@ -109,6 +100,7 @@ impl Table {
         requires phase { self.old.reading.table.phase ≡ InData }
         requires room { length (bytes_read self.old.reading) + length bytes.now
             ≤ self.old.limits.text }
+        requires one_line { All (λ b. (b == newline) ≡ false) bytes.now }
         ensures { self.new ≡ record self.old
             { reading = all_read bytes.now self.old.reading; to_come = [] } }
     {
@@ -143,14 +135,14 @@ impl Table {
     #[inline(always)]
     fn has_room(&self) -> bool
         ensures rows { result ≡ true
-            → length self.now.reading.table.rows < self.now.limits.rows }
+            → length self.now.reading.table.body < self.now.limits.rows }
         ensures columns { result ≡ true
             → columns self.now.reading.table ≤ self.now.limits.columns }
         ensures text { result ≡ true
             → length (bytes_read self.now.reading) < self.now.limits.text }
     {
-        self.rows.count() < self.limits.rows as usize
-            && self.format.columns() <= self.limits.columns as usize
+        self.kept.rows.count() < self.limits.rows as usize
+            && self.kept.format.columns() <= self.limits.columns as usize
             && self.text.len() < self.limits.text as usize
     }
 
@@ -159,14 +151,6 @@ impl Table {
         ensures { result ≡ length (bytes_read self.now.reading) }
     {
         self.text.len()
-    }
-
-    /// What a line of the data is.
-    fn judged(&self, line: &[u8]) -> Judged
-        ensures { result ≡ judged self.now.reading.table.options.separator
-            (columns self.now.reading.table) line.now }
-    {
-        judge(self.options.separator, self.format.columns(), line)
     }
 
     /// The table is cut: the messages of its lines are to tell, but of one that goes on, and no
@@ -178,7 +162,7 @@ impl Table {
         ensures limits { self.new.limits ≡ self.old.limits }
     {
         self.giving.give_nothing();
-        self.notes.tell();
+        self.kept.notes.tell();
     }
 
     /// Whether no message is to tell and no byte to give.
@@ -187,7 +171,10 @@ impl Table {
         ensures told { result ≡ true → self.now.told ≡ [] }
         ensures to_come { result ≡ true → self.now.to_come ≡ [] }
     {
-        self.notes.are_told() && self.giving.is_given(&self.text, &self.rows, &self.format)
+        self.kept.notes.are_told()
+            && self
+                .giving
+                .is_given(&self.text, &self.kept.rows, &self.kept.format)
     }
 
     /// The next message to tell.
@@ -195,7 +182,7 @@ impl Table {
         ensures { MatchOption result ((self.old.told ≡ []) × (self.new ≡ self.old))
             (λ told. self.old ≡ record self.new { told = told ∷ self.new.told }) }
     {
-        match self.notes.next() {
+        match self.kept.notes.next() {
             Some(note) => Some(note.told(self.text.block())),
             None => None,
         }
@@ -207,7 +194,8 @@ impl Table {
         ensures front { IsFront result.now self.now.to_come }
         ensures some { 1 ≤ length self.now.to_come → 1 ≤ length result.now }
     {
-        self.giving.buffered(&self.text)
+        self.giving
+            .buffered(&self.text, &self.kept.rows, &self.kept.format)
     }
 
     /// So many bytes were given.
@@ -216,8 +204,13 @@ impl Table {
         requires { count ≤ length self.old.to_come }
         ensures { self.new ≡ record self.old { to_come = drop count self.old.to_come } }
     {
-        self.giving
-            .pass(&self.text, &self.rows, &self.format, count);
+        self.giving.pass(
+            &mut self.kept.escapes,
+            &self.text,
+            &self.kept.rows,
+            &self.kept.format,
+            count,
+        );
     }
 
     /// The next byte to give.
@@ -226,6 +219,11 @@ impl Table {
         ensures { MatchOption result ((self.old.to_come ≡ []) × (self.new ≡ self.old))
             (λ b. self.old ≡ record self.new { to_come = b ∷ self.new.to_come }) }
     {
-        self.giving.next(&self.text, &self.rows, &self.format)
+        self.giving.next(
+            &mut self.kept.escapes,
+            &self.text,
+            &self.kept.rows,
+            &self.kept.format,
+        )
     }
 }

@@ -1,33 +1,90 @@
 //! What a line of a table does to the parts that keep it.
 
-ghost use Rattle.std.specs.Prelude.{◌≡◌, ◌+◌, ◌-◌, ◌<◌, ◌≤◌, ◌^◌, ◌++◌, [], length, slice_range};
-ghost use Rattle.std.specs.Prelude.{true, IfSome, take, unwrap_or, if◌then◌else◌};
-ghost use Rattle.tbl_layout.specs.Data.{is_row, kept_fields};
-ghost use Rattle.tbl_format.specs.Format.{Format, format_read, letters_left_out};
+ghost use Rattle.std.specs.Prelude.{◌≡◌, ℕ, ◌+◌, ◌-◌, ◌<◌, ◌≤◌, ◌^◌, ◌++◌, [], length};
+ghost use Rattle.std.specs.Prelude.{false, true, IfOk, IfSome, take, unwrap_or, if◌then◌else◌};
+ghost use Rattle.tbl_format.specs.Format.{Format, format_read};
 ghost use Rattle.tbl_format.specs.KeyCounts.{Counts, IsCount, StandsOnLine};
-ghost use Rattle.tbl_format.specs.FormatRows.{key_count, keeping};
-ghost use Rattle.tbl_kept.specs.Joined.{ends_joined, goes_on};
+ghost use Rattle.tbl_format.specs.FormatRows.{key_count};
+ghost use Rattle.tbl_kept.specs.Joined.{goes_on};
+ghost use Rattle.tbl_format.specs.RowsServed.{all_rows};
+ghost use Rattle.tbl_kept.specs.Rows.{entries_of};
+ghost use Rattle.tbl_kept.specs.RowsLaying.{AreOpened};
+ghost use Rattle.tbl_kept.specs.TableText.{block_of};
 ghost use Rattle.tbl_format.specs.Notes.{NotesWithin, told_of_all};
-ghost use Rattle.tbl_layout.specs.Fields.{fields_from};
-ghost use Rattle.tbl_table.specs.Steps.{built_format, built_letters, built_place, fault_noted};
-ghost use Rattle.tbl_table.specs.Steps.{head_letters, judged_line, letters_noted, notes_judged};
-ghost use Rattle.tbl_table.specs.Steps.{options_told, phase_at_last, phase_behind};
-ghost use Rattle.tbl_table.specs.Steps.{phase_judged, rows_judged, rows_started, surplus_line};
-ghost use Rattle.tbl_table.specs.Steps.{surplus_noted, with_cause};
-ghost use Rattle.tbl_kept.specs.TableRows.{fields_of};
+ghost use Rattle.tbl_table.specs.Steps.{BlockEnds, built_letters, built_place, data_behind, emptied};
+ghost use Rattle.tbl_table.specs.Steps.{fault_noted, head_letters, is_open, letters_noted};
+ghost use Rattle.tbl_table.specs.Steps.{options_told, phase_at_last, phase_behind, roomy};
+ghost use Rattle.tbl_table.specs.Steps.{with_built_keys, with_cause, with_keys};
 ghost use Rattle.tbl_format.specs.declared.notes.Cause.TheVariants.{BadFormat};
-ghost use Rattle.tbl_table.specs.declared.phase.Phase.TheVariants.{Bad};
+ghost use Rattle.tbl_data.specs.declared.phase.Phase.TheVariants.{Bad};
 
-use crate::phase::Phase;
+use roff_escape::OpenEscapes;
+use std::alloc::{AllocError, Global};
+use tbl_data::phase::Phase;
+use tbl_data::table_data::{OpenBlock, TableData};
 use tbl_format::format::FormatPlace;
 use tbl_format::format_rows::FormatRows;
 use tbl_format::key_count::KeyCount;
 use tbl_format::notes::{Cause, KeptNote};
 use tbl_format::options::read_options;
+use tbl_kept::rows::TableRows;
 use tbl_kept::table_notes::TableNotes;
-use tbl_kept::table_rows::TableRows;
 use tbl_kept::table_text::TableText;
-use tbl_layout::data::Judged;
+
+/// No data, with room for a text of so many bytes and so many columns.
+pub fn new_data(alloc: Global, text: u32, columns: u32) -> Result<TableData, AllocError>
+    ensures { IfOk result (λ d. d ≡ roomy text columns d) }
+{
+    let bytes = text as usize;
+    let count = columns as usize;
+    Ok(TableData {
+        format: FormatRows::new(alloc, bytes, count)?,
+        keys: 0,
+        rows: TableRows::new(alloc, bytes, bytes, count)?,
+        open: OpenBlock::Nothing,
+        notes: TableNotes::new(alloc, bytes + 2)?,
+        escapes: OpenEscapes::new(alloc, 0)?,
+    })
+}
+
+/// No data.
+pub fn clear_data(kept: &mut TableData)
+    ensures { kept.new ≡ emptied kept.old }
+{
+    kept.format.clear();
+    kept.keys = 0;
+    kept.rows.clear();
+    kept.open = OpenBlock::Nothing;
+    kept.notes.clear();
+}
+
+/// A text block that is open ends with the table.
+pub fn end_block(kept: &mut TableData)
+    requires small { length (all_rows kept.old.format.format) < 2 ^ 32 }
+    requires room { is_open kept.old.open ≡ true
+        → length kept.old.rows.elements < kept.old.rows.element_room }
+    requires serves { is_open kept.old.open ≡ true
+        → kept.old.keys < length (all_rows kept.old.format.format) }
+    requires few { is_open kept.old.open ≡ true → entries_of kept.old.rows < 2 ^ 32 }
+    requires opened { is_open kept.old.open ≡ true → AreOpened kept.old.rows.row }
+    ensures done { is_open kept.old.open ≡ true → BlockEnds kept.old kept.new }
+    ensures none { is_open kept.old.open ≡ false → kept.new ≡ kept.old }
+{
+    if is_open(kept.open) {
+        kept.close_block();
+    }
+}
+
+/// Whether a text block is open.
+pub fn is_open(block: OpenBlock) -> bool
+    ensures { result ≡ is_open block }
+{
+    match block {
+        OpenBlock::Nothing => false,
+        OpenBlock::Kept => true,
+        OpenBlock::Dropped => true,
+    }
+}
 
 /// Reports a table that can't be formatted, for what stands on this line. Answers what is read
 /// then.
@@ -44,166 +101,58 @@ pub fn refuse(notes: &mut TableNotes, line: u32) -> Phase
 }
 
 /// The keys of a line of the format, with its newline. Answers what is read then.
-pub fn take_keys(
-    format: &mut FormatRows,
-    rows: &mut TableRows,
-    notes: &mut TableNotes,
-    keys: &[u8],
-    line: u32,
-) -> Phase
-    requires keys { key_count format.old.format + length keys.now ≤ format.old.key_room }
-    requires columns { length (format_read format.old.format keys.now).asked
-        ≤ format.old.column_room }
-    requires row_columns { rows.old.column_room ≡ format.old.column_room }
-    requires place { StandsOnLine 0 format.old.format.place }
-    requires few { length format.old.format.asked + length keys.now < 2 ^ 63 }
-    requires notes { length notes.old.notes + length keys.now < notes.old.note_room }
-    ensures format { format.new ≡ keeping format.old (format_read format.old.format keys.now) }
-    ensures phase { result ≡ phase_behind (format_read format.old.format keys.now).place }
-    ensures rows { rows.new ≡ rows_started (format_read format.old.format keys.now).place
-        (length (format_read format.old.format keys.now).asked) rows.old }
-    ensures notes { notes.new ≡ fault_noted (format_read format.old.format keys.now).place line
-        (letters_noted line (letters_left_out format.old.format keys.now) notes.old) }
+pub fn take_keys(kept: &mut TableData, keys: &[u8], line: u32) -> Phase
+    requires keys { key_count kept.old.format.format + length keys.now
+        ≤ kept.old.format.key_room }
+    requires columns { length (format_read kept.old.format.format keys.now).asked
+        ≤ kept.old.format.column_room }
+    requires row_columns { kept.old.rows.column_room ≡ kept.old.format.column_room }
+    requires place { StandsOnLine 0 kept.old.format.format.place }
+    requires few { length kept.old.format.format.asked + length keys.now < 2 ^ 63 }
+    requires notes { length kept.old.notes.notes + length keys.now < kept.old.notes.note_room }
+    ensures kept { kept.new ≡ with_keys line keys.now kept.old }
+    ensures phase { result ≡ phase_behind (format_read kept.old.format.format keys.now).place }
 {
-    notes.push_left_out(format.count(), keys, line);
-    format.take_all(keys);
-    go_behind_keys(format.place(), format.columns(), rows, notes, line)
+    kept.notes.push_left_out(kept.format.count(), keys, line);
+    kept.format.take_all(keys);
+    go_behind_keys(kept, line)
 }
 
 /// The same of keys behind options, if these can be laid out.
-pub fn take_built_keys(
-    are_built: bool,
-    format: &mut FormatRows,
-    rows: &mut TableRows,
-    notes: &mut TableNotes,
-    keys: &[u8],
-    line: u32,
-) -> Phase
-    requires keys { key_count format.old.format + length keys.now ≤ format.old.key_room }
-    requires columns { are_built ≡ true → length (format_read format.old.format keys.now).asked
-        ≤ format.old.column_room }
-    requires row_columns { rows.old.column_room ≡ format.old.column_room }
-    requires place { StandsOnLine 0 format.old.format.place }
-    requires few { length format.old.format.asked + length keys.now < 2 ^ 63 }
-    requires notes { length notes.old.notes + length keys.now < notes.old.note_room }
-    ensures format { format.new ≡ keeping format.old
-        (built_format are_built format.old.format keys.now) }
-    ensures phase { result ≡ phase_behind (built_place are_built format.old.format keys.now) }
-    ensures rows { rows.new ≡ rows_started (built_place are_built format.old.format keys.now)
-        (length (format_read format.old.format keys.now).asked) rows.old }
-    ensures notes { notes.new ≡ fault_noted (built_place are_built format.old.format keys.now) line
-        (letters_noted line (built_letters are_built format.old.format keys.now) notes.old) }
+pub fn take_built_keys(are_built: bool, kept: &mut TableData, keys: &[u8], line: u32) -> Phase
+    requires keys { key_count kept.old.format.format + length keys.now
+        ≤ kept.old.format.key_room }
+    requires columns { are_built ≡ true
+        → length (format_read kept.old.format.format keys.now).asked
+        ≤ kept.old.format.column_room }
+    requires row_columns { kept.old.rows.column_room ≡ kept.old.format.column_room }
+    requires place { StandsOnLine 0 kept.old.format.format.place }
+    requires few { length kept.old.format.format.asked + length keys.now < 2 ^ 63 }
+    requires notes { length kept.old.notes.notes + length keys.now < kept.old.notes.note_room }
+    ensures kept { kept.new ≡ with_built_keys are_built line keys.now kept.old }
+    ensures phase { result ≡ phase_behind (built_place are_built kept.old.format.format keys.now) }
 {
     if are_built {
-        return take_keys(format, rows, notes, keys, line);
+        return take_keys(kept, keys, line);
     }
-    refuse(notes, line)
+    refuse(&mut kept.notes, line)
 }
 
-/// Behind keys of the format, by where their reading stands; there are so many columns.
-pub fn go_behind_keys(
-    place: FormatPlace,
-    columns: usize,
-    rows: &mut TableRows,
-    notes: &mut TableNotes,
-    line: u32,
-) -> Phase
-    requires notes { length notes.old.notes < notes.old.note_room }
-    requires columns { columns ≤ rows.old.column_room }
-    ensures phase { result ≡ phase_behind place }
-    ensures rows { rows.new ≡ rows_started place columns rows.old }
-    ensures notes { notes.new ≡ fault_noted place line notes.old }
+/// Behind keys of the format, by where their reading stands.
+fn go_behind_keys(kept: &mut TableData, line: u32) -> Phase
+    requires notes { length kept.old.notes.notes < kept.old.notes.note_room }
+    requires columns { length kept.old.format.format.asked ≤ kept.old.rows.column_room }
+    ensures kept { kept.new ≡ data_behind kept.old.format.format.place line kept.old }
+    ensures phase { result ≡ phase_behind kept.old.format.format.place }
 {
-    match place {
+    match kept.format.place() {
         FormatPlace::InRows(_) => Phase::InFormat,
         FormatPlace::AtEnd => {
-            rows.start(columns);
+            kept.rows.add_columns(kept.format.columns());
+            kept.keys = kept.format.earlier_rows();
             Phase::InData
         }
-        FormatPlace::AtFault => refuse(notes, line),
-    }
-}
-
-/// Whether a line of the data is a row.
-pub fn is_row(judged: Judged) -> bool
-    ensures { result ≡ is_row judged }
-{
-    match judged {
-        Judged::Refused(_) => false,
-        Judged::Row(_) => true,
-    }
-}
-
-/// The line of the input that is reported, of the joined line whose last has this number.
-pub fn judged_line(text: &TableText, judged: Judged, number: u32) -> u32
-    ensures { result ≡ judged_line judged (ends_joined text.now.pending) number }
-{
-    match judged {
-        Judged::Refused(place) => text.line_at(place, number),
-        Judged::Row(surplus) => surplus_line(text, surplus, number),
-    }
-}
-
-/// The line of the input with the first surplus separator.
-fn surplus_line(text: &TableText, surplus: Option<usize>, number: u32) -> u32
-    ensures { result ≡ surplus_line surplus (ends_joined text.now.pending) number }
-{
-    match surplus {
-        Some(place) => text.line_at(place, number),
-        None => number,
-    }
-}
-
-/// Reports what is to report of a whole line of the data. Answers what is read then.
-pub fn tell_judged(judged: Judged, notes: &mut TableNotes, line: u32) -> Phase
-    requires { length notes.old.notes < notes.old.note_room }
-    ensures phase { result ≡ phase_judged judged }
-    ensures notes { notes.new ≡ notes_judged judged line notes.old }
-{
-    match judged {
-        Judged::Refused(_) => refuse(notes, line),
-        Judged::Row(surplus) => {
-            tell_surplus(surplus, notes, line);
-            Phase::InData
-        }
-    }
-}
-
-/// Reports surplus fields.
-fn tell_surplus(surplus: Option<usize>, notes: &mut TableNotes, line: u32)
-    requires { length notes.old.notes < notes.old.note_room }
-    ensures { notes.new ≡ surplus_noted surplus line notes.old }
-{
-    match surplus {
-        Some(_) => notes.push(KeptNote {
-            line,
-            cause: Cause::TooManyFields,
-        }),
-        None => {}
-    }
-}
-
-/// Keeps the fields of a line that lies there in a block, if it is a row.
-pub fn keep_judged(
-    judged: Judged,
-    rows: &mut TableRows,
-    block: &[u8],
-    from: usize,
-    to: usize,
-    separator: u8,
-)
-    requires order { from ≤ to }
-    requires block { to ≤ length block.now }
-    requires fields { fields_of rows.old.rows + (to - from) + 1 ≤ rows.old.field_room }
-    requires rows { length rows.old.rows < rows.old.row_room }
-    ensures value { rows.new ≡ rows_judged judged (fields_from from
-        (kept_fields separator (length rows.old.widths) (slice_range block.now from to)))
-        rows.old }
-    ensures few { fields_of rows.new.rows ≤ fields_of rows.old.rows + (to - from) + 1 }
-{
-    match judged {
-        Judged::Refused(_) => {}
-        Judged::Row(_) => rows.keep_row(block, from, to, separator),
+        FormatPlace::AtFault => refuse(&mut kept.notes, line),
     }
 }
 
@@ -230,22 +179,23 @@ pub fn goes_on(line: &[u8]) -> bool
     }
 }
 
-/// A joined line, but its last backslash where it goes on.
-pub fn without_joint(line: &[u8], goes_on: bool) -> &[u8]
-    requires { goes_on ≡ true → 0 < length line.now }
-    ensures { result.now
-        ≡ (if goes_on then take (length line.now - 1) line.now else line.now) }
+/// Where the line that is begun ends in the block, but for a last backslash.
+pub fn end_of_line(text: &TableText) -> usize
+    ensures { result
+        ≡ length (block_of text.now) - (if goes_on text.now.line then 1 else 0) }
 {
-    if goes_on {
-        &line[..line.len() - 1]
+    let end = text.block().len();
+    if goes_on(text.line()) {
+        end.saturating_sub(1)
     } else {
-        line
+        end
     }
 }
 
 /// Reports the options that are ignored, of a line whose options end there.
 pub fn tell_options(end: Option<usize>, notes: &mut TableNotes, block: &[u8], line: u32)
     requires block { IfSome end (λ e. e ≤ length block.now) }
+    requires small { length block.now < 2 ^ 32 }
     requires room { length notes.old.notes + length block.now ≤ notes.old.note_room }
     requires within { NotesWithin (length block.now) notes.old.notes }
     requires none { notes.old.to_tell ≡ [] }

@@ -6,10 +6,10 @@ ghost use Rattle.tbl_format.specs.declared.message.Message.TheVariants.{BadForma
 ghost use Rattle.tbl_format.specs.declared.message.Message.TheVariants.{NotMeasured};
 ghost use Rattle.tbl_format.specs.declared.message.Message.TheVariants.{RequestInTextBlock};
 ghost use Rattle.tbl_format.specs.declared.message.Message.TheVariants.{TooManyFields};
-ghost use Rattle.tbl_table.specs.TableNext.{lines_after, notes_after, picture_after, rows_after};
+ghost use Rattle.tbl_table.specs.Table.{lines_after, notes_after, picture_after, rows_after};
 
 /// Tables that are laid out.
-#[tactic(auto, unfolding(crate::specs::TableRead::no_lines, crate::specs::TableNext::line_read, crate::specs::TableNext::closed, crate::specs::TableNext::ended, crate::specs::TableNext::notes, crate::specs::TableNext::output, tbl_format::specs::FormatSteps::step))]
+#[tactic(auto, unfolding(tbl_data::specs::TableRead::no_lines, crate::specs::Table::line_read, crate::specs::Table::closed, crate::specs::Table::ended, crate::specs::Table::notes, crate::specs::Table::output, tbl_format::specs::FormatSteps::step, roff_num::specs::Expressions::folded_onto, roff_num::specs::Expressions::operand_within, roff_num::specs::Expressions::value_at))]
 pub fn pictures()
     ensures columns { picture_after 65 (codes "l r." ∷ codes "a\tbb" ∷ codes "longer\tc" ∷ [])
         ≡ Some (codes ".nr TF \\n(.u\n.nf\n\\&a        bb\n\\&longer    c\n.if \\n(TF .fi\n") }
@@ -19,12 +19,26 @@ pub fn pictures()
         ∷ codes "T}" ∷ []) ≡ codes "\\&a   one\n\\&    two\n" }
     ensures command { lines_after 65 (codes "l." ∷ codes "a\\fB" ∷ codes ".sp" ∷ codes "b" ∷ [])
         ≡ codes "\\&a\n.sp\n\\&b\n" }
+    ensures separations { lines_after 65 (codes "tab(:);l0c5,R." ∷ codes "a:b:" ∷ codes ":xyz" ∷ [])
+        ≡ codes "\\&a b\n\\& xyz\n" }
+    ensures numbers { lines_after 65 (codes "n." ∷ codes "12.5" ∷ codes "7" ∷ codes "3\\&x" ∷ [])
+        ≡ codes "\\&12.5\n\\& 7\n\\& 3x\n" }
+    ensures strip { lines_after 65 (codes "l,a." ∷ codes "abcdef" ∷ codes "xy" ∷ [])
+        ≡ codes "\\&abcdef\n\\&  xy\n" }
+    ensures equal { lines_after 65 (codes "le le." ∷ codes "a\tbbb" ∷ [])
+        ≡ codes "\\&a     bbb\n" }
+    ensures expanded { lines_after 10 (codes "expand;" ∷ codes "l l." ∷ codes "a\tb" ∷ [])
+        ≡ codes "\\&a        b\n" }
+    ensures measure { lines_after 65 (codes "lw3." ∷ codes "T{" ∷ codes "one two" ∷ codes "T}" ∷ [])
+        ≡ codes "\\&one\n\\&two\n" }
+    ensures nearly_rules { lines_after 65 (codes "l l." ∷ codes "_ \t__" ∷ [])
+        ≡ codes "\\&_    __\n" }
     ensures joined { lines_after 65 (codes "l l." ∷ codes "a\\" ∷ codes "b\t c " ∷ codes "\\" ∷ [])
         ≡ codes "\\&ab    c\n\\&\n" }
 {}
 
 /// Tables that are reported.
-#[tactic(auto, unfolding(crate::specs::TableRead::no_lines, crate::specs::TableNext::line_read, crate::specs::TableNext::closed, crate::specs::TableNext::ended, crate::specs::TableNext::notes, crate::specs::TableNext::output, tbl_format::specs::FormatSteps::step))]
+#[tactic(auto, unfolding(tbl_data::specs::TableRead::no_lines, crate::specs::Table::line_read, crate::specs::Table::closed, crate::specs::Table::ended, crate::specs::Table::notes, crate::specs::Table::output, tbl_format::specs::FormatSteps::step))]
 pub fn reports()
     ensures letter { notes_after (codes "lx." ∷ codes "a" ∷ []) ≡ told_at 1 (LeftOut 120) ∷ [] }
     ensures measures { notes_after (codes "l l." ∷ codes "\\nxb\t\\(em\\w'x'" ∷ [])
@@ -46,12 +60,21 @@ pub fn reports()
     ensures rule { notes_after (codes "l." ∷ codes "a" ∷ codes "_" ∷ []) ≡ told_at 3 BadFormat ∷ [] }
     ensures surplus_rule { notes_after (codes "l." ∷ codes "a\t_" ∷ [])
         ≡ told_at 2 TooManyFields ∷ [] }
+    ensures box_option { picture_after 65 (codes "box;" ∷ codes "l." ∷ []) ≡ None }
+    ensures box_note { notes_after (codes "box;" ∷ codes "l." ∷ []) ≡ told_at 1 BadFormat ∷ [] }
+    ensures key { notes_after (codes "l" ∷ codes "l=." ∷ codes "a" ∷ [])
+        ≡ told_at 2 BadFormat ∷ [] }
+    ensures joined_surplus { notes_after (codes "l." ∷ codes "a\\" ∷ codes "\tb" ∷ [])
+        ≡ told_at 3 TooManyFields ∷ [] }
+    ensures joined_rule { notes_after (codes "l l." ∷ codes "a\t\\" ∷ codes "=" ∷ [])
+        ≡ told_at 3 BadFormat ∷ [] }
+    ensures no_dot { notes_after (codes "l" ∷ []) ≡ told_at 2 BadFormat ∷ [] }
     ensures not_ended { notes_after (codes "l." ∷ codes "a" ∷ codes ".T&" ∷ codes "l" ∷ [])
         ≡ told_at 5 BadFormat ∷ [] }
 {}
 
 /// How many rows tables have.
-#[tactic(auto, unfolding(crate::specs::TableRead::no_lines, crate::specs::TableNext::line_read, crate::specs::TableNext::closed, crate::specs::TableNext::ended, crate::specs::TableNext::rows, tbl_format::specs::FormatSteps::step))]
+#[tactic(auto, unfolding(tbl_data::specs::TableRead::no_lines, crate::specs::Table::line_read, crate::specs::Table::closed, crate::specs::Table::ended, crate::specs::Table::rows, tbl_format::specs::FormatSteps::step))]
 pub fn counts()
     ensures lines { rows_after (codes "l." ∷ codes "T{" ∷ codes "a" ∷ codes "T}" ∷ codes ".sp"
         ∷ codes ".T&" ∷ codes "l." ∷ codes "b" ∷ []) ≡ 3 }

@@ -6,6 +6,7 @@ pub mod Onto
 pub mod PlainTexts
 pub mod Measured
 pub mod Splits
+pub mod SplitsLie
 pub mod Numbers
 pub mod PlainMeasures
 pub mod Costs

@@ -24,7 +24,7 @@ pub record IsRun (line : List ℕ) (run : Run) (at : ℕ) (read : List Item) : T
   pub order : run.from ≤ run.glyphs
   pub last : run.glyphs ≤ at
   pub within : at ≤ length line
-  pub some : run.has_glyph ≡ true → run.from < at
+  pub some : run.has_glyph ≡ true → run.from < run.glyphs
   pub few : run.width + run.from ≤ at
 
 -- nothing is read
@@ -147,7 +147,7 @@ module _ (line : List ℕ) (run : Run) (at : ℕ) (read : List Item) (is : IsRun
     order = is.order;
     last = omega (arith, is.last);
     within = fits;
-    some = λ has. omega (arith, is.some has);
+    some = is.some;
     few = omega (arith, is.few);
   }
 

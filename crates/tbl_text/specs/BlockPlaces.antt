@@ -56,7 +56,7 @@ part_at bytes (AWord w) = OneWord (word_at bytes w)
 -- a word lies in bytes, behind a place; its blanks and its columns are so few
 pub record LiesBehind (bytes : List ℕ) (place : ℕ) (w : BlockWord) : Type 0 where
   pub begins : place ≤ w.from
-  pub order : w.from ≤ w.glyphs
+  pub order : w.from < w.glyphs
   pub last : w.glyphs ≤ w.to
   pub some : place < w.to
   pub within : w.to ≤ length bytes

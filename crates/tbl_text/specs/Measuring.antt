@@ -1,6 +1,6 @@
 -- What the items of a text measure, where a number splits, and what is told of them (Lesk, "Tbl": the key letter `n`, and
 -- "Additional features").
-use Rattle.std.specs.Prelude.{ℕ, ◌+◌, ◌==◌, Bool, true, false, not, ◌&&◌, ◌||◌, List, [], ◌∷◌, ◌++◌, filter, flat_map, length, sum_by, Option, Some, None, is_some, option_map, option_to_list, if◌then◌else◌}
+use Rattle.std.specs.Prelude.{ℕ, ◌+◌, ◌≤◌, ◌==◌, Bool, true, false, not, ◌&&◌, ◌||◌, List, [], ◌∷◌, ◌++◌, filter, flat_map, length, sum_by, Option, Some, None, is_some, option_map, option_to_list, if◌then◌else◌}
 use Rattle.std.specs.List.{list_any}
 use Rattle.std.specs.Option.{option_or}
 use Rattle.roff_source.specs.Bytes.{dot, is_digit, is_dropped}
@@ -118,6 +118,12 @@ split_of items =
 abbrev pub without_ampersand : List Item → List Item
 without_ampersand [] = []
 without_ampersand (x ∷ items) = if is_ampersand x.what then record x { what = Nothing } ∷ items else x ∷ without_ampersand items
+
+-- a split of a text that has so many bytes and so many columns
+pub record SplitLies (len width : ℕ) (s : Split) : Type 0 where
+  pub left : s.left ≤ width
+  pub order : s.end ≤ s.behind
+  pub within : s.behind ≤ len
 
 -- what items measure, as a text and as a number
 abbrev pub text_measured : List Item → Measured

@@ -52,6 +52,7 @@ pub fn fill(escapes: &mut OpenEscapes, bytes: &[u8], place: BlockPlace, measure:
     ensures width { result.width ≡ widest (lines_of measure (parts_at bytes.now place)) }
     ensures word { result.has_word ≡ has_word (parts_at bytes.now place) }
     ensures few { result.lines ≤ length bytes.now + 1 }
+    ensures narrow { result.width ≤ max measure (2 * length bytes.now + 2) }
     ensures room { escapes.new.room ≡ escapes.old.room }
 {
     let mut filled = Filled {
@@ -101,6 +102,7 @@ pub fn line_begun(
         result.width ≡ line_width (first_line measure parts) }
     ensures behind { let parts = part_at bytes.now part ∷ parts_at bytes.now behind in
         behind_first measure parts ≡ parts_with bytes.now result.next }
+    ensures narrow { result.width ≤ max measure (2 * length bytes.now + 2) }
     ensures on { IfSome result.next (GoesOn bytes.now (left_at bytes.now behind)) }
     ensures room { escapes.new.room ≡ escapes.old.room }
 {
@@ -130,6 +132,7 @@ pub fn rest_of_line(
         result.width ≡ width_behind width rest }
     ensures behind { behind_rest measure width (parts_at bytes.now place)
         ≡ parts_with bytes.now result.next }
+    ensures narrow { result.width ≤ max width measure }
     ensures on { IfSome result.next (GoesOn bytes.now (left_at bytes.now place)) }
     ensures room { escapes.new.room ≡ escapes.old.room }
 {

@@ -7,7 +7,7 @@ ghost use Rattle.tbl_text.specs.Items.{columns, items};
 ghost use Rattle.tbl_text.specs.Laws.{ArePlain, byte_item};
 ghost use Rattle.tbl_text.specs.MeasuredSoFar.{ampersand_split, behind_glyphs, byte_split};
 ghost use Rattle.tbl_text.specs.MeasuredSoFar.{item_split, measured_behind, shown, split_between};
-ghost use Rattle.tbl_text.specs.Measuring.{len_of, measured, notes_from, up_to_last_glyph};
+ghost use Rattle.tbl_text.specs.Measuring.{SplitLies, len_of, measured, notes_from, up_to_last_glyph};
 ghost use Rattle.tbl_text.specs.Measuring.{width_of};
 
 use crate::items::{Item, What, next_item};
@@ -45,6 +45,7 @@ pub fn measure(escapes: &mut OpenEscapes, text: &[u8], is_number: bool) -> Measu
     ensures value { result ≡ measured is_number text.now }
     ensures width { result.width ≤ length text.now }
     ensures glyphs { result.glyphs ≤ length text.now }
+    ensures split { IfSome result.split (SplitLies (length text.now) result.width) }
     ensures room { escapes.new.room ≡ escapes.old.room }
 {
     if is_number {

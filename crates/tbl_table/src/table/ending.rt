@@ -1,24 +1,26 @@
 //! The end of a table: its limits, its messages and what is given.
 
-ghost use Rattle.std.specs.Prelude.{◌≡◌, ℕ, ◌+◌, ◌-◌, ◌<◌, ◌≤◌, ◌^◌, min, ◌++◌, [], true, None};
-ghost use Rattle.std.specs.Prelude.{is_some};
-ghost use Rattle.tbl_picture.specs.Frame.{indent};
-ghost use Rattle.tbl_table.specs.Reading.{bytes_read, given_at_end, limit_at_end, limit_of};
-ghost use Rattle.tbl_table.specs.Reading.{output_or_read, told_at_end};
-ghost use Rattle.tbl_table.specs.Steps.{is_front};
-ghost use Rattle.tbl_table.specs.Table.{bad, closed, closed_line, ended_in, output_in, picture_of};
-ghost use Rattle.tbl_table.specs.Table.{picture_width, width_in};
-ghost use Rattle.tbl_table.specs.declared.phase.Phase.TheVariants.{InData};
+ghost use Rattle.std.specs.Prelude.{◌≡◌, ◌≤◌, ◌<◌, ◌++◌, [], true, nat_lt, None, is_some};
+ghost use Rattle.tbl_data.specs.declared.phase.Phase.TheVariants.{InData};
+ghost use Rattle.roff_source.specs.Bytes.{newline};
+ghost use Rattle.tbl_picture.specs.Giving.{with_newline};
+ghost use Rattle.tbl_table.specs.Reading.{byte_read, bytes_read, given_at_end, limit_at_end};
+ghost use Rattle.tbl_table.specs.Reading.{output_or_read};
+ghost use Rattle.tbl_table.specs.Steps.{behind_line};
+ghost use Rattle.tbl_table.specs.Reading.{told_at_end};
+ghost use Rattle.tbl_table.specs.Steps.{given_within, is_front, width_met};
+ghost use Rattle.tbl_table.specs.Table.{bad, closed, ended_in, laid_out, output_in, rows};
+ghost use Rattle.tbl_table.specs.Table.{picture_of, width_in};
 
 use super::Table;
 use crate::begun::Begun;
-use crate::phase::Phase;
-use crate::table_steps::{judged_line, keep_judged, refuse, tell_judged};
+use crate::laying::{indent, lay_out, set_places};
+use crate::table_steps::{end_block, refuse};
 use roff_num::Limit;
+use tbl_data::phase::Phase;
 
 impl Table {
-    /// A line that goes on is done.
-    #[tactic(auto, unfolding(crate::specs::Table::closed))]
+    /// A line that goes on is done, and then a text block that is open.
     pub(super) fn close(&mut self)
         ensures { self.new ≡ record self.old {
           reading = record self.old.reading
@@ -27,41 +29,50 @@ impl Table {
         } }
     {
         if self.text.is_open() {
-            self.close_row();
+            self.close_line();
         } else {
-            self.giving.give_nothing();
+            self.close_block();
         }
     }
 
-    /// The same, where there is one.
-    fn close_row(&mut self)
+    /// The same, where a line goes on.
+    #[tactic(auto, unfolding(crate::specs::Table::closed))]
+    fn close_line(&mut self)
         requires open { is_some self.old.reading.table.pending ≡ true }
         ensures { self.new ≡ record self.old {
           reading = record self.old.reading
-              { table = closed_line self.old.reading.table.pending self.old.reading.table };
+              { table = closed self.old.reading.table };
           to_come = [];
         } }
     {
-        let judged = self.judged(self.text.open_line());
-        let line = judged_line(&self.text, judged, 0);
         let from = self.text.open_start();
         let to = self.text.line_start();
         self.giving.give_nothing();
+        self.phase = self
+            .kept
+            .take_line(&mut self.text, self.options.separator, from, to, 0);
         self.text.close();
-        keep_judged(
-            judged,
-            &mut self.rows,
-            self.text.block(),
-            from,
-            to,
-            self.options.separator,
-        );
-        self.phase = tell_judged(judged, &mut self.notes, line);
+        end_block(&mut self.kept);
+        self.begun = Begun::on_line(self.phase, self.kept.format.count(), self.text.line());
     }
 
-    /// The line `.TE` was met: it is the line that is begun. The table's messages are to tell, and
-    /// its output and that line are to give. Answers the
-    /// limit on rows or on the picture's width that is met there: then it is cut.
+    /// The same, where none does.
+    #[tactic(auto, unfolding(crate::specs::Table::closed))]
+    fn close_block(&mut self)
+        requires pending { self.old.reading.table.pending ≡ None }
+        ensures { self.new ≡ record self.old {
+          reading = record self.old.reading
+              { table = closed self.old.reading.table };
+          to_come = [];
+        } }
+    {
+        self.giving.give_nothing();
+        end_block(&mut self.kept);
+    }
+
+    /// The line `.TE` was met: it is the line that is begun, and the input ends behind it, or a byte
+    /// that is no newline. The table's messages are to tell, and its output and that line are to
+    /// give. Answers the limit on rows or on the picture's width that is met there: then it is cut.
     pub fn finish(&mut self, number: u32, line_length: u32) -> Option<Limit>
         ensures answer { result
             ≡ limit_at_end self.old.limits line_length self.old.reading.table }
@@ -71,117 +82,133 @@ impl Table {
             ≡ given_at_end self.old.limits number line_length self.old.reading }
         ensures limits { self.new.limits ≡ self.old.limits }
     {
+        self.finish_with(number, line_length, false)
+    }
+
+    /// The same, where a newline follows.
+    pub fn finish_line(&mut self, number: u32, line_length: u32) -> Option<Limit>
+        ensures answer { result
+            ≡ limit_at_end self.old.limits line_length self.old.reading.table }
+        ensures told { self.new.told
+            ≡ told_at_end self.old.limits number line_length self.old.reading.table }
+        ensures to_come { self.new.to_come ≡ given_at_end self.old.limits number line_length
+            (byte_read newline self.old.reading) }
+        ensures limits { self.new.limits ≡ self.old.limits }
+    {
+        self.finish_with(number, line_length, true)
+    }
+
+    /// The same, with a newline behind the line or without one.
+    fn finish_with(&mut self, number: u32, line_length: u32, has_newline: bool) -> Option<Limit>
+        ensures answer { result
+            ≡ limit_at_end self.old.limits line_length self.old.reading.table }
+        ensures told { self.new.told
+            ≡ told_at_end self.old.limits number line_length self.old.reading.table }
+        ensures to_come { self.new.to_come ≡ given_at_end self.old.limits number line_length
+            (behind_line has_newline self.old.reading) }
+        ensures limits { self.new.limits ≡ self.old.limits }
+    {
         self.close();
-        match self.limit_met() {
-            Some(limit) => {
-                self.notes.tell();
-                Some(limit)
+        if self.has_many_rows() {
+            self.cut();
+            return Some(Limit::Rows);
+        }
+        self.give(number, line_length, has_newline)
+    }
+
+    /// Whether it has more rows and commands than the limit.
+    #[tactic(auto, unfolding(crate::specs::Table::rows))]
+    fn has_many_rows(&self) -> bool
+        ensures { result ≡ nat_lt self.now.limits.rows (rows self.now.reading.table) }
+    {
+        self.kept.rows.count() > self.limits.rows as usize
+    }
+
+    /// Its messages are to tell, and its output is to give and the line that is begun. Answers the
+    /// limit on the picture's width, where that is met: then nothing is to give.
+    fn give(&mut self, number: u32, line_length: u32, has_newline: bool) -> Option<Limit>
+        requires pending { self.old.reading.table.pending ≡ None }
+        requires begun { self.old.reading.table.begun ≡ None }
+        ensures answer { result ≡ width_met self.old.limits.width
+            (width_in self.old.reading.table.phase line_length self.old.reading.table) }
+        ensures told { result ≡ None → self.new.told
+            ≡ (ended_in self.old.reading.table.phase number self.old.reading.table).notes }
+        ensures cut { is_some result ≡ true → self.new.told ≡ self.old.reading.table.notes }
+        ensures to_come { self.new.to_come ≡ given_within result (with_newline has_newline
+            (output_or_read (output_in (ended_in self.old.reading.table.phase number
+            self.old.reading.table).phase line_length (ended_in self.old.reading.table.phase
+            number self.old.reading.table)) self.old.reading.read ++ self.old.reading.line)) }
+        ensures limits { self.new.limits ≡ self.old.limits }
+    {
+        match self.phase {
+            Phase::AtHead => {
+                self.give_unended(number, has_newline);
+                None
             }
-            None => {
-                self.give(number, line_length);
+            Phase::InFormat => {
+                self.give_unended(number, has_newline);
+                None
+            }
+            Phase::InData => self.give_picture(line_length, has_newline),
+            Phase::Bad => {
+                self.give_bad(has_newline);
                 None
             }
         }
     }
 
-    /// The limit on rows or on the picture's width that it meets, where no line goes on.
-    #[tactic(auto, unfolding(crate::specs::Table::rows, crate::specs::Table::width))]
-    fn limit_met(&self) -> Option<Limit>
-        ensures { (line_length : ℕ) → result
-            ≡ limit_of self.now.limits line_length self.now.reading.table }
-    {
-        if self.rows.count() > self.limits.rows as usize {
-            return Some(Limit::Rows);
-        }
-        if self.width() > self.limits.width as usize {
-            return Some(Limit::Width);
-        }
-        None
-    }
-
-    /// The columns of its picture, or 2^64 - 1 if there are more.
-    fn width(&self) -> usize
-        ensures { result
-            ≡ min (width_in self.now.reading.table.phase self.now.reading.table) (2 ^ 64 - 1) }
-    {
-        match self.phase {
-            Phase::AtHead => 0,
-            Phase::InFormat => 0,
-            Phase::InData => self.rows.width(self.format.asked()),
-            Phase::Bad => 0,
-        }
-    }
-
-    /// Its messages are to tell, and its output is to give and the line that is begun.
-    fn give(&mut self, number: u32, line_length: u32)
-        requires pending { self.old.reading.table.pending ≡ None }
-        requires width { width_in self.old.reading.table.phase self.old.reading.table
-            ≤ self.old.limits.width }
-        ensures told { self.new.told ≡ (ended_in self.old.reading.table.phase number
-            self.old.reading.table).notes }
-        ensures to_come { (length_of_line : ℕ) → length_of_line ≡ line_length → self.new.to_come
-            ≡ output_or_read (output_in (ended_in self.old.reading.table.phase number
-            self.old.reading.table).phase length_of_line (ended_in self.old.reading.table.phase
-            number self.old.reading.table)) self.old.reading.read ++ self.old.reading.line }
-        ensures limits { self.new.limits ≡ self.old.limits }
-    {
-        match self.phase {
-            Phase::AtHead => self.give_unended(number),
-            Phase::InFormat => self.give_unended(number),
-            Phase::InData => self.give_picture(line_length),
-            Phase::Bad => self.give_bad(),
-        }
-    }
-
     /// The same, where the format lacks its end.
-    fn give_unended(&mut self, number: u32)
+    fn give_unended(&mut self, number: u32, has_newline: bool)
         requires phase { is_front self.old.reading.table.phase ≡ true }
         requires pending { self.old.reading.table.pending ≡ None }
         ensures told { self.new.told ≡ (bad number self.old.reading.table).notes }
-        ensures to_come { self.new.to_come ≡ bytes_read self.old.reading }
+        ensures to_come { self.new.to_come
+            ≡ with_newline has_newline (bytes_read self.old.reading) }
         ensures limits { self.new.limits ≡ self.old.limits }
     {
-        self.phase = refuse(&mut self.notes, number);
+        self.phase = refuse(&mut self.kept.notes, number);
         self.begun = Begun::Nothing;
-        self.notes.tell();
-        self.giving.give_read(&self.text);
+        self.kept.notes.tell();
+        self.giving.give_read(&self.text, has_newline);
     }
 
     /// The same, where it was reported.
-    fn give_bad(&mut self)
+    fn give_bad(&mut self, has_newline: bool)
         ensures told { self.new.told ≡ self.old.reading.table.notes }
-        ensures to_come { self.new.to_come ≡ bytes_read self.old.reading }
+        ensures to_come { self.new.to_come
+            ≡ with_newline has_newline (bytes_read self.old.reading) }
         ensures limits { self.new.limits ≡ self.old.limits }
     {
-        self.notes.tell();
-        self.giving.give_read(&self.text);
+        self.kept.notes.tell();
+        self.giving.give_read(&self.text, has_newline);
     }
 
-    /// The same, where it has a picture.
-    fn give_picture(&mut self, line_length: u32)
+    /// The same, where it may have a picture. Its rows are laid out: no line follows.
+    fn give_picture(&mut self, line_length: u32, has_newline: bool) -> Option<Limit>
         requires phase { self.old.reading.table.phase ≡ InData }
         requires pending { self.old.reading.table.pending ≡ None }
-        requires width { picture_width self.old.reading.table ≤ self.old.limits.width }
+        requires begun { self.old.reading.table.begun ≡ None }
+        ensures answer { result ≡ width_met self.old.limits.width
+            (laid_out line_length self.old.reading.table).width }
         ensures told { self.new.told ≡ self.old.reading.table.notes }
-        ensures to_come { self.new.to_come ≡ picture_of line_length self.old.reading.table
-            ++ self.old.reading.line }
+        ensures to_come { self.new.to_come ≡ given_within result (with_newline has_newline
+            (picture_of line_length self.old.reading.table ++ self.old.reading.line)) }
         ensures limits { self.new.limits ≡ self.old.limits }
     {
-        let indent = self.indent(line_length);
-        self.notes.tell();
-        self.giving.give_picture(indent);
-    }
-
-    /// How far its picture is indented.
-    fn indent(&self, line_length: u32) -> u32
-        requires { self.now.reading.table.phase ≡ InData }
-        ensures { result ≡ indent self.now.reading.table.options.centered line_length
-            (picture_width self.now.reading.table) }
-    {
-        if self.options.centered {
-            ((line_length as usize).saturating_sub(self.width()) / 2) as u32
-        } else {
-            0
+        let settled = &self.text.block()[..self.text.line_start()];
+        let laid = lay_out(&mut self.kept, self.options.expanded, settled, line_length);
+        self.phase = Phase::Bad;
+        self.begun = Begun::Nothing;
+        self.kept.notes.tell();
+        if laid.width > self.limits.width as usize {
+            self.giving.give_nothing();
+            return Some(Limit::Width);
         }
+        set_places(&mut self.kept, laid.more);
+        self.giving.give_picture(
+            indent(self.options.centered, line_length, laid.width),
+            has_newline,
+        );
+        None
     }
 }

@@ -1,25 +1,25 @@
 //! The lines of a table as they end.
 
 ghost use Rattle.std.specs.Prelude.{◌≡◌, ◌+◌, ◌-◌, ◌<◌, ◌≤◌, suc, ◌++◌, [], ◌∷◌, length, drop};
-ghost use Rattle.std.specs.Prelude.{take, false, None};
+ghost use Rattle.std.specs.Prelude.{take, true, None};
 ghost use Rattle.roff_source.specs.Bytes.{newline};
 ghost use Rattle.tbl_format.specs.Format.{format_read};
 ghost use Rattle.tbl_kept.specs.Joined.{behind_joined, ends_joined};
 ghost use Rattle.tbl_format.specs.Options.{options_end};
 ghost use Rattle.tbl_table.specs.Reading.{bytes_read, line_ended};
-ghost use Rattle.tbl_table.specs.Steps.{ended_with, ends_data_row, ends_row};
+ghost use Rattle.tbl_table.specs.Steps.{ended_with, is_front};
 ghost use Rattle.tbl_table.specs.Table.{columns_at, columns_behind, columns_of};
-ghost use Rattle.tbl_table.specs.Table.{data_line, format_line, head_columns, head_line};
-ghost use Rattle.tbl_table.specs.Table.{is_bad_phase, options_line, rows_behind, whole_line};
-ghost use Rattle.tbl_table.specs.declared.phase.Phase.TheVariants.{AtHead, Bad, InData};
+ghost use Rattle.tbl_table.specs.Table.{ends_in, ends_in_data, format_line, head_columns};
+ghost use Rattle.tbl_table.specs.Table.{head_line, options_line, rows_behind};
+ghost use Rattle.tbl_data.specs.DataRead.{data_line, whole_line};
+ghost use Rattle.tbl_data.specs.declared.phase.Phase.TheVariants.{AtHead, Bad, InData};
 
 use super::Table;
 use crate::begun::Begun;
-use crate::phase::Phase;
-use crate::table_steps::{
-    goes_on, is_row, judged_line, keep_judged, take_built_keys, take_keys, tell_judged,
-};
+use crate::table_steps::{goes_on, is_open, take_built_keys, take_keys};
+use tbl_data::phase::Phase;
 use tbl_format::options::{options_end, read_options};
+use tbl_layout::data_lines::ends_row;
 
 impl Table {
     /// How many columns of its format are counted once this byte is read.
@@ -30,8 +30,8 @@ impl Table {
         match self.phase {
             Phase::AtHead => self.begun.columns_with(self.text.line(), byte),
             Phase::InFormat => self.begun.columns_with(self.text.line(), byte),
-            Phase::InData => self.format.columns(),
-            Phase::Bad => self.format.columns(),
+            Phase::InData => self.kept.format.columns(),
+            Phase::Bad => self.kept.format.columns(),
         }
     }
 
@@ -41,15 +41,16 @@ impl Table {
         ensures { result ≡ rows_behind self.now.reading.table self.now.reading.line }
     {
         if self.ends_row() {
-            self.rows.count() + 1
+            self.kept.rows.count() + 1
         } else {
-            self.rows.count()
+            self.kept.rows.count()
         }
     }
 
-    /// Whether the line that is begun is a row, or the end of one.
+    /// Whether a row or a command ends with the line that is begun.
     fn ends_row(&self) -> bool
-        ensures { result ≡ ends_row self.now.reading.table self.now.reading.line }
+        ensures { result ≡ ends_in self.now.reading.table.phase self.now.reading.table
+            self.now.reading.line }
     {
         match self.phase {
             Phase::AtHead => false,
@@ -61,9 +62,14 @@ impl Table {
 
     /// The same of a line of the data.
     fn ends_data_row(&self) -> bool
-        ensures { result ≡ ends_data_row self.now.reading.table self.now.reading.line }
+        ensures { result ≡ ends_in_data self.now.reading.table self.now.reading.line }
     {
-        !goes_on(self.text.line()) && is_row(self.judged(self.text.joined_line()))
+        !goes_on(self.text.line())
+            && ends_row(
+                is_open(self.kept.open),
+                self.options.separator,
+                self.text.joined_line(),
+            )
     }
 
     /// The newline behind the line that is begun.
@@ -134,24 +140,23 @@ impl Table {
         self.giving.give_nothing();
         self.text.end_line();
         self.options = settings.options;
-        self.notes.push_ignored(self.text.block(), 0, end, number);
+        self.kept
+            .notes
+            .push_ignored(self.text.block(), 0, end, number);
         self.phase = take_built_keys(
             settings.are_built,
-            &mut self.format,
-            &mut self.rows,
-            &mut self.notes,
+            &mut self.kept,
             &self.text.block()[end + 1..],
             number,
         );
-        self.begun = Begun::at_start(self.phase, self.format.count());
+        self.begun = Begun::at_start(self.phase, self.kept.format.count());
     }
 
     /// A line of the format has ended.
     fn end_format_line(&mut self, number: u32)
         requires room { length (bytes_read self.old.reading) < self.old.limits.text }
-        requires phase { is_bad_phase self.old.reading.table.phase ≡ false }
+        requires phase { is_front self.old.reading.table.phase ≡ true }
         requires pending { self.old.reading.table.pending ≡ None }
-        requires rows { self.old.reading.table.rows ≡ [] }
         requires columns { columns_of (format_read self.old.reading.table.format
             (self.old.reading.line ++ newline ∷ [])) ≤ self.old.limits.columns }
         ensures { self.new ≡ record self.old {
@@ -164,21 +169,14 @@ impl Table {
         let from = self.text.line_start();
         self.giving.give_nothing();
         self.text.end_line();
-        self.phase = take_keys(
-            &mut self.format,
-            &mut self.rows,
-            &mut self.notes,
-            &self.text.block()[from..],
-            number,
-        );
-        self.begun = Begun::at_start(self.phase, self.format.count());
+        self.phase = take_keys(&mut self.kept, &self.text.block()[from..], number);
+        self.begun = Begun::at_start(self.phase, self.kept.format.count());
     }
 
     /// A line of the data has ended.
     fn end_data_line(&mut self, number: u32)
         requires room { length (bytes_read self.old.reading) < self.old.limits.text }
         requires phase { self.old.reading.table.phase ≡ InData }
-        requires rows { length self.old.reading.table.rows ≤ self.old.limits.rows }
         ensures { self.new ≡ record self.old {
           reading = ended_with
               (data_line number self.old.reading.line self.old.reading.table)
@@ -190,15 +188,14 @@ impl Table {
             self.giving.give_nothing();
             self.text.join(number);
         } else {
-            self.end_row(number);
+            self.end_whole_line(number);
         }
     }
 
     /// A line of the data has ended that goes on no more.
-    fn end_row(&mut self, number: u32)
+    fn end_whole_line(&mut self, number: u32)
         requires room { length (bytes_read self.old.reading) < self.old.limits.text }
         requires phase { self.old.reading.table.phase ≡ InData }
-        requires rows { length self.old.reading.table.rows ≤ self.old.limits.rows }
         ensures { self.new ≡ record self.old {
           reading = ended_with
               (whole_line (ends_joined self.old.reading.table.pending) number
@@ -207,20 +204,13 @@ impl Table {
           to_come = [];
         } }
     {
-        let judged = self.judged(self.text.joined_line());
-        let line = judged_line(&self.text, judged, number);
         let from = self.text.open_start();
+        let to = self.text.block().len();
         self.giving.give_nothing();
+        self.phase = self
+            .kept
+            .take_line(&mut self.text, self.options.separator, from, to, number);
         self.text.end_line();
-        let to = self.text.line_start() - 1;
-        keep_judged(
-            judged,
-            &mut self.rows,
-            self.text.block(),
-            from,
-            to,
-            self.options.separator,
-        );
-        self.phase = tell_judged(judged, &mut self.notes, line);
+        self.begun = Begun::at_start(self.phase, self.kept.format.count());
     }
 }

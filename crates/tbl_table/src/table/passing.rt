@@ -1,16 +1,16 @@
 //! A table that isn't ended.
 
-ghost use Rattle.std.specs.Prelude.{◌≡◌, ◌-◌, ◌<◌, ◌≤◌, length};
+ghost use Rattle.std.specs.Prelude.{◌≡◌, ◌<◌, ◌≤◌, length};
+ghost use Rattle.tbl_table.specs.Passing.{without_rows};
 ghost use Rattle.tbl_table.specs.Reading.{bytes_read, last_read};
 ghost use Rattle.tbl_table.specs.Table.{closed, is_bad, line_read, notes};
-ghost use Rattle.tbl_table.specs.declared.phase.Phase.TheVariants.{AtHead, InData, InFormat};
+ghost use Rattle.tbl_data.specs.declared.phase.Phase.TheVariants.{AtHead, InData, InFormat};
 
 use super::Table;
 use crate::begun::Begun;
-use crate::phase::Phase;
-use crate::table_steps::{
-    goes_on, judged_line, tell_head_letters, tell_judged, tell_keys, tell_options, without_joint,
-};
+use crate::table_steps::{end_of_line, tell_head_letters, tell_keys, tell_options};
+use tbl_data::phase::Phase;
+use tbl_data::table_data::{OpenBlock, TableData};
 use tbl_format::options::options_end;
 
 impl Table {
@@ -24,8 +24,8 @@ impl Table {
         ensures limits { self.new.limits ≡ self.old.limits }
     {
         self.tell_last(number);
-        self.notes.tell();
-        self.giving.give_read(&self.text);
+        self.kept.notes.tell();
+        self.giving.give_read(&self.text, false);
         self.is_bad()
     }
 
@@ -96,16 +96,16 @@ impl Table {
         let place = self.begun.place_at_end(self.text.line());
         self.giving.give_nothing();
         self.text.complete();
-        tell_options(end, &mut self.notes, self.text.block(), number);
+        tell_options(end, &mut self.kept.notes, self.text.block(), number);
         tell_head_letters(
             end,
-            self.format.count(),
-            &mut self.notes,
+            self.kept.format.count(),
+            &mut self.kept.notes,
             self.text.block(),
             number,
         );
-        self.phase = tell_keys(place, &mut self.notes, number);
-        self.begun = Begun::at_start(self.phase, self.format.count());
+        self.phase = tell_keys(place, &mut self.kept.notes, number);
+        self.begun = Begun::at_start(self.phase, self.kept.format.count());
     }
 
     /// Tells what is to tell of a line of the format without a newline.
@@ -122,14 +122,16 @@ impl Table {
     {
         let place = self.begun.place_at_end(self.text.line());
         self.giving.give_nothing();
-        self.notes
-            .push_left_out(self.format.count(), self.text.line(), number);
+        self.kept
+            .notes
+            .push_left_out(self.kept.format.count(), self.text.line(), number);
         self.text.complete();
-        self.phase = tell_keys(place, &mut self.notes, number);
-        self.begun = Begun::at_start(self.phase, self.format.count());
+        self.phase = tell_keys(place, &mut self.kept.notes, number);
+        self.begun = Begun::at_start(self.phase, self.kept.format.count());
     }
 
-    /// Tells what is to tell of a line of the data without a newline.
+    /// Tells what is to tell of a line of the data without a newline. What stands in the table is
+    /// given up: its bytes pass as they were read.
     fn tell_last_row(&mut self, number: u32)
         requires room { length (bytes_read self.old.reading) ≤ self.old.limits.text }
         requires line { 0 < length self.old.reading.line }
@@ -141,11 +143,24 @@ impl Table {
         ensures bytes { bytes_read self.new.reading ≡ bytes_read self.old.reading }
         ensures limits { self.new.limits ≡ self.old.limits }
     {
-        let line = without_joint(self.text.joined_line(), goes_on(self.text.line()));
-        let judged = self.judged(line);
-        let at = judged_line(&self.text, judged, number);
+        let from = self.text.open_start();
+        let to = end_of_line(&self.text);
         self.giving.give_nothing();
+        self.phase = self
+            .kept
+            .take_line(&mut self.text, self.options.separator, from, to, number);
         self.text.complete();
-        self.phase = tell_judged(judged, &mut self.notes, at);
+        drop_rows(&mut self.kept);
+        self.begun = Begun::at_start(self.phase, self.kept.format.count());
     }
+}
+
+/// What stands in a table is given up: its columns are empty.
+fn drop_rows(kept: &mut TableData)
+    requires { length kept.old.format.format.asked ≤ kept.old.rows.column_room }
+    ensures { kept.new ≡ without_rows kept.old }
+{
+    kept.rows.clear();
+    kept.rows.add_columns(kept.format.columns());
+    kept.open = OpenBlock::Nothing;
 }

@@ -8,7 +8,7 @@ use Rattle.tbl_table.proofs.table_steps.take_keys.Goals as goal
 
 pub go_behind_keys-requires-clause-notes : goal.go_behind_keys-requires-clause-notes
 go_behind_keys-requires-clause-notes c =
-    let f = c.args.format.now.format in
+    let f = c.args.kept.now.format.format in
     let keys = c.args.keys.now in
     let letters = letters_left_out f keys in
     let noted = c.push_left_out.ensures f c.count.ensures.value in
@@ -18,6 +18,6 @@ go_behind_keys-requires-clause-notes c =
       ap (λ (k : KeptNotes). k.note_room) noted,
       c.requires.notes,
       letters-few f keys,
-      length-append c.args.notes.now.notes (map (left_out_note c.args.line) letters),
+      length-append c.args.kept.now.notes.notes (map (left_out_note c.args.line) letters),
       length-map letters (left_out_note c.args.line),
     )

@@ -29,5 +29,6 @@ loop-next-preserved c =
       word = ap (λ (t : Bool). t || has_word (parts_with bytes line.next)) grown.word
           ∙ word-more measure bytes part behind line.next made.behind c.loop-next.filled.has_word _ word;
       few = omega (arith, few, grown.lines, left_with-less bytes _ line.next made.on);
+      narrow = omega (arith, before.narrow, made.narrow, grown.width);
       room = made.room ∙ before.room;
     }

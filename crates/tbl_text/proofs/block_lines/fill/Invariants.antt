@@ -1,4 +1,4 @@
-use Rattle.std.proofs.Common.{◌≡◌, ◌+◌, ◌≤◌, ◌||◌, length, max}
+use Rattle.std.proofs.Common.{◌≡◌, ◌+◌, ◌*◌, ◌≤◌, ◌||◌, length, max}
 use Rattle.std.specs.Prelude.{IfSome}
 use Rattle.tbl_text.specs.BlockLines.{has_word, lines_of, widest}
 use Rattle.tbl_text.specs.BlockPlaces.{IsWithin, PartLies, parts_at, parts_with}
@@ -13,6 +13,7 @@ invariant-loop-next l = record {
       ≡ widest (lines_of l.measure (parts_at l.bytes l.fn.place));
   word : (l.filled.has_word || has_word (parts_with l.bytes l.next)) ≡ has_word (parts_at l.bytes l.fn.place);
   few : l.filled.lines + left_with l.bytes l.next ≤ length l.bytes + 1;
+  narrow : l.filled.width ≤ max l.measure (2 * length l.bytes + 2);
   room : l.escapes.room ≡ l.initial.escapes.room;
 }
 

@@ -54,9 +54,6 @@ returns-in-None-clause-out c =
     let is = read_pending c.self.inside.table c.read_on.new.table c.self.inside.own none c.read_on.ensures.told c.read_on.ensures.to_come in
     search rules
 
-pub push-requires : goal.push-requires
-push-requires c = grind (ints, arith, common_steps)
-
 pub read_on-requires : goal.read_on-requires
 read_on-requires c = grind (ints, arith, common_steps)
 

@@ -1,4 +1,6 @@
+use Rattle.std.proofs.Common.{arith}
 use Rattle.tbl_kept.proofs.TextBlocks.{Lies-complete, text-complete}
+use Rattle.tbl_kept.proofs.AskedJoints.{asked-none}
 use Rattle.tbl_kept.proofs.table_text.TableText.complete.Goals as goal
 
 pub invariant_of-self : goal.invariant_of-self
@@ -10,6 +12,7 @@ invariant_of-self c =
       few = c.self.invariant.few;
       most = c.self.invariant.most;
       lies = rw (c.len-self-inside.ensures, c.len-self-inside-2.ensures, a.block.ok.0, a.joints.ok.0) (Lies-complete a.block.items a.joints.items a.line_start a.open_start a.open_joints c.self.invariant.lies);
+      asked = asked-none a.joints.items _ c.len-self-inside-2.result (omega (arith, c.len-self-inside-2.ensures, a.joints.ok.0));
     }
 
 pub returns : goal.returns

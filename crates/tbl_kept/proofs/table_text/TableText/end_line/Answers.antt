@@ -1,6 +1,7 @@
 use Rattle.std.proofs.Common.{◌≡◌, ◌∷◌, [], List, ℕ, length, length-append, ap, ◌∙◌, arith}
 use Rattle.roff_source.specs.Bytes.{newline}
 use Rattle.tbl_kept.proofs.TextBlocks.{Lies-done, length-read, text-done}
+use Rattle.tbl_kept.proofs.AskedJoints.{asked-none}
 use Rattle.tbl_kept.proofs.table_text.TableText.end_line.Goals as goal
 
 pub push_reserved-requires : goal.push_reserved-requires
@@ -20,6 +21,7 @@ invariant_of-self c =
       most = c.self.invariant.most;
       lies = rw (c.len-self-inside-2.ensures, a.joints.ok.0)
           (Lies-done a.block.items a.joints.items a.line_start a.open_start a.open_joints c.self.invariant.lies a.text_room (newline ∷ []) c.push_reserved.new.self.items c.len-self-inside.result c.push_reserved.ensures.items n_is);
+      asked = asked-none a.joints.items _ c.len-self-inside-2.result (omega (arith, c.len-self-inside-2.ensures, a.joints.ok.0));
     }
 
 pub returns : goal.returns

@@ -2,6 +2,7 @@ use Rattle.std.proofs.Common.{◌≡◌, ◌≤◌, ◌∷◌, [], ◌++◌, Lis
 use Rattle.roff_source.specs.Bytes.{backslash}
 use Rattle.tbl_kept.specs.Joined.{goes_on}
 use Rattle.tbl_kept.proofs.TextBlocks.{Lies-join, front-is, goes_on-some, length-read, text-join}
+use Rattle.tbl_kept.proofs.AskedJoints.{asked-more}
 use Rattle.tbl_kept.proofs.table_text.TableText.join.Goals as goal
 
 pub push_reserved-requires : goal.push_reserved-requires
@@ -27,6 +28,7 @@ invariant_of-self c =
       most = c.self.invariant.most;
       lies = rw (c.push_reserved.ensures.items, c.len-self-inside.ensures, c.pop.new.self.ok.0)
           (Lies-join a.block.items a.joints.items a.line_start a.open_start a.open_joints c.self.invariant.lies a.text_room c.args.number front split within);
+      asked = rw c.push_reserved.ensures.items (asked-more a.joints.items a.open_start a.open_joints a.asked_place a.asked_joint _ c.self.invariant.lies.count c.self.invariant.asked);
     }
 
 pub returns : goal.returns

@@ -18,6 +18,7 @@ invariant_of-self c =
       few = omega (arith, room, length-read a.block.items a.joints.items a.line_start a.open_start a.open_joints c.self.invariant.lies, ap (λ (xs : List ℕ). length xs) c.push_reserved.ensures.items, length-append a.block.items (c.args.byte ∷ []));
       most = c.self.invariant.most;
       lies = rw c.push_reserved.ensures.items (Lies-push a.block.items a.joints.items a.line_start a.open_start a.open_joints c.self.invariant.lies (c.args.byte ∷ []));
+      asked = c.self.invariant.asked;
     }
 
 pub returns : goal.returns

@@ -19,6 +19,7 @@ invariant_of-self c =
       few = omega (arith, room, length-read a.block.items a.joints.items a.line_start a.open_start a.open_joints c.self.invariant.lies, ap (λ (xs : List ℕ). length xs) c.append.ensures.items, length-append a.block.items bytes);
       most = c.self.invariant.most;
       lies = rw c.append.ensures.items (Lies-push a.block.items a.joints.items a.line_start a.open_start a.open_joints c.self.invariant.lies bytes);
+      asked = c.self.invariant.asked;
     }
 
 pub returns : goal.returns

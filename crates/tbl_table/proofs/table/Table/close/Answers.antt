@@ -1,11 +1,8 @@
-use Rattle.std.proofs.Common.{◌∙◌}
+use Rattle.std.proofs.Common.{sym, ◌∙◌}
+use Rattle.tbl_table.proofs.BlockCloses.{none-goes_on}
 use Rattle.tbl_table.proofs.table.Table.close.Goals as goal
 
-pub invariant_of-self : goal.invariant_of-self
-invariant_of-self c =
+pub close_block-requires : goal.close_block-requires
+close_block-requires c =
     let a = c.self.inside in
-    record {
-      parts = c.self.invariant.parts;
-      giving = c.give_nothing.ensures.nothing.can a.text a.rows a.format;
-      pieces = c.give_nothing.ensures.room ∙ c.self.invariant.pieces;
-    }
+    record { pending = rw (← c.self.view_is) (none-goes_on a.text.pending (sym c.is_open.ensures ∙ c.if-is_open.false)) }

@@ -6,10 +6,9 @@ pub invariant_of-self : goal.invariant_of-self
 invariant_of-self c =
     let a = c.self.inside in
     let front = rw (← c.self.view_is) at c.requires.phase in
-    let none = rw (← c.self.view_is) at c.requires.pending in
     record {
       parts = rw (c.tell.ensures, c.refuse-self-inside.ensures.notes, c.refuse-self-inside.ensures.phase)
-          (refuse-fits a.limits a.phase a.begun a.text a.format a.rows a.notes c.self.invariant.parts c.args.number front none);
-      giving = c.give_read.ensures.can a.rows a.format;
-      pieces = c.give_read.ensures.room ∙ c.self.invariant.pieces;
+          (refuse-fits a.limits a.phase a.begun a.text a.kept c.self.invariant.parts c.args.number front);
+      giving = c.give_read.ensures.can a.kept.rows a.kept.format;
+      columns = c.give_read.ensures.room ∙ c.self.invariant.columns;
     }

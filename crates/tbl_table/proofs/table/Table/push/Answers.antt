@@ -1,4 +1,6 @@
-use Rattle.std.proofs.Common.{◌+◌, [], ◌∷◌, length, ◌∙◌, arith}
+use Rattle.std.proofs.Common.{◌≡◌, ◌==◌, ◌+◌, false, [], ◌∷◌, length, ◌∙◌, arith}
+use Rattle.std.proofs.lemmas.List.Elements.{All-cons, All-nil}
+use Rattle.roff_source.specs.Bytes.{newline}
 use Rattle.tbl_table.proofs.TableFits.{push-fits}
 use Rattle.tbl_table.proofs.table.Table.push.Goals as goal
 
@@ -11,8 +13,9 @@ invariant_of-self c =
     let few = rw c.line.ensures at c.behind-self-inside.ensures.few in
     record {
       parts = rw c.push.ensures
-          (push-fits a.limits a.phase a.begun a.text a.format a.rows a.notes fits (c.args.byte ∷ []) c.behind-self-inside.result (omega (arith, room))
-          (value a.phase a.format.format fits.keys.is) (few (a.limits.columns + length a.text.line) fits.keys.few));
-      giving = c.give_nothing.ensures.nothing.can c.push.new.self a.rows a.format;
-      pieces = c.give_nothing.ensures.room ∙ c.self.invariant.pieces;
+          (push-fits a.limits a.phase a.begun a.text a.kept fits (c.args.byte ∷ []) c.behind-self-inside.result (omega (arith, room))
+          (All-cons (λ b. (b == newline) ≡ false) c.args.byte [] c.requires.line (All-nil (λ b. (b == newline) ≡ false)))
+          (value a.phase a.kept.format.format fits.keys.is) (few (a.limits.columns + length a.text.line) fits.keys.few));
+      giving = c.give_nothing.ensures.nothing.can c.push.new.self a.kept.rows a.kept.format;
+      columns = c.give_nothing.ensures.room ∙ c.self.invariant.columns;
     }

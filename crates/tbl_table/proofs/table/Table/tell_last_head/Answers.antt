@@ -5,18 +5,21 @@ use Rattle.std.proofs.lemmas.List.{length-map}
 use Rattle.tbl_format.specs.KeyCounts.{StandsOnLine}
 use Rattle.tbl_format.specs.Notes.{NotesWithin, left_out_note, told_of_all}
 use Rattle.tbl_format.specs.Options.{options_end}
-use Rattle.tbl_table.specs.Steps.{fault_noted, head_letters, letters_noted, options_told, phase_at_last}
-use Rattle.tbl_table.specs.Table.{TableRead, closed, head_place, is_bad, notes}
+use Rattle.tbl_table.specs.Steps.{fault_noted, head_letters, letters_noted, is_front, options_told, phase_at_last}
+use Rattle.tbl_data.specs.TableRead.{TableRead}
+use Rattle.tbl_table.specs.Table.{closed, head_place, is_bad, notes}
+use Rattle.tbl_layout.specs.KeptEntries.{content_of}
 use Rattle.tbl_kept.specs.TableNotes.{KeptNotes}
 use Rattle.tbl_kept.specs.TableText.{KeptText, block_of}
 use Rattle.tbl_format.specs.declared.format.FormatPlace.{FormatPlace}
-use Rattle.tbl_table.specs.declared.phase.Phase.{Phase}
-use Rattle.tbl_table.specs.declared.phase.Phase.TheVariants.{AtHead}
+use Rattle.tbl_data.specs.declared.phase.Phase.{Phase}
+use Rattle.tbl_data.specs.declared.phase.Phase.TheVariants.{AtHead}
 use Rattle.tbl_table.proofs.BegunLines.{count_is}
 use Rattle.tbl_table.proofs.TableOptions.{at-head, head-letters-bound}
-use Rattle.tbl_table.proofs.TableFits.{NotesWithin-letters}
-use Rattle.tbl_table.proofs.TableReads.{letters-said}
-use Rattle.tbl_table.proofs.TableWhole.{bad-head, end-few, end-less, end-within, head-whole, is_bad-by, line-by, notes-by, told-head, whole-keys}
+use Rattle.tbl_table.proofs.DataGrows.{none-begun}
+use Rattle.tbl_table.proofs.NotesKept.{NotesWithin-letters, letters-said}
+use Rattle.tbl_table.proofs.TableFits.{front-kept}
+use Rattle.tbl_table.proofs.LastLines.{IsDone, bad-head, end-few, end-less, end-within, head-whole, is_bad-by, line-by, notes-by, told-head, whole-keys}
 use Rattle.tbl_table.proofs.table.Table.tell_last_head.Goals as goal
 
 pub tell_options-requires-clause-block : goal.tell_options-requires-clause-block
@@ -24,7 +27,7 @@ tell_options-requires-clause-block c =
     let a = c.self.inside in
     let line : List ℕ = a.text.line in
     let is = rw (← c.self.view_is) at c.requires.phase in
-    let nothing = at-head a.limits a.phase a.begun a.options a.text a.format a.rows a.notes c.self.invariant.parts is in
+    let nothing = at-head a.limits a.phase a.begun a.text a.kept c.self.invariant.parts is in
     let block : c.block.result.now ≡ line =
     c.block.ensures ∙ ap (λ (t : KeptText). block_of t) c.complete.ensures ∙ append-nil (block_of a.text) ∙ head-whole a.text nothing.no_bytes nothing.alone in
     let end_is : c.options_end-end.result ≡ options_end line = c.options_end-end.ensures ∙ ap (λ (xs : List ℕ). options_end xs) c.line.ensures in
@@ -37,11 +40,11 @@ tell_keys-self-inside-requires c =
     let line : List ℕ = a.text.line in
     let is = rw (← c.self.view_is) at c.requires.phase in
     let room = rw (← c.self.view_is) at c.requires.room in
-    let nothing = at-head a.limits a.phase a.begun a.options a.text a.format a.rows a.notes fits is in
+    let nothing = at-head a.limits a.phase a.begun a.text a.kept fits is in
     let end_is : c.options_end-end.result ≡ options_end line = c.options_end-end.ensures ∙ ap (λ (xs : List ℕ). options_end xs) c.line.ensures in
     let block : c.block-2.result.now ≡ line =
     c.block-2.ensures ∙ ap (λ (t : KeptText). block_of t) c.complete.ensures ∙ append-nil (block_of a.text) ∙ head-whole a.text nothing.no_bytes nothing.alone in
-    let f = a.format.format in
+    let f = a.kept.format.format in
     let noted = c.tell_head_letters.ensures f c.count.ensures.value in
     let letters = head_letters c.options_end-end.result f c.block-2.result.now in
     let most = head-letters-bound c.options_end-end.result f c.block-2.result.now (rw block (end-less c.options_end-end.result line end_is)) in
@@ -66,7 +69,7 @@ tell_head_letters-requires-clause-end c =
     let a = c.self.inside in
     let line : List ℕ = a.text.line in
     let is = rw (← c.self.view_is) at c.requires.phase in
-    let nothing = at-head a.limits a.phase a.begun a.options a.text a.format a.rows a.notes c.self.invariant.parts is in
+    let nothing = at-head a.limits a.phase a.begun a.text a.kept c.self.invariant.parts is in
     let block : c.block-2.result.now ≡ line =
     c.block-2.ensures ∙ ap (λ (t : KeptText). block_of t) c.complete.ensures ∙ append-nil (block_of a.text) ∙ head-whole a.text nothing.no_bytes nothing.alone in
     let end_is : c.options_end-end.result ≡ options_end line = c.options_end-end.ensures ∙ ap (λ (xs : List ℕ). options_end xs) c.line.ensures in
@@ -82,7 +85,7 @@ tell_head_letters-requires-clause-few c =
     let fits = c.self.invariant.parts in
     let line : List ℕ = a.text.line in
     let is = rw (← c.self.view_is) at c.requires.phase in
-    let nothing = at-head a.limits a.phase a.begun a.options a.text a.format a.rows a.notes fits is in
+    let nothing = at-head a.limits a.phase a.begun a.text a.kept fits is in
     let block : c.block-2.result.now ≡ line =
     c.block-2.ensures ∙ ap (λ (t : KeptText). block_of t) c.complete.ensures ∙ append-nil (block_of a.text) ∙ head-whole a.text nothing.no_bytes nothing.alone in
     rw block (omega (arith, c.count.ensures.value.columns, fits.keys.asked, fits.bytes.most, fits.rooms.small))
@@ -94,7 +97,7 @@ tell_head_letters-requires-clause-room c =
     let line : List ℕ = a.text.line in
     let is = rw (← c.self.view_is) at c.requires.phase in
     let room = rw (← c.self.view_is) at c.requires.room in
-    let nothing = at-head a.limits a.phase a.begun a.options a.text a.format a.rows a.notes fits is in
+    let nothing = at-head a.limits a.phase a.begun a.text a.kept fits is in
     let block : c.block-2.result.now ≡ line =
     c.block-2.ensures ∙ ap (λ (t : KeptText). block_of t) c.complete.ensures ∙ append-nil (block_of a.text) ∙ head-whole a.text nothing.no_bytes nothing.alone in
     let end_is : c.options_end-end.result ≡ options_end line = c.options_end-end.ensures ∙ ap (λ (xs : List ℕ). options_end xs) c.line.ensures in
@@ -107,7 +110,7 @@ invariant_of-self c =
     let line : List ℕ = a.text.line in
     let is = rw (← c.self.view_is) at c.requires.phase in
     let room = rw (← c.self.view_is) at c.requires.room in
-    let nothing = at-head a.limits a.phase a.begun a.options a.text a.format a.rows a.notes fits is in
+    let nothing = at-head a.limits a.phase a.begun a.text a.kept fits is in
     let block : c.block.result.now ≡ block_of a.text = c.block.ensures ∙ ap (λ (t : KeptText). block_of t) c.complete.ensures ∙ append-nil (block_of a.text) in
     let end_is : c.options_end-end.result ≡ options_end line = c.options_end-end.ensures ∙ ap (λ (xs : List ℕ). options_end xs) c.line.ensures in
     let kept : KeptNotes = c.tell_options.new.notes in
@@ -115,23 +118,23 @@ invariant_of-self c =
     let phase = c.tell_keys-self-inside.ensures.phase in
     let counts = c.count-2.ensures.value in
     let block_2 : c.block-2.result.now ≡ block_of a.text = c.block-2.ensures ∙ ap (λ (t : KeptText). block_of t) c.complete.ensures ∙ append-nil (block_of a.text) in
-    let f = a.format.format in
+    let f = a.kept.format.format in
     let letters = head_letters c.options_end-end.result f c.block-2.result.now in
     let noted : c.tell_head_letters.new.notes ≡ letters_noted c.args.number letters kept = c.tell_head_letters.ensures f c.count.ensures.value in
     let notes = rw noted at c.tell_keys-self-inside.ensures.notes in
     let block_line : c.block-2.result.now ≡ line = block_2 ∙ head-whole a.text nothing.no_bytes nothing.alone in
     let most = head-letters-bound c.options_end-end.result f c.block-2.result.now (rw block_line (end-less c.options_end-end.result line end_is)) in
-    let begun : c.at_start-self-inside.result ≡ begun_in (phase_at_last place) a.format.format [] =
-    c.at_start-self-inside.ensures a.format.format (count_is a.format.format c.count-2.result counts) ∙ ap (λ (p : Phase). begun_in p a.format.format []) phase in
+    let begun : c.at_start-self-inside.result ≡ begun_in (phase_at_last place) a.kept.format.format [] =
+    c.at_start-self-inside.ensures a.kept.format.format (count_is a.kept.format.format c.count-2.result counts) ∙ ap (λ (p : Phase). begun_in p a.kept.format.format []) phase in
     let within : NotesWithin (length (block_of a.text)) kept.notes = rw block at c.tell_options.ensures.within in
     let to_tell : NotesWithin (length (block_of a.text)) kept.to_tell = subst (λ ns. NotesWithin (length (block_of a.text)) ns) (sym c.tell_options.ensures.none) tt in
     record {
       parts = rw (c.complete.ensures, notes, phase, begun)
-          (whole-keys a.limits a.phase a.begun a.text a.format a.rows a.notes fits (letters_noted c.args.number letters kept) c.args.number room nothing.no_rows (omega (arith, counts.row, counts.columns, c.count-2.ensures.row))
+          (whole-keys a.limits a.phase a.begun a.text a.kept fits (record { alone = nothing.alone; fits = nothing.fits }) (λ n. front-kept a.phase n (ap is_front is)) (letters_noted c.args.number letters kept) c.args.number room (omega (arith, counts.row, counts.columns, c.count-2.ensures.row))
           (omega (arith, c.tell_options.ensures.few, ap (λ ns. length ns) nothing.no_notes, most, ap (λ (xs : List ℕ). length xs) block_line, length-append kept.notes (map (left_out_note c.args.number) letters), length-map letters (left_out_note c.args.number)))
           (NotesWithin-letters (length (block_of a.text)) c.args.number kept.notes letters within) to_tell c.tell_options.ensures.room place);
-      giving = c.give_nothing.ensures.nothing.can c.complete.new.self a.rows a.format;
-      pieces = c.give_nothing.ensures.room ∙ c.self.invariant.pieces;
+      giving = c.give_nothing.ensures.nothing.can c.complete.new.self a.kept.rows a.kept.format;
+      columns = c.give_nothing.ensures.room ∙ c.self.invariant.columns;
     }
 
 pub returns-clause-answer : goal.returns-clause-answer
@@ -140,15 +143,16 @@ returns-clause-answer c =
     let fits = c.self.invariant.parts in
     let line : List ℕ = a.text.line in
     let is = rw (← c.self.view_is) at c.requires.phase in
-    let nothing = at-head a.limits a.phase a.begun a.options a.text a.format a.rows a.notes fits is in
-    let t : TableRead = table_of a.phase a.options a.text a.format a.rows a.notes in
-    let new : TableRead = table_of c.tell_keys-self-inside.result a.options c.complete.new.self a.format a.rows c.tell_keys-self-inside.new.notes in
-    let begun : a.begun ≡ head_begun (options_end line) line = fits.keys.is ∙ ap (λ (p : Phase). begun_in p a.format.format line) is in
+    let nothing = at-head a.limits a.phase a.begun a.text a.kept fits is in
+    let t : TableRead = table_of a.phase a.options a.text a.kept in
+    let done : IsDone t = record { alone = nothing.alone; closed = none-begun a.kept.open (map (content_of a.text.settled) a.kept.rows.row) nothing.fits.closed } in
+    let new : TableRead = table_of c.tell_keys-self-inside.result a.options c.complete.new.self (record a.kept { notes = c.tell_keys-self-inside.new.notes }) in
+    let begun : a.begun ≡ head_begun (options_end line) line = fits.keys.is ∙ ap (λ (p : Phase). begun_in p a.kept.format.format line) is in
     let head = rw c.line-2.ensures at c.place_at_end-place.ensures.head in
     let phase : c.tell_keys-self-inside.result ≡ phase_at_last (head_place (options_end line) line) = c.tell_keys-self-inside.ensures.phase ∙ ap phase_at_last (head begun) in
     rw (← c.self.view_is)
     (is_bad-by new (phase_at_last (head_place (options_end line) line)) phase
-    ∙ bad-head (options_end line) c.args.number line t nothing.alone nothing.no_keys
+    ∙ bad-head (options_end line) c.args.number line t done nothing.no_keys
     ∙ ap (λ (u : TableRead). is_bad (closed u)) (sym (line-by t AtHead c.args.number line is)))
 
 pub returns-clause-told : goal.returns-clause-told
@@ -157,9 +161,10 @@ returns-clause-told c =
     let fits = c.self.invariant.parts in
     let line : List ℕ = a.text.line in
     let is = rw (← c.self.view_is) at c.requires.phase in
-    let nothing = at-head a.limits a.phase a.begun a.options a.text a.format a.rows a.notes fits is in
-    let t : TableRead = table_of a.phase a.options a.text a.format a.rows a.notes in
-    let new : TableRead = table_of c.tell_keys-self-inside.result a.options c.complete.new.self a.format a.rows c.tell_keys-self-inside.new.notes in
+    let nothing = at-head a.limits a.phase a.begun a.text a.kept fits is in
+    let t : TableRead = table_of a.phase a.options a.text a.kept in
+    let done : IsDone t = record { alone = nothing.alone; closed = none-begun a.kept.open (map (content_of a.text.settled) a.kept.rows.row) nothing.fits.closed } in
+    let new : TableRead = table_of c.tell_keys-self-inside.result a.options c.complete.new.self (record a.kept { notes = c.tell_keys-self-inside.new.notes }) in
     let blk : List ℕ = c.block.result.now in
     let block : blk ≡ block_of a.text = c.block.ensures ∙ ap (λ (t : KeptText). block_of t) c.complete.ensures ∙ append-nil (block_of a.text) in
     let block_line : blk ≡ line = block ∙ head-whole a.text nothing.no_bytes nothing.alone in
@@ -173,10 +178,10 @@ returns-clause-told c =
     ∙ ap (λ ns. told_of_all a.text.settled ns ++ options_told end c.args.number blk) (sym nothing.no_notes)
     ∙ ap (λ (e : Option ℕ). t.notes ++ options_told e c.args.number blk) end_is
     ∙ ap (λ (b : List ℕ). t.notes ++ options_told (options_end line) c.args.number b) block_line in
-    let begun : a.begun ≡ head_begun (options_end line) line = fits.keys.is ∙ ap (λ (p : Phase). begun_in p a.format.format line) is in
+    let begun : a.begun ≡ head_begun (options_end line) line = fits.keys.is ∙ ap (λ (p : Phase). begun_in p a.kept.format.format line) is in
     let head = rw c.line-2.ensures at c.place_at_end-place.ensures.head in
     let place : FormatPlace = head_place (options_end line) line in
-    let f = a.format.format in
+    let f = a.kept.format.format in
     let block_2 : c.block-2.result.now ≡ line =
     c.block-2.ensures ∙ ap (λ (t : KeptText). block_of t) c.complete.ensures ∙ append-nil (block_of a.text) ∙ head-whole a.text nothing.no_bytes nothing.alone in
     let letters = head_letters (options_end line) f line in
@@ -192,7 +197,7 @@ returns-clause-told c =
     (notes-by new (told_of_all (block_of a.text) (fault_noted place c.args.number all).notes)
     (ap (λ (k : KeptText). told_of_all k.settled c.tell_keys-self-inside.new.notes.notes) c.complete.ensures
     ∙ ap (λ (k : KeptNotes). told_of_all (block_of a.text) k.notes) noted)
-    ∙ told-head (block_of a.text) all (options_end line) c.args.number line t nothing.alone nothing.no_keys
+    ∙ told-head (block_of a.text) all (options_end line) c.args.number line t done nothing.no_keys
     (letters-said (block_of a.text) kept.notes c.args.number letters (t.notes ++ options_told (options_end line) c.args.number line) says)
     ∙ ap (λ (u : TableRead). notes (closed u)) (sym (line-by t AtHead c.args.number line is)))
 

@@ -1,0 +1,16 @@
+use Rattle.std.proofs.Common.{sym, subst}
+use Rattle.tbl_data.specs.LineTaken.{Makes, made_by}
+use Rattle.tbl_data.specs.declared.phase.Phase.TheVariants.{InData}
+use Rattle.tbl_data.proofs.LineSteps.{command-kept}
+use Rattle.tbl_kept.specs.Rows.{KeptRows}
+use Rattle.tbl_layout.specs.declared.data_lines.LineKind.TheVariants.{Command}
+use Rattle.tbl_data.proofs.table_data.TableData.take_command.Goals as goal
+
+pub returns : goal.returns
+returns c = record {
+  made = λ k within fits closed.
+      let d = c.args.self.now in
+      let line = c.args.line in
+      subst (λ (rows : KeptRows). Makes k line 0 (made_by Command k line) InData d (record d { rows = rows })) (sym c.keep_command.ensures)
+      (command-kept k line d fits closed c.requires.order within);
+}

@@ -1,0 +1,215 @@
+//! The fields of a line of a table's data, as they are taken one after another (Lesk, "Tbl": Data,
+//! Text Blocks).
+
+ghost use Rattle.std.specs.Prelude.{◌≡◌, ℕ, ◌+◌, ◌-◌, ◌<◌, ◌≤◌, ◌^◌, false, List, if◌then◌else◌, length};
+ghost use Rattle.tbl_data.specs.LineTaken.{EndsRow, Grows, HasRoom, IsOnLine, LineLies, Makes};
+ghost use Rattle.tbl_data.specs.LineTaken.{OpensBlock, RowFits, TakesField, fields_made, last_made};
+ghost use Rattle.tbl_data.specs.TableData.{EndsBy, OpenEndsAt};
+ghost use Rattle.tbl_data.specs.declared.phase.Phase.TheVariants.{InData};
+ghost use Rattle.tbl_data.specs.TableRead.{bad};
+ghost use Rattle.tbl_data.specs.declared.table_data.OpenBlock.TheVariants.{Nothing};
+ghost use Rattle.tbl_format.specs.Notes.{NotesWithin};
+ghost use Rattle.tbl_format.specs.RowsServed.{all_rows};
+ghost use Rattle.tbl_kept.specs.Joined.{ends_joined, line_at};
+ghost use Rattle.tbl_kept.specs.Rows.{entries_of};
+ghost use Rattle.tbl_kept.specs.RowsLaying.{AreOpened};
+ghost use Rattle.tbl_kept.specs.TableText.{block_of};
+ghost use Rattle.tbl_layout.specs.Entries.{is_number};
+
+use crate::data_line::{DataLine, tell, tell_items, tell_surplus};
+use crate::phase::Phase;
+use crate::table_data::{OpenBlock, TableData};
+use tbl_format::format::Key;
+use tbl_format::notes::Cause;
+use tbl_kept::rows::key_at;
+use tbl_kept::table_text::TableText;
+use tbl_layout::data::field_len;
+use tbl_layout::data_lines::{ends_in_block, is_laid_out, opens_block};
+use tbl_layout::entry::Entry;
+use tbl_text::measure::measure;
+
+impl TableData {
+    /// The fields from a place on, up to the line's end. Behind the last the row is whole, unless
+    /// that opens a text block. Surplus fields are told once a row.
+    pub(crate) fn take_fields(
+        &mut self,
+        text: &mut TableText,
+        line: DataLine,
+        first: usize,
+        had_surplus: bool,
+    ) -> Phase
+        requires lies { LineLies (block_of text.old) line }
+        requires at { IsOnLine line first }
+        requires closed { self.old.open ≡ Nothing }
+        requires fits { RowFits (block_of text.old) self.old }
+        requires room { HasRoom (line.to - first + 1) self.old }
+        ensures text { text.new ≡ text.old }
+        ensures made { Makes text.old line (line.to - first + 1)
+            (fields_made text.old line first had_surplus self.old) result self.old self.new }
+    {
+        let mut at = first;
+        while self.rows.row_len() < self.format.columns() {
+            let end = at + field_len(line.separator, &text.block()[at..line.to]);
+            if end == line.to {
+                return self.take_last(text, line, at, had_surplus);
+            }
+            if !is_laid_out(&text.block()[at..end]) {
+                return self.refuse(text, line, at);
+            }
+            self.take_field(text, line, at, end);
+            at = end + 1;
+        }
+        self.take_surplus(text, line, at, had_surplus)
+    }
+
+    /// The last field of a line, which has a column.
+    fn take_last(
+        &mut self,
+        text: &mut TableText,
+        line: DataLine,
+        at: usize,
+        had_surplus: bool,
+    ) -> Phase
+        requires lies { LineLies (block_of text.old) line }
+        requires at { IsOnLine line at }
+        requires closed { self.old.open ≡ Nothing }
+        requires fits { RowFits (block_of text.old) self.old }
+        requires column { length self.old.rows.row < length self.old.format.format.asked }
+        requires room { HasRoom (line.to - at + 1) self.old }
+        ensures text { text.new ≡ text.old }
+        ensures made { Makes text.old line (line.to - at + 1)
+            (last_made text.old line at had_surplus self.old) result self.old self.new }
+    {
+        if opens_block(&text.block()[at..line.to]) {
+            return self.open_block(line.to, had_surplus);
+        }
+        if !is_laid_out(&text.block()[at..line.to]) {
+            return self.refuse(text, line, at);
+        }
+        self.take_field(text, line, at, line.to);
+        self.end_row()
+    }
+
+    /// The surplus fields from a place on, up to the line's end: of them only a last one counts
+    /// that opens a text block. They are told by the line of the separator in front of them.
+    fn take_surplus(
+        &mut self,
+        text: &mut TableText,
+        line: DataLine,
+        at: usize,
+        had_surplus: bool,
+    ) -> Phase
+        requires lies { LineLies (block_of text.old) line }
+        requires at { IsOnLine line at }
+        requires closed { self.old.open ≡ Nothing }
+        requires fits { RowFits (block_of text.old) self.old }
+        requires full { length self.old.format.format.asked ≤ length self.old.rows.row }
+        requires room { HasRoom (line.to - at + 1) self.old }
+        ensures text { text.new ≡ text.old }
+        ensures made { Makes text.old line (line.to - at + 1)
+            (fields_made text.old line at had_surplus self.old) result self.old self.new }
+    {
+        tell_surplus(&mut self.notes, text, line, at, had_surplus);
+        if ends_in_block(line.separator, &text.block()[at..line.to]) {
+            self.open_block(line.to, true)
+        } else {
+            self.end_row()
+        }
+    }
+
+    /// A text of a column, which lies there: it is kept, and what isn't measured of it is told.
+    fn take_field(&mut self, text: &mut TableText, line: DataLine, at: usize, end: usize)
+        requires lies { LineLies (block_of text.old) line }
+        requires at { IsOnLine line at }
+        requires order { at ≤ end }
+        requires end { end ≤ line.to }
+        requires fits { RowFits (block_of text.old) self.old }
+        requires closed { self.old.open ≡ Nothing }
+        requires column { length self.old.rows.row < length self.old.format.format.asked }
+        requires room { HasRoom (end - at + 1) self.old }
+        ensures text { text.new ≡ text.old }
+        ensures taken { TakesField text.old line at end self.old self.new }
+    {
+        let keys = self.format.row_of_all(self.keys);
+        let is_number = is_number(key_at(keys, self.rows.row_len()));
+        let measured = measure(&mut self.escapes, &text.block()[at..end], is_number);
+        self.rows.keep(Entry::of_text(at, end - at, measured));
+        if measured.has_notes {
+            tell_items(&mut self.notes, &mut self.escapes, text, line, at, end);
+        }
+    }
+
+    /// A text block begins behind a line that ends there: as a field, or dropped.
+    fn open_block(&mut self, line_end: usize, is_dropped: bool) -> Phase
+        requires small { line_end < 2 ^ 32 }
+        requires room { is_dropped ≡ false → entries_of self.old.rows < self.old.rows.entry_room }
+        ensures phase { result ≡ InData }
+        ensures opens { (bytes : List ℕ) → line_end ≤ length bytes → (is_dropped ≡ false
+            → length self.old.rows.row < length self.old.rows.columns) → RowFits bytes self.old
+            → OpensBlock bytes is_dropped self.old self.new }
+        ensures ends { OpenEndsAt line_end self.new.open self.new.rows.row }
+        ensures settled { EndsBy line_end self.old → EndsBy line_end self.new }
+        ensures grown { Grows (if is_dropped then 0 else 1) 0 self.old self.new }
+        ensures notes { self.new.notes ≡ self.old.notes }
+    {
+        if is_dropped {
+            self.open = OpenBlock::Dropped;
+        } else {
+            self.rows.keep(Entry::opened(line_end));
+            self.open = OpenBlock::Kept;
+        }
+        Phase::InData
+    }
+
+    /// The row that is begun is whole: the next one of the format serves the next row.
+    pub(crate) fn end_row(&mut self) -> Phase
+        requires few { entries_of self.old.rows < 2 ^ 32 }
+        requires opened { AreOpened self.old.rows.row }
+        requires elements { length self.old.rows.elements < self.old.rows.element_room }
+        requires serves { self.old.keys < length (all_rows self.old.format.format) }
+        requires small { length (all_rows self.old.format.format) < 2 ^ 32 }
+        ensures phase { result ≡ InData }
+        ensures ends { (bytes : List ℕ) → RowFits bytes self.old → EndsRow bytes self.old self.new }
+        ensures settled { (place : ℕ) → EndsBy place self.old → EndsBy place self.new }
+        ensures closed { self.new.open ≡ Nothing }
+        ensures grown { Grows 0 1 self.old self.new }
+        ensures notes { self.new.notes ≡ self.old.notes }
+        ensures format { self.new.format ≡ self.old.format }
+    {
+        self.rows
+            .end_row(self.keys, self.format.row_of_all(self.keys));
+        self.open = OpenBlock::Nothing;
+        if self.keys + 1 < self.format.all_rows() {
+            self.keys += 1;
+        }
+        Phase::InData
+    }
+
+    /// What begins at a place of a line isn't laid out.
+    pub(crate) fn refuse(&mut self, text: &mut TableText, line: DataLine, at: usize) -> Phase
+        requires at { line.from ≤ at }
+        requires notes { NotesWithin (length (block_of text.old)) self.old.notes.notes }
+        requires room { length self.old.notes.notes < self.old.notes.note_room }
+        ensures text { text.new ≡ text.old }
+        ensures made { Makes text.old line 1
+            (bad (line_at (ends_joined text.old.pending) (at - line.from) line.number))
+            result self.old self.new }
+    {
+        self.open = OpenBlock::Nothing;
+        tell(
+            &mut self.notes,
+            text,
+            at - line.from,
+            line.number,
+            Cause::BadFormat,
+        );
+        Phase::Bad
+    }
+}
+
+/// Whether texts under a key are numbers.
+fn is_number(key: Key) -> bool
+    ensures { result ≡ is_number key }
+{
+    matches!(key, Key::Numeric)
+}

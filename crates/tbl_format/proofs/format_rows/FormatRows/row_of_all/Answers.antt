@@ -1,0 +1,59 @@
+use Rattle.std.proofs.Common.{◌<◌, length, ap, arith}
+use Rattle.std.proofs.lemmas.List.{get_or_read}
+use Rattle.tbl_format.proofs.FormatBlocks.{count-all, row_of_all-read}
+use Rattle.tbl_format.proofs.Parts.{EndWithin-order, IsPart-read}
+use Rattle.tbl_format.proofs.format_rows.FormatRows.row_of_all.Goals as goal
+
+pub part_start-requires : goal.part_start-requires
+part_start-requires c =
+    let old = c.self.inside in
+    let inside = rw (← c.self.view_is) at c.requires in
+    omega (arith, inside, count-all old.keys.items old.ends.items old.row_bars.items old.first, ap length c.as_slice-2.ensures.value)
+
+pub index-requires : goal.index-requires
+index-requires c =
+    let old = c.self.inside in
+    let inside = rw (← c.self.view_is) at c.requires in
+    omega (arith, inside, count-all old.keys.items old.ends.items old.row_bars.items old.first, old.ends.ok.0)
+
+pub offset_bounds-as_slice-part_start : goal.offset_bounds-as_slice-part_start
+offset_bounds-as_slice-part_start c =
+    let old = c.self.inside in
+    let inside = rw (← c.self.view_is) at c.requires in
+    let some : c.args.at < length old.ends.items = omega (arith, inside, count-all old.keys.items old.ends.items old.row_bars.items old.first) in
+    let start = rw c.as_slice-2.ensures.value at c.part_start.ensures in
+    let end = get_or_read old.ends.items c.args.at c.index.result.now some c.index.ensures 0 in
+    let part = IsPart-read (length old.keys.items) old.ends.items c.args.at _ _ (EndWithin-order (length old.keys.items) 0 old.ends.items c.self.invariant.ends) some start end in
+    omega (arith, part.order, part.within, ap length c.as_slice.ensures.value, c.as_slice.type_inv.1)
+
+pub slice_bounds-result-count : goal.slice_bounds-result-count
+slice_bounds-result-count c =
+    let old = c.self.inside in
+    let inside = rw (← c.self.view_is) at c.requires in
+    let some : c.args.at < length old.ends.items = omega (arith, inside, count-all old.keys.items old.ends.items old.row_bars.items old.first) in
+    let start = rw c.as_slice-2.ensures.value at c.part_start.ensures in
+    let end = get_or_read old.ends.items c.args.at c.index.result.now some c.index.ensures 0 in
+    (IsPart-read (length old.keys.items) old.ends.items c.args.at _ _ (EndWithin-order (length old.keys.items) 0 old.ends.items c.self.invariant.ends) some start end).order
+
+pub slice_bounds-result-start : goal.slice_bounds-result-start
+slice_bounds-result-start c = slice_bounds-result-count c
+
+pub slice_bounds-result-end : goal.slice_bounds-result-end
+slice_bounds-result-end c =
+    let old = c.self.inside in
+    let inside = rw (← c.self.view_is) at c.requires in
+    let some : c.args.at < length old.ends.items = omega (arith, inside, count-all old.keys.items old.ends.items old.row_bars.items old.first) in
+    let start = rw c.as_slice-2.ensures.value at c.part_start.ensures in
+    let end = get_or_read old.ends.items c.args.at c.index.result.now some c.index.ensures 0 in
+    let part = IsPart-read (length old.keys.items) old.ends.items c.args.at _ _ (EndWithin-order (length old.keys.items) 0 old.ends.items c.self.invariant.ends) some start end in
+    omega (arith, part.within, ap length c.as_slice.ensures.value)
+
+pub returns : goal.returns
+returns c =
+    let old = c.self.inside in
+    let inside = rw (← c.self.view_is) at c.requires in
+    let some : c.args.at < length old.ends.items = omega (arith, inside, count-all old.keys.items old.ends.items old.row_bars.items old.first) in
+    let start = rw c.as_slice-2.ensures.value at c.part_start.ensures in
+    let end = get_or_read old.ends.items c.args.at c.index.result.now some c.index.ensures 0 in
+    rw (← c.self.view_is, c.as_slice.ensures.value)
+    (row_of_all-read old.keys.items old.ends.items old.row_bars.items old.first c.args.at _ _ some start end)

@@ -1,0 +1,90 @@
+use Rattle.std.proofs.Common.{◌≡◌, ◌<◌, ◌≤◌, ◌-◌, ◌++◌, length, take, drop, sym, ap, subst, ◌∙◌, arith}
+use Rattle.std.specs.List.{slice_range}
+use Rattle.std.proofs.lemmas.List.{with_items_is}
+use Rattle.tbl_format.specs.RowsServed.{all_rows, row_at}
+use Rattle.tbl_text.proofs.BlockSlices.{length-slice_range}
+use Rattle.tbl_kept.specs.Rows.{Command, ElementKept, KeptElement}
+use Rattle.tbl_kept.proofs.RowPlaces.{LieBetween-at, LieBetween-set, kept-at, length-changed, length-kept, part-changed}
+use Rattle.tbl_kept.proofs.RowsFilled.{fields-lie, length-laid}
+use Rattle.tbl_kept.proofs.RowsLaidOut.{row-laid}
+use Rattle.tbl_kept.proofs.rows.TableRows.fill_row.Goals as goal
+
+-- src/rows.rt:275:27
+pub slice_bounds-entries-count : goal.slice_bounds-entries-count
+slice_bounds-entries-count c =
+    let a = c.self.inside in
+    let at = rw (← c.self.view_is) at c.requires.at in
+    let more : c.args.at < length a.elements.items = omega (arith, at, length-kept a.entries.items a.elements.items) in
+    let row = LieBetween-at 0 a.row_start c.args.at a.elements.items c.in-Row.row c.index.result.now more (sym c.index.ensures ∙ c.in-Row.is) c.self.invariant.rows in
+    row.order
+
+pub slice_bounds-entries-start : goal.slice_bounds-entries-start
+slice_bounds-entries-start c = slice_bounds-entries-count c
+
+pub slice_bounds-entries-end : goal.slice_bounds-entries-end
+slice_bounds-entries-end c =
+    let a = c.self.inside in
+    let at = rw (← c.self.view_is) at c.requires.at in
+    let more : c.args.at < length a.elements.items = omega (arith, at, length-kept a.entries.items a.elements.items) in
+    let row = LieBetween-at 0 a.row_start c.args.at a.elements.items c.in-Row.row c.index.result.now more (sym c.index.ensures ∙ c.in-Row.is) c.self.invariant.rows in
+    omega (arith, row.last, c.self.invariant.start, c.as_mut_slice.ensures.len, a.entries.ok.0)
+
+pub fill_fields-height-requires-clause-lie : goal.fill_fields-height-requires-clause-lie
+fill_fields-height-requires-clause-lie c =
+    let a = c.self.inside in
+    let at = rw (← c.self.view_is) at c.requires.at in
+    let more : c.args.at < length a.elements.items = omega (arith, at, length-kept a.entries.items a.elements.items) in
+    let formats = all_rows c.args.format.now.format in
+    let kept = rw (← c.self.view_is) at c.requires.kept in
+    let is = kept-at a.entries.items a.elements.items c.args.at c.index.result.now _ (Command 0 0) more (sym c.index.ensures ∙ c.in-Row.is) in
+    let row = subst (λ (e : KeptElement). ElementKept c.args.bytes.now formats (length a.columns.items) e) is kept in
+    rw c.as_mut_slice.ensures.value (fields-lie c.args.bytes.now (row_at formats c.in-Row.row.keys) 0 (slice_range a.entries.items c.in-Row.row.from c.in-Row.row.to) row.kept)
+
+pub invariant_of-self : goal.invariant_of-self
+invariant_of-self c =
+    let a = c.self.inside in
+    let r = c.in-Row.row in
+    let at = rw (← c.self.view_is) at c.requires.at in
+    let more : c.args.at < length a.elements.items = omega (arith, at, length-kept a.entries.items a.elements.items) in
+    let is = sym c.index.ensures ∙ c.in-Row.is in
+    let row = LieBetween-at 0 a.row_start c.args.at a.elements.items r c.index.result.now more is c.self.invariant.rows in
+    let within : r.to ≤ length a.entries.items = omega (arith, row.last, c.self.invariant.start) in
+    let part = c.fill_fields-height.new.entries in
+    let slice : length (slice_range c.as_mut_slice.result.now r.from r.to) ≡ r.to - r.from =
+    rw c.as_mut_slice.ensures.value (length-slice_range a.entries.items r.from r.to within) in
+    let len : length part ≡ r.to - r.from = ap length c.fill_fields-height.ensures.entries ∙ length-laid _ _ _ ∙ slice in
+    let whole = length-changed a.entries.items part r.from r.to row.order within len in
+    let written = with_items_is a.entries (take r.from a.entries.items ++ (part ++ drop (r.to - r.from) (drop r.from a.entries.items))) (whole ∙ sym a.entries.ok.0) in
+    record {
+      entries_reserved = c.self.invariant.entries_reserved;
+      elements_reserved = c.self.invariant.elements_reserved;
+      columns_reserved = c.self.invariant.columns_reserved;
+      start = rw (c.as_mut_slice.ensures.value, written) (omega (arith, c.self.invariant.start, whole));
+      rows = LieBetween-set r c.fill_fields-height.result 0 a.row_start c.args.at a.elements.items c.index.result.now more is c.self.invariant.rows;
+    }
+
+pub returns-in-Row-clause-value : goal.returns-in-Row-clause-value
+returns-in-Row-clause-value c =
+    let a = c.self.inside in
+    let r = c.in-Row.row in
+    let at = rw (← c.self.view_is) at c.requires.at in
+    let more : c.args.at < length a.elements.items = omega (arith, at, length-kept a.entries.items a.elements.items) in
+    let is = sym c.index.ensures ∙ c.in-Row.is in
+    let row = LieBetween-at 0 a.row_start c.args.at a.elements.items r c.index.result.now more is c.self.invariant.rows in
+    let within : r.to ≤ length a.entries.items = omega (arith, row.last, c.self.invariant.start) in
+    let part = c.fill_fields-height.new.entries in
+    let slice : length (slice_range c.as_mut_slice.result.now r.from r.to) ≡ r.to - r.from =
+    rw c.as_mut_slice.ensures.value (length-slice_range a.entries.items r.from r.to within) in
+    let len : length part ≡ r.to - r.from = ap length c.fill_fields-height.ensures.entries ∙ length-laid _ _ _ ∙ slice in
+    let whole = length-changed a.entries.items part r.from r.to row.order within len in
+    let written = with_items_is a.entries (take r.from a.entries.items ++ (part ++ drop (r.to - r.from) (drop r.from a.entries.items))) (whole ∙ sym a.entries.ok.0) in
+    let formats = all_rows c.args.format.now.format in
+    let format = row_at formats r.keys in
+    let cols = c.fill_fields-height.ensures.columns format.bars in
+    let columns = with_items_is a.columns c.fill_fields-height.new.columns (c.fill_fields-height.auto.columns ∙ c.as_mut_slice-in-Row.ensures.len) in
+    rw (← c.self.view_is, c.as_mut_slice.ensures.value, written, columns)
+    (row-laid a.entries.items (take r.from a.entries.items ++ (part ++ drop (r.to - r.from) (drop r.from a.entries.items))) part a.elements.items a.row_start c.args.at r
+    c.index.result.now a.columns.items c.fill_fields-height.new.columns a.entry_room a.element_room a.column_room c.fill_fields-height.result c.args.bytes.now formats more is
+    c.self.invariant.rows (part-changed a.entries.items part r.from r.to row.order within len) c.fill_fields-height.ensures.height
+    (rw (c.as_mut_slice.ensures.value, c.as_mut_slice-in-Row.ensures.value) at c.fill_fields-height.ensures.entries)
+    (rw (c.as_mut_slice.ensures.value, c.as_mut_slice-in-Row.ensures.value, c.row_of_all-keys.ensures) at cols))

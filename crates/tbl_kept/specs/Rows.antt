@@ -1,0 +1,187 @@
+-- The rows and commands of a table, as they are kept: their texts lie in the table's bytes (Lesk, "Tbl": Data).
+use Rattle.std.specs.Prelude.{◌≡◌, ℕ, zero, suc, ◌+◌, ◌-◌, ◌≤◌, ◌<◌, max, List, [], ◌∷◌, ◌++◌, length, map, replicate, get_or}
+use Rattle.std.specs.List.{slice_range, AllByRecursion}
+use Rattle.tbl_format.specs.Format.{FormatRow}
+use Rattle.tbl_format.specs.RowsServed.{row_at}
+use Rattle.tbl_layout.specs.Columns.{greatest, needing, needs_of}
+use Rattle.tbl_layout.specs.Entries.{Command as OneCommand, Element, Row as OneRow, key_at}
+use Rattle.tbl_layout.specs.KeptEntries.{IsKept, IsLaid, content_of, lines_by, stands_of, with_end}
+use Rattle.tbl_kept.specs.declared.rows.Lent.{Lent}
+use Rattle.tbl_kept.specs.declared.rows.Lent.TheVariants.{Command as LentCommand, Row as LentRow}
+use Rattle.tbl_layout.specs.declared.columns.Column.{Column}
+use Rattle.tbl_layout.specs.declared.columns.Stands.{Stands}
+use Rattle.tbl_layout.specs.declared.columns.Stands.TheVariants.{Nowhere}
+use Rattle.tbl_layout.specs.declared.entry.Entry.{Entry}
+
+-- a row by the place of the row of the formats that serves it, its lines, and its fields; or a command by where it lies
+pub data KeptElement : Type 0 where
+  Row : (keys height : ℕ) (entries : List Entry) → KeptElement
+  Command : (from to : ℕ) → KeptElement
+
+-- the rows and commands, the fields of the row that is begun, the columns, and how many fields, elements and columns there is
+-- room for
+pub record KeptRows : Type 0 where
+  pub elements : List KeptElement
+  pub row : List Entry
+  pub columns : List Column
+  pub entry_room : ℕ
+  pub element_room : ℕ
+  pub column_room : ℕ
+
+-- nothing, with room for so much
+abbrev pub no_rows : ℕ → ℕ → ℕ → KeptRows
+no_rows entries elements columns =
+    record { elements = []; row = []; columns = []; entry_room = entries; element_room = elements; column_room = columns }
+
+abbrev pub cleared : KeptRows → KeptRows
+cleared k = no_rows k.entry_room k.element_room k.column_room
+
+-- how many fields they have, with those of the row that is begun
+abbrev pub len_of : KeptElement → ℕ
+len_of (Row keys height entries) = length entries
+len_of (Command from to) = 0
+
+abbrev pub entries_in : List KeptElement → ℕ
+entries_in [] = 0
+entries_in (e ∷ elements) = len_of e + entries_in elements
+
+abbrev pub entries_of : KeptRows → ℕ
+entries_of k = entries_in k.elements + length k.row
+
+-- a column without an entry
+abbrev pub no_column : Column
+no_column = record { needs = needs_of []; measure = 0; width = 0; start = 0 }
+
+-- a further format is read, with which there are so many columns
+abbrev pub with_columns : ℕ → KeptRows → KeptRows
+with_columns count k = record k { columns = k.columns ++ replicate (count - length k.columns) no_column }
+
+-- one field more in the row that is begun
+abbrev pub with_entry : Entry → KeptRows → KeptRows
+with_entry e k = record k { row = k.row ++ e ∷ [] }
+
+-- the last of some fields changed
+abbrev pub last_changed : (Entry → Entry) → List Entry → List Entry
+last_changed change [] = []
+last_changed change (e ∷ []) = change e ∷ []
+last_changed change (e ∷ next ∷ entries) = e ∷ last_changed change (next ∷ entries)
+
+-- the block that is the last of them goes on up to a place
+abbrev pub with_block_end : ℕ → KeptRows → KeptRows
+with_block_end to k = record k { row = last_changed (with_end to) k.row }
+
+-- columns hold the fields of a row in them, under its keys: behind these come such as `l`
+abbrev pub holding : FormatRow → ℕ → List Entry → List Column → List Column
+holding format column [] columns = columns
+holding format column (e ∷ entries) [] = []
+holding format column (e ∷ entries) (c ∷ columns) =
+    record c { needs = needing c.needs (stands_of (key_at format column) e) } ∷ holding format (suc column) entries columns
+
+-- the row that is begun is whole, and this row of the formats serves it
+abbrev pub with_row : ℕ → FormatRow → KeptRows → KeptRows
+with_row keys format k = record k {
+  elements = k.elements ++ Row keys 1 k.row ∷ [];
+  row = [];
+  columns = holding format 0 k.row k.columns;
+}
+
+-- a command that lies there
+abbrev pub with_command : ℕ → ℕ → KeptRows → KeptRows
+with_command from to k = record k { elements = k.elements ++ Command from to ∷ [] }
+
+-- what is lent
+abbrev pub lent : Lent → KeptElement
+lent (LentRow keys height entries) = Row keys height entries.now
+lent (LentCommand from to) = Command from to
+
+-- what stands in the table, by its bytes and the rows of all formats
+abbrev pub element_of : List ℕ → List FormatRow → KeptElement → Element
+element_of bytes formats (Row keys height entries) = OneRow (row_at formats keys) (map (content_of bytes) entries)
+element_of bytes formats (Command from to) = OneCommand (slice_range bytes from to)
+
+abbrev pub elements_of : List ℕ → List FormatRow → List KeptElement → List Element
+elements_of bytes formats elements = map (element_of bytes formats) elements
+
+-- the fields of a row are kept, each under its key
+abbrev pub AreKept : List ℕ → FormatRow → ℕ → List Entry → Type 0
+AreKept bytes format column [] = Unit {0}
+AreKept bytes format column (e ∷ entries) = IsKept bytes (key_at format column) e × AreKept bytes format (suc column) entries
+
+-- a row of the formats serves a row, which has at most so many fields, all of which are kept
+pub record RowKept (bytes : List ℕ) (formats : List FormatRow) (columns keys height : ℕ) (entries : List Entry) : Type 0 where
+  pub serves : keys < length formats
+  pub short : length entries ≤ columns
+  pub kept : AreKept bytes (row_at formats keys) 0 entries
+  pub low : height ≡ 1
+
+pub record CommandLies (bytes : List ℕ) (from to : ℕ) : Type 0 where
+  pub order : from ≤ to
+  pub within : to ≤ length bytes
+
+abbrev pub ElementKept : List ℕ → List FormatRow → ℕ → KeptElement → Type 0
+ElementKept bytes formats columns (Row keys height entries) = RowKept bytes formats columns keys height entries
+ElementKept bytes formats columns (Command from to) = CommandLies bytes from to
+
+-- how the fields of a column stand in it
+abbrev pub stands_at : FormatRow → ℕ → ℕ → List Entry → Stands
+stands_at format at column [] = Nowhere
+stands_at format at zero (e ∷ entries) = stands_of (key_at format at) e
+stands_at format at (suc column) (e ∷ entries) = stands_at format at column entries
+
+abbrev pub stands_in : List FormatRow → ℕ → List KeptElement → List Stands
+stands_in formats column [] = []
+stands_in formats column (Row keys height entries ∷ elements) =
+    stands_at (row_at formats keys) column column entries ∷ stands_in formats column elements
+stands_in formats column (Command from to ∷ elements) = stands_in formats column elements
+
+-- columns from one on hold what these rows need, before they are laid out
+abbrev pub columns_holding : List FormatRow → List KeptElement → ℕ → ℕ → List Column
+columns_holding formats elements column zero = []
+columns_holding formats elements column (suc count) =
+    record no_column { needs = needs_of (stands_in formats column elements) }
+    ∷ columns_holding formats elements (suc column) count
+
+-- all that is kept lies in these bytes, is served by these rows of formats, and is held by the columns
+pub record RowsKept (bytes : List ℕ) (formats : List FormatRow) (k : KeptRows) : Type 0 where
+  pub elements : AllByRecursion (ElementKept bytes formats (length k.columns)) k.elements
+  pub columns : k.columns ≡ columns_holding formats k.elements 0 (length k.columns)
+
+-- and the row that is begun, which this row of the formats is to serve
+pub record RowBegunKept (bytes : List ℕ) (formats : List FormatRow) (keys : ℕ) (k : KeptRows) : Type 0 where
+  pub all : RowsKept bytes formats k
+  pub row : AreKept bytes (row_at formats keys) 0 k.row
+  pub short : length k.row ≤ length k.columns
+
+-- the lines of a row
+abbrev pub height_of : List Entry → ℕ
+height_of entries = max 1 (greatest (map (λ e. lines_by e.kind) entries))
+
+-- the measures of columns
+abbrev pub measures : List Column → ℕ → ℕ
+measures columns at = get_or (map (λ c. c.measure) columns) at 0
+
+-- the fields of a row are laid out, each under its key and in the measure of its column
+abbrev pub AreLaid : List ℕ → List Column → FormatRow → ℕ → List Entry → Type 0
+AreLaid bytes columns format column [] = Unit {0}
+AreLaid bytes columns format column (e ∷ entries) =
+    IsLaid bytes (measures columns column) (key_at format column) e × AreLaid bytes columns format (suc column) entries
+
+pub record RowLaid (bytes : List ℕ) (formats : List FormatRow) (columns : List Column) (keys height : ℕ) (entries : List Entry) : Type 0 where
+  pub serves : keys < length formats
+  pub short : length entries ≤ length columns
+  pub laid : AreLaid bytes columns (row_at formats keys) 0 entries
+  pub high : height ≡ height_of entries
+
+abbrev pub ElementLaid : List ℕ → List FormatRow → List Column → KeptElement → Type 0
+ElementLaid bytes formats columns (Row keys height entries) = RowLaid bytes formats columns keys height entries
+ElementLaid bytes formats columns (Command from to) = CommandLies bytes from to
+
+-- all rows are laid out in the columns
+abbrev pub RowsLaid : List ℕ → List FormatRow → KeptRows → Type 0
+RowsLaid bytes formats k = AllByRecursion (ElementLaid bytes formats k.columns) k.elements
+
+-- there is room for as much
+pub record SameRoom (old new : KeptRows) : Type 0 where
+  pub entries : new.entry_room ≡ old.entry_room
+  pub elements : new.element_room ≡ old.element_room
+  pub columns : new.column_room ≡ old.column_room

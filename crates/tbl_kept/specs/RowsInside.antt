@@ -1,0 +1,37 @@
+-- How the rows of a table lie in lists.
+use Rattle.std.specs.Prelude.{◌≡◌, ℕ, ◌≤◌, List, [], ◌∷◌, drop, length, map, vec_capacity}
+use Rattle.std.specs.List.{slice_range}
+use Rattle.tbl_kept.specs.Rows.{Command, KeptElement, KeptRows, Row}
+use Rattle.tbl_kept.specs.declared.rows.Element.{Element}
+use Rattle.tbl_kept.specs.declared.rows.Element.TheVariants.{Command as OneCommand, Row as OneRow}
+use Rattle.tbl_kept.specs.declared.rows.TableRows.TheInside.{Inside}
+use Rattle.tbl_layout.specs.declared.entry.Entry.{Entry}
+
+-- what an element is whose fields lie among these
+abbrev pub kept_in : List Entry → Element → KeptElement
+kept_in entries (OneRow row) = Row row.keys row.height (slice_range entries row.from row.to)
+kept_in entries (OneCommand from to) = Command from to
+
+abbrev pub kept_by : Inside → KeptRows
+kept_by a = record {
+  elements = map (kept_in a.entries.items) a.elements.items;
+  row = drop a.row_start a.entries.items;
+  columns = a.columns.items;
+  entry_room = a.entry_room;
+  element_room = a.element_room;
+  column_room = a.column_room;
+}
+
+-- the fields of rows lie one row after another, from a place up to one
+abbrev pub LieBetween : ℕ → List Element → ℕ → Type 0
+LieBetween from [] to = from ≡ to
+LieBetween from (OneRow row ∷ elements) to = (from ≡ row.from) × (from ≤ row.to) × LieBetween row.to elements to
+LieBetween from (OneCommand start end ∷ elements) to = LieBetween from elements to
+
+-- the room is reserved, and the rows lie in front of the one that is begun
+pub record IsSound (a : Inside) : Type 0 where
+  pub entries_reserved : a.entry_room ≤ vec_capacity a.entries
+  pub elements_reserved : a.element_room ≤ vec_capacity a.elements
+  pub columns_reserved : a.column_room ≤ vec_capacity a.columns
+  pub start : a.row_start ≤ length a.entries.items
+  pub rows : LieBetween 0 a.elements.items a.row_start

@@ -1,0 +1,192 @@
+//! The fields of rows, as they are kept: where they lie in the table's bytes, and what they measure
+//! (Lesk, "Tbl": Data, Text Blocks).
+
+ghost use Rattle.std.specs.Prelude.{◌≡◌, ◌+◌, ◌<◌, ◌≤◌, ◌^◌, IfSome};
+ghost use Rattle.tbl_layout.specs.KeptEntries.{entry_by, filled_with, opened_at, stands_of};
+ghost use Rattle.tbl_text.specs.Measuring.{SplitLies};
+ghost use Rattle.tbl_layout.specs.KeptEntries.{kind_by, lines_by, split_by, with_end};
+
+use crate::columns::{Stands, unsplit};
+use tbl_format::format::Key;
+use tbl_text::block_lines::Filled;
+use tbl_text::measure::{Measured, Split};
+
+/// A field of a row, as it is kept. Places are places in the table's bytes.
+#[derive(Clone, Copy)]
+pub struct Entry {
+    /// Where its text begins. Of a block: where the line ends that opens it; its own lines lie behind
+    /// that, each with a newline in front of it.
+    pub from: u32,
+    /// Where its text ends, or the last line of its block.
+    pub to: u32,
+    /// What it is.
+    pub kind: EntryKind,
+}
+
+/// What a field is.
+#[derive(Clone, Copy)]
+pub enum EntryKind {
+    /// A text: where it ends up to its last glyph, and its columns.
+    Text(u32, u32),
+    /// A number that is split.
+    Split(SplitEntry),
+    /// A text block.
+    Block(BlockEntry),
+}
+
+/// A number that is split in two.
+#[derive(Clone, Copy)]
+pub struct SplitEntry {
+    /// Where it ends up to its last glyph.
+    pub glyphs: u32,
+    /// Its columns.
+    pub width: u32,
+    /// The columns of its left part.
+    pub left: u32,
+    /// Where its left part ends.
+    pub end: u32,
+    /// Where its right part begins.
+    pub behind: u32,
+}
+
+/// A text block. Before it is filled it has no line.
+#[derive(Clone, Copy)]
+pub struct BlockEntry {
+    /// How many lines it has.
+    pub lines: u32,
+    /// The columns of the widest.
+    pub width: u64,
+    /// Whether it has a word.
+    pub has_word: bool,
+}
+
+impl Entry {
+    /// The field of a text that begins at a place, has so many bytes and measures so much.
+    pub fn of_text(from: usize, len: usize, measured: Measured) -> Entry
+        requires within { from + len < 2 ^ 32 }
+        requires width { measured.width ≤ len }
+        requires glyphs { measured.glyphs ≤ len }
+        requires split { IfSome measured.split (SplitLies len measured.width) }
+        ensures { result ≡ entry_by from len measured }
+    {
+        Entry {
+            from: from as u32,
+            to: (from + len) as u32,
+            kind: kind_of(from, measured),
+        }
+    }
+
+    /// A text block of which no line is read, behind the line that opens it, which ends there.
+    pub fn opened(from: usize) -> Entry
+        requires { from < 2 ^ 32 }
+        ensures { result ≡ opened_at from }
+    {
+        Entry {
+            from: from as u32,
+            to: from as u32,
+            kind: EntryKind::Block(BlockEntry {
+                lines: 0,
+                width: 0,
+                has_word: false,
+            }),
+        }
+    }
+
+    /// The same with its last line's end there.
+    pub fn with_end(self, to: usize) -> Entry
+        requires { to < 2 ^ 32 }
+        ensures { result ≡ with_end to self }
+    {
+        Entry {
+            from: self.from,
+            to: to as u32,
+            kind: self.kind,
+        }
+    }
+
+    /// A text block that is filled so.
+    pub fn filled(self, block: Filled) -> Entry
+        requires { block.lines < 2 ^ 32 }
+        ensures { result ≡ filled_with block.lines block.width block.has_word self }
+    {
+        Entry {
+            from: self.from,
+            to: self.to,
+            kind: EntryKind::Block(BlockEntry {
+                lines: block.lines as u32,
+                width: block.width,
+                has_word: block.has_word,
+            }),
+        }
+    }
+
+    /// How many lines it has.
+    pub fn lines(self) -> u32
+        ensures { result ≡ lines_by self.kind }
+    {
+        match self.kind {
+            EntryKind::Text(_, _) => 1,
+            EntryKind::Split(_) => 1,
+            EntryKind::Block(block) => block.lines,
+        }
+    }
+
+    /// How it stands in its column, under this key.
+    #[inline]
+    pub fn stands(self, key: Key) -> Stands
+        ensures { result ≡ stands_of key self }
+    {
+        match self.kind {
+            EntryKind::Text(_, width) => {
+                if self.from == self.to {
+                    Stands::Nowhere
+                } else {
+                    unsplit(key, width as u64)
+                }
+            }
+            EntryKind::Split(split) => {
+                Stands::Apart(split.left, split.width.saturating_sub(split.left))
+            }
+            EntryKind::Block(block) => {
+                if block.has_word {
+                    unsplit(key, block.width)
+                } else {
+                    Stands::Nowhere
+                }
+            }
+        }
+    }
+}
+
+/// What a text is that begins at a place and measures so much.
+fn kind_of(from: usize, measured: Measured) -> EntryKind
+    requires small { from + measured.width < 2 ^ 32 }
+    requires glyphs { from + measured.glyphs < 2 ^ 32 }
+    requires split { IfSome measured.split (λ s. from + s.behind < 2 ^ 32) }
+    requires order { IfSome measured.split (λ s. s.end ≤ s.behind) }
+    requires left { IfSome measured.split (λ s. s.left ≤ measured.width) }
+    ensures { result ≡ kind_by from measured }
+{
+    let glyphs = (from + measured.glyphs) as u32;
+    let width = measured.width as u32;
+    match measured.split {
+        None => EntryKind::Text(glyphs, width),
+        Some(split) => EntryKind::Split(split_entry(from, glyphs, width, split)),
+    }
+}
+
+/// A number that is split there.
+fn split_entry(from: usize, glyphs: u32, width: u32, split: Split) -> SplitEntry
+    requires small { from + split.behind < 2 ^ 32 }
+    requires order { split.end ≤ split.behind }
+    requires left { split.left ≤ width }
+    ensures { result ≡ split_by from glyphs width split }
+{
+    SplitEntry {
+        glyphs,
+        width,
+        left: split.left as u32,
+        end: (from + split.end) as u32,
+        behind: (from + split.behind) as u32,
+    }
+}

@@ -1,0 +1,127 @@
+-- The columns of a row, by their places.
+use Rattle.std.proofs.Common.{◌≡◌, ℕ, zero, suc, ◌+◌, ◌<◌, ◌≤◌, List, [], ◌∷◌, ◌++◌, length, take, drop, get_or, map, refl, sym, ap, subst, ◌∙◌, arith}
+use Rattle.std.specs.List.{AllByRecursion}
+use Rattle.std.proofs.lemmas.List.{drop-map}
+use Rattle.tbl_format.specs.declared.format.FormatKey.{FormatKey}
+use Rattle.tbl_layout.specs.declared.columns.Column.{Column}
+use Rattle.tbl_layout.specs.declared.entry.Entry.{Entry}
+use Rattle.tbl_picture.specs.RowsLeft.{block_text, key_of, row_columns}
+use Rattle.tbl_picture.specs.RowsWalked.{EntryLies, IsNarrow, PlacesLie}
+use Rattle.tbl_picture.specs.declared.row_columns.RowColumn.{RowColumn}
+use Rattle.tbl_text.specs.BlockPlaces.{IsWithin}
+use Rattle.tbl_text.specs.declared.block_parts.BlockPlace.{BlockPlace}
+
+-- no element is left of none
+pub drop-none : {A : Type 0} (n : ℕ) → drop {A = A} n [] ≡ []
+drop-none zero = refl
+drop-none (suc n) = refl
+
+-- what is behind the first that is left
+pub drop-next : {A : Type 0} (n : ℕ) (xs : List A) (x : A) (rest : List A) → drop n xs ≡ x ∷ rest → drop (suc n) xs ≡ rest
+drop-next zero [] x rest is = absurd (cc)
+drop-next zero (y ∷ xs) x rest is = cc
+drop-next (suc n) [] x rest is = absurd (cc)
+drop-next (suc n) (y ∷ xs) x rest is = drop-next n xs x rest is
+
+pub take-next : {A : Type 0} (n : ℕ) (xs : List A) (x : A) (rest : List A) → drop n xs ≡ x ∷ rest → take (suc n) xs ≡ take n xs ++ x ∷ []
+take-next zero [] x rest is = absurd (cc)
+take-next {A = A} zero (y ∷ xs) x rest is = let same : y ≡ x = cc in ap (λ (z : A). z ∷ []) same
+take-next (suc n) [] x rest is = absurd (cc)
+take-next {A = A} (suc n) (y ∷ xs) x rest is = ap (λ (zs : List A). y ∷ zs) (take-next n xs x rest is)
+
+module _ (keys : List FormatKey) where
+  -- the column at a place
+  pub row-column : (k at : ℕ) (columns : List Column) (entries : List Entry) (places : List BlockPlace) (c : Column) (e : Entry) (p : BlockPlace)
+      → at < length entries → length entries ≤ length columns → at < length places
+      → drop at (row_columns keys k columns entries places)
+      ≡ record { column = get_or columns at c; key = key_of keys (k + at); entry = get_or entries at e; place = get_or places at p }
+      ∷ drop (suc at) (row_columns keys k columns entries places)
+  row-column k at [] [] places c e p entry short place = absurd (omega (arith, entry))
+  row-column k at [] (x ∷ entries) places c e p entry short place = absurd (omega (arith, short))
+  row-column k at (d ∷ columns) [] places c e p entry short place = absurd (omega (arith, entry))
+  row-column k at (d ∷ columns) (x ∷ entries) [] c e p entry short place = absurd (omega (arith, place))
+  row-column k zero (d ∷ columns) (x ∷ entries) (q ∷ places) c e p entry short place =
+      let same : k ≡ k + 0 = omega arith in
+      ap (λ (i : ℕ). record { column = d; key = key_of keys i; entry = x; place = q } ∷ row_columns keys (suc k) columns entries places) same
+  row-column k (suc at) (d ∷ columns) (x ∷ entries) (q ∷ places) c e p entry short place =
+      let same : suc k + at ≡ k + suc at = omega arith in
+      row-column (suc k) at columns entries places c e p (omega (arith, entry)) (omega (arith, short)) (omega (arith, place))
+      ∙ ap (λ (i : ℕ). record { column = get_or columns at c; key = key_of keys i; entry = get_or entries at e; place = get_or places at p }
+      ∷ drop (suc at) (row_columns keys (suc k) columns entries places)) same
+
+  pub length-row_columns : (bytes : List ℕ) (k : ℕ) (columns : List Column) (entries : List Entry) (places : List BlockPlace)
+      → length entries ≤ length columns → PlacesLie bytes entries places → length (row_columns keys k columns entries places) ≡ length entries
+  length-row_columns bytes k [] [] places short lie = refl
+  length-row_columns bytes k [] (e ∷ entries) places short lie = absurd (omega (arith, short))
+  length-row_columns bytes k (c ∷ columns) [] places short lie = refl
+  length-row_columns bytes k (c ∷ columns) (e ∷ entries) [] short lie = absurd lie
+  length-row_columns bytes k (c ∷ columns) (e ∷ entries) (p ∷ places) short lie =
+      ap suc (length-row_columns bytes (suc k) columns entries places (omega (arith, short)) lie.1)
+
+  -- no column has no place
+  pub none-left : (k : ℕ) (columns : List Column) (entries : List Entry) → row_columns keys k columns entries [] ≡ []
+  none-left k [] entries = refl
+  none-left k (c ∷ columns) [] = refl
+  none-left k (c ∷ columns) (e ∷ entries) = refl
+
+  -- a place more
+  pub row_columns-push : (k : ℕ) (columns : List Column) (entries : List Entry) (places behind : List BlockPlace) (p : BlockPlace) (r : RowColumn)
+      (rest : List RowColumn) → drop (length behind) (row_columns keys k columns entries places) ≡ r ∷ rest
+      → row_columns keys k columns entries (behind ++ p ∷ []) ≡ row_columns keys k columns entries behind ++ record r { place = p } ∷ []
+  row_columns-push k [] entries places behind p r rest is = absurd (let no = sym (drop-none (length behind)) ∙ is in cc)
+  row_columns-push k (c ∷ columns) [] places behind p r rest is = absurd (let no = sym (drop-none (length behind)) ∙ is in cc)
+  row_columns-push k (c ∷ columns) (e ∷ entries) [] behind p r rest is = absurd (let no = sym (drop-none (length behind)) ∙ is in cc)
+  row_columns-push k (c ∷ columns) (e ∷ entries) (q ∷ places) [] p r rest is =
+      let first : RowColumn = record { column = c; key = key_of keys k; entry = e; place = q } in
+      let same : first ≡ r = cc in
+      ap (λ (more : List RowColumn). record first { place = p } ∷ more) (none-left (suc k) columns entries)
+      ∙ ap (λ (x : RowColumn). record x { place = p } ∷ []) same
+  row_columns-push k (c ∷ columns) (e ∷ entries) (q ∷ places) (b ∷ behind) p r rest is =
+      ap (λ (more : List RowColumn). record { column = c; key = key_of keys k; entry = e; place = b } ∷ more)
+      (row_columns-push (suc k) columns entries places behind p r rest is)
+
+-- what is known of a column at a place
+pub record ColumnLies (bytes : List ℕ) (all : List Entry) (n : ℕ) (r : RowColumn) : Type 0 where
+  pub entries : drop n all ≡ r.entry ∷ drop (suc n) all
+  pub lies : EntryLies bytes r.entry
+  pub within : IsWithin (block_text bytes r.entry) r.place
+  pub narrow : IsNarrow r.column
+
+pub column-lies : (bytes : List ℕ) (keys : List FormatKey) (k n : ℕ) (columns : List Column) (entries : List Entry) (places : List BlockPlace)
+    (r : RowColumn) (rest : List RowColumn) → drop n (row_columns keys k columns entries places) ≡ r ∷ rest
+    → AllByRecursion (EntryLies bytes) entries → AllByRecursion IsNarrow columns → PlacesLie bytes entries places
+    → ColumnLies bytes entries n r
+column-lies bytes keys k n [] entries places r rest is lie narrow within = absurd (let no = sym (drop-none n) ∙ is in cc)
+column-lies bytes keys k n (c ∷ columns) [] places r rest is lie narrow within = absurd (let no = sym (drop-none n) ∙ is in cc)
+column-lies bytes keys k n (c ∷ columns) (e ∷ entries) [] r rest is lie narrow within = absurd within
+column-lies bytes keys k zero (c ∷ columns) (e ∷ entries) (p ∷ places) r rest is lie narrow within =
+    let first : RowColumn = record { column = c; key = key_of keys k; entry = e; place = p } in
+    let same : first ≡ r = cc in
+    subst (ColumnLies bytes (e ∷ entries) 0) same (record { entries = refl; lies = lie.0; within = within.0; narrow = narrow.0 })
+column-lies bytes keys k (suc n) (c ∷ columns) (e ∷ entries) (p ∷ places) r rest is lie narrow within =
+    let behind = column-lies bytes keys (suc k) n columns entries places r rest is lie.1 narrow.1 within.1 in
+    record { entries = behind.entries; lies = behind.lies; within = behind.within; narrow = behind.narrow }
+
+-- a place more in the blocks of a front of the fields
+pub places-push : (bytes : List ℕ) (entries : List Entry) (behind : List BlockPlace) (p : BlockPlace) (e : Entry) (rest : List Entry)
+    → drop (length behind) entries ≡ e ∷ rest → IsWithin (block_text bytes e) p → PlacesLie bytes (take (length behind) entries) behind
+    → PlacesLie bytes (take (suc (length behind)) entries) (behind ++ p ∷ [])
+places-push bytes [] behind p e rest is within lie = absurd (let no = sym (drop-none (length behind)) ∙ is in cc)
+places-push bytes (x ∷ entries) [] p e rest is within lie =
+    let same : x ≡ e = cc in (subst (λ (y : Entry). IsWithin (block_text bytes y) p) (sym same) within, tt)
+places-push bytes (x ∷ entries) (b ∷ behind) p e rest is within lie =
+    (lie.0, places-push bytes entries behind p e rest is within lie.1)
+
+-- a place for each field
+pub length-places : (bytes : List ℕ) (entries : List Entry) (places : List BlockPlace) → PlacesLie bytes entries places
+    → length places ≡ length entries
+length-places bytes [] [] lie = refl
+length-places bytes [] (p ∷ places) lie = absurd lie
+length-places bytes (e ∷ entries) [] lie = absurd lie
+length-places bytes (e ∷ entries) (p ∷ places) lie = ap suc (length-places bytes entries places lie.1)
+
+-- what is left of a list is left of another one of its elements
+pub map-at : {A B : Type 0} (f : A → B) (n : ℕ) (xs : List A) (x : A) → drop n xs ≡ x ∷ drop (suc n) xs
+    → drop n (map f xs) ≡ f x ∷ drop (suc n) (map f xs)
+map-at {B = B} f n xs x is =
+    drop-map f n xs ∙ ap (map f) is ∙ ap (λ (ys : List B). f x ∷ ys) (sym (drop-map f (suc n) xs))

@@ -1,0 +1,46 @@
+use Rattle.std.proofs.Common.{◌≡◌, ℕ, ◌+◌, ◌-◌, ◌≤◌, List, ◌++◌, length, replicate, sym, ap, subst, ◌∙◌, arith}
+use Rattle.std.specs.List.{slice_range}
+use Rattle.std.proofs.lemmas.List.{length-replicate}
+use Rattle.roff_source.specs.Bytes.{blank}
+use Rattle.tbl_picture.specs.PieceQueue.{Adds}
+use Rattle.tbl_picture.specs.RowsLeft.{begins_at, if_given, text_run}
+use Rattle.tbl_picture.specs.Walks.{AtColumn, KeptWalk, RowSteps, kept_by, lent_row, passed}
+use Rattle.tbl_picture.proofs.Adding.{adds-fewer, adds-more}
+use Rattle.tbl_picture.proofs.CellSteps.{end-within, run-steps}
+use Rattle.tbl_picture.proofs.CellsGiven.{text-first, text-last, text-moved}
+use Rattle.tbl_picture.proofs.walk.Walk.give_text.Goals as goal
+use Rattle.tbl_text.proofs.BlockSlices.{length-slice_range}
+
+pub returns : goal.returns
+returns c = λ frame.
+    let row = lent_row c.args.row.now in
+    let bytes = row.bytes in
+    let w = kept_by c.self.inside in
+    let r = c.args.held in
+    let glyphs = c.args.glyphs in
+    let width = c.args.width in
+    let view = c.self.view_is in
+    let at : AtColumn row w r = subst (λ (k : KeptWalk). AtColumn row k r) (sym view) c.requires.at in
+    let gap = c.gap_to.result in
+    let gap_now : gap ≡ c.begins_at-at.result - w.place = c.gap_to.ensures ∙ ap (λ (k : KeptWalk). c.begins_at-at.result - k.place) (sym view) in
+    let to = c.end_given-to.result in
+    let reached = c.begins_at-at.result + width in
+    let before = c.args.pieces.now in
+    let between = c.give.new.pieces in
+    let after = c.give-2.new.pieces in
+    let gap_is : gap ≡ begins_at r - w.place = gap_now ∙ ap (λ (n : ℕ). n - w.place) c.begins_at-at.ensures.value in
+    let within : to ≤ length bytes = omega (arith, c.end_given-to.ensures, end-within w.count glyphs r.entry.to, at.lies.within) in
+    let blanks = c.give.ensures.adds bytes frame (length-replicate gap blank) in
+    let text = c.give-2.ensures.adds bytes frame (length-slice_range bytes r.entry.from to within) in
+    let last = ap (λ (n : ℕ). if_given w.count (slice_range bytes r.entry.from n)) c.end_given-to.ensures ∙ sym (text-last bytes r w.count glyphs width) in
+    let both = adds-fewer bytes frame (1 + 1) 4 before after (if_given w.count (replicate gap blank) ++ if_given w.count (slice_range bytes r.entry.from to))
+    (omega arith) (adds-more bytes frame 1 1 before between after (if_given w.count (replicate gap blank)) (if_given w.count (slice_range bytes r.entry.from to)) blanks text) in
+    let line : w.line ≡ 0 = ap (λ (k : KeptWalk). k.line) view ∙ c.requires.line in
+    let next = ap (λ (k : KeptWalk). k.next) view ∙ c.requires.next in
+    let steps = run-steps row w r at next frame before after (text_run bytes r.entry glyphs width) gap reached
+    (text-first bytes r w.line glyphs width c.requires.kind line c.requires.some)
+    (text-moved bytes r w.line glyphs width c.requires.kind)
+    gap_is (ap (λ (n : ℕ). n + width) c.begins_at-at.ensures.value)
+    (subst (λ (more : List ℕ). Adds bytes frame 4 before after (if_given w.count (replicate gap blank) ++ more)) last both) in
+    subst (λ (k : KeptWalk). RowSteps frame row c.args.self.now k before after) (sym c.pass.ensures)
+    (subst (λ (k : KeptWalk). RowSteps frame row k (passed r.place reached k) before after) view steps)

@@ -1,0 +1,102 @@
+use Rattle.std.proofs.Common.{◌≡◌, ℕ, ◌+◌, ◌≤◌, ◌<◌, List, [], ◌∷◌, ◌++◌, length, replicate, sym, ap, subst, ◌∙◌, arith}
+use Rattle.std.specs.List.{slice_range}
+use Rattle.std.proofs.lemmas.List.{length-replicate}
+use Rattle.roff_source.specs.Bytes.{blank}
+use Rattle.tbl_picture.specs.RowsLeft.{block_text, given, if_given, one_less}
+use Rattle.tbl_picture.specs.Walks.{AtColumn, InWord, KeptWalk, RowSteps, at_word, columns_walked, kept_by, lent_row, passed}
+use Rattle.tbl_picture.proofs.Adding.{adds-fewer, adds-more}
+use Rattle.tbl_picture.proofs.CellSteps.{end-within}
+use Rattle.tbl_picture.proofs.ColumnSteps.{cells_behind}
+use Rattle.tbl_picture.proofs.RowColumns.{length-row_columns}
+use Rattle.tbl_picture.proofs.WordsGiven.{end-some, ends-steps, joins-steps, some-left, stands-at, word-in, word-last, word-within}
+use Rattle.tbl_picture.proofs.walk.Walk.give_word.Goals as goal
+use Rattle.tbl_text.proofs.BlockSlices.{length-slice_range}
+use Rattle.tbl_text.specs.BlockLines.{behind_rest, rest_of_line}
+use Rattle.tbl_text.specs.BlockPlaces.{IsWithin, LiesBehind, left_at, parts_at, word_at}
+use Rattle.tbl_text.specs.BlockWords.{OneWord}
+
+pub column-held-requires-clause-left : goal.column-held-requires-clause-left
+column-held-requires-clause-left c =
+    let row = lent_row c.args.row.now in
+    let w = c.args.self.now in
+    let b = c.requires.word.line.before in
+    omega (
+      arith,
+      some-left row.bytes c.args.word c.args.width c.args.place (length w.behind) (columns_walked row w) c.requires.word.next,
+      length-row_columns row.keys row.bytes 0 row.columns row.entries w.places b.short b.places,
+    )
+
+pub returns-in-Joins-clause-steps : goal.returns-in-Joins-clause-steps
+returns-in-Joins-clause-steps c = λ frame.
+    let row = lent_row c.args.row.now in
+    let r = c.column-held.result in
+    let w = kept_by c.self.inside in
+    let view = c.self.view_is in
+    let word = c.args.word in
+    let at : AtColumn row w r = subst (λ (k : KeptWalk). AtColumn row k r) (sym view) c.column-held.ensures in
+    let in_word = subst (λ (k : KeptWalk). InWord row word c.args.width c.args.place k) (sym view) c.requires.word in
+    let stands = stands-at row w r word c.args.width c.args.place at in_word in
+    let next = ap (λ (k : KeptWalk). k.next) view ∙ c.requires.next in
+    let arm = c.in-Joins in
+    let value = c.block_bytes-block.ensures.value in
+    let m = r.column.measure in
+    let from = r.entry.from + 1 + word.from in
+    let to = r.entry.from + 1 + word.to in
+    let some = stands.lies.some in
+    let within = stands.lies.within in
+    let before = c.args.pieces.now in
+    let between = c.give.new.pieces in
+    let after = c.give-in-Joins.new.pieces in
+    let first = if_given w.count (slice_range row.bytes from to) in
+    let second = if_given w.count (replicate arm.next.gap blank) in
+    let both = adds-fewer row.bytes frame (1 + 1) 4 before after (first ++ second) (omega arith)
+    (adds-more row.bytes frame 1 1 before between after first second
+    (c.give.ensures.adds row.bytes frame (length-slice_range row.bytes from to (word-within row.bytes r.entry word.to at.lies some within)))
+    (c.give-in-Joins.ensures.adds row.bytes frame (length-replicate arm.next.gap blank))) in
+    let steps = joins-steps row w r at word c.args.width c.args.place next stands frame before after arm.next arm.wider arm.behind (slice_range row.bytes from to)
+    (subst (λ (b : List ℕ). rest_of_line m c.args.width (parts_at b c.args.place) ≡ OneWord (word_at b arm.next) ∷ rest_of_line m arm.wider (parts_at b arm.behind)) value arm.ensures.line)
+    (subst (λ (b : List ℕ). behind_rest m c.args.width (parts_at b c.args.place) ≡ behind_rest m arm.wider (parts_at b arm.behind)) value arm.ensures.behind)
+    arm.ensures.width.0
+    (subst (λ (b : List ℕ). LiesBehind b 0 arm.next) value arm.ensures.on.lies)
+    (subst (λ (b : List ℕ). IsWithin b arm.behind) value arm.ensures.on.within)
+    (subst (λ (b : List ℕ). left_at b arm.behind < left_at b c.args.place) value arm.ensures.on.less)
+    (word-in row.bytes r.entry word.from word.to at.lies some within) both in
+    subst (λ (k : KeptWalk). RowSteps frame row k (at_word arm.next arm.wider arm.behind w) before after) view steps
+
+pub returns-in-Ends-clause-steps : goal.returns-in-Ends-clause-steps
+returns-in-Ends-clause-steps c = λ frame.
+    let row = lent_row c.args.row.now in
+    let r = c.column-held.result in
+    let w = kept_by c.self.inside in
+    let view = c.self.view_is in
+    let word = c.args.word in
+    let at : AtColumn row w r = subst (λ (k : KeptWalk). AtColumn row k r) (sym view) c.column-held.ensures in
+    let in_word = subst (λ (k : KeptWalk). InWord row word c.args.width c.args.place k) (sym view) c.requires.word in
+    let stands = stands-at row w r word c.args.width c.args.place at in_word in
+    let next = ap (λ (k : KeptWalk). k.next) view ∙ c.requires.next in
+    let arm = c.in-Ends in
+    let m = r.column.measure in
+    let end = c.end_given-end.result in
+    let from = r.entry.from + 1 + word.from in
+    let to = r.entry.from + 1 + end in
+    let lies = stands.lies in
+    let block = block_text row.bytes r.entry in
+    let few : end ≤ word.to = omega (arith, c.end_given-end.ensures, end-within w.count word.glyphs word.to) in
+    let some : 0 < end = omega (arith, c.end_given-end.ensures, end-some w.count word.glyphs word.to (omega (arith, lies.order)) lies.some) in
+    let within : end ≤ length block = omega (arith, few, lies.within) in
+    let before = c.args.pieces.now in
+    let after = c.give-in-Ends.new.pieces in
+    let text = if_given w.count (slice_range row.bytes from to) in
+    let reached = c.begins_at.result + c.args.width in
+    let adds = adds-fewer row.bytes frame 1 4 before after text (omega arith)
+    (c.give-in-Ends.ensures.adds row.bytes frame (length-slice_range row.bytes from to (word-within row.bytes r.entry end at.lies some within))) in
+    let text_is = ap (λ (bytes : List ℕ). if_given w.count bytes) (word-in row.bytes r.entry word.from end at.lies some within)
+    ∙ ap (λ (n : ℕ). if_given w.count (slice_range block word.from n)) c.end_given-end.ensures
+    ∙ word-last block word w.count lies.last in
+    let steps = ends-steps row w r at word c.args.width c.args.place next stands frame before after reached text
+    (subst (λ (b : List ℕ). rest_of_line m c.args.width (parts_at b c.args.place) ≡ []) c.block_bytes-block.ensures.value arm.ensures.line)
+    text_is
+    (ap (λ (n : ℕ). given (one_less w.count) (n + c.args.width) (cells_behind row w r at)) c.begins_at.ensures.value)
+    adds in
+    subst (λ (k : KeptWalk). RowSteps frame row c.args.self.now k before after) (sym c.pass.ensures)
+    (subst (λ (k : KeptWalk). RowSteps frame row k (passed c.args.place reached k) before after) view steps)

@@ -1,0 +1,113 @@
+-- What is still to give of a table.
+use Rattle.std.specs.Prelude.{◌≡◌, Bool, true, false, ℕ, ◌+◌, ◌*◌, ◌≤◌, ◌<◌, ◌^◌, List, [], ◌∷◌, ◌++◌, length, drop, vec_capacity}
+use Rattle.roff_source.specs.Bytes.{newline}
+use Rattle.tbl_format.specs.FormatRows.{KeptFormat}
+use Rattle.tbl_format.specs.RowsServed.{all_rows}
+use Rattle.tbl_kept.specs.Joined.{RiseWithin, unjoined}
+use Rattle.tbl_kept.specs.Rows.{KeptRows, RowsLaid, elements_of}
+use Rattle.tbl_kept.specs.TableText.{KeptText, block_of}
+use Rattle.tbl_picture.specs.PictureLines.{picture_lines}
+use Rattle.tbl_picture.specs.PieceQueue.{KeptPieces, bytes_left}
+use Rattle.tbl_picture.specs.Pieces.{AreWithin}
+use Rattle.tbl_picture.specs.RowsWalked.{AreNarrow}
+use Rattle.tbl_picture.specs.Walks.{CanWalk, KeptWalk, still_to_come}
+use Rattle.tbl_picture.specs.declared.giving.Giving.TheInside.{Inside}
+use Rattle.tbl_picture.specs.declared.giving.Rest.{Rest}
+use Rattle.tbl_picture.specs.declared.giving.Rest.TheVariants.{Lines, Nothing, Read}
+use Rattle.tbl_picture.specs.declared.picture.Piece.{Piece}
+use Rattle.tbl_picture.specs.declared.picture.Piece.TheVariants.{Blanks, LineEnd}
+
+-- the pieces that are left, what follows them, whether a newline is given at last, how far the picture is walked, the requests around
+-- the picture, with where those behind it begin, and for how many columns there is room
+pub record KeptGiving : Type 0 where
+  pub pieces : KeptPieces
+  pub rest : Rest
+  pub has_newline : Bool
+  pub walk : KeptWalk
+  pub frame : List ℕ
+  pub frame_end : ℕ
+  pub columns : ℕ
+
+-- the rows of a table are laid out, in so many columns at the most
+pub record IsLaidOut (t : KeptText) (r : KeptRows) (k : KeptFormat) (columns : ℕ) : Type 0 where
+  pub laid : RowsLaid (block_of t) (all_rows k.format) r
+  pub few : length r.columns ≤ columns
+  pub narrow : AreNarrow r.columns
+  pub small : length (block_of t) < 2 ^ 33
+
+-- the lines of its picture
+abbrev pub lines_laid : KeptText → KeptRows → KeptFormat → List ℕ
+lines_laid t r k = picture_lines r.columns (elements_of (block_of t) (all_rows k.format) r.elements)
+
+-- what the walk is to give
+abbrev pub lines_left : KeptText → KeptRows → KeptFormat → KeptWalk → List ℕ
+lines_left t r k walk = still_to_come (block_of t) (all_rows k.format) r walk
+
+-- bytes, and a newline behind them or none
+abbrev pub with_newline : Bool → List ℕ → List ℕ
+with_newline false bytes = bytes
+with_newline true bytes = bytes ++ newline ∷ []
+
+-- the piece that is given at last: a newline, or one without a byte
+abbrev pub last_piece : Bool → Piece
+last_piece false = Blanks 0
+last_piece true = LineEnd
+
+-- the bytes that follow the pieces; behind the lines of the picture these requests, and the line begun; and a newline or none
+abbrev pub following_by : Rest → Bool → KeptText → KeptRows → KeptFormat → KeptWalk → List ℕ → List ℕ
+following_by Nothing is t r k walk behind = []
+following_by (Read from joint) is t r k walk behind = with_newline is (unjoined from (block_of t) (drop joint t.joints))
+following_by Lines is t r k walk behind = with_newline is (lines_left t r k walk ++ (behind ++ t.line))
+
+abbrev pub following : KeptText → KeptRows → KeptFormat → KeptGiving → List ℕ
+following t r k g = following_by g.rest g.has_newline t r k g.walk (drop g.frame_end g.frame)
+
+-- all bytes to come
+abbrev pub coming : KeptText → KeptRows → KeptFormat → KeptGiving → List ℕ
+coming t r k g = bytes_left (block_of t) g.frame g.pieces ++ following t r k g
+
+-- what follows can be given
+pub record CanGiveLines (t : KeptText) (r : KeptRows) (k : KeptFormat) (walk : KeptWalk) : Type 0 where
+  pub can : CanWalk (block_of t) (all_rows k.format) r walk
+  pub small : length (block_of t) < 2 ^ 33
+
+abbrev pub CanFollowBy : Rest → KeptText → KeptRows → KeptFormat → KeptWalk → Type 0
+CanFollowBy Nothing t r k walk = Unit {0}
+CanFollowBy (Read from joint) t r k walk = RiseWithin (length (block_of t)) from (drop joint t.joints)
+CanFollowBy Lines t r k walk = CanGiveLines t r k walk
+
+abbrev pub CanFollow : KeptText → KeptRows → KeptFormat → KeptGiving → Type 0
+CanFollow t r k g = CanFollowBy g.rest t r k g.walk
+
+-- behind the last piece nothing follows
+abbrev pub IsLast : List Piece → Rest → Type 0
+IsLast [] rest = rest ≡ Nothing
+IsLast (piece ∷ pieces) rest = Unit {0}
+
+-- all bytes to come can be given
+pub record CanGive (t : KeptText) (r : KeptRows) (k : KeptFormat) (g : KeptGiving) : Type 0 where
+  pub within : AreWithin (block_of t) g.frame g.pieces.pieces
+  pub rest : CanFollow t r k g
+  pub last : IsLast g.pieces.pieces g.rest
+
+-- whatever the table is, nothing is to come
+pub record GivesNothing (g : KeptGiving) : Type 0 where
+  pub coming : (t : KeptText) (r : KeptRows) (k : KeptFormat) → coming t r k g ≡ []
+  pub can : (t : KeptText) (r : KeptRows) (k : KeptFormat) → CanGive t r k g
+
+abbrev pub kept_by : Inside → KeptGiving
+kept_by a = record {
+  pieces = a.pieces;
+  rest = a.rest;
+  has_newline = a.has_newline;
+  walk = a.walk;
+  frame = a.frame.items;
+  frame_end = a.frame_end;
+  columns = a.walk.room;
+}
+
+-- the room is reserved
+pub record IsSound (a : Inside) : Type 0 where
+  pub frame : 96 ≤ vec_capacity a.frame
+  pub end : a.frame_end ≤ length a.frame.items
+  pub pieces : 4 ≤ a.pieces.room

@@ -1,0 +1,118 @@
+-- What is left of a row of a table's picture, as it is walked: of each field its lines that were not given.
+use Rattle.std.specs.Prelude.{ℕ, zero, suc, ◌+◌, min, Bool, List, [], ◌∷◌, ◌++◌, drop, get_or, map, if◌then◌else◌, ◌==◌}
+use Rattle.std.specs.List.{slice_range, flat_map}
+use Rattle.tbl_format.specs.declared.format.FormatKey.{FormatKey}
+use Rattle.tbl_format.specs.declared.format.Key.{Key}
+use Rattle.tbl_format.specs.declared.format.Key.TheVariants.{Left}
+use Rattle.tbl_layout.specs.Columns.{place_in}
+use Rattle.tbl_layout.specs.Entries.{Run, block_line, further_words, run_of_word, up_to_last_glyph}
+use Rattle.tbl_layout.specs.KeptEntries.{stands_of}
+use Rattle.tbl_layout.specs.declared.columns.Column.{Column}
+use Rattle.tbl_layout.specs.declared.entry.Entry.{Entry}
+use Rattle.tbl_layout.specs.declared.entry.EntryKind.{EntryKind}
+use Rattle.tbl_layout.specs.declared.entry.EntryKind.TheVariants.{Block, Split, Text}
+use Rattle.tbl_layout.specs.declared.entry.SplitEntry.{SplitEntry}
+use Rattle.tbl_picture.specs.PictureLines.{Cell, at_column, end_of}
+use Rattle.tbl_picture.specs.declared.row_columns.RowColumn.{RowColumn}
+use Rattle.tbl_text.specs.BlockLines.{lines_of, rest_of_line, width_behind}
+use Rattle.tbl_text.specs.BlockPlaces.{parts_at, word_at}
+use Rattle.tbl_text.specs.declared.block_parts.BlockPlace.{BlockPlace}
+use Rattle.tbl_text.specs.declared.block_words.BlockWord.{BlockWord}
+
+-- the lines of a block lie behind the line that opens it, and its newline
+abbrev pub block_text : List ℕ → Entry → List ℕ
+block_text bytes e = slice_range bytes (e.from + 1) e.to
+
+-- a text that ends at this place up to its last glyph, and has so many columns
+abbrev pub text_run : List ℕ → Entry → ℕ → ℕ → Run
+text_run bytes e glyphs width = record {
+  bytes = slice_range bytes e.from e.to;
+  to_glyph = slice_range bytes e.from (min glyphs e.to);
+  columns = width;
+}
+
+-- the parts of a number that is split, up to a place
+abbrev pub parts_to : List ℕ → Entry → SplitEntry → ℕ → List ℕ
+parts_to bytes e s to = slice_range bytes e.from (min s.end to) ++ slice_range bytes s.behind to
+
+abbrev pub split_run : List ℕ → Entry → SplitEntry → Run
+split_run bytes e s = record {
+  bytes = parts_to bytes e s e.to;
+  to_glyph = parts_to bytes e s (min s.glyphs e.to);
+  columns = s.width;
+}
+
+-- the lines of a text: none, where it has no byte
+abbrev pub text_lines : Bool → Run → List (List Run)
+text_lines is_empty run = if is_empty then [] else (run ∷ []) ∷ []
+
+-- the lines of a field from one of its row on; the block that it is goes on at a place, in this measure
+abbrev pub lines_left_by : EntryKind → List ℕ → ℕ → ℕ → Entry → BlockPlace → List (List Run)
+lines_left_by (Text glyphs width) bytes line measure e place = drop line (text_lines (e.from == e.to) (text_run bytes e glyphs width))
+lines_left_by (Split s) bytes line measure e place = drop line ((split_run bytes e s ∷ []) ∷ [])
+lines_left_by (Block b) bytes line measure e place = map block_line (lines_of measure (parts_at (block_text bytes e) place))
+
+-- the column of the page at which the field of a column stands
+abbrev pub begins_at : RowColumn → ℕ
+begins_at r = r.column.start + place_in r.column r.key (stands_of r.key r.entry)
+
+-- what is left of it from a line of the row on
+abbrev pub cell_left : List ℕ → ℕ → RowColumn → Cell
+cell_left bytes line r =
+    record { at = begins_at r; lines = lines_left_by r.entry.kind bytes line r.column.measure r.entry r.place }
+
+-- the key of a column: behind those of a row come such as `l`
+abbrev pub key_of : List FormatKey → ℕ → Key
+key_of keys column = get_or (map (λ k. k.key) keys) column Left
+
+-- the columns of a row from one on, as many as it has fields, with their keys, and where their blocks go on
+abbrev pub row_columns : List FormatKey → ℕ → List Column → List Entry → List BlockPlace → List RowColumn
+row_columns keys column [] entries places = []
+row_columns keys column (c ∷ columns) [] places = []
+row_columns keys column (c ∷ columns) (e ∷ entries) [] = []
+row_columns keys column (c ∷ columns) (e ∷ entries) (p ∷ places) =
+    record { column = c; key = key_of keys column; entry = e; place = p } ∷ row_columns keys (suc column) columns entries places
+
+-- the first line of a cell, and a cell without it
+abbrev pub first_of : Cell → List Run
+first_of c = get_or c.lines 0 []
+
+abbrev pub behind_first : Cell → Cell
+behind_first c = record { at = c.at; lines = drop 1 c.lines }
+
+-- what is given of a column's runs where so many columns are left up to the line's last glyph: the last one up to its own
+abbrev pub given_of : ℕ → List Run → List ℕ
+given_of zero runs = []
+given_of (suc zero) runs = up_to_last_glyph runs
+given_of (suc (suc n)) runs = flat_map (λ run. run.bytes) runs
+
+-- one less, if there is one
+abbrev pub one_less : ℕ → ℕ
+one_less zero = zero
+one_less (suc n) = n
+
+-- what is given of the first lines of cells from a place on
+abbrev pub given : ℕ → ℕ → List Cell → List ℕ
+given count place [] = []
+given count place (c ∷ cells) =
+    given_of count (at_column c.at place (first_of c)) ++ given (one_less count) (end_of c.at place (first_of c)) cells
+
+-- a word of a block whose line is so wide with it, what stands behind it on the line, and what is given behind that
+abbrev pub word_given : List ℕ → ℕ → ℕ → BlockWord → ℕ → BlockPlace → List RowColumn → List ℕ
+word_given bytes line count w width behind [] = []
+word_given bytes line count w width behind (r ∷ columns) =
+    let block = block_text bytes r.entry in
+    let words = rest_of_line r.column.measure width (parts_at block behind) in
+    given_of count (run_of_word (word_at block w) ∷ further_words words)
+    ++ given (one_less count) (begins_at r + width_behind width words) (map (cell_left bytes line) columns)
+
+-- bytes that are given where columns are left up to the line's last glyph
+abbrev pub if_given : ℕ → List ℕ → List ℕ
+if_given zero bytes = []
+if_given (suc n) bytes = bytes
+
+-- where a text ends that is given: the last one of a line up to its last glyph
+abbrev pub end_given : ℕ → ℕ → ℕ → ℕ
+end_given zero glyphs to = to
+end_given (suc zero) glyphs to = min glyphs to
+end_given (suc (suc n)) glyphs to = to

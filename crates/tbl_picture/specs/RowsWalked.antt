@@ -1,0 +1,92 @@
+-- What the walk of a row's lines needs, and how many steps it may take.
+use Rattle.std.specs.Prelude.{◌≡◌, ℕ, zero, suc, ◌+◌, ◌≤◌, ◌<◌, List, [], ◌∷◌, drop, length, map}
+use Rattle.std.specs.List.{AllByRecursion}
+use Rattle.tbl_kept.specs.Rows.{Command, KeptElement, Row}
+use Rattle.tbl_layout.specs.Entries.{Run, block_line, up_to_last_glyph}
+use Rattle.tbl_layout.specs.declared.columns.Column.{Column}
+use Rattle.tbl_layout.specs.declared.entry.Entry.{Entry}
+use Rattle.tbl_layout.specs.declared.entry.EntryKind.{EntryKind}
+use Rattle.tbl_layout.specs.declared.entry.EntryKind.TheVariants.{Block, Split, Text}
+use Rattle.tbl_picture.specs.PictureLines.{Cell}
+use Rattle.tbl_picture.specs.RowsLeft.{block_text, first_of}
+use Rattle.tbl_picture.specs.declared.row_columns.RowColumn.{RowColumn}
+use Rattle.tbl_text.specs.BlockLines.{behind_rest, lines_of}
+use Rattle.tbl_text.specs.BlockPlaces.{IsWithin, LiesBehind, left_at, parts_at}
+use Rattle.tbl_text.specs.declared.block_parts.BlockPlace.{BlockPlace}
+use Rattle.tbl_text.specs.declared.block_words.BlockWord.{BlockWord}
+
+-- a column is narrow, and stands where no sum of places overflows
+pub record IsNarrow (c : Column) : Type 0 where
+  pub start : c.start < 4294967296
+  pub width : c.width < 4294967296
+
+abbrev pub AreNarrow : List Column → Type 0
+AreNarrow columns = AllByRecursion IsNarrow columns
+
+-- the places of fields lie in their blocks
+abbrev pub PlacesLie : List ℕ → List Entry → List BlockPlace → Type 0
+PlacesLie bytes [] [] = Unit {0}
+PlacesLie bytes [] (p ∷ places) = ⊥
+PlacesLie bytes (e ∷ entries) [] = ⊥
+PlacesLie bytes (e ∷ entries) (p ∷ places) = IsWithin (block_text bytes e) p × PlacesLie bytes entries places
+
+-- something of these runs is given up to their last glyph
+abbrev pub HasGlyph : List Run → Type 0
+HasGlyph runs = 0 < length (up_to_last_glyph runs)
+
+-- where so many cells are left up to a line's last glyph, the last of them has one
+abbrev pub LastHasGlyph : ℕ → List Cell → Type 0
+LastHasGlyph count [] = Unit {0}
+LastHasGlyph zero (c ∷ cells) = Unit {0}
+LastHasGlyph (suc zero) (c ∷ cells) = HasGlyph (first_of c)
+LastHasGlyph (suc (suc n)) (c ∷ cells) = LastHasGlyph (suc n) cells
+
+-- a field lies in the table's bytes
+pub record EntryLies (bytes : List ℕ) (e : Entry) : Type 0 where
+  pub order : e.from ≤ e.to
+  pub within : e.to ≤ length bytes
+
+-- a field is a block
+abbrev pub IsBlock : EntryKind → Type 0
+IsBlock (Text glyphs width) = ⊥
+IsBlock (Split s) = ⊥
+IsBlock (Block b) = Unit {0}
+
+-- the word of a column's block that comes next, on a line that is so wide with it, and the place behind it
+pub record StandsNext (bytes : List ℕ) (word : BlockWord) (width : ℕ) (place : BlockPlace) (r : RowColumn) : Type 0 where
+  pub block : IsBlock r.entry.kind
+  pub lies : LiesBehind (block_text bytes r.entry) 0 word
+  pub within : IsWithin (block_text bytes r.entry) place
+  pub rest : map block_line (lines_of r.column.measure (behind_rest r.column.measure width (parts_at (block_text bytes r.entry) place)))
+      ≡ drop 1 (map block_line (lines_of r.column.measure (parts_at (block_text bytes r.entry) r.place)))
+
+abbrev pub StandsInFirst : List ℕ → BlockWord → ℕ → BlockPlace → List RowColumn → Type 0
+StandsInFirst bytes word width place [] = ⊥
+StandsInFirst bytes word width place (r ∷ columns) = StandsNext bytes word width place r
+
+-- the most steps of a column
+abbrev pub most_steps : List ℕ → ℕ
+most_steps bytes = length bytes + 3
+
+-- the most steps of a line of columns, of which each has at most so many, of so many lines, and of elements
+abbrev pub steps_of_columns : ℕ → List Entry → ℕ
+steps_of_columns most [] = 1
+steps_of_columns most (e ∷ entries) = most + steps_of_columns most entries
+
+abbrev pub steps_of_lines : ℕ → ℕ → ℕ
+steps_of_lines steps zero = 0
+steps_of_lines steps (suc count) = suc steps + steps_of_lines steps count
+
+abbrev pub steps_of : ℕ → List KeptElement → ℕ
+steps_of most [] = 0
+steps_of most (Row keys height entries ∷ elements) = suc (steps_of_lines (steps_of_columns most entries) height) + steps_of most elements
+steps_of most (Command from to ∷ elements) = suc (steps_of most elements)
+
+-- the most steps of what is left of a block's line, behind a place of the first field's block
+abbrev pub steps_of_word : List ℕ → BlockPlace → List Entry → ℕ
+steps_of_word bytes place [] = 1
+steps_of_word bytes place (e ∷ entries) = left_at (block_text bytes e) place + 1
+
+-- no cell has a glyph on its first line
+abbrev pub AreGlyphless : List Cell → Type 0
+AreGlyphless cells = AllByRecursion (λ c. up_to_last_glyph (first_of c) ≡ []) cells

@@ -1,0 +1,219 @@
+//! The cells of a line, as a walk gives them.
+
+ghost use Rattle.std.specs.Prelude.{◌≡◌, ◌≢◌, ℕ, suc, ◌+◌, ◌-◌, ◌<◌, ◌≤◌, List, [], ◌∷◌, ◌++◌, length, min};
+ghost use Rattle.tbl_layout.specs.declared.entry.EntryKind.TheVariants.{Split, Text};
+ghost use Rattle.tbl_picture.specs.Pieces.{bytes_of, piece_len};
+ghost use Rattle.tbl_picture.specs.PieceQueue.{Adds};
+ghost use Rattle.tbl_picture.specs.RowsLeft.{end_given, if_given};
+ghost use Rattle.tbl_picture.specs.RowsWalked.{IsBlock};
+
+use super::{Next, Walk};
+use crate::picture::Piece;
+use crate::piece_queue::PieceQueue;
+use crate::row_columns::{RowColumn, RowLent, block_bytes, column_at, count_to_glyph};
+use roff_escape::OpenEscapes;
+use tbl_layout::entry::{EntryKind, SplitEntry};
+use tbl_text::block_parts::{BlockPart, BlockPlace, next_part};
+
+/// Adds a piece where columns are left up to the line's last glyph.
+pub(super) fn give(pieces: &mut PieceQueue, count: usize, piece: Piece)
+    requires { pieces.old.taken < pieces.old.room }
+    ensures adds { (block frame : List ℕ) → length (bytes_of block frame piece) ≡ piece_len piece
+        → Adds block frame 1 pieces.old pieces.new (if_given count (bytes_of block frame piece)) }
+    ensures few { pieces.new.taken ≤ pieces.old.taken + 1 }
+    ensures room { pieces.new.room ≡ pieces.old.room }
+{
+    if count > 0 {
+        pieces.add(piece);
+    }
+}
+
+/// Where a text ends that is given: the last one of a line up to its last glyph.
+pub(super) fn end_given(count: usize, glyphs: u32, to: u32) -> u32
+    ensures { result ≡ end_given count glyphs to }
+{
+    if count == 1 { glyphs.min(to) } else { to }
+}
+
+impl Walk {
+    ghost use Rattle.tbl_picture.specs.Walks.{AtColumn, BeforeLine, InLine, RowSteps, at_word};
+    ghost use Rattle.tbl_picture.specs.Walks.{lent_row, passed};
+
+    /// A line begins.
+    pub(super) fn begin_line(
+        &mut self,
+        pieces: &mut PieceQueue,
+        escapes: &mut OpenEscapes,
+        row: &RowLent<'_>,
+    )
+        requires next { self.old.next ≡ Next.AtLine }
+        requires before { BeforeLine (lent_row row.now) self.old }
+        requires room { pieces.old.taken + 4 ≤ pieces.old.room }
+        ensures steps { (frame : List ℕ)
+            → RowSteps frame (lent_row row.now) self.old self.new pieces.old pieces.new }
+        ensures escapes { escapes.new.room ≡ escapes.old.room }
+    {
+        self.count = count_to_glyph(escapes, row, self.places.as_slice(), self.line);
+        self.behind.clear();
+        self.place = 0;
+        self.width = 0;
+        self.next = Next::AtCell;
+        pieces.add(Piece::LineFront);
+    }
+
+    /// A column is given: a text that begins at a column of the page and has so many, and its block
+    /// goes on at a place.
+    pub(super) fn pass(&mut self, block: BlockPlace, place: usize, width: usize)
+        requires { length self.old.behind < self.old.room }
+        ensures { self.new ≡ passed block (place + width) self.old }
+    {
+        self.behind.push_reserved(block);
+        if self.count > 0 {
+            self.count -= 1;
+        }
+        self.place = place;
+        self.width = width;
+        self.next = Next::AtCell;
+    }
+
+    /// How many columns of the page there are up to one from the place that is reached.
+    fn gap_to(&self, at: usize) -> usize
+        ensures { result ≡ at - self.now.place }
+    {
+        at.saturating_sub(self.place).saturating_sub(self.width)
+    }
+
+    /// The column at which the walk stands.
+    pub(super) fn column(&self, row: &RowLent<'_>) -> RowColumn
+        requires line { InLine (lent_row row.now) self.now }
+        requires left { length self.now.behind < length row.now.entries.now }
+        ensures { AtColumn (lent_row row.now) self.now result }
+    {
+        column_at(row, self.places.as_slice(), self.behind.len())
+    }
+
+    /// A cell of the line.
+    pub(super) fn give_cell(
+        &mut self,
+        pieces: &mut PieceQueue,
+        escapes: &mut OpenEscapes,
+        row: &RowLent<'_>,
+    )
+        requires next { self.old.next ≡ Next.AtCell }
+        requires line { InLine (lent_row row.now) self.old }
+        requires left { length self.old.behind < length row.now.entries.now }
+        requires room { pieces.old.taken + 4 ≤ pieces.old.room }
+        ensures steps { (frame : List ℕ)
+            → RowSteps frame (lent_row row.now) self.old self.new pieces.old pieces.new }
+        ensures escapes { escapes.new.room ≡ escapes.old.room }
+    {
+        let held = self.column(row);
+        match held.entry.kind {
+            EntryKind::Text(glyphs, width) => {
+                if self.line == 0 && held.entry.from != held.entry.to {
+                    self.give_text(pieces, row, held, glyphs, width);
+                } else {
+                    self.pass(held.place, self.place, self.width);
+                }
+            }
+            EntryKind::Split(split) => {
+                if self.line == 0 {
+                    self.give_split(pieces, row, held, split);
+                } else {
+                    self.pass(held.place, self.place, self.width);
+                }
+            }
+            EntryKind::Block(_) => self.begin_block_line(pieces, escapes, row, held),
+        }
+    }
+
+    /// A text.
+    fn give_text(
+        &mut self,
+        pieces: &mut PieceQueue,
+        row: &RowLent<'_>,
+        held: RowColumn,
+        glyphs: u32,
+        width: u32,
+    )
+        requires next { self.old.next ≡ Next.AtCell }
+        requires at { AtColumn (lent_row row.now) self.old held }
+        requires kind { held.entry.kind ≡ Text glyphs width }
+        requires line { self.old.line ≡ 0 }
+        requires some { held.entry.from ≢ held.entry.to }
+        requires room { pieces.old.taken + 4 ≤ pieces.old.room }
+        ensures { (frame : List ℕ)
+            → RowSteps frame (lent_row row.now) self.old self.new pieces.old pieces.new }
+    {
+        let at = held.begins_at();
+        let to = end_given(self.count, glyphs, held.entry.to);
+        give(pieces, self.count, Piece::Blanks(self.gap_to(at)));
+        give(
+            pieces,
+            self.count,
+            Piece::Block(held.entry.from as usize, to as usize),
+        );
+        self.pass(held.place, at, width as usize);
+    }
+
+    /// A number that is split.
+    fn give_split(
+        &mut self,
+        pieces: &mut PieceQueue,
+        row: &RowLent<'_>,
+        held: RowColumn,
+        split: SplitEntry,
+    )
+        requires next { self.old.next ≡ Next.AtCell }
+        requires at { AtColumn (lent_row row.now) self.old held }
+        requires kind { held.entry.kind ≡ Split split }
+        requires line { self.old.line ≡ 0 }
+        requires room { pieces.old.taken + 4 ≤ pieces.old.room }
+        ensures { (frame : List ℕ)
+            → RowSteps frame (lent_row row.now) self.old self.new pieces.old pieces.new }
+    {
+        let at = held.begins_at();
+        let to = end_given(self.count, split.glyphs, held.entry.to);
+        give(pieces, self.count, Piece::Blanks(self.gap_to(at)));
+        give(
+            pieces,
+            self.count,
+            Piece::Block(held.entry.from as usize, split.end.min(to) as usize),
+        );
+        give(
+            pieces,
+            self.count,
+            Piece::Block(split.behind as usize, to as usize),
+        );
+        self.pass(held.place, at, split.width as usize);
+    }
+
+    /// The line of a block begins, or the block has none there.
+    fn begin_block_line(
+        &mut self,
+        pieces: &mut PieceQueue,
+        escapes: &mut OpenEscapes,
+        row: &RowLent<'_>,
+        held: RowColumn,
+    )
+        requires next { self.old.next ≡ Next.AtCell }
+        requires at { AtColumn (lent_row row.now) self.old held }
+        requires kind { IsBlock held.entry.kind }
+        requires room { pieces.old.taken + 4 ≤ pieces.old.room }
+        ensures steps { (frame : List ℕ)
+            → RowSteps frame (lent_row row.now) self.old self.new pieces.old pieces.new }
+        ensures escapes { escapes.new.room ≡ escapes.old.room }
+    {
+        let block = block_bytes(row.bytes, held.entry);
+        match next_part(escapes, block, held.place) {
+            Some((BlockPart::Word(word), behind)) => {
+                let at = held.begins_at();
+                give(pieces, self.count, Piece::Blanks(self.gap_to(at)));
+                give(pieces, self.count, Piece::Blanks(word.leading() as usize));
+                self.next = Next::AtWord(word, word.begun_width(), behind);
+            }
+            Some((BlockPart::EmptyLine, behind)) => self.pass(behind, self.place, self.width),
+            None => self.pass(BlockPlace::AtEnd, self.place, self.width),
+        }
+    }
+}

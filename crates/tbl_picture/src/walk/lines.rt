@@ -1,0 +1,74 @@
+//! The words of a block's line, and the ends of lines, as a walk gives them.
+
+ghost use Rattle.std.specs.Prelude.{◌≡◌, ℕ, ◌+◌, ◌<◌, ◌^◌, ◌≤◌, List, [], length};
+
+use super::cells::{end_given, give};
+use super::{Next, Walk};
+use crate::picture::Piece;
+use crate::piece_queue::PieceQueue;
+use crate::row_columns::{RowLent, block_bytes};
+use roff_escape::OpenEscapes;
+use tbl_text::block_lines::{OnLine, next_on_line};
+use tbl_text::block_parts::BlockPlace;
+use tbl_text::block_words::BlockWord;
+
+impl Walk {
+    ghost use Rattle.tbl_picture.specs.Walks.{InLine, InWord, RowEndsOrGoesOn, RowSteps, lent_row};
+
+    /// A word of a block, whose line is so wide with it, and the blanks in front of the word behind
+    /// it, if that goes on with the line.
+    pub(super) fn give_word(
+        &mut self,
+        pieces: &mut PieceQueue,
+        escapes: &mut OpenEscapes,
+        row: &RowLent<'_>,
+        word: BlockWord,
+        width: u64,
+        place: BlockPlace,
+    )
+        requires next { self.old.next ≡ Next.AtWord word width place }
+        requires word { InWord (lent_row row.now) word width place self.old }
+        requires room { pieces.old.taken + 4 ≤ pieces.old.room }
+        ensures steps { (frame : List ℕ)
+            → RowSteps frame (lent_row row.now) self.old self.new pieces.old pieces.new }
+        ensures escapes { escapes.new.room ≡ escapes.old.room }
+    {
+        let held = self.column(row);
+        let block = block_bytes(row.bytes, held.entry);
+        let start = held.entry.from as usize + 1;
+        let from = start + word.from as usize;
+        match next_on_line(escapes, block, place, width, held.column.measure) {
+            OnLine::Joins(next, wider, behind) => {
+                give(
+                    pieces,
+                    self.count,
+                    Piece::Block(from, start + word.to as usize),
+                );
+                give(pieces, self.count, Piece::Blanks(next.gap as usize));
+                self.next = Next::AtWord(next, wider, behind);
+            }
+            OnLine::Ends(_) => {
+                let end = end_given(self.count, word.glyphs, word.to);
+                give(pieces, self.count, Piece::Block(from, start + end as usize));
+                self.pass(place, held.begins_at(), width as usize);
+            }
+        }
+    }
+
+    /// The line ends. Answers whether it was the row's last.
+    pub(super) fn end_line(&mut self, pieces: &mut PieceQueue, row: &RowLent<'_>) -> bool
+        requires next { self.old.next ≡ Next.AtCell }
+        requires line { InLine (lent_row row.now) self.old }
+        requires all { length self.old.behind ≡ length row.now.entries.now }
+        requires small { row.now.height < 2 ^ 32 }
+        requires room { pieces.old.taken + 4 ≤ pieces.old.room }
+        ensures { (frame : List ℕ) → RowEndsOrGoesOn result frame (lent_row row.now) self.old
+            self.new pieces.old pieces.new }
+    {
+        pieces.add(Piece::LineEnd);
+        std::mem::swap(&mut self.places, &mut self.behind);
+        self.line += 1;
+        self.next = Next::AtLine;
+        self.line == row.height
+    }
+}

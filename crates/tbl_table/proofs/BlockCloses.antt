@@ -1,0 +1,423 @@
+-- A text block that is open ends with the table: the parts hold together, and give the table that is closed.
+use Rattle.std.proofs.Common.{◌≡◌, ◌==◌, ℕ, ◌+◌, ◌-◌, ◌<◌, ◌≤◌, All, Bool, true, false, List, [], ◌∷◌, ◌++◌, length, map, take, drop, Option, Some, None, refl, sym, ap, subst, ◌∙◌, arith, append-nil, append_assoc, length-append}
+use Rattle.std.specs.Prelude.{is_some}
+use Rattle.std.proofs.lemmas.List.{drop_at}
+use Rattle.std.proofs.lemmas.List.Elements.{All-drop, All-take}
+use Rattle.std.specs.List.{slice_range, AllByRecursion}
+use Rattle.roff_source.specs.Bytes.{newline}
+use Rattle.tbl_data.specs.DataRead.{closed_block, whole_line}
+use Rattle.tbl_data.specs.TableData.{DataFits, ElementEnds, EndsBy, FitsBehind, OpenBehind, SameRooms, begun_by, table_by}
+use Rattle.tbl_data.specs.TableRead.{RowBegun, TableRead}
+use Rattle.tbl_data.specs.declared.phase.Phase.{Phase}
+use Rattle.tbl_data.specs.declared.phase.Phase.TheVariants.{AtHead, Bad, InData, InFormat}
+use Rattle.tbl_data.specs.declared.table_data.OpenBlock.{OpenBlock}
+use Rattle.tbl_data.specs.declared.table_data.OpenBlock.TheVariants.{Dropped, Kept, Nothing as NoBlock}
+use Rattle.tbl_data.specs.declared.table_data.TableData.{TableData}
+use Rattle.tbl_format.specs.Format.{Format}
+use Rattle.tbl_format.specs.FormatRows.{KeptFormat}
+use Rattle.tbl_format.specs.Notes.{NotesWithin, told_of_all}
+use Rattle.tbl_format.specs.RowsServed.{all_rows, row_at}
+use Rattle.tbl_format.specs.declared.limits.TblLimits.{TblLimits}
+use Rattle.tbl_format.specs.declared.notes.KeptNote.{KeptNote}
+use Rattle.tbl_format.specs.declared.options.Options.{Options}
+use Rattle.tbl_kept.specs.Joined.{Joined, behind_joined, ends_joined}
+use Rattle.tbl_kept.specs.Rows.{entries_of}
+use Rattle.tbl_kept.specs.RowsLaying.{AreOpened}
+use Rattle.tbl_kept.specs.TableNotes.{KeptNotes}
+use Rattle.tbl_kept.proofs.KeptFields.{AreOpened-kept}
+use Rattle.tbl_kept.specs.TableText.{KeptText, block_of, text_closed}
+use Rattle.tbl_layout.specs.KeptEntries.{content_of}
+use Rattle.tbl_table.specs.Begun.{FewKeys, begun_in}
+use Rattle.tbl_table.specs.Kept.{HasRooms, KeysFit, PartsFit, PhaseFits, block_open, data_read, reading_of, row_open, table_of}
+use Rattle.tbl_table.specs.MayTell.{fault_may_come, line_may_tell}
+use Rattle.tbl_table.specs.Reading.{Reading}
+use Rattle.tbl_table.specs.Steps.{BlockEnds, is_open}
+use Rattle.tbl_table.specs.Table.{closed, closed_line}
+use Rattle.tbl_table.specs.declared.begun.Begun.{Begun}
+use Rattle.tbl_table.proofs.DataGrows.{Lies-behind, behind-less, none-begun, table-more}
+use Rattle.tbl_table.proofs.DataLies.{lies-kept}
+use Rattle.tbl_table.proofs.FormatLines.{IsCounted}
+use Rattle.tbl_table.proofs.LineEnds.{Taken, all-kept, data-reads, fault-most, few-formats, new-counted, new-elements, new-rooms, one-fault, one-read, phase-fits, read-most, slice-last, table-taken}
+use Rattle.tbl_table.proofs.NotesKept.{NotesWithin-more, told-longer}
+use Rattle.tbl_table.proofs.TableFits.{FewKeys-more, behind-append, kept-most}
+
+-- none is open
+pub none-open : (block : OpenBlock) → is_open block ≡ false → block ≡ NoBlock
+none-open NoBlock is = refl
+none-open Kept is = absurd (cc)
+none-open Dropped is = absurd (cc)
+
+pub no-open : (block : OpenBlock) → block ≡ NoBlock → is_open block ≡ true → ⊥
+no-open NoBlock is some = absurd (cc)
+no-open Kept is some = absurd (cc)
+no-open Dropped is some = absurd (cc)
+
+pub one-open : (block : OpenBlock) → is_open block ≡ true → block_open block ≡ 1
+one-open NoBlock is = absurd (cc)
+one-open Kept is = refl
+one-open Dropped is = refl
+
+-- one that is open is open in the data
+pub open-behind : (p : Phase) (bytes : List ℕ) (d : TableData) → FitsBehind p bytes d → is_open d.open ≡ true → p ≡ InData
+open-behind AtHead bytes d fits some = absurd fits
+open-behind InFormat bytes d fits some = absurd (no-open d.open fits.closed some)
+open-behind InData bytes d fits some = refl
+open-behind Bad bytes d fits some = absurd (no-open d.open fits.closed some)
+
+-- what is kept of a table that is closed
+pub record Closes (p : Phase) (bytes : List ℕ) (old new : TableData) : Type 0 where
+  pub table : (options : Options) → table_by p options bytes new ≡ closed_block (table_by p options bytes old).begun (table_by p options bytes old)
+  pub fits : FitsBehind p bytes new
+  pub lies : AllByRecursion (ElementEnds (length bytes)) new.rows.elements
+  pub closed : new.open ≡ NoBlock
+  pub entries : entries_of new.rows ≤ entries_of old.rows
+  pub elements : length new.rows.elements ≤ length old.rows.elements + block_open old.open
+  pub notes : new.notes ≡ old.notes
+  pub format : new.format ≡ old.format
+  pub rooms : SameRooms old new
+
+same-rooms : (d : TableData) → SameRooms d d
+same-rooms d = record { entries = refl; elements = refl; columns = refl; notes = refl; keys = refl; asked = refl; escapes = refl }
+
+closes-none : (p : Phase) (bytes : List ℕ) (d : TableData) → FitsBehind p bytes d → EndsBy (length bytes) d → d.open ≡ NoBlock → Closes p bytes d d
+closes-none p bytes d fits ends closed = record {
+  table = λ options. ap (λ (begun : Option RowBegun). closed_block begun (table_by p options bytes d)) (sym (none-begun d.open (map (content_of bytes) d.rows.row) closed));
+  fits = fits;
+  lies = ends.elements;
+  closed = closed;
+  entries = omega arith;
+  elements = omega arith;
+  notes = refl;
+  format = refl;
+  rooms = same-rooms d;
+}
+
+closes-data : (bytes : List ℕ) (old new : TableData) → DataFits bytes old → is_open old.open ≡ true → BlockEnds old new → Closes InData bytes old new
+closes-data bytes old new fits some ends =
+    let fits-new = ends.fits bytes fits in
+    record {
+      table = λ options. ends.table options bytes fits;
+      fits = fits-new;
+      lies = lies-kept bytes (all_rows new.format.format) new.rows fits-new.kept.all;
+      closed = ends.closed;
+      entries = ends.entries;
+      elements = omega (arith, ends.elements, one-open old.open some);
+      notes = ends.notes;
+      format = ends.format;
+      rooms = ends.rooms;
+    }
+
+closes-by : (b : Bool) (p : Phase) (bytes : List ℕ) (old new : TableData) → is_open old.open ≡ b → FitsBehind p bytes old → EndsBy (length bytes) old
+    → (is_open old.open ≡ true → BlockEnds old new) → (is_open old.open ≡ false → new ≡ old) → Closes p bytes old new
+closes-by false p bytes old new is fits ends done none =
+    subst (λ (d : TableData). Closes p bytes old d) (sym (none is)) (closes-none p bytes old fits ends (none-open old.open is))
+closes-by true AtHead bytes old new is fits ends done none = absurd fits
+closes-by true InFormat bytes old new is fits ends done none = absurd (no-open old.open fits.closed is)
+closes-by true InData bytes old new is fits ends done none = closes-data bytes old new fits is (done is)
+closes-by true Bad bytes old new is fits ends done none = absurd (no-open old.open fits.closed is)
+
+pub closes : (p : Phase) (bytes : List ℕ) (old new : TableData) → FitsBehind p bytes old → EndsBy (length bytes) old
+    → (is_open old.open ≡ true → BlockEnds old new) → (is_open old.open ≡ false → new ≡ old) → Closes p bytes old new
+closes p bytes old new fits ends done none = closes-by (is_open old.open) p bytes old new refl fits ends done none
+
+pub no-behind : (bytes : List ℕ) (place : ℕ) (d : TableData) → d.open ≡ NoBlock → OpenBehind bytes place d.open d.rows.row
+no-behind bytes place d closed = subst (λ (o : OpenBlock). OpenBehind bytes place o d.rows.row) (sym closed) tt
+
+-- the line that goes on, closed
+pub closed-as : (pending : Option Joined) (t : TableRead) → is_some pending ≡ true
+    → whole_line (ends_joined pending) 0 (behind_joined pending []) t ≡ closed_line pending t
+closed-as None t some = absurd (cc)
+closed-as (Some j) t some = ap (λ (line : List ℕ). whole_line j.ends 0 line t) (append-nil j.bytes)
+
+pub may-tell-some : (pending : Option Joined) → is_some pending ≡ true → line_may_tell pending ≡ length (behind_joined pending []) + 1
+may-tell-some None some = absurd (cc)
+may-tell-some (Some j) some = omega (arith, length-append j.bytes [])
+
+row-some : (pending : Option Joined) (block : OpenBlock) → is_some pending ≡ true → row_open pending block ≡ 1
+row-some None block some = absurd (cc)
+row-some (Some j) block some = refl
+
+-- of a line that goes on the last one has no newline either
+own-line : (pending : Option Joined) (line : List ℕ) → All (λ b. (b == newline) ≡ false) (behind_joined pending line) → All (λ b. (b == newline) ≡ false) line
+own-line None line all = all
+own-line (Some j) line all =
+    subst (λ (xs : List ℕ). All (λ b. (b == newline) ≡ false) xs) (drop_at j.bytes line (length j.bytes) refl)
+    (All-drop (λ b. (b == newline) ≡ false) (length j.bytes) (j.bytes ++ line) all)
+
+-- none goes on
+pub none-goes_on : (pending : Option Joined) → is_some pending ≡ false → pending ≡ None
+none-goes_on None is = refl
+none-goes_on (Some j) is = absurd (cc)
+
+-- a line that goes on stands in front of the one that is begun
+pub line-before : (text : KeptText) (from to : ℕ) → from ≡ length text.settled → to ≡ length (text_closed text).settled
+    → All (λ b. (b == newline) ≡ false) (behind_joined text.pending text.line) → All (λ b. (b == newline) ≡ false) (slice_range (block_of text) from to)
+line-before text from to from_is to_is all =
+    let whole = behind_joined text.pending text.line in
+    subst (λ (xs : List ℕ). All (λ b. (b == newline) ≡ false) (take (to - from) xs))
+    (sym (ap (λ (n : ℕ). drop n (block_of text)) from_is ∙ drop_at text.settled whole (length text.settled) refl))
+    (All-take (λ b. (b == newline) ≡ false) (to - from) whole all)
+
+-- behind a line of the data no first line is read
+pub no-head : (p : Phase) (bytes : List ℕ) (d : TableData) → FitsBehind p bytes d → p ≡ AtHead → ⊥
+no-head AtHead bytes d fits is = fits
+no-head InFormat bytes d fits is = absurd (cc)
+no-head InData bytes d fits is = absurd (cc)
+no-head Bad bytes d fits is = absurd (cc)
+
+-- where a line goes on
+module _ (l : TblLimits) (phase : Phase) (begun : Begun) (text : KeptText) (d : TableData) (fits : PartsFit l phase begun text d) (is : phase ≡ InData) (some : is_some text.pending ≡ true) (options : Options) (from to : ℕ) (from_is : from ≡ length text.settled) (to_is : to ≡ length (text_closed text).settled) (p : Phase) (mid : TableData) (taken : Taken text options.separator from to 0 p d mid) where
+  abbrev front : List ℕ
+  front = (text_closed text).settled
+
+  whole-is : behind_joined text.pending text.line ≡ behind_joined text.pending [] ++ text.line
+  whole-is = behind-append text.pending [] text.line
+
+  block-is : block_of text ≡ front ++ text.line
+  block-is =
+      ap (λ (xs : List ℕ). text.settled ++ xs) whole-is ∙ sym (append_assoc text.settled (behind_joined text.pending []) text.line)
+
+  pub mid-ends : EndsBy (length front) mid
+  mid-ends = subst (λ (n : ℕ). EndsBy n mid) to_is taken.settled
+
+  pub mid-fits : FitsBehind p front mid
+  mid-fits = behind-less front text.line mid mid-ends p (subst (λ (bytes : List ℕ). FitsBehind p bytes mid) block-is taken.fits)
+
+  line-len : to - from ≡ length (behind_joined text.pending [])
+  line-len = omega (arith, from_is, to_is, length-append text.settled (behind_joined text.pending []))
+
+  slice-is : slice_range (block_of text) from to ≡ behind_joined text.pending []
+  slice-is =
+      let whole = behind_joined text.pending [] in
+      ap (λ (n : ℕ). slice_range (block_of text) n to) from_is
+      ∙ ap (λ (n : ℕ). slice_range (block_of text) (length text.settled) n) (to_is ∙ length-append text.settled whole)
+      ∙ ap (λ (xs : List ℕ). slice_range (text.settled ++ xs) (length text.settled) (length text.settled + length whole)) whole-is
+      ∙ slice-last text.settled whole text.line
+
+  pub table-mid : table_by p options front mid ≡ closed_line text.pending (table_of phase options text d)
+  table-mid =
+      sym (table-more front text.line mid p options (Lies-behind front text.line mid p mid-fits mid-ends.elements))
+      ∙ ap (λ (bytes : List ℕ). table_by p options bytes mid) (sym block-is)
+      ∙ table-taken l phase begun text d fits is options from to 0 p mid taken
+      ∙ ap (λ (line : List ℕ). whole_line (ends_joined text.pending) 0 line (table_of phase options text d)) slice-is
+      ∙ closed-as text.pending (table_of phase options text d) some
+
+  -- what the block's end asks for
+  pub mid-formats : length (all_rows mid.format.format) < 4294967296
+  mid-formats =
+      let counted = new-counted l phase begun text d fits is options from to 0 p mid taken (length text.read) (omega arith) in
+      omega (arith, counted.rows.few, counted.keys, fits.bytes.few, fits.rooms.small, length-append mid.format.format.earlier mid.format.format.rows)
+
+  pub mid-room : is_open mid.open ≡ true → length mid.rows.elements < mid.rows.element_room
+  mid-room opened =
+      omega (
+        arith,
+        new-elements l phase begun text d fits is options from to 0 p mid taken,
+        one-open mid.open opened,
+        all-kept l phase begun text d fits is (length d.rows.elements),
+        fits.rows.elements,
+        one-read l phase begun text d fits is,
+        fits.bytes.few,
+        (new-rooms l phase begun text d fits is options from to 0 p mid taken).elements,
+      )
+
+  pub mid-serves : is_open mid.open ≡ true → mid.keys < length (all_rows mid.format.format)
+  mid-serves opened =
+      let in_data = open-behind p front mid mid-fits opened in
+      (subst (λ (q : Phase). FitsBehind q front mid) in_data mid-fits).serves
+
+  pub mid-few : entries_of mid.rows < 4294967296
+  mid-few =
+      omega (
+        arith,
+        taken.entries,
+        line-len,
+        may-tell-some text.pending some,
+        fits.rows.entries,
+        all-kept l phase begun text d fits is (entries_of d.rows),
+        fits.bytes.few,
+        fits.rooms.small,
+      )
+
+  pub mid-opened : is_open mid.open ≡ true → AreOpened mid.rows.row
+  mid-opened opened =
+      let in_data = open-behind p front mid mid-fits opened in
+      let held : DataFits front mid = subst (λ (q : Phase). FitsBehind q front mid) in_data mid-fits in
+      AreOpened-kept front (row_at (all_rows mid.format.format) mid.keys) 0 mid.rows.row held.kept.row
+
+  module _ (new : TableData) (closing : Closes p front mid new) where
+    pub closed-rooms : HasRooms l text.text_room new
+    closed-rooms =
+        let rooms = new-rooms l phase begun text d fits is options from to 0 p mid taken in
+        record {
+          text = rooms.text;
+          keys = closing.rooms.keys ∙ rooms.keys;
+          asked = closing.rooms.asked ∙ rooms.asked;
+          entries = closing.rooms.entries ∙ rooms.entries;
+          elements = closing.rooms.elements ∙ rooms.elements;
+          columns = closing.rooms.columns ∙ rooms.columns;
+          notes = closing.rooms.notes ∙ rooms.notes;
+          small = rooms.small;
+          narrow = rooms.narrow;
+          wide = rooms.wide;
+        }
+
+    pub closed-counted : IsCounted l (length text.read) new.format.format
+    closed-counted =
+        subst (λ (k : KeptFormat). IsCounted l (length text.read) k.format) (sym closing.format)
+        (new-counted l phase begun text d fits is options from to 0 p mid taken (length text.read) (omega arith))
+
+    pub close-fits : (next : Begun) → next ≡ begun_in p new.format.format text.line → FewKeys (length new.format.format.asked + length text.line) (length text.line) next
+        → PartsFit l p next (text_closed text) new
+    close-fits next next_is few =
+        let may = may-tell-some text.pending some in
+        record {
+          rooms = closed-rooms;
+          bytes = record {
+            few = fits.bytes.few;
+            most = fits.bytes.most;
+            block = omega (arith, fits.bytes.block, length-append front []);
+            one_line = own-line text.pending text.line fits.bytes.one_line;
+          };
+          keys = record {
+            is = next_is;
+            few = FewKeys-more (length new.format.format.asked + length text.line) (l.columns + length text.line) (length text.line) (length text.line) next (omega (arith, closed-counted.columns)) (omega arith) few;
+            keys = closed-counted.keys;
+            asked = closed-counted.asked;
+            columns = closed-counted.columns;
+            rows = closed-counted.rows;
+            ended = closed-counted.ended;
+            stands = closed-counted.stands;
+          };
+          rows = record {
+            entries = omega (arith, kept-most p (entries_of new.rows), all-kept l phase begun text d fits is (entries_of d.rows), closing.entries, taken.entries, line-len, may, fits.rows.entries, one-read l phase begun text d fits is, read-most p);
+            elements = omega (arith, kept-most p (length new.rows.elements), all-kept l phase begun text d fits is (length d.rows.elements), closing.elements, ap block_open closing.closed, new-elements l phase begun text d fits is options from to 0 p mid taken, fits.rows.elements, row-some text.pending d.open some, one-read l phase begun text d fits is, read-most p);
+          };
+          messages = record {
+            few = omega (arith, ap (λ (k : KeptNotes). length k.notes) closing.notes, taken.notes, line-len, may, fits.messages.few, one-fault l phase begun text d fits is, fault-most p);
+            telling =
+                subst (λ (ns : List KeptNote). NotesWithin (length front) ns) (sym (ap (λ (k : KeptNotes). k.to_tell) closing.notes ∙ taken.to_tell))
+                (NotesWithin-more (length text.settled) (length front) d.notes.to_tell (omega (arith, length-append text.settled (behind_joined text.pending []))) fits.messages.telling);
+          };
+          by_phase = phase-fits p front new closing.fits closing.lies (no-behind front (length front) new closing.closed);
+        }
+
+    pub close-read : reading_of p options (text_closed text) new
+        ≡ (let whole = closed_line text.pending (table_of phase options text d) in
+        record (reading_of phase options text d) { table = closed_block whole.begun whole })
+    close-read =
+        ap (λ (t : TableRead). let r : Reading = record (reading_of phase options text d) { table = t } in r)
+        (closing.table options ∙ ap (λ (t : TableRead). closed_block t.begun t) table-mid)
+
+    pub close-told : told_of_all front new.notes.to_tell ≡ told_of_all text.settled d.notes.to_tell
+    close-told =
+        ap (λ (ns : List KeptNote). told_of_all front ns) (ap (λ (k : KeptNotes). k.to_tell) closing.notes ∙ taken.to_tell)
+        ∙ told-longer text.settled (behind_joined text.pending []) d.notes.to_tell fits.messages.telling
+
+-- one that is open is open in the data
+open-phase : (p : Phase) (settled : List ℕ) (pending : Option Joined) (d : TableData) → PhaseFits p settled pending d → is_open d.open ≡ true → p ≡ InData
+open-phase AtHead settled pending d fits some = absurd (no-open d.open fits.fits.closed some)
+open-phase InFormat settled pending d fits some = absurd (no-open d.open fits.fits.closed some)
+open-phase InData settled pending d fits some = refl
+open-phase Bad settled pending d fits some = absurd (no-open d.open fits.fits.closed some)
+
+row-none : (pending : Option Joined) (block : OpenBlock) → pending ≡ None → row_open pending block ≡ block_open block
+row-none None block none = refl
+row-none (Some j) block none = absurd (cc)
+
+-- where no line goes on
+module _ (l : TblLimits) (phase : Phase) (begun : Begun) (text : KeptText) (d : TableData) (fits : PartsFit l phase begun text d) where
+  pub rest-formats : length (all_rows d.format.format) < 4294967296
+  rest-formats =
+      omega (arith, fits.keys.rows.few, fits.keys.keys, fits.bytes.few, fits.rooms.small, length-append d.format.format.earlier d.format.format.rows)
+
+  pub rest-data : is_open d.open ≡ true → phase ≡ InData
+  rest-data some = open-phase phase text.settled text.pending d fits.by_phase some
+
+  pub rest-room : is_open d.open ≡ true → length d.rows.elements < d.rows.element_room
+  rest-room some =
+      let is = rest-data some in
+      omega (arith, fits.rows.elements, fits.rooms.elements, fits.bytes.few, one-read l phase begun text d fits is, all-kept l phase begun text d fits is (length d.rows.elements))
+
+  pub rest-serves : is_open d.open ≡ true → d.keys < length (all_rows d.format.format)
+  rest-serves some = (data-reads l phase begun text d fits (rest-data some)).fits.serves
+
+  pub rest-few : is_open d.open ≡ true → entries_of d.rows < 4294967296
+  rest-few some =
+      let is = rest-data some in
+      omega (arith, fits.rows.entries, all-kept l phase begun text d fits is (entries_of d.rows), fits.bytes.few, fits.rooms.small)
+
+  pub rest-opened : is_open d.open ≡ true → AreOpened d.rows.row
+  rest-opened some =
+      AreOpened-kept text.settled (row_at (all_rows d.format.format) d.keys) 0 d.rows.row
+      (data-reads l phase begun text d fits (rest-data some)).fits.kept.row
+
+  -- what the end of a block has made
+  pub record Rests (new : TableData) : Type 0 where
+    pub parts : PartsFit l phase begun text new
+    pub table : (options : Options) → table_by phase options text.settled new
+        ≡ closed_block (table_by phase options text.settled d).begun (table_by phase options text.settled d)
+    pub notes : new.notes ≡ d.notes
+
+  rests-none : d.open ≡ NoBlock → Rests d
+  rests-none closed = record {
+    parts = fits;
+    table = λ options. ap (λ (b : Option RowBegun). closed_block b (table_by phase options text.settled d)) (sym (none-begun d.open (map (content_of text.settled) d.rows.row) closed));
+    notes = refl;
+  }
+
+  rests-some : (new : TableData) → text.pending ≡ None → is_open d.open ≡ true → BlockEnds d new → Rests new
+  rests-some new none some ends =
+      let is = rest-data some in
+      let closing = closes-data text.settled d new (data-reads l phase begun text d fits is).fits some ends in
+      record {
+        parts = record {
+          rooms = record {
+            text = fits.rooms.text;
+            keys = closing.rooms.keys ∙ fits.rooms.keys;
+            asked = closing.rooms.asked ∙ fits.rooms.asked;
+            entries = closing.rooms.entries ∙ fits.rooms.entries;
+            elements = closing.rooms.elements ∙ fits.rooms.elements;
+            columns = closing.rooms.columns ∙ fits.rooms.columns;
+            notes = closing.rooms.notes ∙ fits.rooms.notes;
+            small = fits.rooms.small;
+            narrow = fits.rooms.narrow;
+            wide = fits.rooms.wide;
+          };
+          bytes = fits.bytes;
+          keys = subst (λ (k : KeptFormat). KeysFit l text.read text.line phase begun k.format) (sym closing.format) fits.keys;
+          rows = record {
+            entries = omega (arith, kept-most phase (entries_of new.rows), all-kept l phase begun text d fits is (entries_of d.rows), closing.entries, fits.rows.entries);
+            elements = omega (arith, kept-most phase (length new.rows.elements), all-kept l phase begun text d fits is (length d.rows.elements), closing.elements, row-none text.pending d.open none, row-none text.pending new.open none, ap block_open closing.closed, fits.rows.elements);
+          };
+          messages = record {
+            few = omega (arith, ap (λ (k : KeptNotes). length k.notes) closing.notes, fits.messages.few);
+            telling = subst (λ (k : KeptNotes). NotesWithin (length text.settled) k.to_tell) (sym closing.notes) fits.messages.telling;
+          };
+          by_phase = subst (λ (q : Phase). PhaseFits q text.settled text.pending new) (sym is)
+              (record { fits = closing.fits; behind = no-behind text.settled (length text.settled) new closing.closed });
+        };
+        table = λ options.
+            subst (λ (q : Phase). table_by q options text.settled new ≡ closed_block (table_by q options text.settled d).begun (table_by q options text.settled d)) (sym is)
+            (closing.table options);
+        notes = closing.notes;
+      }
+
+  rests-by : (b : Bool) (new : TableData) → is_open d.open ≡ b → text.pending ≡ None → (is_open d.open ≡ true → BlockEnds d new) → (is_open d.open ≡ false → new ≡ d) → Rests new
+  rests-by false new is none done same = subst (λ (e : TableData). Rests e) (sym (same is)) (rests-none (none-open d.open is))
+  rests-by true new is none done same = rests-some new none is (done is)
+
+  pub rests : (new : TableData) → text.pending ≡ None → (is_open d.open ≡ true → BlockEnds d new) → (is_open d.open ≡ false → new ≡ d) → Rests new
+  rests new none done same = rests-by (is_open d.open) new refl none done same
+
+  pub rest-read : (options : Options) (new : TableData) → text.pending ≡ None → Rests new
+      → reading_of phase options text new ≡ record (reading_of phase options text d) { table = closed (table_of phase options text d) }
+  unfolding closed
+  rest-read options new none rest =
+      let before = table_by phase options text.settled d in
+      let after = table_by phase options text.settled new in
+      let with_pending = λ (p : Option Joined) (t : TableRead). let u : TableRead = record t { pending = p } in u in
+      ap (λ (t : TableRead). let r : Reading = record { table = t; read = text.read; line = text.line } in r)
+      (ap (λ (p : Option Joined). with_pending p after) none
+      ∙ rest.table options
+      ∙ ap (λ (p : Option Joined). closed (with_pending p before)) (sym none))

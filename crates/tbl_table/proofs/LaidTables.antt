@@ -1,0 +1,198 @@
+-- A table that is laid out: its picture can be given, and no line follows.
+use Rattle.std.proofs.Common.{◌≡◌, ℕ, zero, suc, ◌+◌, ◌-◌, ◌<◌, ◌≤◌, min, Bool, true, false, nat_lt, List, [], ◌∷◌, ◌++◌, length, map, take, Option, Some, None, refl, sym, ap, subst, ◌∙◌, arith, append-nil, length-append}
+use Rattle.std.proofs.lemmas.List.{take_at}
+use Rattle.std.specs.List.{AllByRecursion}
+use Rattle.tbl_data.specs.TableData.{ElementEnds}
+use Rattle.tbl_data.specs.TableRead.{TableRead}
+use Rattle.tbl_data.specs.declared.phase.Phase.{Phase}
+use Rattle.tbl_data.specs.declared.phase.Phase.TheVariants.{Bad, InData}
+use Rattle.tbl_data.specs.declared.table_data.OpenBlock.{OpenBlock}
+use Rattle.tbl_data.specs.declared.table_data.OpenBlock.TheVariants.{Dropped, Kept, Nothing as NoBlock}
+use Rattle.tbl_data.specs.declared.table_data.TableData.{TableData}
+use Rattle.roff_escape.specs.EscapeTexts.{KeptEscapes}
+use Rattle.tbl_format.specs.RowsServed.{all_rows}
+use Rattle.tbl_format.specs.declared.format.Asked.{Asked}
+use Rattle.tbl_format.specs.declared.limits.TblLimits.{TblLimits}
+use Rattle.tbl_format.specs.declared.options.Options.{Options}
+use Rattle.tbl_kept.specs.Joined.{Joined, behind_joined}
+use Rattle.tbl_kept.specs.Rows.{KeptRows, RowsLaid, SameRoom, elements_of}
+use Rattle.tbl_kept.specs.TableText.{KeptText, block_of}
+use Rattle.tbl_kept.proofs.RowsKeeping.{RowsLaid-more, elements_of-laid-more}
+use Rattle.tbl_layout.specs.Columns.{columns_from, columns_laid, equal_widths, equalled, gaps, gaps_from, greatest, placed, placed_with, share, spread, total, width_of_all, with_equal, with_widths}
+use Rattle.tbl_layout.specs.Entries.{Element}
+use Rattle.tbl_layout.specs.Widths.{separation}
+use Rattle.tbl_layout.specs.declared.columns.Column.{Column}
+use Rattle.tbl_layout.proofs.Shares.{share-grows, share-most}
+use Rattle.tbl_picture.specs.RowsWalked.{AreNarrow}
+use Rattle.tbl_picture.specs.PictureLines.{picture_lines}
+use Rattle.tbl_table.specs.Kept.{PartsFit, row_open, table_of}
+use Rattle.tbl_table.specs.Laying.{IsLaid, body_of, columns_by, lacking_by, laid_by, with_places}
+use Rattle.tbl_table.specs.MayTell.{line_may_tell}
+use Rattle.tbl_picture.specs.Giving.{IsLaidOut, lines_laid}
+use Rattle.tbl_table.specs.Table.{laid_out}
+use Rattle.tbl_table.specs.declared.begun.Begun.{Begun}
+use Rattle.tbl_table.specs.declared.begun.Begun.TheVariants.{Nothing}
+use Rattle.tbl_table.proofs.DataLies.{lies-laid}
+use Rattle.tbl_table.proofs.LineEnds.{data-reads}
+use Rattle.tbl_table.proofs.TableFits.{behind-len}
+
+-- as many columns as are asked for
+length-widths : (asked : List Asked) (columns : List Column) → length (with_widths asked columns) ≡ length columns
+length-widths [] columns = refl
+length-widths (a ∷ asked) [] = refl
+length-widths (a ∷ asked) (c ∷ columns) = ap (λ (n : ℕ). suc n) (length-widths asked columns)
+
+length-equal : (width : ℕ) (asked : List Asked) (columns : List Column) → length (with_equal width asked columns) ≡ length columns
+length-equal width [] columns = refl
+length-equal width (a ∷ asked) [] = refl
+length-equal width (a ∷ asked) (c ∷ columns) = ap (λ (n : ℕ). suc n) (length-equal width asked columns)
+
+length-from : (line_length count : ℕ) (elements : List Element) (column : ℕ) (asked : List Asked)
+    → length (columns_from line_length count elements column asked) ≡ length asked
+length-from line_length count elements column [] = refl
+length-from line_length count elements column (a ∷ asked) = ap (λ (n : ℕ). suc n) (length-from line_length count elements (suc column) asked)
+
+length-laid : (line_length : ℕ) (asked : List Asked) (elements : List Element) → length (columns_laid line_length asked elements) ≡ length asked
+length-laid line_length asked elements =
+    let from = columns_from line_length (length asked) elements 0 asked in
+    let wide = with_widths asked from in
+    length-equal (greatest (equal_widths asked wide)) asked wide ∙ length-widths asked from ∙ length-from line_length (length asked) elements 0 asked
+
+length-placed : (place : ℕ) (spaces : List ℕ) (columns : List Column) → length (placed place spaces columns) ≡ length columns
+length-placed place [] columns = refl
+length-placed place (gap ∷ spaces) [] = refl
+length-placed place (gap ∷ spaces) (c ∷ columns) = ap (λ (n : ℕ). suc n) (length-placed (place + gap + c.width) spaces columns)
+
+length-spread : (more all front : ℕ) (spaces : List ℕ) → length (spread more all front spaces) ≡ length spaces
+length-spread more all front [] = refl
+length-spread more all front (gap ∷ spaces) = ap (λ (n : ℕ). suc n) (length-spread more all (front + gap) spaces)
+
+length-gaps : (gap : ℕ) (asked : List Asked) → length (gaps_from gap asked) ≡ length asked
+length-gaps gap [] = refl
+length-gaps gap (a ∷ asked) = ap (λ (n : ℕ). suc n) (length-gaps (separation a.separation) asked)
+
+-- each ends where all do, at the most
+each-narrow : (most place : ℕ) (spaces : List ℕ) (columns : List Column) → length columns ≤ length spaces
+    → place + total spaces + total (map (λ c. c.width) columns) < most → AllByRecursion (λ c. c.start + c.width < most) (placed place spaces columns)
+each-narrow most place [] [] short few = tt
+each-narrow most place [] (c ∷ columns) short few = absurd (omega (arith, short))
+each-narrow most place (gap ∷ spaces) [] short few = tt
+each-narrow most place (gap ∷ spaces) (c ∷ columns) short few =
+    (omega (arith, few), each-narrow most (place + gap + c.width) spaces columns (omega (arith, short)) (omega (arith, few)))
+
+-- what is spread is no more than there is
+spread-most : (more all front : ℕ) (spaces : List ℕ)
+    → total (spread more all front spaces) + share more front all ≤ total spaces + share more (front + total spaces) all
+spread-most more all front [] =
+    let same : share more (front + 0) all ≡ share more front all = ap (λ (n : ℕ). share more n all) (omega arith) in omega (arith, same)
+spread-most more all front (gap ∷ spaces) =
+    let further = spread-most more all (front + gap) spaces in
+    let same : share more (front + gap + total spaces) all ≡ share more (front + (gap + total spaces)) all = ap (λ (n : ℕ). share more n all) (omega arith) in
+    omega (arith, further, same, share-grows more front gap all)
+
+spread-all : (more : ℕ) (spaces : List ℕ) → total (spread more (total spaces) 0 spaces) ≤ total spaces + more
+spread-all more spaces =
+    omega (arith, spread-most more (total spaces) 0 spaces, share-most more (0 + total spaces) (total spaces) (omega arith))
+
+-- columns that end below a place begin and are as wide below it
+pub narrow-parts : (columns : List Column) → AllByRecursion (λ c. c.start + c.width < 4294967296) columns → AreNarrow columns
+narrow-parts [] narrow = tt
+narrow-parts (c ∷ columns) narrow = (record { start = omega (arith, narrow.0); width = omega (arith, narrow.0) }, narrow-parts columns narrow.1)
+
+pub placed-narrow : (most more : ℕ) (asked : List Asked) (columns : List Column) → length columns ≤ length asked → width_of_all columns (gaps asked) + more < most
+    → AllByRecursion (λ c. c.start + c.width < most) (placed_with more asked columns)
+placed-narrow most more asked columns short few =
+    let spaces = gaps asked in
+    each-narrow most 0 (spread more (total spaces) 0 spaces) columns
+    (omega (arith, short, length-spread more (total spaces) 0 spaces, length-gaps 0 asked)) (omega (arith, few, spread-all more spaces))
+
+-- a row that isn't begun leaves no block open
+pub none-open-by : (pending : Option Joined) (block : OpenBlock) → pending ≡ None → block ≡ NoBlock → row_open pending block ≡ 0
+none-open-by None NoBlock none closed = refl
+none-open-by None Kept none closed = absurd (cc)
+none-open-by None Dropped none closed = absurd (cc)
+none-open-by (Some j) block none closed = absurd (cc)
+
+module _ (l : TblLimits) (phase : Phase) (begun : Begun) (text : KeptText) (d : TableData) (fits : PartsFit l phase begun text d) (is : phase ≡ InData) (none : text.pending ≡ None) (closed : d.open ≡ NoBlock) where
+  -- its bytes
+  pub settled-is : (n : ℕ) → n ≡ length (text.settled ++ behind_joined text.pending []) → take n (block_of text) ≡ text.settled
+  settled-is n n_is =
+      let len : n ≡ length text.settled =
+      n_is ∙ ap (λ (p : Option Joined). length (text.settled ++ behind_joined p [])) none ∙ ap (λ (xs : List ℕ). length xs) (append-nil text.settled) in
+      take_at text.settled (behind_joined text.pending text.line) n (sym len)
+
+  -- it passes as one behind a fault
+  pub laid-fits : (rows : KeptRows) (escapes : KeptEscapes) → SameRoom d.rows rows → AllByRecursion (ElementEnds (length text.settled)) rows.elements
+      → PartsFit l Bad Nothing text (record d { rows = rows; escapes = escapes; notes = record d.notes { to_tell = d.notes.notes } })
+  laid-fits rows escapes rooms lies =
+      let reads = data-reads l phase begun text d fits is in
+      record {
+        rooms = record {
+          text = fits.rooms.text;
+          keys = fits.rooms.keys;
+          asked = fits.rooms.asked;
+          entries = rooms.entries ∙ fits.rooms.entries;
+          elements = rooms.elements ∙ fits.rooms.elements;
+          columns = rooms.columns ∙ fits.rooms.columns;
+          notes = fits.rooms.notes;
+          small = fits.rooms.small;
+          narrow = fits.rooms.narrow;
+          wide = fits.rooms.wide;
+        };
+        bytes = fits.bytes;
+        keys = record {
+          is = refl;
+          few = tt;
+          keys = fits.keys.keys;
+          asked = fits.keys.asked;
+          columns = fits.keys.columns;
+          rows = fits.keys.rows;
+          ended = fits.keys.ended;
+          stands = fits.keys.stands;
+        };
+        rows = record {
+          entries = omega (arith, ap line_may_tell none);
+          elements = omega (arith, none-open-by text.pending d.open none closed);
+        };
+        messages = record { few = omega (arith, fits.messages.few); telling = reads.fits.notes };
+        by_phase = record { alone = none; lies = lies; fits = record { closed = closed; notes = reads.fits.notes } };
+      }
+
+  module _ (line_length : ℕ) (options : Options) (new : TableData) (laid : IsLaid text.settled line_length d new) where
+    pub laid-lies : AllByRecursion (ElementEnds (length text.settled)) new.rows.elements
+    laid-lies = lies-laid text.settled (all_rows d.format.format) new.rows laid.laid
+
+    count-laid : length new.rows.columns ≡ length d.format.format.asked
+    count-laid =
+        ap (λ (cs : List Column). length cs) laid.columns ∙ length-laid line_length d.format.format.asked (body_of text.settled d)
+
+    -- the rows with their places
+    abbrev pub places : ℕ → KeptRows
+    places more = record new.rows { columns = placed_with more d.format.format.asked new.rows.columns }
+
+    pub laid-out : (columns more : ℕ) → columns ≡ min l.columns l.text → width_of_all new.rows.columns (gaps d.format.format.asked) + more < 4294967296
+        → RowsLaid text.settled (all_rows d.format.format) (places more) → IsLaidOut text (places more) d.format columns
+    laid-out columns more columns_is narrow rows = record {
+      laid = RowsLaid-more text.settled (behind_joined text.pending text.line) (all_rows d.format.format) (places more) rows;
+      few = omega (
+        arith,
+        columns_is,
+        length-placed 0 (spread more (total (gaps d.format.format.asked)) 0 (gaps d.format.format.asked)) new.rows.columns,
+        count-laid,
+        fits.keys.columns,
+        fits.keys.asked,
+        fits.bytes.few,
+      );
+      narrow = narrow-parts (places more).columns (placed-narrow 4294967296 more d.format.format.asked new.rows.columns (omega (arith, count-laid)) narrow);
+      small = omega (arith, fits.bytes.most, fits.bytes.block, fits.rooms.small, behind-len text.pending text.line, length-append text.settled (behind_joined text.pending text.line), length-append text.settled (behind_joined text.pending []));
+    }
+
+    pub lines-are : (more : ℕ) → more ≡ lacking_by options.expanded line_length text.settled d → RowsLaid text.settled (all_rows d.format.format) (places more)
+        → lines_laid text (places more) d.format
+        ≡ picture_lines (laid_out line_length (table_of phase options text d)).columns (table_of phase options text d).body
+    lines-are more more_is rows =
+        let asked = d.format.format.asked in
+        ap (λ (es : List Element). picture_lines (placed_with more asked new.rows.columns) es)
+        (elements_of-laid-more text.settled (behind_joined text.pending text.line) (all_rows d.format.format) (places more) rows ∙ laid.body)
+        ∙ ap (λ (cs : List Column). picture_lines (placed_with more asked cs) (body_of text.settled d)) laid.columns
+        ∙ ap (λ (n : ℕ). picture_lines (placed_with n asked (columns_by line_length text.settled d)) (body_of text.settled d)) more_is

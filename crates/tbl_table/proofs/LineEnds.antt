@@ -1,0 +1,311 @@
+-- A whole line of the data is done: the parts hold together, and give the table behind it.
+use Rattle.std.proofs.Common.{◌≡◌, ◌==◌, ℕ, ◌+◌, ◌-◌, ◌<◌, ◌≤◌, ◌⊎◌, inl, inr, min, All, true, false, List, [], ◌∷◌, ◌++◌, length, map, take, drop, get_or, Option, Some, None, refl, sym, ap, subst, ◌∙◌, arith, append-nil, append_assoc, length-append}
+use Rattle.std.proofs.lemmas.List.{drop_at, length-map, take_at}
+use Rattle.std.proofs.Math.Seq.{get_or-append_seam}
+use Rattle.std.proofs.Math.ListN.{get_or-append}
+use Rattle.std.specs.List.{slice_range, AllByRecursion}
+use Rattle.roff_source.specs.Bytes.{newline}
+use Rattle.tbl_data.specs.DataRead.{whole_line, with_whole}
+use Rattle.tbl_data.specs.TableData.{DataFits, ElementEnds, EndsBy, EntryEnds, FitsBehind, LastEndsAt, OpenBehind, OpenEndsAt, SameRooms, StandsBehind, begun_by, row_with_block, table_by}
+use Rattle.tbl_data.specs.TableRead.{RowBegun, TableRead}
+use Rattle.tbl_data.specs.declared.phase.Phase.{Phase}
+use Rattle.tbl_data.specs.declared.phase.Phase.TheVariants.{AtHead, Bad, InData, InFormat}
+use Rattle.tbl_data.specs.declared.table_data.OpenBlock.{OpenBlock}
+use Rattle.tbl_data.specs.declared.table_data.OpenBlock.TheVariants.{Dropped, Kept, Nothing as NoBlock}
+use Rattle.tbl_data.specs.declared.table_data.TableData.{TableData}
+use Rattle.tbl_format.specs.Format.{Format, FormatRow, further}
+use Rattle.tbl_format.specs.FormatRows.{keys_of}
+use Rattle.tbl_format.specs.Notes.{NotesWithin, told_of_all}
+use Rattle.tbl_format.specs.RowsServed.{all_rows, row_at}
+use Rattle.tbl_format.specs.declared.limits.TblLimits.{TblLimits}
+use Rattle.tbl_format.specs.declared.notes.KeptNote.{KeptNote}
+use Rattle.tbl_format.specs.declared.options.Options.{Options}
+use Rattle.tbl_format.proofs.FormatReading.{keys_of-append}
+use Rattle.tbl_kept.specs.Joined.{Joined, behind_joined, ends_joined}
+use Rattle.tbl_kept.specs.Rows.{element_of, elements_of, entries_of}
+use Rattle.tbl_kept.specs.TableText.{KeptText, block_of, text_ended}
+use Rattle.tbl_layout.specs.Entries.{Content, Element}
+use Rattle.tbl_layout.specs.KeptEntries.{content_of}
+use Rattle.tbl_layout.specs.declared.entry.Entry.{Entry}
+use Rattle.tbl_table.specs.Begun.{begun_in}
+use Rattle.tbl_table.specs.Kept.{DataReads, EndFits, HasRooms, KeysFit, NotesFit, PartsFit, PhaseFits, RowsFit, TextFits, block_open, data_read, kept_in, reading_of, row_open, table_of}
+use Rattle.tbl_table.specs.MayTell.{fault_may_come, line_may_tell}
+use Rattle.tbl_table.specs.Reading.{Reading}
+use Rattle.tbl_table.specs.Steps.{ended_with}
+use Rattle.tbl_table.specs.declared.begun.Begun.{Begun}
+use Rattle.tbl_table.proofs.DataGrows.{DataFits-more, Lies-behind, Lies-data, behind-less, behind-more, table-more}
+use Rattle.tbl_table.proofs.DataLies.{fields-kept, lies-kept, lies-longer}
+use Rattle.tbl_table.proofs.FormatLines.{IsCounted, KeysFit-start, text-ends, whole-len}
+use Rattle.tbl_table.proofs.NotesKept.{NotesWithin-more, told-longer}
+use Rattle.tbl_table.proofs.TableFits.{behind-len, ended-read, kept-most}
+use Rattle.tbl_table.proofs.WholeLines.{Makes, makes-whole, one_begun}
+
+-- what a whole line has made of what is kept, which lies there in the bytes
+pub record Taken (text : KeptText) (separator from to number : ℕ) (p : Phase) (old new : TableData) : Type 0 where
+  pub table : (options : Options) → options.separator ≡ separator
+      → table_by p options (block_of text) new
+      ≡ with_whole (begun_by old.open (map (content_of (block_of text)) old.rows.row)) (ends_joined text.pending) number (slice_range (block_of text) from to)
+      (table_by InData options (block_of text) old)
+  pub fits : FitsBehind p (block_of text) new
+  pub ends : OpenEndsAt to new.open new.rows.row
+  pub settled : EndsBy to new
+  pub entries : entries_of new.rows ≤ entries_of old.rows + (to - from) + 1
+  pub notes : length new.notes.notes ≤ length old.notes.notes + (to - from) + 1
+  pub to_tell : new.notes.to_tell ≡ old.notes.to_tell
+  pub rooms : SameRooms old new
+
+-- a line lies at the end of what is done
+pub slice-last : (settled line more : List ℕ) → slice_range (settled ++ (line ++ more)) (length settled) (length settled + length line) ≡ line
+slice-last settled line more =
+    let n : length settled + length line - length settled ≡ length line = omega arith in
+    ap (λ (k : ℕ). take k (drop (length settled) (settled ++ (line ++ more)))) n
+    ∙ ap (λ (xs : List ℕ). take (length line) xs) (drop_at settled (line ++ more) (length settled) refl)
+    ∙ take_at line more (length line) refl
+
+-- a block that is open stands behind the same newline where the bytes grow
+pub behind-grows : (bytes more : List ℕ) (from : ℕ) (block : OpenBlock) (row : List Entry) → from ≤ length bytes → OpenBehind bytes from block row
+    → OpenBehind (bytes ++ more) from block row
+behind-grows bytes more from NoBlock row within behind = tt
+behind-grows bytes more from Dropped row within behind = tt
+behind-grows bytes more from Kept row within behind = record {
+  some = behind.some;
+  newline = get_or-append bytes more 0 (from - 1) (omega (arith, within, behind.some)) ∙ behind.newline;
+  ends = behind.ends;
+}
+
+-- and behind the newline of its last line
+last-moved : (a b : ℕ) (row : List Entry) → a ≡ b → LastEndsAt a row → LastEndsAt b row
+last-moved a b row is ends = subst (λ (n : ℕ). LastEndsAt n row) is ends
+
+pub behind-ends : (front : List ℕ) (to : ℕ) (block : OpenBlock) (row : List Entry) → to ≡ length front → OpenEndsAt to block row
+    → OpenBehind (front ++ newline ∷ []) (length (front ++ newline ∷ [])) block row
+behind-ends front to NoBlock row is ends = tt
+behind-ends front to Dropped row is ends = tt
+behind-ends front to Kept row is ends =
+    let len : length (front ++ newline ∷ []) ≡ length front + 1 = length-append front (newline ∷ []) in
+    let last : length (front ++ newline ∷ []) - 1 ≡ length front = omega (arith, len) in
+    record {
+      some = omega (arith, len);
+      newline = ap (λ (n : ℕ). get_or (front ++ newline ∷ []) n 0) last ∙ get_or-append_seam front newline [] 0;
+      ends = last-moved to (length (front ++ newline ∷ []) - 1) row (is ∙ sym last) ends;
+    }
+
+-- how many rows are begun
+begun-open : (block : OpenBlock) (contents : List Content) → one_begun (begun_by block contents) ≡ block_open block
+begun-open NoBlock contents = refl
+begun-open Kept contents = refl
+begun-open Dropped contents = refl
+
+-- no more bytes than may tell something
+pub whole-most : (pending : Option Joined) (line : List ℕ) → length (behind_joined pending line) ≤ line_may_tell pending + length line
+whole-most None line = omega arith
+whole-most (Some j) line = omega (arith, length-append j.bytes line)
+
+-- and fewer where a line goes on
+pub whole-less : (pending : Option Joined) (block : OpenBlock) (line : List ℕ)
+    → length (behind_joined pending line) + row_open pending NoBlock ≤ line_may_tell pending + length line
+whole-less None block line = omega arith
+whole-less (Some j) block line = omega (arith, length-append j.bytes line)
+
+pub row-open-most : (pending : Option Joined) (block : OpenBlock) → row_open pending block ≤ 1
+row-open-most None NoBlock = omega arith
+row-open-most None Kept = omega arith
+row-open-most None Dropped = omega arith
+row-open-most (Some j) block = omega arith
+
+-- a further format is counted as the one before it
+counted-further : (l : TblLimits) (len : ℕ) (f : Format) → IsCounted l len f → IsCounted l len (further f)
+counted-further l len f is = record {
+  keys = omega (arith, is.keys, keys_of-append f.earlier f.rows);
+  asked = is.asked;
+  columns = is.columns;
+  row = omega arith;
+  rows = record {
+    few = omega (arith, is.rows.few, keys_of-append f.earlier f.rows, length-append f.earlier f.rows);
+    wide = λ some. is.rows.wide (omega (arith, some, length-append f.earlier f.rows));
+  };
+  ended = tt;
+  stands = tt;
+}
+
+counted-by : (l : TblLimits) (len : ℕ) (f g : Format) → IsCounted l len f → (g ≡ f) ⊎ (g ≡ further f) → IsCounted l len g
+counted-by l len f g is (inl same) = subst (λ (h : Format). IsCounted l len h) (sym same) is
+counted-by l len f g is (inr more) = subst (λ (h : Format). IsCounted l len h) (sym more) (counted-further l len f is)
+
+pub read-most : (p : Phase) → data_read p ≤ 1
+read-most AtHead = omega arith
+read-most InFormat = omega arith
+read-most InData = omega arith
+read-most Bad = omega arith
+
+pub fault-most : (p : Phase) → fault_may_come p ≤ 1
+fault-most AtHead = omega arith
+fault-most InFormat = omega arith
+fault-most InData = omega arith
+fault-most Bad = omega arith
+
+pub phase-fits : (p : Phase) (bytes : List ℕ) (d : TableData) → FitsBehind p bytes d → AllByRecursion (ElementEnds (length bytes)) d.rows.elements
+    → OpenBehind bytes (length bytes) d.open d.rows.row → PhaseFits p bytes None d
+phase-fits AtHead bytes d fits lies behind = absurd fits
+phase-fits InFormat bytes d fits lies behind = record { alone = refl; fits = fits }
+phase-fits InData bytes d fits lies behind = record { fits = fits; behind = behind }
+phase-fits Bad bytes d fits lies behind = record { alone = refl; lies = lies; fits = fits }
+
+module _ (l : TblLimits) (phase : Phase) (begun : Begun) (text : KeptText) (d : TableData) (fits : PartsFit l phase begun text d) (is : phase ≡ InData) where
+  pub data-reads : DataReads text.settled d
+  data-reads = subst (λ (p : Phase). PhaseFits p text.settled text.pending d) is fits.by_phase
+
+  pub one-read : data_read phase ≡ 1
+  one-read = ap data_read is
+
+  pub one-fault : fault_may_come phase ≡ 1
+  one-fault = ap fault_may_come is
+
+  pub all-kept : (n : ℕ) → kept_in phase n ≡ n
+  all-kept n = ap (λ (q : Phase). kept_in q n) is
+
+  -- what the line is asked for
+  pub take-fits : DataFits (block_of text) d
+  take-fits = DataFits-more text.settled (behind_joined text.pending text.line) d data-reads.fits
+
+  pub take-behind : OpenBehind (block_of text) (length text.settled) d.open d.rows.row
+  take-behind = behind-grows text.settled (behind_joined text.pending text.line) (length text.settled) d.open d.rows.row (omega arith) data-reads.behind
+
+  pub take-settled : EndsBy (length text.settled) d
+  take-settled = record {
+    elements = lies-kept text.settled (all_rows d.format.format) d.rows data-reads.fits.kept.all;
+    row = fields-kept text.settled (row_at (all_rows d.format.format) d.keys) 0 d.rows.row data-reads.fits.kept.row;
+    notes = data-reads.fits.notes;
+  }
+
+  pub few-formats : length (all_rows d.format.format) < 4294967296
+  few-formats =
+      omega (arith, fits.keys.rows.few, fits.keys.keys, fits.bytes.few, fits.rooms.small, length-append d.format.format.earlier d.format.format.rows)
+
+  pub block-len : length (block_of text) ≡ length text.settled + length (behind_joined text.pending text.line)
+  block-len = length-append text.settled (behind_joined text.pending text.line)
+
+  pub block-line : (end : ℕ) → end ≡ length (block_of text) → slice_range (block_of text) (length text.settled) end ≡ behind_joined text.pending text.line
+  block-line end end_is =
+      let whole = behind_joined text.pending text.line in
+      ap (λ (k : ℕ). slice_range (block_of text) (length text.settled) k) (end_is ∙ block-len)
+      ∙ ap (λ (xs : List ℕ). slice_range (text.settled ++ xs) (length text.settled) (length text.settled + length whole)) (sym (append-nil whole))
+      ∙ slice-last text.settled whole []
+
+  pub take-counted : IsCounted l (length text.read) d.format.format
+  take-counted = record {
+    keys = fits.keys.keys;
+    asked = fits.keys.asked;
+    columns = fits.keys.columns;
+    row = omega (arith, ap (λ (row : List _). length row) data-reads.fits.whole);
+    rows = fits.keys.rows;
+    ended = fits.keys.ended;
+    stands = fits.keys.stands;
+  }
+
+  -- the line is done
+  module _ (options : Options) (from to number : ℕ) (p : Phase) (new : TableData) (taken : Taken text options.separator from to number p d new) where
+    -- the table behind it, in all bytes
+    pub table-taken : table_by p options (block_of text) new
+        ≡ whole_line (ends_joined text.pending) number (slice_range (block_of text) from to) (table_of phase options text d)
+    table-taken =
+        taken.table options refl
+        ∙ ap (λ (t : TableRead). whole_line (ends_joined text.pending) number (slice_range (block_of text) from to) t)
+        (table-more text.settled (behind_joined text.pending text.line) d InData options
+        (Lies-data text.settled (behind_joined text.pending text.line) d data-reads.fits))
+        ∙ ap (λ (q : Phase). whole_line (ends_joined text.pending) number (slice_range (block_of text) from to) (table_by q options text.settled d)) (sym is)
+
+    makes-taken : Makes (table_of phase options text d) (table_by p options (block_of text) new)
+    makes-taken =
+        subst (λ (u : TableRead). Makes (table_of phase options text d) u) (sym table-taken)
+        (makes-whole (ends_joined text.pending) number (slice_range (block_of text) from to) (table_of phase options text d))
+
+    pub new-counted : (len : ℕ) → length text.read ≤ len → IsCounted l len new.format.format
+    new-counted len more =
+        counted-by l len d.format.format new.format.format
+        (record {
+          keys = omega (arith, take-counted.keys, more);
+          asked = omega (arith, take-counted.asked, more);
+          columns = take-counted.columns;
+          row = take-counted.row;
+          rows = take-counted.rows;
+          ended = take-counted.ended;
+          stands = take-counted.stands;
+        }) makes-taken.format
+
+    pub new-elements : length new.rows.elements + block_open new.open ≤ length d.rows.elements + 1
+    new-elements =
+        omega (
+          arith,
+          makes-taken.few,
+          length-map new.rows.elements (element_of (block_of text) (all_rows new.format.format)),
+          length-map d.rows.elements (element_of text.settled (all_rows d.format.format)),
+          begun-open new.open (map (content_of (block_of text)) new.rows.row),
+        )
+
+    pub new-rooms : HasRooms l text.text_room new
+    new-rooms = record {
+      text = fits.rooms.text;
+      keys = taken.rooms.keys ∙ fits.rooms.keys;
+      asked = taken.rooms.asked ∙ fits.rooms.asked;
+      entries = taken.rooms.entries ∙ fits.rooms.entries;
+      elements = taken.rooms.elements ∙ fits.rooms.elements;
+      columns = taken.rooms.columns ∙ fits.rooms.columns;
+      notes = taken.rooms.notes ∙ fits.rooms.notes;
+      small = fits.rooms.small;
+      narrow = fits.rooms.narrow;
+      wide = fits.rooms.wide;
+    }
+
+    -- its newline comes
+    module _ (from_is : from ≡ length text.settled) (to_is : to ≡ length (block_of text)) (room : length (text.read ++ text.line) < l.text) where
+      line-len : to - from ≡ length (behind_joined text.pending text.line)
+      line-len = omega (arith, from_is, to_is, block-len)
+
+      same-bytes : (text_ended text).settled ≡ block_of text ++ newline ∷ []
+      same-bytes = sym (append_assoc text.settled (behind_joined text.pending text.line) (newline ∷ []))
+
+      ends-block : EndsBy (length (block_of text)) new
+      ends-block = subst (λ (n : ℕ). EndsBy n new) to_is taken.settled
+
+      lies-new : AllByRecursion (ElementEnds (length (block_of text ++ newline ∷ []))) new.rows.elements
+      lies-new = lies-longer (length (block_of text)) (length (block_of text ++ newline ∷ [])) new.rows.elements (omega (arith, length-append (block_of text) (newline ∷ []))) ends-block.elements
+
+      end-phase : PhaseFits p (block_of text ++ newline ∷ []) None new
+      end-phase =
+          phase-fits p (block_of text ++ newline ∷ []) new (behind-more (block_of text) (newline ∷ []) new p taken.fits) lies-new
+          (behind-ends (block_of text) to new.open new.rows.row to_is taken.ends)
+
+      pub end-fits : PartsFit l p (begun_in p new.format.format []) (text_ended text) new
+      end-fits = record {
+        rooms = new-rooms;
+        bytes = text-ends l phase begun text d fits room;
+        keys = KeysFit-start l (text_ended text).read p new.format.format (new-counted (length (text_ended text).read) (omega (arith, ended-read text)));
+        rows = record {
+          entries = omega (arith, kept-most p (entries_of new.rows), all-kept (entries_of d.rows), taken.entries, line-len, fits.rows.entries, one-read, read-most p, whole-most text.pending text.line, ended-read text);
+          elements = omega (arith, kept-most p (length new.rows.elements), all-kept (length d.rows.elements), new-elements, fits.rows.elements, one-read, read-most p, ended-read text);
+        };
+        messages = record {
+          few = omega (arith, taken.notes, line-len, fits.messages.few, one-fault, fault-most p, whole-most text.pending text.line, ended-read text);
+          telling =
+              subst (λ (ns : List KeptNote). NotesWithin (length (text_ended text).settled) ns) (sym taken.to_tell)
+              (NotesWithin-more (length text.settled) (length (text_ended text).settled) d.notes.to_tell
+              (omega (arith, length-append text.settled (behind_joined text.pending text.line ++ newline ∷ []))) fits.messages.telling);
+        };
+        by_phase = subst (λ (bytes : List ℕ). PhaseFits p bytes None new) (sym same-bytes) end-phase;
+      }
+
+      pub end-read : reading_of p options (text_ended text) new
+          ≡ ended_with (whole_line (ends_joined text.pending) number (behind_joined text.pending text.line) (table_of phase options text d)) (reading_of phase options text d)
+      end-read =
+          ap (λ (t : TableRead). ended_with t (reading_of phase options text d))
+          (ap (λ (bytes : List ℕ). table_by p options bytes new) same-bytes
+          ∙ table-more (block_of text) (newline ∷ []) new p options (Lies-behind (block_of text) (newline ∷ []) new p taken.fits ends-block.elements)
+          ∙ table-taken
+          ∙ ap (λ (line : List ℕ). whole_line (ends_joined text.pending) number line (table_of phase options text d))
+          (ap (λ (n : ℕ). slice_range (block_of text) n to) from_is ∙ block-line to to_is))
+
+      pub end-told : told_of_all (text_ended text).settled new.notes.to_tell ≡ told_of_all text.settled d.notes.to_tell
+      end-told =
+          ap (λ (ns : List KeptNote). told_of_all (text_ended text).settled ns) taken.to_tell
+          ∙ told-longer text.settled (behind_joined text.pending text.line ++ newline ∷ []) d.notes.to_tell fits.messages.telling
