@@ -1,6 +1,5 @@
 pub mod TextBlocks
 pub mod AskedJoints
-pub mod RowTexts
 pub mod KeptFields
 pub mod ColumnsHeld
 pub mod RowsKeeping

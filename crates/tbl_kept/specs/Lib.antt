@@ -1,7 +1,6 @@
 pub mod Joined
 pub mod TableText
 pub mod TableNotes
-pub mod TableRows
 pub mod Rows
 pub mod RowsInside
 pub mod RowsGrowing

@@ -5,5 +5,4 @@
 pub mod held_columns;
 pub mod rows;
 pub mod table_notes;
-pub mod table_rows;
 pub mod table_text;

@@ -6,9 +6,7 @@ use Rattle.std.proofs.lemmas.List.{drop-drop, drop_all, drop_more, length-take-l
 use Rattle.std.proofs.lemmas.List.Sums.{prefix_len_is, prefix_len-le-length}
 use Rattle.std.proofs.lemmas.Slice.{between_is}
 use Rattle.memchr.specs.Find.{IsFirstByte, is_byte}
-use Rattle.tbl_layout.specs.Data.{fields, in_first, kept_fields}
-use Rattle.tbl_layout.specs.Fields.{field_of, fields_from}
-use Rattle.tbl_layout.specs.declared.data.Field.{Field}
+use Rattle.tbl_layout.specs.Data.{fields, in_first}
 
 -- how many bytes stand before the first separator
 abbrev pub field_len : ℕ → List ℕ → ℕ
@@ -52,11 +50,6 @@ module _ (separator : ℕ) where
   fields-front [] = refl
   fields-front (b ∷ s) = front_by (b == separator) b s (fields-front s)
 
-pub take-nothing : (n : ℕ) → take n (fields_behind 0 []) ≡ []
-unfolding fields_behind
-take-nothing zero = refl
-take-nothing (suc n) = refl
-
 -- a part of a part
 take-take : (k m : ℕ) (xs : List ℕ) → k ≤ m → take k (take m xs) ≡ take k xs
 take-take zero m xs le = refl
@@ -76,57 +69,3 @@ module _ (block : List ℕ) (at to : ℕ) (order : at ≤ to) (within : to ≤ l
   pub rest-part : (k : ℕ) → drop k (slice_range block at to) ≡ slice_range block (at + k) to
   rest-part k =
       ap (drop k) (between_is block at to) ∙ drop-drop k at (take to block) ∙ sym (between_is block (at + k) to)
-
--- a field that ends there is pushed: it is the last, or others are left
-module _ (separator left : ℕ) (block : List ℕ) (at to k : ℕ) (done all : List Field) (field : Field) (order : at ≤ to) (within : to ≤ length block) (some : 0 < left) (is : k ≡ field_len separator (slice_range block at to)) (made : field ≡ field_of at (slice_range block at (at + k))) (so_far : done ++ fields_from at (kept_fields separator left (slice_range block at to)) ≡ all) where
-  few : at + k ≤ to
-  few = omega (arith, is, prefix_len-le-length (λ b. not (b == separator)) (slice_range block at to), length-part block at to order within)
-
-  text_len : length (slice_range block at (at + k)) ≡ k
-  text_len = omega (arith, length-part block at (at + k) (omega arith) (omega (arith, few)))
-
-  first_is : kept_fields separator left (slice_range block at to)
-      ≡ slice_range block at (at + k) ∷ take (left - 1) (fields_behind separator (slice_range block (at + k) to))
-  first_is =
-      let s = slice_range block at to in
-      let n : left ≡ suc (left - 1) = omega arith in
-      ap (λ (fs : List (List ℕ)). take left fs) (fields-front separator s)
-      ∙ ap (λ (m : ℕ). take left (take m s ∷ fields_behind separator (drop m s))) (sym is)
-      ∙ ap (λ (m : ℕ). take m (take k s ∷ fields_behind separator (drop k s))) n
-      ∙ ap (λ (t : List ℕ). t ∷ take (left - 1) (fields_behind separator (drop k s))) (front-part block at to order within k few)
-      ∙ ap (λ (rest : List ℕ). slice_range block at (at + k) ∷ take (left - 1) (fields_behind separator rest)) (rest-part block at to order within k)
-
-  fields_are : fields_from at (kept_fields separator left (slice_range block at to))
-      ≡ field ∷ fields_from (at + k + 1) (take (left - 1) (fields_behind separator (slice_range block (at + k) to)))
-  fields_are =
-      let later = take (left - 1) (fields_behind separator (slice_range block (at + k) to)) in
-      ap (fields_from at) first_is
-      ∙ ap (λ (n : ℕ). field_of at (slice_range block at (at + k)) ∷ fields_from (at + n + 1) later) text_len
-      ∙ ap (λ (f : Field). f ∷ fields_from (at + k + 1) later) (sym made)
-
-  pub fields-last : at + k ≡ to → done ++ field ∷ [] ≡ all
-  unfolding fields_behind
-  fields-last end =
-      let none : slice_range block (at + k) to ≡ [] =
-      sym (rest-part block at to order within k) ∙ drop_all k (slice_range block at to) (omega (arith, end, length-part block at to order within)) in
-      let nothing : (n : ℕ) → take n (fields_behind separator []) ≡ [] = take-nothing in
-      ap (λ (fs : List Field). done ++ fs)
-      (sym (fields_are ∙ ap (λ (rest : List ℕ). field ∷ fields_from (at + k + 1) (take (left - 1) (fields_behind separator rest))) none
-      ∙ ap (λ (ts : List (List ℕ)). field ∷ fields_from (at + k + 1) ts) (nothing (left - 1))))
-      ∙ so_far
-
-  pub fields-more : (at + k ≡ to → ⊥)
-      → (done ++ field ∷ []) ++ fields_from (at + k + 1) (kept_fields separator (left - 1) (slice_range block (at + k + 1) to)) ≡ all
-  unfolding fields_behind
-  fields-more more =
-      let before : at + k < to = omega (arith, few, more) in
-      let here : at + k ≤ to = omega arith in
-      let n : suc (at + k) ≡ at + k + 1 = omega arith in
-      let len = length-part block (at + k) to here within in
-      let split = drop_more (slice_range block (at + k) to) 0 0 (omega (arith, len)) in
-      let rest : slice_range block (at + k) to ≡ get_or (slice_range block (at + k) to) 0 0 ∷ slice_range block (at + k + 1) to =
-      split ∙ ap (λ (r : List ℕ). get_or (slice_range block (at + k) to) 0 0 ∷ r) (rest-part block (at + k) to here within 1) in
-      append_assoc done (field ∷ []) (fields_from (at + k + 1) (kept_fields separator (left - 1) (slice_range block (at + k + 1) to)))
-      ∙ ap (λ (fs : List Field). done ++ fs)
-      (sym (fields_are ∙ ap (λ (r : List ℕ). field ∷ fields_from (at + k + 1) (take (left - 1) (fields_behind separator r))) rest))
-      ∙ so_far

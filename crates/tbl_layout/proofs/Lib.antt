@@ -1,7 +1,4 @@
-pub mod Glyphs
 pub mod Fields
-pub mod Widened
-pub mod Unbuilt
 pub mod Elements
 pub mod LeastWidths
 pub mod ColumnsEnd

@@ -3,6 +3,4 @@ pub mod DataLines
 pub mod Entries
 pub mod Columns
 pub mod Widths
-pub mod Glyphs
-pub mod Fields
 pub mod KeptEntries

@@ -6,7 +6,6 @@ pub mod columns;
 pub mod data;
 pub mod data_lines;
 pub mod entry;
-pub mod last_glyph;
 pub mod laws;
 pub mod widths;
 pub mod worked_rows;

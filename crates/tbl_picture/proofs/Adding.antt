@@ -6,7 +6,7 @@ use Rattle.tbl_picture.specs.PieceQueue.{Adds, IsInFirst, KeptPieces, bytes_left
 use Rattle.tbl_picture.specs.Pieces.{AreWithin, bytes_of, bytes_of_all, piece_len, some_piece}
 use Rattle.tbl_picture.specs.declared.picture.Piece.{Piece}
 use Rattle.tbl_picture.proofs.PiecesWithin.{AreWithin-append, AreWithin-some}
-use Rattle.tbl_picture.proofs.Lines.{bytes_of_all-append}
+use Rattle.tbl_picture.proofs.PieceBytes.{bytes_of_all-append}
 
 no-bytes : (xs : List ℕ) → length xs ≡ 0 → [] ≡ xs
 no-bytes [] is = refl

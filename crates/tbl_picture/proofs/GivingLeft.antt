@@ -19,7 +19,7 @@ use Rattle.tbl_picture.specs.declared.giving.Rest.{Rest}
 use Rattle.tbl_picture.specs.declared.giving.Rest.TheVariants.{Lines, Nothing, Read}
 use Rattle.tbl_picture.specs.declared.picture.Piece.{Piece}
 use Rattle.tbl_picture.specs.declared.picture.Piece.TheVariants.{Block, Frame, Joint}
-use Rattle.tbl_picture.proofs.Lines.{part-none, some_by}
+use Rattle.tbl_picture.proofs.PieceBytes.{part-none, some_by}
 use Rattle.tbl_format.proofs.Parts.{length-slice_range, slice_range-rest}
 use Rattle.tbl_picture.proofs.PiecesWithin.{AreWithin-append, AreWithin-some}
 

@@ -11,8 +11,7 @@ pub mod RunsGiven
 pub mod WordRuns
 pub mod WordSteps
 pub mod WordsGiven
-pub mod Cells
-pub mod Lines
+pub mod PieceBytes
 pub mod PictureSteps
 pub mod PiecesWithin
 pub mod PiecesLeft

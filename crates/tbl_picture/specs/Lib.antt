@@ -1,5 +1,4 @@
 pub mod Frame
-pub mod Picture
 pub mod PictureLines
 pub mod RowsLeft
 pub mod RowsWalked

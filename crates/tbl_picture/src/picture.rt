@@ -1,25 +1,15 @@
-//! The picture of a table: its lines, one at a time (Lesk, "Tbl": Formatting).
+//! The pieces of which a table's picture is given, and the requests around it (Lesk, "Tbl": Formatting).
 
 ghost use Rattle.std.specs.Prelude.{◌≡◌, ℕ, ◌+◌, ◌-◌, ◌*◌, ◌<◌, ◌≤◌, ◌^◌, List, ◌++◌, length, take};
 ghost use Rattle.std.specs.Prelude.{drop, min, replicate, slice_index, slice_range, vec_capacity};
 ghost use Rattle.std.specs.Prelude.{vec_len, if◌then◌else◌};
-ghost use Rattle.std.specs.List.{AllByRecursion};
 ghost use Rattle.roff_source.specs.Bytes.{blank};
 ghost use Rattle.tbl_picture.specs.Frame.{before_lines, behind_lines, indenting};
-ghost use Rattle.tbl_picture.specs.Picture.{first_key};
-ghost use Rattle.tbl_picture.specs.Picture.{line_of, shift};
 ghost use Rattle.tbl_format.specs.Parts.{IsFront};
-ghost use Rattle.tbl_picture.specs.Pieces.{AreGlyphless, AreWithin, EndsInGlyph};
-ghost use Rattle.tbl_layout.specs.Fields.{AreMeasured};
-ghost use Rattle.tbl_picture.specs.Pieces.{HaveBytes, IsNarrow, bytes_of, bytes_of_all, cells};
-ghost use Rattle.tbl_picture.specs.Pieces.{piece_len, some_piece};
-ghost use Rattle.tbl_layout.specs.Fields.{texts_of};
+ghost use Rattle.tbl_picture.specs.Pieces.{bytes_of, piece_len, some_piece};
 
 use itoa::Buffer;
 use roff_source::at_most;
-use tbl_format::format::{Asked, FormatKey, Key};
-use tbl_layout::data::Field;
-use tbl_layout::widths::separation;
 
 /// A piece of what is given.
 #[derive(Clone, Copy)]
@@ -135,118 +125,6 @@ pub fn push_some(pieces: &mut Vec<Piece>, piece: Piece)
 {
     if piece.len() != 0 {
         pieces.push_reserved(piece);
-    }
-}
-
-/// Adds the pieces of a line of the picture.
-pub fn push_line(
-    pieces: &mut Vec<Piece>,
-    widths: &[usize],
-    asked: &[Asked],
-    keys: &[FormatKey],
-    row: &[Field],
-)
-    requires columns { length row.now ≤ length widths.now }
-    requires asked { length widths.now ≤ length asked.now }
-    requires room { vec_len pieces.old + 2 * length row.now + 2 ≤ vec_capacity pieces.old }
-    requires narrow { IsNarrow 0 widths.now asked.now }
-    requires texts { AllByRecursion (λ field. field.width < 2 ^ 33) row.now }
-    ensures line { (block frame : List ℕ) → AreMeasured block row.now
-        → bytes_of_all block frame pieces.new.items ≡ bytes_of_all block frame pieces.old.items
-        ++ line_of widths.now asked.now keys.now (texts_of block row.now) }
-    ensures bytes { HaveBytes pieces.old.items → HaveBytes pieces.new.items }
-    ensures within { (block frame : List ℕ) → AreMeasured block row.now
-        → AreWithin block frame pieces.old.items → AreWithin block frame pieces.new.items }
-    ensures more { vec_len pieces.old < vec_len pieces.new }
-    ensures capacity { vec_capacity pieces.new ≡ vec_capacity pieces.old }
-{
-    pieces.push_reserved(Piece::LineFront);
-    let (cut, _) = row.split_at(with_glyphs(row));
-    push_cells(pieces, widths, asked, keys, cut);
-    pieces.push_reserved(Piece::LineEnd);
-}
-
-/// How many fields of a row there are up to the last that has a glyph.
-fn with_glyphs(row: &[Field]) -> usize
-    ensures within { result ≤ length row.now }
-    ensures last { EndsInGlyph (take result row.now) }
-    ensures behind { AreGlyphless (drop result row.now) }
-{
-    let mut count = row.len();
-    while count > 0 {
-        let field = row[count - 1];
-        if field.from < field.glyphs {
-            return count;
-        }
-        count -= 1;
-    }
-    0
-}
-
-/// Adds the pieces of fields in their columns, the last of them up to its last glyph.
-fn push_cells(
-    pieces: &mut Vec<Piece>,
-    widths: &[usize],
-    asked: &[Asked],
-    keys: &[FormatKey],
-    row: &[Field],
-)
-    requires columns { length row.now ≤ length widths.now }
-    requires asked { length widths.now ≤ length asked.now }
-    requires room { vec_len pieces.old + 2 * length row.now ≤ vec_capacity pieces.old }
-    requires narrow { IsNarrow 0 widths.now asked.now }
-    requires texts { AllByRecursion (λ field. field.width < 2 ^ 33) row.now }
-    ensures items { pieces.new.items
-        ≡ pieces.old.items ++ cells 0 0 widths.now asked.now keys.now row.now }
-    ensures few { vec_len pieces.new ≤ vec_len pieces.old + 2 * length row.now }
-    ensures capacity { vec_capacity pieces.new ≡ vec_capacity pieces.old }
-{
-    let mut place = 0;
-    let mut start = 0;
-    for column in 0..row.len() {
-        let field = row[column];
-        let width = widths[column];
-        let at = start + shift(key_at(keys, column), width.saturating_sub(field.width));
-        push_some(pieces, Piece::Blanks(at.saturating_sub(place)));
-        let is_last = column + 1 == row.len();
-        push_some(pieces, Piece::Block(field.from, text_end(field, is_last)));
-        place = at + field.width;
-        start += width + separation(asked[column].separation);
-    }
-}
-
-/// Where the text of a field ends that is given: the last of a line up to its last glyph.
-fn text_end(field: Field, is_last: bool) -> usize
-    ensures { result ≡ (if is_last then field.glyphs else field.to) }
-{
-    if is_last { field.glyphs } else { field.to }
-}
-
-/// The key of a column: a short row of the format goes on with `l`.
-fn key_at(keys: &[FormatKey], column: usize) -> Key
-    ensures { result ≡ first_key (drop column keys.now) }
-{
-    match keys.get(column) {
-        Some(key) => key.key,
-        None => Key::Left,
-    }
-}
-
-/// How far into its column a text stands, by the key and the columns to spare.
-fn shift(key: Key, spare: usize) -> usize
-    ensures value { result ≡ shift key spare }
-    ensures most { result ≤ spare }
-{
-    match key {
-        Key::Right => spare,
-        Key::Center => spare / 2,
-        Key::Left => 0,
-        Key::Numeric => 0,
-        Key::Alphabetic => 0,
-        Key::Spanned => 0,
-        Key::Above => 0,
-        Key::Rule => 0,
-        Key::DoubleRule => 0,
     }
 }
 

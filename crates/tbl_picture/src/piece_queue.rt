@@ -2,19 +2,14 @@
 
 ghost use Rattle.std.specs.Prelude.{◌≡◌, ℕ, ◌+◌, ◌*◌, ◌<◌, ◌≤◌, ◌^◌, List, [], ◌∷◌, ◌++◌, length};
 ghost use Rattle.std.specs.Prelude.{drop, IfOk, true, false};
-ghost use Rattle.std.specs.List.{AllByRecursion};
 ghost use Rattle.std.specs.Option.{MatchOption};
 ghost use Rattle.tbl_format.specs.Format.{has_some};
-ghost use Rattle.tbl_picture.specs.Picture.{line_of};
 ghost use Rattle.tbl_format.specs.Parts.{IsFront};
-ghost use Rattle.tbl_layout.specs.Fields.{AreMeasured, texts_of};
-ghost use Rattle.tbl_picture.specs.Pieces.{AreWithin, IsNarrow, bytes_of, piece_len, some_piece};
+ghost use Rattle.tbl_picture.specs.Pieces.{AreWithin, bytes_of, piece_len, some_piece};
 
-use crate::picture::{Piece, push_line, push_some};
+use crate::picture::{Piece, push_some};
 use std::alloc::{AllocError, Global};
 use std::marker::Model;
-use tbl_format::format::{Asked, FormatKey};
-use tbl_layout::data::Field;
 
 /// Pieces, and how far they were given. All its memory is reserved as it is made.
 #[derive(Drop)]
@@ -83,27 +78,6 @@ impl PieceQueue {
         self.offset = 0;
         push_some(&mut self.pieces, first);
         push_some(&mut self.pieces, second);
-    }
-
-    /// The pieces of a line of the picture are to give.
-    pub fn set_line(&mut self, widths: &[usize], asked: &[Asked], keys: &[FormatKey], row: &[Field])
-        requires columns { length row.now ≤ length widths.now }
-        requires asked { length widths.now ≤ length asked.now }
-        requires room { 2 * length row.now + 2 ≤ self.old.room }
-        requires narrow { IsNarrow 0 widths.now asked.now }
-        requires texts { AllByRecursion (λ field. field.width < 2 ^ 33) row.now }
-        ensures line { (block frame : List ℕ) → AreMeasured block row.now
-            → bytes_left block frame self.new
-            ≡ line_of widths.now asked.now keys.now (texts_of block row.now) }
-        ensures within { (block frame : List ℕ) → AreMeasured block row.now
-            → AreWithin block frame self.new.pieces }
-        ensures some { has_some self.new.pieces ≡ true }
-        ensures room { self.new.room ≡ self.old.room }
-    {
-        self.pieces.clear();
-        self.piece = 0;
-        self.offset = 0;
-        push_line(&mut self.pieces, widths, asked, keys, row);
     }
 
     /// Whether so many pieces more can be added.
