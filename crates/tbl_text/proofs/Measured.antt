@@ -1,9 +1,7 @@
 -- A text is measured item by item.
 use Rattle.std.proofs.Common.{◌≡◌, ℕ, ◌+◌, ◌≤◌, Bool, true, false, List, [], ◌∷◌, ◌++◌, length, take, drop, map, refl, sym, ap, subst, ◌∙◌, arith, length-drop}
-use Rattle.std.specs.Prelude.{None, take_while, if◌then◌else◌}
-use Rattle.std.proofs.lemmas.List.Folds.{length-prefix_len}
-use Rattle.std.proofs.lemmas.List.Sums.{prefix_len-le-length, sum_by-cons}
-use Rattle.roff_source.specs.Bytes.{is_text_byte}
+use Rattle.std.specs.Prelude.{None, if◌then◌else◌}
+use Rattle.std.proofs.lemmas.List.Sums.{sum_by-cons}
 use Rattle.std.proofs.lemmas.List.{drop-drop, drop_all, length-take-le, take-append-drop}
 use Rattle.tbl_text.specs.Items.{Item, columns, is_glyph, items}
 use Rattle.tbl_text.specs.Laws.{ArePlain, byte_item}
@@ -13,7 +11,7 @@ use Rattle.tbl_text.specs.declared.items.What.{What}
 use Rattle.tbl_text.specs.declared.measure.Measuring.{Measuring}
 use Rattle.tbl_text.proofs.ItemLaws.{items-plain}
 use Rattle.tbl_text.proofs.Onto.{measuring-more, measuring_of, onto, onto-onto, text_measured-onto}
-use Rattle.tbl_text.proofs.PlainTexts.{measuring-plain, plain-len, plain-narrow, text_taken}
+use Rattle.tbl_text.proofs.PlainTexts.{measuring-plain, plain-len, plain-narrow}
 
 -- this is what the items measure of a text up to a place between them
 pub record IsMeasured (text : List ℕ) (m : Measuring) : Type 0 where
@@ -118,9 +116,7 @@ measured-item text rest m len what so_far left first some inside small =
 
 -- bytes of plain text in front of what is left
 pub measured-front : (text rest : List ℕ) (m : Measuring) (n : ℕ) → IsMeasured text m → rest ≡ drop m.at text
-    → n ≡ length (take_while is_text_byte rest) → IsMeasured text (with_front m (take n rest))
-measured-front text rest m n so_far left count =
-    let plain : ArePlain (take n rest) = subst (λ (k : ℕ). ArePlain (take k rest)) (sym count) (text_taken rest) in
-    let inside : n ≤ length rest = omega (arith, count, length-prefix_len is_text_byte rest, prefix_len-le-length is_text_byte rest) in
+    → ArePlain (take n rest) → n ≤ length rest → IsMeasured text (with_front m (take n rest))
+measured-front text rest m n so_far left plain inside =
     subst (λ (r : List ℕ). IsMeasured text (with_front m (take n r))) (sym left)
     (measured-plain text m n so_far (subst (λ (r : List ℕ). ArePlain (take n r)) left plain) (subst (λ (r : List ℕ). n ≤ length r) left inside))

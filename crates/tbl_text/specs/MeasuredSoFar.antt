@@ -1,7 +1,7 @@
 -- What the code keeps of a text whose items are being measured.
-use Rattle.std.specs.Prelude.{ℕ, ◌+◌, ◌==◌, Bool, true, false, ◌||◌, Option, Some, None, is_some, List, [], ◌∷◌, if◌then◌else◌}
+use Rattle.std.specs.Prelude.{ℕ, ◌+◌, ◌==◌, Bool, true, false, ◌||◌, ◌&&◌, nat_lt, Option, Some, None, is_some, List, [], ◌∷◌, if◌then◌else◌}
 use Rattle.std.specs.Option.{option_or}
-use Rattle.roff_source.specs.Bytes.{dot, is_digit, is_dropped}
+use Rattle.roff_source.specs.Bytes.{dot, is_digit, is_dropped, is_text_byte}
 use Rattle.tbl_text.specs.Items.{Item, columns, is_glyph, note}
 use Rattle.tbl_text.specs.Measuring.{len_of}
 use Rattle.tbl_text.specs.declared.items.What.{What}
@@ -69,3 +69,7 @@ item_split s at width b len what =
 abbrev pub shown : Option Split → What → What
 shown None Ampersand = Nothing
 shown split what = what
+
+-- a byte that is ASCII and prints itself
+abbrev pub is_ascii_text : ℕ → Bool
+is_ascii_text b = is_text_byte b && nat_lt b 127

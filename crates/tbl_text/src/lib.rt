@@ -9,3 +9,4 @@ pub mod block_words;
 pub mod items;
 pub mod laws;
 pub mod measure;
+mod plain;

@@ -11,9 +11,9 @@ ghost use Rattle.tbl_text.specs.Measuring.{SplitLies, len_of, measured, notes_fr
 ghost use Rattle.tbl_text.specs.Measuring.{width_of};
 
 use crate::items::{Item, What, next_item};
+use crate::plain::{plain_glyphs, plain_in_front};
 use roff_escape::OpenEscapes;
-use roff_num::width_of_byte;
-use roff_source::{is_dropped, text_in_front};
+use roff_source::is_dropped;
 
 /// Where a number is split in two.
 #[derive(Clone, Copy)]
@@ -65,9 +65,9 @@ fn measure_text(escapes: &mut OpenEscapes, text: &[u8]) -> Measured
     let mut measuring = Measuring::NOTHING;
     while measuring.at < text.len() {
         let rest = behind(text, measuring.at);
-        let plain = text_in_front(rest);
-        if plain > 0 {
-            measuring.take_plain(&rest[..plain]);
+        let front = plain_in_front(rest);
+        if front.len > 0 {
+            measuring.take_plain(&rest[..front.len], front.width);
         } else {
             measuring.take(next_item(escapes, rest));
         }
@@ -141,12 +141,13 @@ impl Measuring {
         }
     }
 
-    /// Bytes more that print themselves.
+    /// Bytes more that print themselves, of so many columns.
     #[inline(always)]
-    fn take_plain(&mut self, bytes: &[u8])
+    fn take_plain(&mut self, bytes: &[u8], width: usize)
         requires plain { ArePlain bytes.now }
+        requires columns { width ≡ width_of (map byte_item bytes.now) }
         requires at { self.old.at + length bytes.now < 2 ^ 64 }
-        requires width { self.old.width + length bytes.now < 2 ^ 64 }
+        requires width { self.old.width + width < 2 ^ 64 }
         ensures { self.new ≡ record self.old {
           at = self.old.at + length bytes.now;
           width = self.old.width + width_of (map byte_item bytes.now);
@@ -155,7 +156,7 @@ impl Measuring {
         } }
     {
         self.glyphs = glyphs_behind(self.glyphs, self.at, bytes);
-        self.width += plain_width(bytes);
+        self.width += width;
         self.at += bytes.len();
     }
 
@@ -187,35 +188,6 @@ fn glyphs_behind(glyphs: usize, at: usize, bytes: &[u8]) -> usize
 {
     let more = plain_glyphs(bytes);
     if more > 0 { at + more } else { glyphs }
-}
-
-/// The width of bytes that print themselves, in columns.
-pub fn plain_width(bytes: &[u8]) -> usize
-    requires { ArePlain bytes.now }
-    ensures value { result ≡ width_of (map byte_item bytes.now) }
-    ensures most { result ≤ length bytes.now }
-{
-    let mut width = 0;
-    for byte in bytes {
-        width += width_of_byte(*byte) as usize;
-    }
-    width
-}
-
-/// How many of such bytes reach up to the last that is no blank.
-pub fn plain_glyphs(bytes: &[u8]) -> usize
-    requires { ArePlain bytes.now }
-    ensures value { result ≡ len_of (up_to_last_glyph (map byte_item bytes.now)) }
-    ensures within { result ≤ length bytes.now }
-{
-    let mut len = bytes.len();
-    while len > 0 {
-        if bytes[len - 1] != b' ' {
-            return len;
-        }
-        len -= 1;
-    }
-    0
 }
 
 /// What stands before a place in a number, but for what is dropped.

@@ -1,18 +1,13 @@
-use Rattle.std.proofs.Common.{ℕ, take, sym, subst, ◌∙◌}
-use Rattle.tbl_text.specs.Laws.{ArePlain}
+use Rattle.std.proofs.Common.{sym, subst, ◌∙◌}
 use Rattle.tbl_text.proofs.Measured.{IsMeasured, measured-all, measured-front, measured-item}
-use Rattle.tbl_text.proofs.PlainTexts.{text_taken}
 use Rattle.tbl_text.proofs.measure.measure_text.Goals as goal
 
-pub take_plain-requires-clause-plain : goal.take_plain-requires-clause-plain
-take_plain-requires-clause-plain c =
-    subst (λ (k : ℕ). ArePlain (take k c.behind-rest.result.now)) (sym c.text_in_front-plain.ensures) (text_taken c.behind-rest.result.now)
-
-pub loop-measuring-preserved-then-plain-gt0 : goal.loop-measuring-preserved-then-plain-gt0
-loop-measuring-preserved-then-plain-gt0 c = record {
+pub loop-measuring-preserved-then-front-gt0 : goal.loop-measuring-preserved-then-front-gt0
+loop-measuring-preserved-then-front-gt0 c = record {
   read =
       subst (IsMeasured c.args.text.now) (sym c.take_plain.ensures)
-      (measured-front c.args.text.now c.behind-rest.result.now c.loop-measuring.measuring c.text_in_front-plain.result c.loop-measuring.invariant.read c.behind-rest.ensures c.text_in_front-plain.ensures);
+      (measured-front c.args.text.now c.behind-rest.result.now c.loop-measuring.measuring c.plain_in_front-front.result.len c.loop-measuring.invariant.read c.behind-rest.ensures
+      c.plain_in_front-front.ensures.plain c.plain_in_front-front.ensures.within);
   room = c.loop-measuring.invariant.room;
 }
 

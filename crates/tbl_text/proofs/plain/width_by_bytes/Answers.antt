@@ -1,12 +1,10 @@
-use Rattle.std.proofs.Common.{sym, ap, ◌∙◌}
+use Rattle.std.proofs.Common.{ap, ◌∙◌}
 use Rattle.std.specs.Prelude.{sum_by}
 use Rattle.std.proofs.lemmas.List.{take_all}
 use Rattle.roff_num.specs.Widths.{byte_width}
-use Rattle.tbl_text.proofs.PlainTexts.{plain-width}
-use Rattle.tbl_text.proofs.measure.plain_width.Goals as goal
+use Rattle.tbl_text.proofs.plain.width_by_bytes.Goals as goal
 
 pub returns-clause-value : goal.returns-clause-value
 returns-clause-value c =
     c.loop-byte.invariant.0
     ∙ ap (sum_by byte_width) (take_all c.loop-byte.byte-index c.args.bytes.now c.loop-byte-test.false)
-    ∙ sym (plain-width c.args.bytes.now c.requires)

@@ -1,7 +1,7 @@
 use Rattle.std.proofs.Common.{◌≡◌, ◌≤◌, length, map, take}
 use Rattle.tbl_text.specs.Laws.{byte_item}
 use Rattle.tbl_text.specs.Measuring.{up_to_last_glyph}
-use Rattle.tbl_text.proofs.measure.plain_glyphs.Given as goal
+use Rattle.tbl_text.proofs.plain.plain_glyphs.Given as goal
 
 abbrev pub invariant-loop-len : goal.invariant-loop-len
 invariant-loop-len l = record {

@@ -1,7 +1,7 @@
 use Rattle.std.proofs.Common.{ap, sym, ◌∙◌, arith, ne_eqb, eq-eqb}
 use Rattle.tbl_text.specs.Measuring.{len_of}
 use Rattle.tbl_text.proofs.PlainTexts.{glyphs-last, glyphs-shorter}
-use Rattle.tbl_text.proofs.measure.plain_glyphs.Goals as goal
+use Rattle.tbl_text.proofs.plain.plain_glyphs.Goals as goal
 
 pub returns-then-bytes-len-ne32-clause-value : goal.returns-then-bytes-len-ne32-clause-value
 returns-then-bytes-len-ne32-clause-value c =
