@@ -5,6 +5,8 @@
     bench/make_text.py requests MEGABYTES   the same with a request after every 2 to 5 lines
     bench/make_text.py registers MEGABYTES  the same with a register set after every 2 to 5 lines, and one read in each line
     bench/make_text.py code MEGABYTES       filling off: lines of source code of 0 to 90 bytes, set in by blanks or by tabs
+    bench/make_text.py tabs MEGABYTES       filling off: lines of ten numbers, each behind a tab
+    bench/make_text.py fields MEGABYTES     the same with stops at which the numbers end
     bench/make_text.py skipped MEGABYTES    running text as the branch of a condition that is false
     bench/make_text.py macros MEGABYTES     running text with macros, strings and registers of its own
     bench/make_text.py springs MEGABYTES    running text in which a macro springs behind every third line
@@ -21,7 +23,7 @@ import functools
 import random
 import sys
 
-KINDS = ("text", "requests", "registers", "code", "skipped", "macros", "springs", "pages", "headers", "diversions",
+KINDS = ("text", "requests", "registers", "code", "tabs", "fields", "skipped", "macros", "springs", "pages", "headers", "diversions",
          "diverting", "loop", "tables", "measured", "blocks")
 
 MEGABYTE = 1_000_000
@@ -123,6 +125,12 @@ DIVERTED = {"diversions": [".nf", ".pa", ".fi"], "diverting": []}
 
 # What stands before lines of source code.
 UNFILLED = b".nf\n"
+
+# Ten tab stops, eight columns apart, of each kind.
+STOPS = {
+    "tabs": (".ta" + "".join(f" {8 * stop}n" for stop in range(1, 11)) + "\n").encode(),
+    "fields": (".ta" + "".join(f" {8 * stop}nR" for stop in range(1, 11)) + "\n").encode(),
+}
 
 # What stands before and behind text that is skipped.
 SKIPPED = (b".if 0 \\{\\\n", b".\\}\n")
@@ -256,6 +264,10 @@ class Writer:
             depth = min(max(depth + self.between(-1, 1), 0), 6)
         return lines
 
+    def numbers(self):
+        """Returns lines of ten numbers, each behind a tab."""
+        return ["".join(f"\t{self.between(1, 99999)}" for _ in range(10)) for _ in range(10)]
+
     def table_row(self, kind):
         """Returns a row of a table: a thing, a place, and a number; some of them with escapes, or the thing and a block."""
         thing = " ".join(self.one_of(WORDS) for _ in range(self.between(2, 4)))
@@ -298,7 +310,7 @@ class Writer:
         """Returns so many bytes of text, cut at a line's end."""
         parts, length = [], 0
         while length < size:
-            lines = self.code() if kind == "code" else self.paragraph()
+            lines = self.code() if kind == "code" else self.numbers() if kind in STOPS else self.paragraph()
             if kind == "requests":
                 lines = self.with_requests(lines, REQUESTS)
             elif kind == "registers":
@@ -362,6 +374,7 @@ def write_document(kind, size, file, number=0):
         "pages": (PAGED, b""),
         "headers": (HEADED, b""),
         "code": (UNFILLED, b""),
+        **{stops: (UNFILLED + STOPS[stops], b"") for stops in STOPS},
     }
     front, behind = around.get(kind, (b"", b""))
     size -= len(front + behind)

@@ -97,7 +97,7 @@ def in_macro(line):
     return line.replace("\\", "\\\\") if "\\n" in line or "\\*" in line else line
 
 
-def a_macro(chance, name, macros):
+def a_macro(chance, name, macros, a_line=a_line):
     """The lines that define a macro, or put some behind it. Of a few the last line begins a definition."""
     lines = [in_macro(a_line(chance, macros)) for _ in range(chance.choice([0, 1, 1, 2, 2, 3, 4]))]
     ends = [[]] * 14 + [["t\\c"]] * 3 + [["t\\c", ".ex"], [".de Y", "y"], [".de X"], [".am D"]]
@@ -107,26 +107,26 @@ def a_macro(chance, name, macros):
     return [chance.choice([".de ", ".de ", ".de ", ".am "]) + name] + lines + [".."]
 
 
-def document(chance):
-    """The lines of a document: settings, macros, traps, and the rest."""
+def document(chance, a_line=a_line):
+    """The lines of a document: settings, macros, traps, and the rest, with lines by chance of some kind."""
     lines = [".pl %d" % chance.choice([1, 2, 3, 3, 4, 4, 5, 6, 8, 20]), ".ll %d" % chance.choice([4, 5, 6, 7, 8, 9, 10, 12, 20])]
     lines += chance.choice([[], [], [".na"], [".ad l"], [".nf"], [".nf"]])
     macros = ["T", "U", "V"][:chance.choice([0, 1, 1, 2, 2, 3])]
     for i, name in enumerate(macros):
-        lines += a_macro(chance, name, macros[:i])
+        lines += a_macro(chance, name, macros[:i], a_line)
     for name in macros:
         if chance.random() < 0.5:
             lines.append(".wh %d %s" % (chance.choice([0, 0, 1, 1, 1, 2, 2, 3, -1, -1, -2]), name))
     for _ in range(chance.choice([1, 2, 3, 5, 8])):
-        lines += a_part(chance, macros, 0)
+        lines += a_part(chance, macros, 0, a_line)
     return lines
 
 
-def a_part(chance, macros, nesting):
+def a_part(chance, macros, nesting, a_line=a_line):
     """Lines of a document: some by chance, a macro, or a diversion, mostly one that is ended, and then what was diverted."""
     kind = chance.random()
     if kind < 0.04 and macros:
-        return a_macro(chance, chance.choice(macros), macros[:1])
+        return a_macro(chance, chance.choice(macros), macros[:1], a_line)
     if kind < 0.1:
         return in_the_middle(chance)
     if kind < 0.5 or nesting == 2:
@@ -137,7 +137,7 @@ def a_part(chance, macros, nesting):
     if macros and chance.random() < 0.6:
         lines.append(".dt %d %s" % (chance.choice([1, 1, 2, 2, 3, 4]), chance.choice(macros + ["D"])))
     for _ in range(chance.choice([1, 1, 2, 3])):
-        lines += a_part(chance, macros, nesting + 1)
+        lines += a_part(chance, macros, nesting + 1, a_line)
     lines += chance.choice([[], [], [".br"], [".br"], [".sp"]]) + chance.choice([[".di"]] * 7 + [[".da"], []])
     lines += chance.choice([[], [".br"], [".nf"], ["\\n(dn \\n(dl"], ["a"]])
     return lines + chance.choice([[], [], ["." + name], ["." + name] * 2, [".nf", "." + name, ".fi"], [".di E", "." + name, ".di", ".E"]])
@@ -213,16 +213,22 @@ def compared(name, lines, given, wanted, was):
     return was != wanted
 
 
-def differs(program, name, lines, given):
-    return compared(name, lines, given, Model(given).run(lines), run_of(program, lines, given))
+def differs(program, name, lines, given, model=Model):
+    return compared(name, lines, given, model(given).run(lines), run_of(program, lines, given))
 
 
-def main():
+def words_and_program(script):
+    """The words of the command line, and the program that they name or the usual one."""
     words_given, program = sys.argv[1:], PROGRAM
     if words_given[:1] == ["--program"]:
         program, words_given = pathlib.Path(words_given[1]).resolve(), words_given[2:]
     if not program.exists():
-        sys.exit("tests/diversions.py: %s is missing; ./roff --version builds it" % program)
+        sys.exit("tests/%s: %s is missing; ./roff --version builds it" % (script, program))
+    return words_given, program
+
+
+def main():
+    words_given, program = words_and_program("diversions.py")
     count, first = ([int(word) for word in words_given] + [3000, 0][len(words_given):])[:2]
     lines = list(forms())
     differ = sum(again_differs(program, [line, "x", line], empty) for line in lines for empty in (True, False))

@@ -224,6 +224,21 @@ LONG.update({
     "tabs_in_lines": (b".nf\n", b"\tx\n", b"", 5 * MEGABYTE),
     "tabs_without_stops": (b".ta\na", b"\t", b"b\n", MEGABYTE),
     "tabs_with_many_stops": (b".ta" + b" 9" * 31 + b" 10\n.nf\n", b"\t\tx\n", b"", MEGABYTE),
+    "fields_on_a_line": (b".nf\n.nr a 0 2\n", b".ta \\n+anR\n\tx\\c\n", b"\n", 18_000 * 10 + 14),
+    "fields_in_lines": (b".nf\n.ta 9R 18C 27R\n", b"\ta b\tc\td\n", b"", 5 * MEGABYTE),
+    "fields_in_filled_text": (b".ta 9R 30C\n", b"\ta b \tc d\n", b"", 5 * MEGABYTE),
+    "fields_that_finish_lines": (b".ll 9\n.ta 16R 24R\n", b"aaaa bbb\tcc \tdd\n", b"", MEGABYTE),
+    "field_of_much_text": (b".nf\n.ta 9R\n\t", b"x", b"\n", MEGABYTE),
+    "field_of_gaps": (b".nf\n.ta 9C\n\t", b"x ", b"\n", MEGABYTE),
+    "field_of_wide_characters": (b".nf\n.ta 9C\n\t", b"\xc3\xa9", b"\n", MEGABYTE),
+    "field_that_ends_in_a_gap": (b".nf\n.ta 9R\n\tx", b" ", b"\tb\n", MEGABYTE),
+    "field_past_the_line": (b".nf\n.ta 9R\n\t", b"x", b"\n", 2 * MEGABYTE),
+    "field_over_interrupted_lines": (b".ta 9R\n\tx\\c\n", b"a b\\c\n", b"", MEGABYTE),
+    "fields_of_environments": (b"", b".ta 9R\n\ta\\c\n.ev 1\n.ta 9C\n\tb\\c\n.ev\n.br\nc\n", b"", MEGABYTE),
+    "fields_broken": (b".ta 9R\n", b"\ta\\c\n.br\n\n", b"", 5 * MEGABYTE),
+    "fields_without_text": (b".ta 9R 18C\n", b"\t\t\n", b"", 5 * MEGABYTE),
+    "tab_stop_kinds_set_again": (b"", b".ta 9R 5C +9R\n", b"a\tb\n", 5 * MEGABYTE),
+    "tab_stop_of_a_long_expression": (b".ta 1", b"+1", b"R\n\tb\n", MEGABYTE // 4),
     "motions_to_places": (b"a", rb"\h'|1n'", b"b\n", MEGABYTE),
     "lines_interrupted": (b"", b"a\\c\n", b"", MEGABYTE),
     "lines_interrupted_past_the_line": (b"", b"abcdefgh\\c\n", b"", 11 * LINES),
@@ -406,6 +421,7 @@ STOPPED_BY = {
     "environments_left_past_the_limit": "environments",
     "tab_stops_past_the_stack": "stack",
     "tabs_past_the_line": "line",
+    "field_past_the_line": "line",
     "lines_interrupted_past_the_line": "line",
     "input_trap_that_sets_itself": "depth",
     "input_traps_that_set_each_other": "depth",
@@ -424,6 +440,9 @@ STOPPED_BY = {
 }
 # What long documents begin with, where the program's answer is short to say.
 BEGINS = {
+    "fields_in_lines": b"      a b         c       d\n" * 2,
+    "fields_that_finish_lines": b"aaaa\nbbb      cc\n     dd\n" * 2,
+    "fields_broken": b"        a\n" * 5,
     "environments_left": b"",
     "environments_left_and_gone_back_to": b"ab cd\n",
     "environments_back_from_nowhere": b"",
@@ -641,6 +660,8 @@ FAR = {
     "title_farthest": (b".lt 2147483647u\n.tl '''a'\n", None, b" " * 9, FARTHEST + 1 + 65),
     "motion_in_a_title_farthest": (b".tl 'a'\n.tl '\\h'2147483647u''\n", ("line", 2), b"a\n", 2),
     "tab_farthest": (b"a\n.br\n.ta 2147483647u\nb\tc\n", ("line", 4), b"a\n", 2),
+    "field_farthest": (b"a\n.br\n.ta 2147483647uR\nb\tc\n", ("line", 4), b"a\n", 2),
+    "field_centred_farthest": (b"a\n.br\n.ta 2147483647uC\nb\tc\\c\n.br\n", ("line", 5), b"a\n", 2),
     "indents_farthest": (b".in 2147483647u\n" + 1000 * b"a b\n", ("output", 3), b" " * 9, 2 * (FARTHEST + 2)),
     "indents_farthest_without_filling": (
         b".nf\n.in 2147483647u\n" + 1000 * b"a\n", ("output", 5), b" " * 9, 2 * (FARTHEST + 2)),
@@ -732,6 +753,7 @@ AROUND = (
     b".de m %s\nx\n.%s\ny\n..\n.x\n.m",
     b".rn m %s\n.rm \\%s",
     b".ta 4n%s +\\%s5 9n\na\t%sb\\t\\%s",
+    b".ta 8n%s +8%sR 30nC%s\na\tb%s c\t\\%sd\te\\c\n%sf\\%s\n",
     b".ce 1%s\n\\%sc",
     b".ti +%s1\nd\\c%s\n%se\\c\\%s\n\\%sf\\h'|9n'",
     b".ls %s1\n.ls 1",
@@ -780,7 +802,7 @@ PIECES_OF_MACROS = (
 PIECES_OF_ENVIRONMENTS = (
     2 * [b"\n.ev 1\n", b"\n.ev 2\n", b"\n.ev\n"]
     + [b"\n.ev 0\n", b"\n.ev ", b"\n.ce 3\n", b"\n.ce ", b"\n.ti 4n\n", b"\n.ti -", b"\n.ls 2\n", b"\n.ls ", b"\n.ad r\n"]
-    + [b"\n.ta 4n +4n 20n\n", b"\n.ta ", b"\n.nf\n", b"\n.fi\n", b"\n.br\n", b"\n.ll 30n\n", b"\n.in +1n\n", b"\n.tm \\n(.n\n"]
+    + [b"\n.ta 4n +4n 20n\n", b"\n.ta 4nR +4nC 20nR\n", b"\n.ta ", b"R ", b"C ", b"\n.nf\n", b"\n.fi\n", b"\n.br\n", b"\n.ll 30n\n", b"\n.in +1n\n", b"\n.tm \\n(.n\n"]
     + 2 * [b"\t", rb"\t", b"\\c\n", rb"\c", rb"\h'|9n'", b"  ", b"a word ", b".\n"]
 )
 PIECES_OF_PAGES = (

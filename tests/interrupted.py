@@ -224,6 +224,11 @@ class Model:
         env.word, env.glyph = env.word + glyph, True
 
     def do_word_end(self):
+        finished = self.word_ended()
+        return None if finished is None else self.put_line(finished)
+
+    def word_ended(self):
+        """The open word goes into the pending line, or begins one; the line that this finishes, if it does."""
         env = self.env
         if not env.word:
             return None
@@ -237,7 +242,7 @@ class Model:
             env.temporary, gap = None, 0
         env.line.append((gap, word))
         env.gap = 0
-        return None if finished is None else self.put_line(finished)
+        return finished
 
     def do_gap(self):
         if self.env.glyph:

@@ -6,7 +6,8 @@ use Rattle.roff_layout.specs.DivertedText.{diverted_text}
 use Rattle.roff_layout.specs.DueTexts.{TextDue, bytes_due, due_by, end_due}
 use Rattle.roff_layout.specs.Happenings.{Does, Places, Titles}
 use Rattle.roff_layout.specs.Layout.{Diversion, Layout}
-use Rattle.roff_layout.specs.Lines.{Finished, finished}
+use Rattle.roff_layout.specs.Behind.{finished}
+use Rattle.roff_layout.specs.Lines.{Finished}
 use Rattle.roff_layout.specs.Springs.{goes_on}
 use Rattle.roff_layout.specs.declared.layout_event.LayoutEvent.{LayoutEvent}
 use Rattle.roff_layout.specs.declared.layout_event.LayoutEvent.TheVariants.{Close, Divert, EndDivert, Need, Space}

@@ -8,6 +8,7 @@ use Rattle.std.proofs.Common.{◌≡◌, ◌⊎◌, inl, inr, ℕ, zero, suc, �
 use Rattle.std.specs.Prelude.{negsuc, pos, take, ◌&&◌, Result, Ok, Err, if◌then◌else◌, ◌==◌, length}
 use Rattle.roff_layout.specs.declared.settings.AdjustMode.{AdjustMode}
 use Rattle.roff_layout.specs.declared.settings.Param.{Param}
+use Rattle.roff_layout.specs.declared.stop.StopKind.{StopKind}
 use Rattle.roff_num.specs.declared.format.Format.{Format}
 use Rattle.roff_num.specs.declared.num.Num.{Num}
 use Rattle.roff_num.specs.declared.num.NumFault.{NumFault}
@@ -214,7 +215,7 @@ IsMildly-line_spacing k [] = ((tt, tt), tt)
 IsMildly-line_spacing k (text ∷ others) = IsMildly-spacing _
 
 -- stops
-mild-stops : (stops : List ℤ) → AreMild (map stop_set stops)
+mild-stops : (stops : List (ℤ × StopKind)) → AreMild (map stop_set stops)
 mild-stops [] = tt
 mild-stops (stop ∷ stops) = (tt, mild-stops stops)
 
@@ -291,7 +292,7 @@ mild-meant_by breaks (Obeyed messages changes calls events) mild = (inl (mild-be
 mild-meant_by breaks (Around before behind) mild = (inl (mild.0.0, mild-behind_break breaks (behind ∷ []) mild.1), tt)
 
 -- tab stops
-mild-stopped : (breaks : Bool) (stops : Result (List ℤ) NumFault) → Means (meant_by breaks (setting_stops stops))
+mild-stopped : (breaks : Bool) (stops : Result (List (ℤ × StopKind)) NumFault) → Means (meant_by breaks (setting_stops stops))
 mild-stopped breaks (Ok stops) = (inl (mild-behind_break breaks _ (tt, mild-stops stops)), tt)
 mild-stopped breaks (Err fault) = (inl tt, tt)
 

@@ -3,7 +3,8 @@ use Rattle.std.proofs.Common.{◌≡◌, ◌≤◌, ◌+◌, ℕ, Bool, true, fa
 use Rattle.std.specs.Prelude.{nat_le, option_map, if◌then◌else◌}
 use Rattle.roff_layout.specs.Happenings.{Happening, Does, Places, Titles}
 use Rattle.roff_layout.specs.Layout.{Box, Diversion, Layout, page_place}
-use Rattle.roff_layout.specs.Lines.{Finished, finished}
+use Rattle.roff_layout.specs.Behind.{finished}
+use Rattle.roff_layout.specs.Lines.{Finished}
 use Rattle.roff_layout.specs.Puts.{Put, appended, puts}
 use Rattle.roff_layout.specs.Stops.{is_diverted}
 use Rattle.roff_layout.specs.Turning.{behind_put, in_innermost, next_behind, page_begun, unput, with_boxes, with_diversion_trap, with_mode, without_innermost}

@@ -7,7 +7,7 @@ use Rattle.roff_input.specs.Input.{Ahead, ByteAhead, FreeAhead, EndAhead, Return
 use Rattle.roff_input.specs.Input.Calls.{called_text}
 use Rattle.roff_input.specs.Input.Names.{body_named}
 use Rattle.roff_layout.specs.DueTexts.{TextDue}
-use Rattle.roff_layout.specs.declared.event.Event.TheVariants.{Break, WordEnd}
+use Rattle.roff_layout.specs.declared.event.Event.TheVariants.{Break, FieldEnd, WordEnd}
 use Rattle.roff_layout.specs.Happenings.{Does}
 use Rattle.roff_layout.specs.Queries.{takes_text}
 use Rattle.roff_layout.specs.Springs.{goes_on}
@@ -42,7 +42,7 @@ use Rattle.roff_run.proofs.GoingBack.{going_back-by}
 use Rattle.roff_run.proofs.GrowingAhead.{Grows, ahead-called, ahead-interrupted, ahead-same}
 use Rattle.roff_run.proofs.ReadEvents.{Means-end_taking, Means-escape_ended, Means-taking}
 use Rattle.roff_run.proofs.Readings.{ReadsOn, LimitStops, AheadTaken, ByteTaken, NoteTaken, HalfEnds, InputLeft, LineEnds, PhaseEnds, MessageTold, RunAborts, SourceFails, SourceStops, SprungRead, TextChanged}
-use Rattle.roff_laws.proofs.ComesBefore.{ComesBefore, NothingComes, PageComes, WordEndComes}
+use Rattle.roff_laws.proofs.ComesBefore.{ComesBefore, NothingComes, FieldEndComes, PageComes, WordEndComes}
 use Rattle.roff_laws.proofs.MeantAhead.{ahead-last_called}
 use Rattle.roff_laws.proofs.PerformedOrStopped.{PerformedOrStopped, Performed, Sprang, EndsOver, StoppedAt, first_of, left_behind, performed_or_stopped}
 use Rattle.roff_laws.proofs.TextsChanged.{text-holds}
@@ -177,6 +177,10 @@ Diverts-mild l own e es s t (NothingComes none_begins) done above mild ahead =
     Diverts-event l e (left_behind None e es s) s t done above
     (mild-needs (following s.history (told s.registers e)).text (is_making s.reading) (mild-due s.registers s.history e mild.0))
     (mild-left s.registers s.history e es mild.0 mild.1) ahead
+Diverts-mild l own e es s t (FieldEndComes ends none_begins fewer) done above mild ahead =
+    Diverts-event l (Text FieldEnd) (e ∷ es) s t done above
+    (mild-needs (following s.history (told s.registers (Text FieldEnd))).text (is_making s.reading)
+    (mild-due s.registers s.history (Text FieldEnd) tt)) mild ahead
 Diverts-mild l own e es s t (WordEndComes none_begins fewer) done above mild ahead =
     Diverts-event l (Text WordEnd) (e ∷ es) s t done above
     (mild-needs (following s.history (told s.registers (Text WordEnd))).text (is_making s.reading)

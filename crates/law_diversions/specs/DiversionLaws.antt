@@ -7,7 +7,8 @@ use Rattle.roff_layout.specs.DivertedText.{diverted_lines}
 use Rattle.roff_layout.specs.DueTexts.{TextDue, Ends, bytes_due}
 use Rattle.roff_layout.specs.Happenings.{Happening, Places, is_eject}
 use Rattle.roff_layout.specs.Layout.{Box, Lined, Empty, Diversion}
-use Rattle.roff_layout.specs.Lines.{Finished, finished}
+use Rattle.roff_layout.specs.Behind.{finished}
+use Rattle.roff_layout.specs.Lines.{Finished}
 use Rattle.roff_layout.specs.Puts.{appended, puts}
 use Rattle.roff_layout.specs.Stops.{is_diverted}
 use Rattle.roff_layout.specs.Turning.{in_diversion}

@@ -5,7 +5,8 @@ ghost use Rattle.roff_laws.specs.Rows.{formatted, gives};
 ghost use Rattle.roff_run.specs.declared.status.Status.TheVariants.{Done};
 ghost use Rattle.law_diversions.specs.DiversionLaws.{EndedDiversionsAreEntered, NamesLeaveTexts};
 ghost use Rattle.law_diversions.specs.DiversionLaws.{LinesGoWhereTheyAreFinished};
-ghost use Rattle.law_diversions.specs.DiversionLaws.{NoMoreDiversionsAreOpen, OpenDiversionsTakeAll};
+ghost use Rattle.law_diversions.specs.DiversionLaws.{NoMoreDiversionsAreOpen};
+ghost use Rattle.law_diversions.specs.DiversionLaws.{OpenDiversionsTakeAll};
 ghost use Rattle.law_diversions.specs.DiversionLaws.{PerformedEventsHappen, TextsAreDivertedLines};
 ghost use Rattle.law_diversions.specs.DiversionLaws.{TextsBecomeDivertedLines, ThePageTakesTheRest};
 
@@ -15,8 +16,8 @@ pub fn open_diversions()
     ensures { NoMoreDiversionsAreOpen }
 {}
 
-/// What happens is put in the innermost open diversion, and then writes nothing and ends no page; or
-/// on the page, where none is open, and ejects always. A line belongs to where it is finished.
+/// What happens is put in the innermost open diversion, and then writes nothing and ends no page;
+/// or on the page, where none is open, and ejects always. A line belongs to where it is finished.
 pub fn diverted_lines()
     ensures diverted { OpenDiversionsTakeAll }
     ensures on_the_page { ThePageTakesTheRest }

@@ -7,9 +7,10 @@ use Rattle.roff_num.specs.declared.limits.Limits.{Limits}
 use Rattle.roff_escape.specs.OpenEscape.{OpenEscape}
 use Rattle.roff_input.specs.Input.{Ahead, bytes_ahead, ends_ahead, lines_taken}
 use Rattle.roff_layout.specs.Events.{settings_after}
+use Rattle.roff_layout.specs.Fields.{Told, plain, so_far}
 use Rattle.roff_layout.specs.Fitting.{Word}
 use Rattle.roff_layout.specs.Layout.{Box}
-use Rattle.roff_layout.specs.Words.{Paragraph, paragraph}
+use Rattle.roff_layout.specs.Words.{Paragraph, open_glyphs, paragraph}
 use Rattle.roff_layout.specs.declared.settings.Settings.{Settings}
 use Rattle.roff_run.proofs.ItemsTaken.{FromAhead, FromSource, Origin, ahead_at, tape_at}
 use Rattle.roff_run.proofs.PlainRuns.{behind_bytes, behind_bytes-counts, counted, counted-ahead, counted-source}
@@ -29,6 +30,7 @@ use Rattle.roff_again.proofs.BoxRuns.{line_at, way-boxes}
 use Rattle.roff_again.proofs.DivertedBoxes.{Around}
 use Rattle.roff_again.proofs.PendingLines.{clear, unfilled}
 use Rattle.roff_again.proofs.Standing.{Stands}
+use Rattle.roff_again.proofs.Unfielded.{settings_after-plain, told-no_glyphs}
 use Rattle.roff_again.proofs.TextRuns.{Goes, HasRoom, Scene, Way, text_run, way-from}
 
 -- the diversion in which the run stands
@@ -52,15 +54,17 @@ plain-settings s plain =
     ∙ ap (λ (n : ℕ). of false 0 n s.spacing) plain.unindented
     ∙ ap (λ (n : ℕ). of false 0 0 n) plain.single
 
-idle-paragraph : (h : PageHistory) → IsIdle h → paragraph (text_of h) ≡ clear
+idle-paragraph : (h : PageHistory) → IsIdle h → paragraph (plain (text_of h)) ≡ clear
 idle-paragraph h idle =
-    ap (λ (ws : List Word). record { words = ws; temporary_indent = (paragraph (text_of h)).temporary_indent }) idle.no_words
+    ap (λ (ws : List Word). record { words = ws; temporary_indent = (paragraph (plain (text_of h))).temporary_indent }) idle.no_words
     ∙ ap (λ (indent : Option ℕ). record { words = []; temporary_indent = indent }) idle.no_indent
 
 stands-plainly : (s : State) (p : Spot) (plainly : ReadsPlainly s p) → Stands (around_at s p plainly) p.boxes [] s.history
 stands-plainly s p plainly = record {
+  events = plain (text_of s.history);
+  as_told = told-no_glyphs (text_of s.history) plainly.idle.no_glyphs;
   laid = plainly.laid;
-  settings = plain-settings (settings_after (text_of s.history)) plainly.plain;
+  settings = settings_after-plain (text_of s.history) ∙ plain-settings (settings_after (text_of s.history)) plainly.plain;
   cleared = idle-paragraph s.history plainly.idle;
   word = plainly.idle.no_glyphs;
   unbroken = plainly.unbroken;
@@ -69,11 +73,12 @@ stands-plainly s p plainly = record {
 }
 
 idle-behind : (around : Around) (boxes : List Box) (h : PageHistory) → Stands around boxes [] h → IsIdle h
-idle-behind around boxes h stands = record {
-  no_words = ap (λ (q : Paragraph). q.words) stands.cleared;
-  no_glyphs = stands.word;
-  no_indent = ap (λ (q : Paragraph). q.temporary_indent) stands.cleared;
-}
+idle-behind around boxes h stands =
+    let cleared : paragraph (plain (text_of h)) ≡ clear = ap (λ (t : Told). paragraph (so_far t)) stands.as_told ∙ stands.cleared in record {
+      no_words = ap (λ (q : Paragraph). q.words) cleared;
+      no_glyphs = ap (λ (t : Told). open_glyphs (so_far t)) stands.as_told ∙ stands.word;
+      no_indent = ap (λ (q : Paragraph). q.temporary_indent) cleared;
+    }
 
 -- the run goes on there with the text of these boxes
 abbrev scene_at : (l : Limits) (s : State) (p : Spot) (from : Origin) (boxes : List Box) → ReadsPlainly s p → Scene

@@ -2,6 +2,7 @@ pub mod Events
 pub mod Glyphs
 pub mod PendingLines
 pub mod DivertedBoxes
+pub mod Unfielded
 pub mod Standing
 pub mod Bytes
 pub mod LineEnds
@@ -9,5 +10,6 @@ pub mod TextRuns
 pub mod BoxRuns
 pub mod Again
 pub mod ShownLines
+pub mod ShownFields
 pub mod ShownBoxes
 pub mod Anywhere

@@ -1,26 +1,28 @@
 -- A line of a diversion's text ends: its box is put in the diversion, and the diversion's text gets it.
-use Rattle.std.proofs.Common.{◌≡◌, ℕ, ◌+◌, ◌≤◌, Bool, List, [], ◌∷◌, ◌++◌, length, Option, Some, None, refl, ap, ◌∙◌, arith}
-use Rattle.std.specs.Prelude.{option_map, if◌then◌else◌}
+use Rattle.std.proofs.Common.{◌≡◌, ℕ, ◌+◌, ◌≤◌, Bool, false, List, [], ◌∷◌, ◌++◌, length, Option, Some, None, refl, ap, ◌∙◌, arith}
+use Rattle.std.specs.Prelude.{◌&&◌, is_some, not, option_map, if◌then◌else◌}
 use Rattle.std.proofs.lemmas.Bool.{le-ltb}
 use Rattle.std.proofs.lemmas.List.{append-nil}
 use Rattle.roff_num.specs.declared.limit.Limit.TheVariants.{Line, Output}
 use Rattle.roff_num.specs.declared.limits.Limits.{Limits}
 use Rattle.roff_num.specs.declared.short_name.ShortName.{ShortName}
+use Rattle.roff_layout.specs.Behind.{finished, has_open_word, length_reached}
 use Rattle.roff_layout.specs.Columns.{printed}
 use Rattle.roff_layout.specs.DeviceText.{device_text}
 use Rattle.roff_layout.specs.DivertedText.{diverted_line}
 use Rattle.roff_layout.specs.DueTexts.{Gets, TextDue, text_due}
 use Rattle.roff_layout.specs.declared.event.Event.TheVariants.{WordEnd, LineEnd, Count, Break}
 use Rattle.roff_layout.specs.Events.{History, settings_after}
+use Rattle.roff_layout.specs.Fields.{Told, is_in_field, so_far, told, told_behind, unfielded}
 use Rattle.roff_layout.specs.Fitting.{Word}
 use Rattle.roff_layout.specs.declared.layout_event.LayoutEvent.TheVariants.{Space}
 use Rattle.roff_layout.specs.Happenings.{Happening, Does, Places}
 use Rattle.roff_layout.specs.Layout.{Box, Lined, Empty, Layout}
-use Rattle.roff_layout.specs.Lines.{Finished, finished, pending_length}
+use Rattle.roff_layout.specs.Lines.{Finished, finished as finished_in, pending_length as length_in}
 use Rattle.roff_layout.specs.Settings.{counted}
 use Rattle.roff_layout.specs.Springs.{springs as springs_on_page}
 use Rattle.roff_layout.specs.Turning.{with_event}
-use Rattle.roff_layout.specs.Words.{paragraph}
+use Rattle.roff_layout.specs.Words.{has_open_word as has_word_in, paragraph}
 use Rattle.roff_layout.specs.declared.glyph.Glyph.{Glyph}
 use Rattle.roff_layout.specs.declared.settings.Settings.{Settings}
 use Rattle.roff_run.proofs.ItemsTaken.{Fits}
@@ -34,7 +36,7 @@ use Rattle.roff_run.specs.Reading.Items.{PageInput}
 use Rattle.roff_run.specs.Reading.TextLines.{blank_line}
 use Rattle.roff_run.specs.Run.{Following, State, after, nothing_follows}
 use Rattle.roff_run.specs.Run.Counts.{first_passed, written_counted}
-use Rattle.roff_run.specs.Springs.{springs, sprung_on}
+use Rattle.roff_run.specs.Springs.{own_word_end, springs, sprung_on}
 use Rattle.roff_again.proofs.DivertedBoxes.{Around, PutsBox, holding, outer, puts-line, puts-space}
 use Rattle.roff_again.proofs.Events.{IsQuiet, event-step, only_text, text-step}
 use Rattle.roff_again.proofs.Glyphs.{line_of, plain_line}
@@ -104,17 +106,32 @@ broken h = Text Break ∷ ended h
 abbrev pub behind_empty : PageHistory → PageHistory
 behind_empty h = Page (Space 1) ∷ broken h
 
+-- behind the end of a word no field is open, and no word
+told-ended : (around : Around) (boxes : List Box) (gs : List Glyph) (h : PageHistory) (stands : Stands around boxes gs h)
+    → told (text_of (ended h)) ≡ unfielded (WordEnd ∷ stands.events)
+told-ended around boxes gs h stands = ap (told_behind WordEnd) stands.as_told
+
+no_field-ended : (around : Around) (boxes : List Box) (gs : List Glyph) (h : PageHistory) → Stands around boxes gs h
+    → is_in_field (text_of (ended h)) ≡ false
+no_field-ended around boxes gs h stands = ap (λ (t : Told). is_some t.field) (told-ended around boxes gs h stands)
+
+none_open-ended : (around : Around) (boxes : List Box) (gs : List Glyph) (h : PageHistory) → Stands around boxes gs h
+    → own_word_end (has_open_word (text_of (ended h))) ≡ None
+none_open-ended around boxes gs h stands =
+    ap (λ (t : Told). own_word_end (not (is_some t.field) && has_word_in (so_far t))) (told-ended around boxes gs h stands)
+
 -- what happens at a line's end
 happens-line_end : (around : Around) (boxes : List Box) (g : Glyph) (gs : List Glyph) (h : PageHistory) → Stands around boxes (g ∷ gs) h
     → happens (ended h) (Text LineEnd) ≡ Some (Places (again_line (g ∷ gs)))
 happens-line_end around boxes g gs h stands =
-    ap (option_map Places) (finished-line_end around.settings (text_of h) g gs stands.settings stands.cleared stands.word)
+    ap (λ (t : Told). option_map Places (finished_in (so_far t) LineEnd)) (told-ended around boxes (g ∷ gs) h stands)
+    ∙ ap (option_map Places) (finished-line_end around.settings stands.events g gs stands.settings stands.cleared stands.word)
 
 -- nothing is pending behind it
-pending-line_end : (S : Settings) (T : History) → settings_after T ≡ unfilled S → pending_length (LineEnd ∷ WordEnd ∷ T) ≡ 0
+pending-line_end : (S : Settings) (T : History) → settings_after T ≡ unfilled S → length_in (LineEnd ∷ WordEnd ∷ T) ≡ 0
 pending-line_end S T settings = pending-none (LineEnd ∷ WordEnd ∷ T) (words-line_end S (WordEnd ∷ T) settings) refl
 
-pending-count : (S : Settings) (T : History) → settings_after T ≡ unfilled S → pending_length (Count ∷ LineEnd ∷ WordEnd ∷ T) ≡ 0
+pending-count : (S : Settings) (T : History) → settings_after T ≡ unfilled S → length_in (Count ∷ LineEnd ∷ WordEnd ∷ T) ≡ 0
 pending-count S T settings = pending-none (Count ∷ LineEnd ∷ WordEnd ∷ T) (words-line_end S (WordEnd ∷ T) settings) refl
 
 quiet-line_end : (l : Limits) (around : Around) (boxes : List Box) (g : Glyph) (gs : List Glyph) (s : State) (h : PageHistory)
@@ -126,9 +143,12 @@ quiet-line_end l around boxes g gs s h stands room =
     let puts : PutsBox around boxes x b = puts-line around boxes (line_of (g ∷ gs)) in
     let laid = laid-word_end around boxes (g ∷ gs) h stands in
     let is = happens-line_end around boxes g gs h stands in
-    let pending : ℕ = pending_length (LineEnd ∷ WordEnd ∷ text_of h) in
-    let empty = pending-line_end around.settings (text_of h) stands.settings in record {
-      first = first-none around boxes (ended h) (Text LineEnd) laid refl;
+    let pending : ℕ = length_reached LineEnd (text_of (ended h)) in
+    let empty : pending ≡ 0 =
+    ap (λ (t : Told). length_in (so_far (told_behind LineEnd t))) (told-ended around boxes (g ∷ gs) h stands)
+    ∙ pending-line_end around.settings stands.events stands.settings in record {
+      first = first-none around boxes (ended h) (Text LineEnd) laid (no_field-ended around boxes (g ∷ gs) h stands)
+          (none_open-ended around boxes (g ∷ gs) h stands);
       allowed = ap (λ (o : Option Happening). first_passed l ((Line, pending) ∷ written_counted (ended h) o)) is
           ∙ ap (λ (c : Bool). if c then Some Line else first_passed l (written_counted (ended h) (Some x)))
           (le-ltb l.line pending (omega (arith, empty)))
@@ -148,12 +168,14 @@ laid-line_end around boxes g gs h stands =
 pub Stands-line : (around : Around) (boxes : List Box) (g : Glyph) (gs : List Glyph) (h : PageHistory) → Stands around boxes (g ∷ gs) h
     → Stands around (again_box (g ∷ gs) ∷ boxes) [] (behind_line h)
 Stands-line around boxes g gs h stands =
-    let T : History = text_of h in
+    let T : History = stands.events in
     let x : Happening = Places (again_line (g ∷ gs)) in
     let written_so : written (line_ended h) ≡ around.output =
     written-put around boxes (ended h) (Text LineEnd) x (again_box (g ∷ gs)) (laid-word_end around boxes (g ∷ gs) h stands)
     (puts-line around boxes (line_of (g ∷ gs))) (happens-line_end around boxes g gs h stands)
     (written-word_end around boxes (g ∷ gs) h stands) in record {
+      events = Count ∷ LineEnd ∷ WordEnd ∷ T;
+      as_told = ap (λ (t : Told). told_behind Count (told_behind LineEnd t)) (told-ended around boxes (g ∷ gs) h stands);
       laid = laid-event around (again_box (g ∷ gs) ∷ boxes) (line_ended h) Count (laid-line_end around boxes g gs h stands) refl;
       settings = ap counted stands.settings;
       cleared = ap (λ (ws : List Word). record { words = ws; temporary_indent = (paragraph (WordEnd ∷ T)).temporary_indent })
@@ -169,9 +191,11 @@ quiet-count : (l : Limits) (around : Around) (boxes : List Box) (g : Glyph) (gs 
     → Stands around boxes (g ∷ gs) h
     → IsQuiet l (record s { history = line_ended h }) (Text Count) None
 quiet-count l around boxes g gs s h stands =
-    let empty = pending-count around.settings (text_of h) stands.settings in
+    let empty : length_reached Count (text_of (line_ended h)) ≡ 0 =
+    ap (λ (t : Told). length_in (so_far (told_behind Count (told_behind LineEnd t)))) (told-ended around boxes (g ∷ gs) h stands)
+    ∙ pending-count around.settings stands.events stands.settings in
     quiet-event l around (again_box (g ∷ gs) ∷ boxes) (record s { history = line_ended h }) Count
-    (laid-line_end around boxes g gs h stands) refl refl
+    (laid-line_end around boxes g gs h stands) refl refl refl
     (ap trap_reached stands.trapless) (omega (arith, empty))
 
 -- the events of a line's end, and the text that changes behind the second of them
@@ -185,7 +209,7 @@ pub after-line : (l : Limits) (around : Around) (boxes : List Box) (g : Glyph) (
 after-line l around boxes g gs s going idle stands room output fits =
     let h : PageHistory = s.history in
     let due : TextDue = Gets (outer around) (diverted_line (again_box (g ∷ gs))) in
-    let word = pending-word_end around.settings (text_of h) g gs stands.settings stands.cleared stands.word in
+    let word = pending-word_end around.settings stands.events g gs stands.settings stands.cleared stands.word in
     let one : State = record s { follows = nothing_follows; history = ended h } in
     let two : State = record s { history = line_ended h } in
     let three : State = record s { follows = nothing_follows; input = text_changed due s.input; history = line_ended h } in
@@ -199,14 +223,19 @@ after-line l around boxes g gs s going idle stands room output fits =
 -- an empty line: nothing is pending, and the break finishes nothing
 finished-broken : (around : Around) (boxes : List Box) (h : PageHistory) → Stands around boxes [] h
     → finished (text_of (ended h)) Break ≡ None
-finished-broken around boxes h stands = finished-break (WordEnd ∷ text_of h) (words-none (text_of h) stands.cleared stands.word)
+finished-broken around boxes h stands =
+    ap (λ (t : Told). finished_in (so_far t) Break) (told-ended around boxes [] h stands)
+    ∙ finished-break (WordEnd ∷ stands.events) (words-none stands.events stands.cleared stands.word)
 
 quiet-break : (l : Limits) (around : Around) (boxes : List Box) (s : State) (h : PageHistory) → Stands around boxes [] h
     → IsQuiet l (record s { history = ended h }) (Text Break) None
 quiet-break l around boxes s h stands =
     let none = finished-broken around boxes h stands in
-    let empty : pending_length (Break ∷ WordEnd ∷ text_of h) ≡ 0 = pending-none (Break ∷ WordEnd ∷ text_of h) refl refl in
-    quiet-event l around boxes (record s { history = ended h }) Break (laid-word_end around boxes [] h stands) refl none
+    let empty : length_reached Break (text_of (ended h)) ≡ 0 =
+    ap (λ (t : Told). length_in (so_far (told_behind Break t))) (told-ended around boxes [] h stands)
+    ∙ pending-none (Break ∷ WordEnd ∷ stands.events) refl refl in
+    quiet-event l around boxes (record s { history = ended h }) Break (laid-word_end around boxes [] h stands)
+    (no_field-ended around boxes [] h stands) (none_open-ended around boxes [] h stands) none
     (springs-none (ended h) Break none) (omega (arith, empty))
 
 laid-broken : (around : Around) (boxes : List Box) (h : PageHistory) → Stands around boxes [] h
@@ -225,7 +254,7 @@ quiet-space l around boxes s h stands room =
     let x : Happening = Does (Space 1) in
     let puts : PutsBox around boxes x Empty = puts-space around boxes in
     let laid = laid-broken around boxes h stands in record {
-      first = first-none around boxes (broken h) (Page (Space 1)) laid refl;
+      first = first-none around boxes (broken h) (Page (Space 1)) laid refl refl;
       allowed = written-room l around boxes (broken h) x Empty laid puts (written-broken around boxes h stands) room;
       goes_on = ap (λ (L : Layout). L.is_over) (laid-put around boxes (broken h) (Page (Space 1)) x Empty laid puts refl) ∙ around.goes_on;
       follows = follows-put around boxes (broken h) (Page (Space 1)) x Empty laid puts refl refl;
@@ -238,10 +267,12 @@ Stands-empty around boxes h stands =
     let x : Happening = Does (Space 1) in
     let puts : PutsBox around boxes x Empty = puts-space around boxes in
     let laid = laid-broken around boxes h stands in record {
+      events = Break ∷ WordEnd ∷ stands.events;
+      as_told = ap (told_behind Break) (told-ended around boxes [] h stands);
       laid = laid-put around boxes (broken h) (Page (Space 1)) x Empty laid puts refl;
       settings = stands.settings;
       cleared = ap (λ (indent : Option ℕ). record { words = []; temporary_indent = indent })
-          (temporary-word_end (text_of h) stands.cleared);
+          (temporary-word_end stands.events stands.cleared);
       word = refl;
       unbroken = stands.unbroken;
       trapless = stands.trapless;
@@ -257,8 +288,8 @@ pub after-empty : (l : Limits) (around : Around) (boxes : List Box) (s : State) 
 after-empty l around boxes s going idle stands output fits =
     let h : PageHistory = s.history in
     let due : TextDue = Gets (outer around) (diverted_line Empty) in
-    let word : pending_length (WordEnd ∷ text_of h) ≡ 0 =
-    pending-none (WordEnd ∷ text_of h) (words-none (text_of h) stands.cleared stands.word) refl in
+    let word : length_in (WordEnd ∷ stands.events) ≡ 0 =
+    pending-none (WordEnd ∷ stands.events) (words-none stands.events stands.cleared stands.word) refl in
     let one : State = record s { follows = nothing_follows; history = ended h } in
     let two : State = record s { follows = nothing_follows; history = broken h } in
     let three : State = record s { history = behind_empty h } in

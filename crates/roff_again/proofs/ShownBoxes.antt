@@ -3,12 +3,13 @@ use Rattle.std.proofs.Common.{◌≡◌, ℕ, ◌+◌, Bool, true, false, List, 
 use Rattle.std.specs.Prelude.{◌==◌, ◌&&◌, IfSome, not, nat_le, option_map, replicate}
 use Rattle.std.specs.List.{AllByRecursion}
 use Rattle.roff_num.specs.declared.limits.Limits.{Limits}
+use Rattle.roff_layout.specs.Behind.{finished}
 use Rattle.roff_layout.specs.Columns.{printed}
 use Rattle.roff_layout.specs.Happenings.{Happening, Does, Places, Titles}
 use Rattle.roff_layout.specs.declared.layout_event.LayoutEvent.{LayoutEvent}
 use Rattle.roff_layout.specs.declared.layout_event.LayoutEvent.TheVariants.{Close, Space, Need, Eject, EjectTo, EjectOn, EjectLast, NoSpace, DiversionTrap, NoDiversionTrap, Divert, EndDivert}
 use Rattle.roff_layout.specs.Layout.{Box, Lined, Empty, Diversion, Layout, page_place}
-use Rattle.roff_layout.specs.Lines.{Finished, finished}
+use Rattle.roff_layout.specs.Lines.{Finished}
 use Rattle.roff_layout.specs.Puts.{Put, appended, blank_lines, boxes_put, put_by, puts, way_to, within_stop}
 use Rattle.roff_layout.specs.Stops.{Target, is_diverted, target}
 use Rattle.roff_layout.specs.Titles.{title_text}
@@ -23,7 +24,8 @@ use Rattle.roff_again.specs.Again.{AllPrint, Prints, again_text}
 use Rattle.roff_again.specs.Shown.{AllPagesShow, AllShow, DiversionsComeBack, DiversionsPrint, IsPrintable}
 use Rattle.roff_again.specs.Anywhere.{ComesBack, ComesBackFromTheSource}
 use Rattle.roff_again.proofs.Anywhere.{boxes_come_back, boxes_come_back_from_the_source}
-use Rattle.roff_again.proofs.ShownLines.{all-append, all-replicate, either, lines_print}
+use Rattle.roff_again.proofs.ShownFields.{lines_print}
+use Rattle.roff_again.proofs.ShownLines.{all-append, all-replicate, either}
 
 -- in each environment all glyphs are shown
 record AllEnvironmentsShow (es : Environments) : Type 0 where

@@ -8,14 +8,15 @@ use Rattle.roff_layout.specs.Columns.{added_columns, printed, spaces, spread}
 use Rattle.roff_layout.specs.Events.{History, settings_after}
 use Rattle.roff_layout.specs.Fitting.{Word, fits, gap_text, last_line, line_text, placed, word_text}
 use Rattle.roff_layout.specs.Glyphs.{glyph_blank, glyph_text}
-use Rattle.roff_layout.specs.Lines.{Finished, empty_line, line_laid_out, pending_line}
+use Rattle.roff_layout.specs.Lines.{Finished, empty_line, finished, line_laid_out, pending_line}
 use Rattle.roff_layout.specs.Settings.{fills}
 use Rattle.roff_layout.specs.Words.{has_open_word, is_empty, open_glyphs, open_word, words}
-use Rattle.roff_layout.specs.declared.event.Event.TheVariants.{Print, Tab, WordEnd, Gap, LineEnd, Count, Break, Interrupt, Resume, Set}
+use Rattle.roff_layout.specs.declared.event.Event.{Event}
+use Rattle.roff_layout.specs.declared.event.Event.TheVariants.{Print, Tab, FieldEnd, WordEnd, Gap, LineEnd, Count, Break, Interrupt, Resume, Set}
 use Rattle.roff_layout.specs.declared.glyph.Glyph.{Glyph}
 use Rattle.roff_layout.specs.declared.glyph.Glyph.TheVariants.{Printed, Blanks}
 use Rattle.roff_again.specs.Again.{is_printable}
-use Rattle.roff_again.specs.Shown.{AllShow, IsPrintable, IsShown, LinesPrint}
+use Rattle.roff_again.specs.Shown.{AllShow, IsPrintable, IsShown}
 
 -- of lists one behind another
 pub all-append : {A : Type 0} (P : A → Type 0) (xs ys : List A) → AllByRecursion P xs → AllByRecursion P ys → AllByRecursion P (xs ++ ys)
@@ -42,6 +43,7 @@ open-shown [] show = tt
 open-shown (Print g ∷ h) show = (show.0, open-shown h show.1)
 open-shown (Tab ∷ h) show = (tt, open-shown h show.1)
 open-shown (WordEnd ∷ h) show = tt
+open-shown (FieldEnd ∷ h) show = open-shown h show.1
 open-shown (Gap n ∷ h) show = open-shown h show.1
 open-shown (LineEnd ∷ h) show = open-shown h show.1
 open-shown (Count ∷ h) show = open-shown h show.1
@@ -67,6 +69,7 @@ words-shown (LineEnd ∷ h) show = either WordsShow (fills (settings_after h)) (
 words-shown (Break ∷ h) show = tt
 words-shown (Print g ∷ h) show = words-shown h show.1
 words-shown (Tab ∷ h) show = words-shown h show.1
+words-shown (FieldEnd ∷ h) show = words-shown h show.1
 words-shown (Gap n ∷ h) show = words-shown h show.1
 words-shown (Count ∷ h) show = words-shown h show.1
 words-shown (Interrupt ∷ h) show = words-shown h show.1
@@ -156,7 +159,7 @@ printable-line line kept =
     (printable-spread line.spare line.gaps 0 line.text kept)
 
 -- a line that may be finished
-abbrev LinePrints : Option Finished → Type 0
+abbrev pub LinePrints : Option Finished → Type 0
 LinePrints o = IfSome o (λ (line : Finished). IsPrintable (printed line))
 
 prints-pending : (h : History) (by_word : Bool) → AllShow h → LinePrints (Some (line_laid_out (settings_after h) by_word (pending_line h)))
@@ -164,23 +167,25 @@ prints-pending h by_word show =
     printable-line (line_laid_out (settings_after h) by_word (pending_line h))
     (kept-line (pending_line h) (last_line-shown (words h) (words-shown h show)))
 
-pub lines_print : LinesPrint
-lines_print h WordEnd show =
+-- told without fields
+pub plain_lines_print : (h : History) (e : Event) → AllShow h → LinePrints (finished h e)
+plain_lines_print h WordEnd show =
     either LinePrints (has_open_word h && not (is_empty (words h)) && not (fits (pending_line h) (open_word h)))
     (Some (line_laid_out (settings_after h) true (pending_line h))) None (prints-pending h true show) tt
-lines_print h LineEnd show =
+plain_lines_print h LineEnd show =
     let s = settings_after h in
     let none : Option Finished = if s.filling then None else Some (empty_line s) in
     let some : Option Finished = Some (line_laid_out s false (pending_line h)) in
     either LinePrints (fills s) None (if is_empty (words h) then none else some) tt
     (either LinePrints (is_empty (words h)) none some (either LinePrints s.filling None (Some (empty_line s)) tt tt) (prints-pending h false show))
-lines_print h Break show =
+plain_lines_print h Break show =
     either LinePrints (is_empty (words h)) None (Some (line_laid_out (settings_after h) false (pending_line h))) tt
     (prints-pending h false show)
-lines_print h (Print g) show = tt
-lines_print h Tab show = tt
-lines_print h (Gap n) show = tt
-lines_print h Count show = tt
-lines_print h Interrupt show = tt
-lines_print h Resume show = tt
-lines_print h (Set p) show = tt
+plain_lines_print h (Print g) show = tt
+plain_lines_print h Tab show = tt
+plain_lines_print h FieldEnd show = tt
+plain_lines_print h (Gap n) show = tt
+plain_lines_print h Count show = tt
+plain_lines_print h Interrupt show = tt
+plain_lines_print h Resume show = tt
+plain_lines_print h (Set p) show = tt

@@ -5,6 +5,7 @@ use Rattle.roff_num.specs.declared.limits.Limits.{Limits}
 use Rattle.roff_num.specs.declared.short_name.ShortName.{ShortName}
 use Rattle.roff_input.specs.Input.{lines_taken}
 use Rattle.roff_layout.specs.DivertedText.{diverted_lines}
+use Rattle.roff_layout.specs.Fields.{plain}
 use Rattle.roff_layout.specs.Layout.{Box, Lined, Empty, Layout, first_layout}
 use Rattle.roff_layout.specs.Words.{open_glyphs, words}
 use Rattle.roff_layout.specs.declared.event.Event.TheVariants.{Set}
@@ -75,8 +76,8 @@ pub record Again (l : Limits) (name : ShortName) (boxes : List Box) (tape : Tape
   pub there :
       after l steps (again_start name (items_then (map OneByte (again_text boxes)) tape)) ≡ behind_text name (again_text boxes) tape history
   pub boxes_are : layout_of history ≡ with_diverted name false boxes first_layout
-  pub no_words : words (text_of history) ≡ []
-  pub no_glyphs : open_glyphs (text_of history) ≡ []
+  pub no_words : words (plain (text_of history)) ≡ []
+  pub no_glyphs : open_glyphs (plain (text_of history)) ≡ []
   pub unwritten : written history ≡ []
 
 -- The text of boxes gives just these boxes, if all of their bytes are printed as they are.

@@ -6,6 +6,7 @@ use Rattle.roff_num.specs.declared.short_name.ShortName.{ShortName}
 use Rattle.roff_input.specs.Input.{Ahead, ByteAhead, lines_taken}
 use Rattle.roff_input.specs.Input.Names.{stored}
 use Rattle.roff_layout.specs.Events.{is_interrupted, settings_after}
+use Rattle.roff_layout.specs.Fields.{plain}
 use Rattle.roff_layout.specs.Layout.{Box, Layout}
 use Rattle.roff_layout.specs.Words.{open_glyphs, temporary_indent, words}
 use Rattle.roff_layout.specs.declared.settings.Settings.{Settings}
@@ -40,11 +41,11 @@ pub record IsPlain (s : Settings) : Type 0 where
   pub unindented : s.indent ≡ 0
   pub single : s.spacing ≡ 1
 
--- nothing is pending behind a history
+-- nothing is pending behind a history: in a field a glyph would be
 pub record IsIdle (h : PageHistory) : Type 0 where
-  pub no_words : words (text_of h) ≡ []
-  pub no_glyphs : open_glyphs (text_of h) ≡ []
-  pub no_indent : temporary_indent (text_of h) ≡ None
+  pub no_words : words (plain (text_of h)) ≡ []
+  pub no_glyphs : open_glyphs (plain (text_of h)) ≡ []
+  pub no_indent : temporary_indent (plain (text_of h)) ≡ None
 
 -- a run stands where a line begins in such a diversion, which has no trap and no no-space mode: nothing moves a line, nothing is
 -- pending, no line is to go on, and no line springs a macro as it counts

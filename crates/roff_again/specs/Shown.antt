@@ -2,10 +2,11 @@
 use Rattle.std.specs.Prelude.{◌≡◌, ℕ, true, false, List, [], ◌∷◌, IfSome, ◌==◌}
 use Rattle.std.specs.List.{AllByRecursion}
 use Rattle.roff_num.specs.declared.limits.Limits.{Limits}
+use Rattle.roff_layout.specs.Behind.{finished}
 use Rattle.roff_layout.specs.Columns.{printed}
 use Rattle.roff_layout.specs.Events.{History}
 use Rattle.roff_layout.specs.Layout.{Diversion}
-use Rattle.roff_layout.specs.Lines.{Finished, finished}
+use Rattle.roff_layout.specs.Lines.{Finished}
 use Rattle.roff_layout.specs.Titles.{title_text}
 use Rattle.roff_layout.specs.declared.event.Event.{Event}
 use Rattle.roff_layout.specs.declared.event.Event.TheVariants.{Print}
@@ -46,7 +47,7 @@ abbrev pub AllPagesShow : PageHistory → Type 0
 AllPagesShow [] = Unit {0}
 AllPagesShow (e ∷ h) = PageShows h e × AllPagesShow h
 
--- Lines are printed by printable bytes alone, whatever finishes them.
+-- Lines are printed by printable bytes alone, whatever finishes them, fields on them or not.
 abbrev pub LinesPrint : Type 0
 LinesPrint = (h : History) (e : Event) → AllShow h → IfSome (finished h e) (λ (line : Finished). IsPrintable (printed line))
 

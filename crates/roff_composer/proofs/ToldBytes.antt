@@ -4,7 +4,8 @@ use Rattle.std.specs.Prelude.{◌==◌, option_map, if◌then◌else◌}
 use Rattle.std.proofs.lemmas.List.{append-nil}
 use Rattle.roff_layout.specs.Events.{History}
 use Rattle.roff_layout.specs.declared.event.Event.TheVariants.{Print, WordEnd, Gap}
-use Rattle.roff_layout.specs.Lines.{Finished, finished}
+use Rattle.roff_layout.specs.Lines.{Finished}
+use Rattle.roff_layout.specs.Behind.{finished}
 use Rattle.roff_layout.specs.Telling.{QuietlyTold, bytes_told}
 use Rattle.roff_layout.specs.declared.glyph.Glyph.TheVariants.{Printed}
 use Rattle.roff_layout.specs.Happenings.{Places}

@@ -10,7 +10,8 @@ pub enum DueText {
     Nothing,
     /// A text begins.
     Begins,
-    /// The text of this number ends: it is a name's from now on, or is put behind what the name has.
+    /// The text of this number ends: it is a name's from now on, or is put behind what the name
+    /// has.
     Ends {
         /// Its number: the outermost open diversion has the text of number 0.
         index: usize,

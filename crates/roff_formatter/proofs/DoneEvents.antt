@@ -1,12 +1,17 @@
 -- Events of the text and of the pages, where they stand in front of others.
-use Rattle.std.proofs.Common.{◌∙◌, ◌≡◌, inl, inr, ◌<◌, ◌≤◌, Bool, true, false, List, [], ◌∷◌, ◌++◌, length, Option, Some, None, Result, Ok, Err, ap, arith, refl, subst, sym}
-use Rattle.std.specs.Prelude.{IsSome, option_map}
+use Rattle.std.proofs.Common.{◌∙◌, ◌≡◌, inl, inr, ◌<◌, ◌≤◌, ℕ, Bool, true, false, ◌||◌, List, [], ◌∷◌, ◌++◌, length, Option, Some, None, Result, Ok, Err, ap, arith, refl, subst, sym}
+use Rattle.std.specs.Prelude.{IsSome, OnOk, is_some, option_map}
+use Rattle.std.proofs.Math.Nat.{lt_of_not-le}
+use Rattle.std.specs.List.{cons_option}
 use Rattle.roff_num.specs.declared.limit.Limit.{Limit}
 use Rattle.roff_num.specs.declared.limit.Limit.TheVariants.{Line}
 use Rattle.roff_num.specs.declared.limits.Limits.{Limits}
 use Rattle.roff_num.specs.declared.short_name.ShortName.{ShortName}
-use Rattle.roff_lines.specs.Env.Stands.{StandsBehind}
-use Rattle.roff_layout.specs.Lines.{Finished, finished, pending_length}
+use Rattle.roff_lines.specs.Env.Stands.{Stands, StandsBehind}
+use Rattle.roff_layout.specs.Lines.{Finished}
+use Rattle.roff_layout.specs.Behind.{finished, finished_lines, last_text, length_reached, pending_length}
+use Rattle.roff_layout.specs.Events.{History}
+use Rattle.roff_layout.specs.LastLine.{newest_text}
 use Rattle.roff_lines.specs.declared.env.Env.{Env}
 use Rattle.roff_layout.specs.declared.event.Event.{Event}
 use Rattle.roff_layout.specs.DeviceText.{device_text}
@@ -17,7 +22,7 @@ use Rattle.roff_layout.specs.Stops.{is_diverted}
 use Rattle.roff_layout.specs.declared.layout_event.LayoutEvent.{LayoutEvent}
 use Rattle.roff_layout.specs.declared.layout_event.LayoutEvent.TheVariants.{Eject, EjectLast, EjectOn, EjectTo, Need, Space}
 use Rattle.roff_layout.specs.Layout.{Layout}
-use Rattle.roff_lines.proofs.LastLine.{last_text-some}
+use Rattle.roff_lines.proofs.Standing.{finished-stands, left_stands}
 use Rattle.roff_pages.specs.Pages.Stands.{Happens, StandsAs}
 use Rattle.roff_layout.specs.Springs.{goes_on, springs as springs_on_page}
 use Rattle.roff_layout.specs.Turning.{with_event}
@@ -39,7 +44,7 @@ use Rattle.roff_formatter.specs.Formatter.Sprung.{MovesOn, StopsBehind, StopsSpr
 use Rattle.roff_run.specs.Environments.{PageHistory, environments, interrupted_line, text_of, trap_behind}
 use Rattle.roff_run.specs.Output.{happens, layout_of, text_laid}
 use Rattle.roff_run.specs.Registers.{AllRegisters}
-use Rattle.roff_run.specs.Springs.{left_if, left_of, needs_page, springs, sprung_on}
+use Rattle.roff_run.specs.Springs.{ends_field, left_if, left_of, needs_page, springs, sprung_on}
 use Rattle.roff_run.specs.Titles.{told}
 use Rattle.roff_run.specs.TurnsToCome.{lines_left, most_left}
 use Rattle.roff_run.specs.declared.event.InputTrap.{InputTrap}
@@ -54,7 +59,8 @@ use Rattle.roff_formatter.proofs.DonePut.{follows_so, put_here, stops-sprung}
 use Rattle.roff_formatter.proofs.DueTexts.{TellsText, line_tells, need_tells, put_opens, same_behind, space_tells}
 use Rattle.roff_formatter.proofs.Ejects.{goes-still, going-not, not_left, nothing_left, sets-end}
 use Rattle.roff_formatter.proofs.EventsLeft.{most-left, page-left, text-alone, text-left}
-use Rattle.roff_formatter.proofs.FirstPages.{begun_for, behind-alone, done_alone, ready-open, ready_always}
+use Rattle.roff_formatter.proofs.ComingBefore.{behind-alone}
+use Rattle.roff_formatter.proofs.FirstPages.{begun_for, done_alone, ready-open, ready_always}
 use Rattle.roff_formatter.proofs.LinesLeft.{last_left}
 use Rattle.roff_formatter.proofs.Performed.{moves-behind}
 use Rattle.roff_formatter.proofs.Placed.{nothing_allowed, nothing_written, page_counted, page_refused, room-puts, sets_goes_on, sets_nothing, stands_quietly, stands_set, text_allowed, text_counted, text_refused}
@@ -83,22 +89,53 @@ follows-none h x none unsprung =
     let made : Option Happening → Option ShortName → Following = λ o name. record { text = text_behind o (layout_of h); sprung = name } in
     ap (λ (o : Option Happening). made o (springs h x)) none ∙ ap (made None) unsprung
 
+-- the text of the last line is that of the one that an event finishes
+last_text-finished : (h : History) (e : Event) (line : Finished) → finished h e ≡ Some line → last_text (e ∷ h) ≡ line.text
+last_text-finished h e line is = ap (λ (o : Option Finished). newest_text (cons_option o (finished_lines h))) is
+
+-- the pending line of an environment is within its limit
+pub within_stands : (line_cap : ℕ) (h : History) (k : Env) → Stands line_cap h k → pending_length h ≤ line_cap
+within_stands line_cap h k s = (left_stands line_cap h k s).within
+
+-- so no limit refuses an event, but a tab, behind which it stands
+pub reached_within : (e : Event) (old new : Formatter) → ((h : History) → length_reached e h ≡ pending_length (e ∷ h))
+    → ((l : Limits) (h : PageHistory) → StandFor l h old.composer → StandBy l (environments (Text e ∷ h)) new.composer.environments)
+    → (l : Limits) (h : PageHistory) → StandFor l h old.composer → length_reached e (text_of h) ≤ l.line
+reached_within e old new same stands l h stood =
+    omega (arith, same (text_of h), within_stands l.line (e ∷ text_of h) new.composer.environments.in_force.lines (stands l h stood).in_force.lines)
+
+-- and so where the lines of the environment in force do
+pub reached_behind : (e : Event) (es : ComposerOf) (lines : Env) → ((h : History) → length_reached e h ≡ pending_length (e ∷ h))
+    → StandsBehind es.environments.in_force.lines e lines → (l : Limits) (h : PageHistory) → StandFor l h es → length_reached e (text_of h) ≤ l.line
+reached_behind e es lines same behind l h stood =
+    omega (arith, same (text_of h), within_stands l.line (e ∷ text_of h) lines (behind l.line (text_of h) stood.environments.in_force.lines))
+
+-- what isn't above a limit is within it
+pub not_above : (most size : ℕ) → (most < size → ⊥) → size ≤ most
+not_above most size few = omega (arith, lt_of_not-le few)
+
+-- what is so where a result is no error
+pub ok_holds : {A : Type 0} (r : Result A Limit) (x : A) (P : Type 0) → r ≡ Ok x → OnOk r P → P
+ok_holds (Ok y) x P is holds = holds
+ok_holds (Err limit) x P is holds = absurd (cc)
+
 -- an event of the text that finishes no line
 pub text_changes_here : (e : Event) (old new : Formatter) (out : Sunk)
+    → ((l : Limits) (h : PageHistory) → StandFor l h old.composer → length_reached e (text_of h) ≤ l.line)
     → ((l : Limits) (h : PageHistory) → StandFor l h old.composer → StandBy l (environments (Text e ∷ h)) new.composer.environments)
     → new.composer.pages ≡ old.composer.pages
     → ((l : Limits) (h : PageHistory) → StandFor l h old.composer → happens h (Text e) ≡ None)
     → ((h : PageHistory) → springs h (Text e) ≡ sprung_on (happens h (Text e)) (layout_of h))
     → PerformsHere (Text e) (Text e) old new out out (Ok None)
-text_changes_here e old new out stands same none met =
-    changes_here (Text e) (Text e) old new out (λ l h stood. text_allowed l h e (stands l h stood).in_force.lines.within (none l h stood))
+text_changes_here e old new out short stands same none met =
+    changes_here (Text e) (Text e) old new out (λ l h stood. text_allowed l h e (short l h stood) (none l h stood))
     (λ l h stood. stands_quietly l h (Text e) old.composer new.composer stood (none l h stood) (stands l h stood) same)
     (λ l h stood. ap (λ (o : Option Happening). text_laid o (layout_of h)) (none l h stood))
     (λ l h stood. follows-none h (Text e) (none l h stood) (met h ∙ ap (λ (o : Option Happening). sprung_on o (layout_of h)) (none l h stood)))
 
 -- one for which the pending line would be too long
 pub text_stopped_here : (e : Event) (old new : Formatter) (out : Sunk)
-    → ((l : Limits) (h : PageHistory) → StandFor l h old.composer → l.line < pending_length (e ∷ text_of h))
+    → ((l : Limits) (h : PageHistory) → StandFor l h old.composer → l.line < length_reached e (text_of h))
     → PerformsHere (Text e) (Text e) old new out out (Err (Limited Line))
 text_stopped_here e old new out longer = stopped_here (Text e) (Text e) old new out Line (λ l h stood. text_refused l h e (longer l h stood))
 
@@ -106,23 +143,24 @@ text_stopped_here e old new out longer = stopped_here (Text e) (Text e) old new 
 pub text_put_here : (e : Event) (line : Option Finished) (old new : Formatter) (out out_new : Sunk) (r : Result (Option Sprung) Halt)
     → ((h : PageHistory) → springs h (Text e) ≡ sprung_on (happens h (Text e)) (layout_of h))
     → ((l : Limits) (h : PageHistory) → StandFor l h old.composer → line ≡ finished (text_of h) e)
+    → ((l : Limits) (h : PageHistory) → StandFor l h old.composer → length_reached e (text_of h) ≤ l.line)
     → ((l : Limits) (h : PageHistory) → StandFor l h old.composer → StandBy l (environments (Text e ∷ h)) new.composer.environments)
     → PutsFinished line old.composer.pages new.composer.pages old.composer.due new.composer.due out out_new r
     → PerformsHere (Text e) (Text e) old new out out_new r
-text_put_here e None old new out out_new r met is stands put =
+text_put_here e None old new out out_new r met is short stands put =
     let none : (l : Limits) (h : PageHistory) → StandFor l h old.composer → happens h (Text e) ≡ None =
     λ l h stood. ap (option_map Places) (sym (is l h stood)) in
     subst (λ (now : Sunk). PerformsHere (Text e) (Text e) old new out now r) (sym put.2)
     (subst (λ (answer : Result (Option Sprung) Halt). PerformsHere (Text e) (Text e) old new out out answer) (sym put.3)
-    (text_changes_here e old new out stands put.0 none met))
-text_put_here e (Some line) old new out out_new r met is stands put =
+    (text_changes_here e old new out short stands put.0 none met))
+text_put_here e (Some line) old new out out_new r met is short stands put =
     let places : (l : Limits) (h : PageHistory) → StandFor l h old.composer → happens h (Text e) ≡ Some (Places line) =
     λ l h stood. ap (option_map Places) (sym (is l h stood)) in
     put_here (Text e) (Text e) (Places line) (line_due line) old new out out_new r places met
-    (λ l h stood. text_counted l h e (stands l h stood).in_force.lines.within
+    (λ l h stood. text_counted l h e (short l h stood)
     ∙ ap (λ (o : Option Happening). first_passed l (written_counted h o)) (places l h stood)) stands
     (λ l h rs stood now told_so diverts some due. line_tells line (layout_of h) new.composer rs diverts
-    ((stands l h stood).in_force.lines.finished ∙ last_text-some (text_of h) e line (sym (is l h stood)))
+    (finished-stands l.line (e ∷ text_of h) new.composer.environments.in_force.lines (stands l h stood).in_force.lines ∙ last_text-finished (text_of h) e line (sym (is l h stood)))
     (same_behind l h (Text e) (Places line) new.composer now (places l h stood) diverts refl) due) put
 
 -- an event of the pages that changes a text stopped by it
@@ -248,10 +286,10 @@ page_events e old mid new out out_new goes done ready here still only moves = re
       let g : PageHistory = begun_for (Page e) h in
       let x : PerformsFirst (Page e) (Page e) old new out out_new done = ready_then (Page e) (Page e) old mid new out out_new done ready here in
       event_here l t before (seen failures out_new err) s e h g rest new.composer
-      (ap (λ (g : PageHistory). Page e ∷ g) (sym (behind-alone s.registers (Page e) h refl))) goes done
+      (ap (λ (g : PageHistory). Page e ∷ g) (sym (behind-alone s.registers (Page e) 2 h refl refl))) goes done
       (λ stands name sprung. ap (λ (b : Bool). left_if b e) (still (layout_of g) (layout_of (Page e ∷ g)) name refl stands.pages sprung)) only
       (x.first l t before failures err s h (Page e) rest (λ g. left_of g (Page e) ++ rest) stood refl
-      (λ g same. done_alone (Page e) (left_of g (Page e)) rest g (λ rs. refl) refl) reached);
+      (λ g same. done_alone (Page e) (left_of g (Page e)) rest g (λ rs. refl) refl refl) reached);
   moves = moves;
 }
 
@@ -283,7 +321,7 @@ event_tells (_) L es rs puts count diverts some is = absurd (cc)
 module _ (e : LayoutEvent) (old mid new : Formatter) (out out_new : Sunk) (r : Result (Option Sprung) Halt) (ready : ReadyFor (Page e) old mid None)
     (stay : new.composer.environments ≡ mid.composer.environments) where
   same_open : open_weight new.composer ≡ open_weight old.composer
-  same_open = ap (λ (es : EnvironmentsOf). word_weight es.in_force.lines.is_open) stay ∙ ready-open (Page e) old mid None ready
+  same_open = ap (λ (es : EnvironmentsOf). word_weight (es.in_force.lines.is_open || is_some es.in_force.lines.field)) stay ∙ ready-open (Page e) old mid None ready
 
   put_moves : (goes : Bool) (done : Result (Option Sprung) Halt) → (is_eject_event e ≡ false → goes ≡ false)
       → PutsOnPage (Does e) (blank_due e) mid.composer.pages new.composer.pages mid.composer.due new.composer.due out out_new done
@@ -316,31 +354,33 @@ module _ (e : LayoutEvent) (old mid new : Formatter) (out out_new : Sunk) (r : R
 
 -- an event that needs no page, and with which nothing happens to them
 pub changes_only : (x : PageEvent) (p : PastEvent) (old new : Formatter) (out : Sunk) → ((rs : AllRegisters) → told rs x ≡ p)
-    → ((g : PageHistory) → left_of g p ≡ []) → ((h : PageHistory) → needs_page h x ≡ false) → ((h : PageHistory) → happens h p ≡ None)
+    → ((g : PageHistory) → left_of g p ≡ []) → ((g : PageHistory) → ends_field g x ≡ false) → ((h : PageHistory) → needs_page h x ≡ false)
+    → ((h : PageHistory) → happens h p ≡ None)
     → ((h : PageHistory) → springs h p ≡ None)
     → ((l : Limits) (h : PageHistory) → StandFor l h old.composer → refusal l h p ≡ None)
     → ((l : Limits) (h : PageHistory) → StandFor l h old.composer → StandBy l (environments (p ∷ h)) new.composer.environments)
     → new.composer.pages ≡ old.composer.pages → PerformsEvents (x ∷ []) old new out out (Ok None)
-changes_only x p old new out always whole needless none unsprung allowed stands same =
-    only_first x p old new out out (Ok None) always whole (λ sprung is. cc) (ready_then x p old old new out out (Ok None) (ready_always x old needless)
+changes_only x p old new out always whole free needless none unsprung allowed stands same =
+    only_first x p old new out out (Ok None) always whole (λ sprung is. cc) free (ready_then x p old old new out out (Ok None) (ready_always x old needless)
     (changes_here x p old new out allowed (λ l h stood. stands_quietly l h p old.composer new.composer stood (none h) (stands l h stood) same)
     (λ l h stood. ap (λ (o : Option Happening). text_laid o (layout_of h)) (none h)) (λ l h stood. follows-none h p (none h) (unsprung h))))
 
 -- one of the text
-pub text_changes_only : (e : Event) (old new : Formatter) (out : Sunk) → ((h : PageHistory) → needs_page h (Text e) ≡ false)
+pub text_changes_only : (e : Event) (old new : Formatter) (out : Sunk) → ((g : PageHistory) → ends_field g (Text e) ≡ false)
+    → ((h : History) → length_reached e h ≡ pending_length (e ∷ h)) → ((h : PageHistory) → needs_page h (Text e) ≡ false)
     → ((h : PageHistory) → happens h (Text e) ≡ None) → ((h : PageHistory) → springs h (Text e) ≡ sprung_on (happens h (Text e)) (layout_of h))
     → ((l : Limits) (h : PageHistory) → StandFor l h old.composer → StandBy l (environments (Text e ∷ h)) new.composer.environments)
     → new.composer.pages ≡ old.composer.pages → PerformsEvents (Text e ∷ []) old new out out (Ok None)
-text_changes_only e old new out needless none met stands same =
-    only_first (Text e) (Text e) old new out out (Ok None) (λ rs. refl) (λ g. refl) (λ sprung is. cc)
+text_changes_only e old new out free counted needless none met stands same =
+    only_first (Text e) (Text e) old new out out (Ok None) (λ rs. refl) (λ g. refl) (λ sprung is. cc) free
     (ready_then (Text e) (Text e) old old new out out (Ok None) (ready_always (Text e) old needless)
-    (text_changes_here e old new out stands same (λ l h stood. none h) met))
+    (text_changes_here e old new out (reached_within e old new counted stands) stands same (λ l h stood. none h) met))
 
 -- one that needs no page, and that a limit refuses
 pub stopped_only : (x : PageEvent) (p : PastEvent) (old new : Formatter) (out : Sunk) (limit : Limit) → ((rs : AllRegisters) → told rs x ≡ p)
-    → ((g : PageHistory) → left_of g p ≡ [])
+    → ((g : PageHistory) → left_of g p ≡ []) → ((g : PageHistory) → ends_field g x ≡ false)
     → ((h : PageHistory) → needs_page h x ≡ false) → ((l : Limits) (h : PageHistory) → StandFor l h old.composer → refusal l h p ≡ Some limit)
     → PerformsEvents (x ∷ []) old new out out (Err (Limited limit))
-stopped_only x p old new out limit always whole needless refused =
-    only_first x p old new out out (Err (Limited limit)) always whole (λ sprung is. cc) (ready_then x p old old new out out (Err (Limited limit)) (ready_always x old needless)
+stopped_only x p old new out limit always whole free needless refused =
+    only_first x p old new out out (Err (Limited limit)) always whole (λ sprung is. cc) free (ready_then x p old old new out out (Err (Limited limit)) (ready_always x old needless)
     (stopped_here x p old new out limit refused))

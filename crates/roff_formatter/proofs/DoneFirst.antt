@@ -1,12 +1,17 @@
 -- Events that are performed where they stand in front of others, each behind the first page's beginning if it begins there.
-use Rattle.std.proofs.Common.{◌∙◌, ◌≡◌, ◌≤◌, ℕ, true, List, [], ◌∷◌, length, Option, Some, None, Result, Ok, Err, ap, arith, refl, subst, sym}
+use Rattle.std.proofs.Common.{◌∙◌, ◌≡◌, ◌≤◌, ℕ, Bool, true, false, ◌||◌, List, [], ◌∷◌, length, Option, Some, None, Result, Ok, Err, ap, arith, refl, subst, sym}
+use Rattle.std.specs.Prelude.{is_some}
+use Rattle.roff_layout.specs.Events.{History}
+use Rattle.roff_layout.specs.Fields.{is_in_field}
 use Rattle.roff_num.specs.declared.limit.Limit.{Limit}
 use Rattle.roff_num.specs.declared.limits.Limits.{Limits}
 use Rattle.roff_num.specs.declared.short_name.ShortName.{ShortName}
 use Rattle.roff_layout.specs.declared.event.Event.TheVariants.{WordEnd}
 use Rattle.roff_layout.specs.DueTexts.{TextDue}
-use Rattle.roff_layout.specs.Words.{has_open_word}
+use Rattle.roff_layout.specs.Behind.{has_open_word}
+use Rattle.roff_lines.specs.Env.Kept.{Kept}
 use Rattle.roff_lines.specs.Env.Stands.{Stands, StandsBehind}
+use Rattle.roff_formatter.proofs.OpenFields.{has_open_word-stands, is_in_field-stands}
 use Rattle.roff_lines.specs.declared.env.Env.{Env}
 use Rattle.roff_composer.specs.Composer.Standing.{StandFor}
 use Rattle.roff_composer.specs.declared.composer.Composer.{Composer as ComposerOf}
@@ -17,13 +22,13 @@ use Rattle.roff_formatter.specs.declared.halt.Halt.TheVariants.{Limit as Limited
 use Rattle.roff_formatter.specs.declared.sprung.Sprung.{Sprung}
 use Rattle.roff_formatter.specs.Reaching.{Beginning, Reaches}
 use Rattle.roff_sinks.specs.Devices.{Seen, seen}
-use Rattle.roff_formatter.specs.Formatter.Performing.{AllPerformed, EndsBefore, EndsWordFirst, HaltedAt, Performs, PerformsEvents, SprungAt, acting, behind_event, behind_next}
+use Rattle.roff_formatter.specs.Formatter.Performing.{AllPerformed, EndsBefore, EndsWordFirst, HaltedAt, Performs, PerformsEvents, PerformsUnfielded, SprungAt, acting, behind_event, behind_next}
 use Rattle.roff_formatter.specs.Formatter.Paging.{ReadyFor}
 use Rattle.roff_formatter.specs.Formatter.Sprung.{MovesOn, StopsBehind, diverting, first_left, following_of, left_before, left_behind, may_be_left, most_back, noted, open_weight, sprung_before, sprung_behind, sprung_by, with_sprung, word_weight}
 use Rattle.roff_run.specs.Environments.{PageHistory, interrupted_line, text_of}
 use Rattle.roff_run.specs.Output.{happens, layout_of, written_by}
 use Rattle.roff_run.specs.Registers.{AllRegisters}
-use Rattle.roff_run.specs.Springs.{begins, left_of, springs}
+use Rattle.roff_run.specs.Springs.{begins, ends_field, left_of, springs}
 use Rattle.roff_run.specs.Titles.{told}
 use Rattle.roff_run.specs.TurnsToCome.{left_by, lines_left}
 use Rattle.roff_run.specs.PageEvents.{PageEvent, PastEvent}
@@ -34,7 +39,8 @@ use Rattle.roff_run.specs.Run.Counts.{refusal}
 use Rattle.roff_sinks.specs.Sinks.{Sunk, Writes}
 use Rattle.roff_sinks.proofs.Appending.{Writes-nothing}
 use Rattle.roff_formatter.proofs.EventsLeft.{going-none, most-left}
-use Rattle.roff_formatter.proofs.FirstPages.{DoneFirst, begun, begun_for, behind-alone, done_alone, done_own, moves-before, next-alone, next-own, page_sprang, word_end-same}
+use Rattle.roff_formatter.proofs.ComingBefore.{behind-alone, closed-word, in_field-word}
+use Rattle.roff_formatter.proofs.FirstPages.{DoneFirst, begun, begun_for, done_alone, done_own, field_end-same, moves-before, next-alone, next-own, page_sprang, word-unfielded, word_end-same}
 use Rattle.roff_formatter.proofs.LinesLeft.{lines_left-behind, owns-left, left-leaves}
 use Rattle.roff_formatter.proofs.Performed.{event_performed, event_stopped, moves-behind, sprung-least}
 
@@ -135,40 +141,66 @@ one_here l t before now s e h g x rest (Ok (Some sprung)) es behind may is lines
     (subst (λ (g : PageHistory). lines_left (interrupted_line g) ≤ left_by e (lines_left (interrupted_line h))) (sym is) lines) p.so p.reaches p.stands
 one_here l t before now s e h g x rest (Err halt) es behind may is lines p = p
 
--- it is performed with what comes before it, where it happens so with any registers, and nothing goes on of it
-pub only_first : (x : PageEvent) (p : PastEvent) (old new : Formatter) (out out_new : Sunk) (r : Result (Option Sprung) Halt)
+-- it is performed with what comes before it, where no field ends, where it happens so with any registers, and nothing goes on of it
+pub unfielded_first : (x : PageEvent) (p : PastEvent) (old new : Formatter) (out out_new : Sunk) (r : Result (Option Sprung) Halt)
     → ((rs : AllRegisters) → told rs x ≡ p) → ((g : PageHistory) → left_of g p ≡ []) → ((sprung : Sprung) → r ≡ Ok (Some sprung) → may_be_left x ≡ true)
-    → PerformsFirst x p old new out out_new r → PerformsEvents (x ∷ []) old new out out_new r
-only_first x p old new out out_new r always whole may done = record {
-  performs = λ l t before failures err s h rest stood flows reached.
+    → PerformsFirst x p old new out out_new r → PerformsUnfielded x old new out out_new r
+unfielded_first x p old new out out_new r always whole may done = record {
+  performs = λ l t before failures err s h rest stood none free reached.
       let is : told s.registers x ≡ p = always s.registers in
       one_here l t before (seen failures out_new err) s x h (begun_for x h) p rest r new.composer (behind_event s.registers x h) may
-      (ap (λ (p : PastEvent). p ∷ begun_for x h) (sym is) ∙ ap (λ (g : PageHistory). told s.registers x ∷ g) (sym (behind-alone s.registers x h flows.0)))
+      (ap (λ (p : PastEvent). p ∷ begun_for x h) (sym is) ∙ ap (λ (g : PageHistory). told s.registers x ∷ g) (sym (behind-alone s.registers x 2 h none free)))
       (lines_left-behind s.registers x h)
       (done.first l t before failures err s h x rest (λ g. rest) stood is
-      (λ g same. done_alone x [] rest g (λ rs. ap (left_of g) (always rs) ∙ whole g) (word_end-same x g h same ∙ flows.0)) reached);
+      (λ g same. done_alone x [] rest g (λ rs. ap (left_of g) (always rs) ∙ whole g)
+      (word_end-same x g h same ∙ none) (field_end-same x g h (ap is_in_field same) ∙ free)) reached);
   moves = moves-behind old new r done.stops;
 }
 
--- or where the page begins in front of it, and springs something
-only_begun : (x : PageEvent) (old mid : Formatter) (out : Sunk) (name : ShortName) → ((h : PageHistory) → begins h x ≡ true → may_be_left x ≡ true) → ReadyFor x old mid (Some name)
-    → PerformsEvents (x ∷ []) old (with_sprung name mid) out out (Ok (Some sprung_before))
-only_begun x old mid out name may ready = record {
+-- where a field's end comes before it behind no history for which the formatter stands, it is performed as any list
+pub performs_unfielded : (x : PageEvent) (old new : Formatter) (out out_new : Sunk) (r : Result (Option Sprung) Halt)
+    → ((l : Limits) (h : PageHistory) → StandFor l h old.composer → ends_field h x ≡ false)
+    → PerformsUnfielded x old new out out_new r → PerformsEvents (x ∷ []) old new out out_new r
+performs_unfielded x old new out out_new r free only = record {
   performs = λ l t before failures err s h rest stood flows reached.
-      page_sprang l t before failures err s h x x rest out (λ is. next-alone h x true flows.0 is) old mid (Some name) ready stood reached name refl (may h);
+      only.performs l t before failures err s h rest stood flows.0 (free l h stood) reached;
+  moves = only.moves;
+}
+
+-- and so it is where none ever does
+pub only_first : (x : PageEvent) (p : PastEvent) (old new : Formatter) (out out_new : Sunk) (r : Result (Option Sprung) Halt)
+    → ((rs : AllRegisters) → told rs x ≡ p) → ((g : PageHistory) → left_of g p ≡ []) → ((sprung : Sprung) → r ≡ Ok (Some sprung) → may_be_left x ≡ true)
+    → ((g : PageHistory) → ends_field g x ≡ false)
+    → PerformsFirst x p old new out out_new r → PerformsEvents (x ∷ []) old new out out_new r
+only_first x p old new out out_new r always whole may free done =
+    performs_unfielded x old new out out_new r (λ l h stood. free h) (unfielded_first x p old new out out_new r always whole may done)
+
+-- or where the page begins in front of it, and springs something
+unfielded_begun : (x : PageEvent) (old mid : Formatter) (out : Sunk) (name : ShortName) → ((h : PageHistory) → begins h x ≡ true → may_be_left x ≡ true) → ReadyFor x old mid (Some name)
+    → PerformsUnfielded x old (with_sprung name mid) out out (Ok (Some sprung_before))
+unfielded_begun x old mid out name may ready = record {
+  performs = λ l t before failures err s h rest stood none free reached.
+      page_sprang l t before failures err s h x x rest out (λ is. next-alone h x true none free is) old mid (Some name) ready stood reached name refl (may h);
   moves = moves-before x old mid name ready;
 }
 
 -- as the code says where it stopped
-pub only_stopped : (x : PageEvent) (old mid new : Formatter) (out : Sunk) (name : ShortName) (r : Result (Option Sprung) Halt) → ((h : PageHistory) → begins h x ≡ true → may_be_left x ≡ true)
-    → ReadyFor x old mid (Some name) → new ≡ with_sprung name mid → r ≡ Ok (Some sprung_before) → PerformsEvents (x ∷ []) old new out out r
-only_stopped x old mid new out name r may ready there is =
-    subst (λ (r : Result (Option Sprung) Halt). PerformsEvents (x ∷ []) old new out out r) (sym is)
-    (subst (λ (f : Formatter). PerformsEvents (x ∷ []) old f out out (Ok (Some sprung_before))) (sym there) (only_begun x old mid out name may ready))
+pub unfielded_page : (x : PageEvent) (old mid new : Formatter) (out : Sunk) (name : ShortName) (r : Result (Option Sprung) Halt) → ((h : PageHistory) → begins h x ≡ true → may_be_left x ≡ true)
+    → ReadyFor x old mid (Some name) → new ≡ with_sprung name mid → r ≡ Ok (Some sprung_before) → PerformsUnfielded x old new out out r
+unfielded_page x old mid new out name r may ready there is =
+    subst (λ (r : Result (Option Sprung) Halt). PerformsUnfielded x old new out out r) (sym is)
+    (subst (λ (f : Formatter). PerformsUnfielded x old f out out (Ok (Some sprung_before))) (sym there) (unfielded_begun x old mid out name may ready))
 
-pub only_page : (x : PageEvent) (old mid new : Formatter) (out : Sunk) (name : ShortName) (r : Result (Option Sprung) Halt) → may_be_left x ≡ true → ReadyFor x old mid (Some name)
+pub only_stopped : (x : PageEvent) (old mid new : Formatter) (out : Sunk) (name : ShortName) (r : Result (Option Sprung) Halt) → ((h : PageHistory) → begins h x ≡ true → may_be_left x ≡ true)
+    → ((g : PageHistory) → ends_field g x ≡ false) → ReadyFor x old mid (Some name)
     → new ≡ with_sprung name mid → r ≡ Ok (Some sprung_before) → PerformsEvents (x ∷ []) old new out out r
-only_page x old mid new out name r may ready there is = only_stopped x old mid new out name r (λ h begun. may) ready there is
+only_stopped x old mid new out name r may free ready there is =
+    performs_unfielded x old new out out r (λ l h stood. free h) (unfielded_page x old mid new out name r may ready there is)
+
+pub only_page : (x : PageEvent) (old mid new : Formatter) (out : Sunk) (name : ShortName) (r : Result (Option Sprung) Halt) → may_be_left x ≡ true
+    → ((g : PageHistory) → ends_field g x ≡ false) → ReadyFor x old mid (Some name)
+    → new ≡ with_sprung name mid → r ≡ Ok (Some sprung_before) → PerformsEvents (x ∷ []) old new out out r
+only_page x old mid new out name r may free ready there is = only_stopped x old mid new out name r (λ h begun. may) free ready there is
 
 -- the end of a word that stopped in front of an event leaves that
 word_stopped : (l : Limits) (t : Beginning) (before now : Seen) (s : State) (e : PageEvent) (h g : PageHistory) (rest : List PageEvent) (sprung : Sprung) (es : ComposerOf)
@@ -201,28 +233,37 @@ ended_here : (l : Limits) (t : Beginning) (before now : Seen) (s : State) (e : P
     → may_be_left e ≡ true → Here l t before now s (begun_for (Text WordEnd) h) (Text WordEnd) (e ∷ rest) r es
     → EndsBefore l t before now s e h (behind_event s.registers (Text WordEnd) h) rest (first_left r) es
 ended_here l t before now s e h rest (Ok None) es may p =
-    subst (λ (g : PageHistory). AllPerformed l t before now s (Text WordEnd ∷ g) (e ∷ rest) es) (sym (behind-alone s.registers (Text WordEnd) h refl))
+    subst (λ (g : PageHistory). AllPerformed l t before now s (Text WordEnd ∷ g) (e ∷ rest) es) (sym (behind-alone s.registers (Text WordEnd) 2 h refl refl))
     (record { reaches = p.reaches; stands = p.stands })
 ended_here l t before now s e h rest (Ok (Some sprung)) es may p =
-    let is : behind_next s.registers 2 (Text WordEnd) h ≡ begun_for (Text WordEnd) h = behind-alone s.registers (Text WordEnd) h refl in
+    let is : behind_next s.registers 3 (Text WordEnd) h ≡ begun_for (Text WordEnd) h = behind-alone s.registers (Text WordEnd) 2 h refl refl in
     word_stopped l t before now s e h (begun_for (Text WordEnd) h) rest sprung es may
     (subst (λ (g : PageHistory). lines_left (interrupted_line (Text WordEnd ∷ g)) ≤ lines_left (interrupted_line h)) is (lines_left-behind s.registers (Text WordEnd) h))
     p.so p.reaches p.stands
 ended_here l t before now s e h rest (Err halt) es may p = p
 
--- behind it no word is open
+-- behind a word end no word is open, and no field where none was
+closed_kept : (line_cap : ℕ) (h : History) (k : Kept) → is_in_field h ≡ false → Stands line_cap (WordEnd ∷ h) k → (k.is_open || is_some k.field) ≡ false
+closed_kept line_cap h k none s =
+    let closed : k.is_open ≡ false = has_open_word-stands line_cap (WordEnd ∷ h) k s ∙ closed-word h in
+    let unfielded : is_some k.field ≡ false = is_in_field-stands line_cap (WordEnd ∷ h) k s ∙ in_field-word h ∙ none in
+    rw (closed, unfielded) refl
+
 closed_behind : (l : Limits) (h : PageHistory) (old mid new : Formatter) (name : Option ShortName) → ReadyFor (Text WordEnd) old mid name → StandFor l h old.composer
-    → StandsBehind mid.composer.environments.in_force.lines WordEnd new.composer.environments.in_force.lines → open_weight new.composer ≡ 0
-closed_behind l h old mid new name ready stood behind =
+    → has_open_word (text_of h) ≡ true → StandsBehind mid.composer.environments.in_force.lines WordEnd new.composer.environments.in_force.lines → open_weight new.composer ≡ 0
+closed_behind l h old mid new name ready stood found behind =
     let same : mid.composer.environments.in_force.lines ≡ old.composer.environments.in_force.lines = ap (λ (f : Formatter). f.composer.environments.in_force.lines) ready.others in
-    ap word_weight (behind l.line (text_of h) (subst (λ (k : Env). Stands l.line (text_of h) k) (sym same) stood.environments.in_force.lines)).is_open
+    ap word_weight (closed_kept l.line (text_of h) new.composer.environments.in_force.lines (word-unfielded h found)
+    (behind l.line (text_of h) (subst (λ (k : Env). Stands l.line (text_of h) k) (sym same) stood.environments.in_force.lines)))
 
 -- so it moved on, in front of an event
 ends_moving : (l : Limits) (h : PageHistory) (old new : Formatter) (r : Result (Option Sprung) Halt) → StandFor l h old.composer → has_open_word (text_of h) ≡ true
     → open_weight new.composer ≡ 0 → MovesOn old new (first_left r)
 ends_moving l h old new (Ok None) stood found closed = tt
 ends_moving l h old new (Ok (Some sprung)) stood found closed =
-    let opened : open_weight old.composer ≡ 2 = ap word_weight (stood.environments.in_force.lines.is_open ∙ found) in
+    let lines : Env = old.composer.environments.in_force.lines in
+    let opened : open_weight old.composer ≡ 2 =
+    ap (λ (is_open : Bool). word_weight (is_open || is_some lines.field)) (has_open_word-stands l.line (text_of h) lines stood.environments.in_force.lines ∙ found) in
     omega (arith, opened, closed, sprung-least new.composer.due.sprung)
 ends_moving l h old new (Err halt) stood found closed = tt
 
@@ -235,8 +276,8 @@ word_first old mid new out out_new r ready behind here =
       first = λ l t before failures err s h e rest stood own reached.
           ended_here l t before (seen failures out_new err) s e h rest r new.composer (owns-left h e (Text WordEnd) own)
           (done.first l t before failures err s h e rest (λ g. e ∷ rest) stood refl (λ g same. done_own e (Text WordEnd) rest g (word_end-same e g h same ∙ own)) reached);
-      closes = λ is l h stood. closed_behind l h old mid new None ready stood behind;
-      moves = λ l h stood found. ends_moving l h old new r stood found (closed_behind l h old mid new None ready stood behind);
+      closes = λ is l h stood found. closed_behind l h old mid new None ready stood found behind;
+      moves = λ l h stood found. ends_moving l h old new r stood found (closed_behind l h old mid new None ready stood found behind);
     }
 
 -- or the page begins in front of it, and springs something

@@ -3,11 +3,13 @@ use Rattle.std.proofs.Common.{◌∙◌, ◌≡◌, ◌<◌, ℕ, Bool, true, fa
 use Rattle.std.specs.Prelude.{is_some, nat_le, option_map}
 use Rattle.std.proofs.lemmas.Bool.{ne_eqb}
 use Rattle.roff_num.specs.declared.limits.Limits.{Limits}
-use Rattle.roff_layout.specs.Lines.{Finished, finished}
-use Rattle.roff_layout.specs.Words.{has_open_word}
+use Rattle.roff_layout.specs.Lines.{Finished}
+use Rattle.roff_layout.specs.Behind.{finished, has_open_word}
+use Rattle.roff_layout.specs.Fields.{is_in_field, plain}
+use Rattle.roff_layout.specs.Words.{has_open_word as has_word_in}
 use Rattle.roff_layout.specs.declared.event.Event.{Event}
 use Rattle.roff_layout.specs.declared.glyph.Glyph.{Glyph}
-use Rattle.roff_layout.specs.declared.event.Event.TheVariants.{Print, Tab, WordEnd, Gap, LineEnd, Count, Break, Interrupt as Interrupted, Resume, Set}
+use Rattle.roff_layout.specs.declared.event.Event.TheVariants.{Print, Tab, FieldEnd, WordEnd, Gap, LineEnd, Count, Break, Interrupt as Interrupted, Resume, Set}
 use Rattle.roff_layout.specs.Happenings.{Does, Places}
 use Rattle.roff_layout.specs.Layout.{Layout, page_place}
 use Rattle.roff_layout.specs.Puts.{appended}
@@ -19,13 +21,13 @@ use Rattle.roff_composer.specs.Composer.Standing.{StandFor}
 use Rattle.roff_formatter.specs.declared.formatter.Formatter.{Formatter}
 use Rattle.roff_formatter.specs.Reaching.{Beginning, Reaches}
 use Rattle.roff_sinks.specs.Devices.{Seen, seen}
-use Rattle.roff_formatter.specs.Formatter.Performing.{SprungAt, acting, behind_next, behind_word}
+use Rattle.roff_formatter.specs.Formatter.Performing.{SprungAt, acting}
 use Rattle.roff_formatter.specs.Formatter.Sprung.{MovesOn, may_be_left, noted, open_weight, sprung_before, with_sprung}
 use Rattle.roff_formatter.specs.Formatter.Paging.{BeginsPage, BeginsFor, ReadyFor}
 use Rattle.roff_run.specs.Environments.{PageHistory, interrupted_line, text_of}
 use Rattle.roff_run.specs.Layouts.{laid_out}
 use Rattle.roff_run.specs.Output.{layout_of, written_by}
-use Rattle.roff_run.specs.Springs.{begins, left_of, needs_page, next, own_word_end, page_begin_or, word_end_of}
+use Rattle.roff_run.specs.Springs.{begins, ends_field, field_end_or, left_of, needs_page, next, next_unfielded, own_word_end, page_begin_or, word_end_of}
 use Rattle.roff_run.specs.PageEvents.{PageEvent}
 use Rattle.roff_run.specs.Registers.{AllRegisters}
 use Rattle.roff_run.specs.Titles.{told}
@@ -109,6 +111,7 @@ begun-takes h = takes-begun (page_begun (layout_of h)) (omega arith)
 pub word_end-same : (e : PageEvent) (g h : PageHistory) → text_of g ≡ text_of h → word_end_of g e ≡ word_end_of h e
 word_end-same (Text (Print glyph)) g h same = refl
 word_end-same (Text Tab) g h same = refl
+word_end-same (Text FieldEnd) g h same = refl
 word_end-same (Text WordEnd) g h same = refl
 word_end-same (Text (Gap columns)) g h same = ap (λ text. own_word_end (has_open_word text)) same
 word_end-same (Text LineEnd) g h same = ap (λ text. own_word_end (has_open_word text)) same
@@ -124,15 +127,50 @@ word_end-same (SetsTrap trap) g h same = refl
 word_end-same (Page event) g h same = refl
 word_end-same (Title which) g h same = refl
 
+-- and so is the field's end
+pub field_end-same : (e : PageEvent) (g h : PageHistory) → is_in_field (text_of g) ≡ is_in_field (text_of h) → ends_field g e ≡ ends_field h e
+field_end-same (Text LineEnd) g h same = same
+field_end-same (Text Break) g h same = same
+field_end-same (_) g h same = refl
+
+-- no field is open where a word is
+unfielded-word : (field word : Bool) → (not field && word) ≡ true → field ≡ false
+unfielded-word false word is = refl
+unfielded-word true word is = absurd (cc)
+
+pub word-unfielded : (h : PageHistory) → has_open_word (text_of h) ≡ true → is_in_field (text_of h) ≡ false
+word-unfielded h some = unfielded-word (is_in_field (text_of h)) (has_word_in (plain (text_of h))) some
+
+-- so a field's end doesn't come where a word end does
+unfielded-own : (h : PageHistory) (own : PageEvent) (b : Bool) → has_open_word (text_of h) ≡ b → own_word_end b ≡ Some own → is_in_field (text_of h) ≡ false
+unfielded-own h own false closed some = absurd (cc)
+unfielded-own h own true is some = word-unfielded h is
+
+pub own-unfielded : (h : PageHistory) (e own : PageEvent) → word_end_of h e ≡ Some own → ends_field h e ≡ false
+own-unfielded h (Text LineEnd) own some = unfielded-own h own (has_open_word (text_of h)) refl some
+own-unfielded h (Text Break) own some = unfielded-own h own (has_open_word (text_of h)) refl some
+own-unfielded h (_) own some = refl
+
+-- what comes before an event where no field's end does
+next-free : (h : PageHistory) (e : PageEvent) → ends_field h e ≡ false → next h e ≡ next_unfielded h e
+next-free h e free = ap (λ (ends : Bool). field_end_or ends (next_unfielded h e)) free
+
+-- where one does
+pub next-field : (h : PageHistory) (e : PageEvent) → ends_field h e ≡ true → next h e ≡ Some (Text FieldEnd)
+next-field h e ends = ap (λ (ends : Bool). field_end_or ends (next_unfielded h e)) ends
+
 -- what comes before an event, by the word end that does, and whether the page begins
-pub next-alone : (h : PageHistory) (e : PageEvent) (b : Bool) → word_end_of h e ≡ None → begins h e ≡ b → next h e ≡ page_begin_or b None
-next-alone h e b none is =
-    ap (λ (o : Option PageEvent). elim o [ None ↦ page_begin_or (begins h e) None | Some own ↦ page_begin_or (begins h own) (Some own) ]) none
+pub next-alone : (h : PageHistory) (e : PageEvent) (b : Bool) → word_end_of h e ≡ None → ends_field h e ≡ false → begins h e ≡ b
+    → next h e ≡ page_begin_or b None
+next-alone h e b none free is =
+    next-free h e free
+    ∙ ap (λ (o : Option PageEvent). elim o [ None ↦ page_begin_or (begins h e) None | Some own ↦ page_begin_or (begins h own) (Some own) ]) none
     ∙ ap (λ (b : Bool). page_begin_or b None) is
 
 pub next-own : (h : PageHistory) (e own : PageEvent) (b : Bool) → word_end_of h e ≡ Some own → begins h own ≡ b → next h e ≡ page_begin_or b (Some own)
 next-own h e own b some is =
-    ap (λ (o : Option PageEvent). elim o [ None ↦ page_begin_or (begins h e) None | Some first ↦ page_begin_or (begins h first) (Some first) ]) some
+    next-free h e (own-unfielded h e own some)
+    ∙ ap (λ (o : Option PageEvent). elim o [ None ↦ page_begin_or (begins h e) None | Some first ↦ page_begin_or (begins h first) (Some first) ]) some
     ∙ ap (λ (b : Bool). page_begin_or b (Some own)) is
 
 -- What is done first where an event stands in front of others: the first page's beginning, if this needs it; and this, behind which
@@ -145,11 +183,11 @@ pub record DoneFirst (e x : PageEvent) (rest left : List PageEvent) (h : PageHis
 
 -- the event itself, where no word end comes before it: what goes on of it is left
 pub done_alone : (e : PageEvent) (left rest : List PageEvent) (h : PageHistory) → ((rs : AllRegisters) → left_of h (told rs e) ≡ left) → word_end_of h e ≡ None
-    → DoneFirst e e rest (left ++ rest) h
-done_alone e left rest h leaves none = record {
-  page = λ is. next-alone h e true none is;
+    → ends_field h e ≡ false → DoneFirst e e rest (left ++ rest) h
+done_alone e left rest h leaves none free = record {
+  page = λ is. next-alone h e true none free is;
   itself = λ l s is.
-      ap (λ (first : Option PageEvent). performing l first e rest (acting s (e ∷ rest) h)) (next-alone h e false none is)
+      ap (λ (first : Option PageEvent). performing l first e rest (acting s (e ∷ rest) h)) (next-alone h e false none free is)
       ∙ ap (λ (left : List PageEvent). unless_refused l (refusal l h (told s.registers e)) (acting s (e ∷ rest) h) (performed (told s.registers e) (left ++ rest) (acting s (e ∷ rest) h))) (leaves s.registers);
 }
 
@@ -282,23 +320,6 @@ begins_always e old new name needs page = record {
   others = page.others;
 }
 
--- the history behind an event and what comes before it: the page's beginning, where no word end does
-pub behind-alone : (rs : AllRegisters) (e : PageEvent) (h : PageHistory) → word_end_of h e ≡ None → behind_next rs 2 e h ≡ begun_for e h
-behind-alone rs e h none = by (begins h e) refl
-  where
-    again : (g : PageHistory) → text_of g ≡ text_of h → begins g e ≡ false → behind_next rs 1 e g ≡ g
-    again g same is =
-        ap (λ (o : Option PageEvent). elim o [ None ↦ g | Some first ↦ told rs first ∷ g ]) (next-alone g e false (word_end-same e g h same ∙ none) is)
-
-    by : (b : Bool) → begins h e ≡ b → behind_next rs 2 e h ≡ begun_for e h
-    by false is =
-        ap (λ (o : Option PageEvent). elim o [ None ↦ h | Some first ↦ behind_next rs 1 e (told rs first ∷ h) ]) (next-alone h e false none is)
-        ∙ ap (λ (b : Bool). begun_by b h) (sym is)
-    by true is =
-        ap (λ (o : Option PageEvent). elim o [ None ↦ h | Some first ↦ behind_next rs 1 e (told rs first ∷ h) ]) (next-alone h e true none is)
-        ∙ again (Page Begin ∷ h) refl (begins-taken (Page Begin ∷ h) e (begun-takes h))
-        ∙ ap (λ (b : Bool). begun_by b h) (sym is)
-
 -- a break in the closing phase needs a page where it finishes a line
 pub closes : (closing finishes : Bool) → closing ≡ true → finishes ≡ (not closing || finishes)
 closes true finishes is = refl
@@ -309,6 +330,7 @@ pub needs-finishing : (e : Event) (h : PageHistory) → ((glyph : Glyph) → e �
     → is_some (finished (text_of h) e) ≡ needs_page h (Text e)
 needs-finishing (Print glyph) h not-Print not-Tab not-Break = absurd (not-Print glyph refl)
 needs-finishing Tab h not-Print not-Tab not-Break = absurd (not-Tab refl)
+needs-finishing FieldEnd h not-Print not-Tab not-Break = refl
 needs-finishing WordEnd h not-Print not-Tab not-Break = refl
 needs-finishing (Gap columns) h not-Print not-Tab not-Break = refl
 needs-finishing LineEnd h not-Print not-Tab not-Break = refl
@@ -317,51 +339,3 @@ needs-finishing Break h not-Print not-Tab not-Break = absurd (not-Break refl)
 needs-finishing Interrupted h not-Print not-Tab not-Break = refl
 needs-finishing Resume h not-Print not-Tab not-Break = refl
 needs-finishing (Set param) h not-Print not-Tab not-Break = refl
-
--- what comes before an event that has a word end of its own: that with the page's beginning, and then the page's beginning, where
--- the event itself needs it
-module _ (rs : AllRegisters) (e : PageEvent) (h : PageHistory) (owns : (g : PageHistory) → word_end_of g e ≡ own_word_end (has_open_word (text_of g))) where
-  -- behind a word end that page begins in front of
-  own-begun : has_open_word (text_of h) ≡ true → begins h (Text WordEnd) ≡ true → behind_next rs 2 e (Text WordEnd ∷ Page Begin ∷ h) ≡ behind_next rs 2 e h
-  own-begun some is =
-      let there : PageHistory = Text WordEnd ∷ Page Begin ∷ h in
-      let own : word_end_of h e ≡ Some (Text WordEnd) = owns h ∙ ap own_word_end some in
-      let again : word_end_of (Page Begin ∷ h) e ≡ Some (Text WordEnd) = owns (Page Begin ∷ h) ∙ ap own_word_end some in
-      let none : begins there e ≡ false = begins-taken there e (takes-begun (layout_of there) (begun-text (Page Begin ∷ h) WordEnd (omega arith))) in
-      behind-alone rs e there (owns there) ∙ ap (λ (b : Bool). begun_by b there) none
-      ∙ sym (ap (λ (o : Option PageEvent). elim o [ None ↦ h | Some first ↦ behind_next rs 1 e (told rs first ∷ h) ]) (next-own h e (Text WordEnd) true own is)
-      ∙ ap (λ (o : Option PageEvent). elim o [ None ↦ Page Begin ∷ h | Some first ↦ told rs first ∷ Page Begin ∷ h ])
-      (next-own (Page Begin ∷ h) e (Text WordEnd) false again (begins-taken (Page Begin ∷ h) (Text WordEnd) (begun-takes h))))
-
-  -- or doesn't
-  own-unbegun : has_open_word (text_of h) ≡ true → begins h (Text WordEnd) ≡ false → behind_next rs 2 e (Text WordEnd ∷ h) ≡ behind_next rs 2 e h
-  own-unbegun some is =
-      let there : PageHistory = Text WordEnd ∷ h in
-      let own : word_end_of h e ≡ Some (Text WordEnd) = owns h ∙ ap own_word_end some in
-      behind-alone rs e there (owns there) ∙ sym (once (begins there e) refl)
-      ∙ sym (ap (λ (o : Option PageEvent). elim o [ None ↦ h | Some first ↦ behind_next rs 1 e (told rs first ∷ h) ]) (next-own h e (Text WordEnd) false own is))
-    where
-      by : (b : Bool) → elim (page_begin_or b None) [ None ↦ Text WordEnd ∷ h | Some first ↦ told rs first ∷ Text WordEnd ∷ h ] ≡ begun_by b (Text WordEnd ∷ h)
-      by false = refl
-      by true = refl
-
-      once : (b : Bool) → begins (Text WordEnd ∷ h) e ≡ b → behind_next rs 1 e (Text WordEnd ∷ h) ≡ begun_for e (Text WordEnd ∷ h)
-      once b begun =
-          ap (λ (o : Option PageEvent). elim o [ None ↦ Text WordEnd ∷ h | Some first ↦ told rs first ∷ Text WordEnd ∷ h ])
-          (next-alone (Text WordEnd ∷ h) e b (owns (Text WordEnd ∷ h)) begun)
-          ∙ by b ∙ ap (λ (b : Bool). begun_by b (Text WordEnd ∷ h)) (sym begun)
-
-  own-some : (begun : Bool) → has_open_word (text_of h) ≡ true → begins h (Text WordEnd) ≡ begun
-      → behind_next rs 2 e (behind_word rs true h) ≡ behind_next rs 2 e h
-  own-some true some is =
-      ap (λ (g : PageHistory). behind_next rs 2 e (Text WordEnd ∷ g)) (behind-alone rs (Text WordEnd) h refl ∙ ap (λ (b : Bool). begun_by b h) is) ∙ own-begun some is
-  own-some false some is =
-      ap (λ (g : PageHistory). behind_next rs 2 e (Text WordEnd ∷ g)) (behind-alone rs (Text WordEnd) h refl ∙ ap (λ (b : Bool). begun_by b h) is) ∙ own-unbegun some is
-
-  own-either : (b : Bool) → has_open_word (text_of h) ≡ b → behind_next rs 2 e (behind_word rs b h) ≡ behind_next rs 2 e h
-  own-either false closed = refl
-  own-either true some = own-some (begins h (Text WordEnd)) some refl
-
-pub behind-own : (rs : AllRegisters) (e : PageEvent) (h : PageHistory) → ((g : PageHistory) → word_end_of g e ≡ own_word_end (has_open_word (text_of g)))
-    → behind_next rs 2 e (behind_word rs (has_open_word (text_of h)) h) ≡ behind_next rs 2 e h
-behind-own rs e h owns = own-either rs e h owns (has_open_word (text_of h)) refl

@@ -1,8 +1,10 @@
+pub mod OpenFields
 pub mod EventsLeft
 pub mod LinesLeft
 pub mod Performed
 pub mod Placed
 pub mod FirstPages
+pub mod ComingBefore
 pub mod Ejects
 pub mod Quiet
 pub mod DueTexts
@@ -10,6 +12,7 @@ pub mod DoneFirst
 pub mod DonePut
 pub mod DoneEvents
 pub mod Springing
+pub mod FieldsEnding
 pub mod Telling
 pub mod TitleNumbers
 pub mod Titling

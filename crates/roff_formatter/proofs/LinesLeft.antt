@@ -1,6 +1,6 @@
 -- How many interrupted lines are left in the environment in force behind some events.
 use Rattle.std.proofs.Common.{◌≡◌, ◌≤◌, ℕ, zero, suc, Bool, true, false, List, [], ◌∷◌, Option, Some, None, refl, arith}
-use Rattle.roff_layout.specs.declared.event.Event.TheVariants.{Print, Tab, WordEnd, Gap, LineEnd, Count, Break, Interrupt as Interrupted, Resume, Set}
+use Rattle.roff_layout.specs.declared.event.Event.TheVariants.{Print, Tab, FieldEnd, WordEnd, Gap, LineEnd, Count, Break, Interrupt as Interrupted, Resume, Set}
 use Rattle.roff_formatter.specs.Formatter.Sprung.{may_be_left}
 use Rattle.roff_run.proofs.LinesLeft.{left_by-fewer, lines_left-event, most_left-fewer}
 use Rattle.roff_run.specs.Environments.{PageHistory, interrupted_line, text_of}
@@ -11,8 +11,8 @@ use Rattle.roff_run.specs.Registers.{AllRegisters}
 use Rattle.roff_run.specs.Titles.{told}
 use Rattle.roff_formatter.specs.Formatter.Performing.{behind_event, behind_events, behind_next}
 use Rattle.roff_run.specs.TurnsToCome.{left_by, most_left}
-use Rattle.roff_run.specs.Springs.{begins, next, own_word_end, page_begin_or, word_end_of}
-use Rattle.roff_layout.specs.Words.{has_open_word}
+use Rattle.roff_run.specs.Springs.{begins, ends_field, field_end_or, next, next_unfielded, own_word_end, page_begin_or, word_end_of}
+use Rattle.roff_layout.specs.Behind.{has_open_word}
 
 -- what comes before an event, if anything does, leaves as many
 abbrev LeavesAll : Option PageEvent → Type 0
@@ -27,6 +27,7 @@ leaves-own true = λ lines. refl
 leaves-word_end : (h : PageHistory) (e : PageEvent) → LeavesAll (word_end_of h e)
 leaves-word_end h (Text (Print glyph)) = tt
 leaves-word_end h (Text Tab) = tt
+leaves-word_end h (Text FieldEnd) = tt
 leaves-word_end h (Text WordEnd) = tt
 leaves-word_end h (Text (Gap columns)) = leaves-own (has_open_word (text_of h))
 leaves-word_end h (Text LineEnd) = leaves-own (has_open_word (text_of h))
@@ -52,6 +53,11 @@ leaves-first : (h : PageHistory) (e : PageEvent) (own : Option PageEvent) → Le
 leaves-first h e None leaves = leaves-page (begins h e) None tt
 leaves-first h e (Some own) leaves = leaves-page (begins h own) (Some own) leaves
 
+-- and so does the end of a field
+leaves-field : (does : Bool) (other : Option PageEvent) → LeavesAll other → LeavesAll (field_end_or does other)
+leaves-field true other leaves = λ lines. refl
+leaves-field false other leaves = leaves
+
 -- so no more are left behind what comes before an event
 lines_left-first : (rs : AllRegisters) (n : ℕ) (e : PageEvent) (h : PageHistory) (first : Option PageEvent) → LeavesAll first
     → ((g : PageHistory) → lines_left (interrupted_line (behind_next rs n e g)) ≤ lines_left (interrupted_line g))
@@ -63,13 +69,14 @@ lines_left-first rs n e h (Some first) leaves more =
 lines_left-next : (rs : AllRegisters) (n : ℕ) (e : PageEvent) (h : PageHistory) → lines_left (interrupted_line (behind_next rs n e h)) ≤ lines_left (interrupted_line h)
 lines_left-next rs zero e h = omega arith
 lines_left-next rs (suc n) e h =
-    lines_left-first rs n e h (next h e) (leaves-first h e (word_end_of h e) (leaves-word_end h e)) (λ g. lines_left-next rs n e g)
+    lines_left-first rs n e h (next h e)
+    (leaves-field (ends_field h e) (next_unfielded h e) (leaves-first h e (word_end_of h e) (leaves-word_end h e))) (λ g. lines_left-next rs n e g)
 
 -- nor behind the event
 pub lines_left-behind : (rs : AllRegisters) (e : PageEvent) (h : PageHistory) → lines_left (interrupted_line (behind_event rs e h)) ≤ left_by e (lines_left (interrupted_line h))
 lines_left-behind rs e h =
-    let before : PageHistory = behind_next rs 2 e h in
-    let fewer = left_by-fewer e (lines_left (interrupted_line before)) (lines_left (interrupted_line h)) (lines_left-next rs 2 e h) in
+    let before : PageHistory = behind_next rs 3 e h in
+    let fewer = left_by-fewer e (lines_left (interrupted_line before)) (lines_left (interrupted_line h)) (lines_left-next rs 3 e h) in
     omega (arith, lines_left-event rs e before, fewer)
 
 -- behind all of some events, each with what comes before it, no more are left than any leaves
@@ -98,6 +105,7 @@ last_left rs e others h = omega (arith, lines_left-behind rs e h)
 pub left-leaves : (e : PageEvent) (lines : ℕ) → may_be_left e ≡ true → left_by e lines ≡ lines
 left-leaves (Text (Print glyph)) lines may = refl
 left-leaves (Text Tab) lines may = refl
+left-leaves (Text FieldEnd) lines may = absurd (cc)
 left-leaves (Text WordEnd) lines may = refl
 left-leaves (Text (Gap columns)) lines may = refl
 left-leaves (Text LineEnd) lines may = refl
@@ -120,6 +128,7 @@ owns-left h (Text LineEnd) own is = refl
 owns-left h (Text Break) own is = refl
 owns-left h (Text (Print glyph)) own is = refl
 owns-left h (Text Tab) own is = refl
+owns-left h (Text FieldEnd) own is = absurd (cc)
 owns-left h (Text WordEnd) own is = refl
 owns-left h (Text Count) own is = refl
 owns-left h (Text Interrupted) own is = absurd (cc)

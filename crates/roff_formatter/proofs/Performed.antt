@@ -1,6 +1,8 @@
 -- Events that are performed, one by one, over the states of the definition.
-use Rattle.std.proofs.Common.{◌∙◌, ◌≡◌, ◌≤◌, ◌+◌, ℕ, Bool, true, false, List, [], ◌∷◌, ◌++◌, length, arith, Option, Some, None, Result, Ok, Err, ap, refl, subst, sym}
+use Rattle.std.proofs.Common.{◌∙◌, ◌≡◌, ◌≤◌, ◌+◌, ℕ, Bool, true, false, ◌||◌, List, [], ◌∷◌, ◌++◌, length, arith, Option, Some, None, Result, Ok, Err, ap, refl, subst, sym}
+use Rattle.std.specs.Prelude.{is_some}
 use Rattle.std.specs.Io.KnownBytes.{Appends}
+use Rattle.roff_lines.specs.declared.env.Env.{Env}
 use Rattle.roff_num.specs.declared.limit.Limit.{Limit}
 use Rattle.roff_num.specs.declared.limits.Limits.{Limits}
 use Rattle.roff_num.specs.declared.short_name.ShortName.{ShortName}
@@ -10,7 +12,7 @@ use Rattle.roff_formatter.specs.declared.halt.Halt.{Halt}
 use Rattle.roff_formatter.specs.declared.sprung.Sprung.{Sprung}
 use Rattle.roff_formatter.specs.Reaching.{Beginning, Reaches}
 use Rattle.roff_sinks.specs.Devices.{Seen, AppendsBetween, NoSinkFault, seen}
-use Rattle.roff_formatter.specs.Formatter.Performing.{AllPerformed, StoppedAt, FailedAt, OverAt, Performs, PerformsEvents, SprungAt, acting, behind_event, behind_events}
+use Rattle.roff_formatter.specs.Formatter.Performing.{AllPerformed, StoppedAt, FailedAt, OverAt, Performs, PerformsEvents, PerformsStanding, SprungAt, acting, behind_event, behind_events}
 use Rattle.roff_formatter.specs.Formatter.Sprung.{HasFew, MovesOn, StopsBehind, following_of, further, further_by, is_going_on, left_behind, unsprung_weight, word_weight}
 use Rattle.roff_run.specs.Output.{PageHistory, layout_of, written, written_by}
 use Rattle.roff_run.specs.PageEvents.{PageEvent, PastEvent}
@@ -210,16 +212,22 @@ sprung-least (Some name) = omega arith
 pub moves-behind : (old new : Formatter) (r : Result (Option Sprung) Halt) → StopsBehind r → MovesOn old new r
 moves-behind old new (Ok None) stops = tt
 moves-behind old new (Ok (Some sprung)) stops =
-    omega (arith, stops, word-least new.composer.environments.in_force.lines.is_open, sprung-least new.composer.due.sprung)
+    let lines : Env = new.composer.environments.in_force.lines in
+    omega (arith, stops, word-least (lines.is_open || is_some lines.field), sprung-least new.composer.due.sprung)
 moves-behind old new (Err halt) stops = tt
 
+-- events that were performed whatever the formatter stands for
+pub standing : (events : List PageEvent) (old new : Formatter) (told told_new : Sunk) (r : Result (Option Sprung) Halt)
+    → PerformsEvents events old new told told_new r → PerformsStanding events old new told told_new r
+standing events old new told told_new r done = record { performs = done.performs; moves = λ l h stood. done.moves }
+
 -- an event and others behind it, of which the first was performed
-pub performs_both : (first : PageEvent) (others : List PageEvent) (old mid new : Formatter) (told told_mid told_new : Sunk) (done r result : Result (Option Sprung) Halt)
-    → done ≡ Ok None → PerformsEvents (first ∷ []) old mid told told_mid done → PerformsEvents others mid new told_mid told_new r
+pub standing_both : (first : PageEvent) (others : List PageEvent) (old mid new : Formatter) (told told_mid told_new : Sunk) (done r result : Result (Option Sprung) Halt)
+    → done ≡ Ok None → PerformsStanding (first ∷ []) old mid told told_mid done → PerformsStanding others mid new told_mid told_new r
     → length others ≤ 99 → (HasFew r 1 → result ≡ further_by 1 r) → StopsBehind result
     → PerformsEvents (first ∷ others) old new told told_new result
-performs_both first others old mid new told told_mid told_new done r result quiet ended more short is stops =
-    let one : PerformsEvents (first ∷ []) old mid told told_mid (Ok None) = subst (λ (r : Result (Option Sprung) Halt). PerformsEvents (first ∷ []) old mid told told_mid r) quiet ended in record {
+standing_both first others old mid new told told_mid told_new done r result quiet ended more short is stops =
+    let one : PerformsStanding (first ∷ []) old mid told told_mid (Ok None) = subst (λ (r : Result (Option Sprung) Halt). PerformsStanding (first ∷ []) old mid told told_mid r) quiet ended in record {
       performs = λ l t before failures err s h rest stood flows reached.
           let now = one.performs l t before failures err s h (others ++ rest) stood (flows.0, tt) reached in
           behind_first l t before (seen failures told_new err) s first others h rest new.composer r result short is
@@ -227,18 +235,42 @@ performs_both first others old mid new told told_mid told_new done r result quie
       moves = moves-behind old new result stops;
     }
 
+pub performs_both : (first : PageEvent) (others : List PageEvent) (old mid new : Formatter) (told told_mid told_new : Sunk) (done r result : Result (Option Sprung) Halt)
+    → done ≡ Ok None → PerformsEvents (first ∷ []) old mid told told_mid done → PerformsEvents others mid new told_mid told_new r
+    → length others ≤ 99 → (HasFew r 1 → result ≡ further_by 1 r) → StopsBehind result
+    → PerformsEvents (first ∷ others) old new told told_new result
+performs_both first others old mid new told told_mid told_new done r result quiet ended more short is stops =
+    standing_both first others old mid new told told_mid told_new done r result quiet (standing (first ∷ []) old mid told told_mid done ended)
+    (standing others mid new told_mid told_new r more) short is stops
+
 -- or sprang something
-pub performs_first_sprung : (first : PageEvent) (others : List PageEvent) (old new : Formatter) (told told_new : Sunk) (sprung : Sprung) (done : Result (Option Sprung) Halt)
-    → done ≡ Ok (Some sprung) → PerformsEvents (first ∷ []) old new told told_new done → PerformsEvents (first ∷ others) old new told told_new (Ok (Some sprung))
-performs_first_sprung first others old new told told_new sprung done found ended =
-    let one : PerformsEvents (first ∷ []) old new told told_new (Ok (Some sprung)) = subst (λ (r : Result (Option Sprung) Halt). PerformsEvents (first ∷ []) old new told told_new r) found ended in record {
+pub standing_sprung : (first : PageEvent) (others : List PageEvent) (old new : Formatter) (told told_new : Sunk) (sprung : Sprung) (done : Result (Option Sprung) Halt)
+    → done ≡ Ok (Some sprung) → PerformsStanding (first ∷ []) old new told told_new done → PerformsStanding (first ∷ others) old new told told_new (Ok (Some sprung))
+standing_sprung first others old new told told_new sprung done found ended =
+    let one : PerformsStanding (first ∷ []) old new told told_new (Ok (Some sprung)) = subst (λ (r : Result (Option Sprung) Halt). PerformsStanding (first ∷ []) old new told told_new r) found ended in record {
       performs = λ l t before failures err s h rest stood flows reached.
           sprang_first l t before (seen failures told_new err) s first others h rest new.composer sprung
           (one.performs l t before failures err s h (others ++ rest) stood (flows.0, tt) reached);
       moves = one.moves;
     }
 
+pub performs_first_sprung : (first : PageEvent) (others : List PageEvent) (old new : Formatter) (told told_new : Sunk) (sprung : Sprung) (done : Result (Option Sprung) Halt)
+    → done ≡ Ok (Some sprung) → PerformsEvents (first ∷ []) old new told told_new done → PerformsEvents (first ∷ others) old new told told_new (Ok (Some sprung))
+performs_first_sprung first others old new told told_new sprung done found ended =
+    let one : PerformsEvents (first ∷ []) old new told told_new (Ok (Some sprung)) = subst (λ (r : Result (Option Sprung) Halt). PerformsEvents (first ∷ []) old new told told_new r) found ended in record {
+      performs = (standing_sprung first others old new told told_new sprung (Ok (Some sprung)) refl (standing (first ∷ []) old new told told_new (Ok (Some sprung)) one)).performs;
+      moves = one.moves;
+    }
+
 -- or in which the code halted
+pub standing_halted : (first : PageEvent) (others : List PageEvent) (old new : Formatter) (told told_new : Sunk) (halt : Halt)
+    → PerformsStanding (first ∷ []) old new told told_new (Err halt) → PerformsStanding (first ∷ others) old new told told_new (Err halt)
+standing_halted first others old new told told_new halt one = record {
+  performs = λ l t before failures err s h rest stood flows reached.
+      one.performs l t before failures err s h (others ++ rest) stood (flows.0, tt) reached;
+  moves = λ l h stood. tt;
+}
+
 pub performs_first_halted : (first : PageEvent) (others : List PageEvent) (old new : Formatter) (told told_new : Sunk) (halt : Halt)
     → PerformsEvents (first ∷ []) old new told told_new (Err halt) → PerformsEvents (first ∷ others) old new told told_new (Err halt)
 performs_first_halted first others old new told told_new halt one = record {

@@ -7,7 +7,7 @@ use Rattle.std.proofs.lemmas.List.{length-append, length-map}
 use Rattle.roff_num.specs.declared.limit.Limit.{Limit}
 use Rattle.roff_num.specs.declared.limit.Limit.TheVariants.{Line, Output as OutputLimit, Traps, Diversions, Environments as EnvironmentsLimit}
 use Rattle.roff_num.specs.declared.limits.Limits.{Limits}
-use Rattle.roff_layout.specs.Lines.{pending_length}
+use Rattle.roff_layout.specs.Behind.{length_reached}
 use Rattle.roff_layout.specs.declared.event.Event.{Event}
 use Rattle.roff_layout.specs.DeviceText.{device_lines, device_text}
 use Rattle.roff_layout.specs.Happenings.{Happening, Does, Places, Titles}
@@ -116,15 +116,15 @@ nothing_allowed l h x es stood nothing =
     written_allowed l h x (omega (arith, ap length nothing, stood.within, stood.written, stood.output))
 
 -- an event of the text is refused by the limit on the line, or as what it writes is
-pub text_counted : (l : Limits) (h : PageHistory) (e : Event) → pending_length (e ∷ text_of h) ≤ l.line
+pub text_counted : (l : Limits) (h : PageHistory) (e : Event) → length_reached e (text_of h) ≤ l.line
     → refusal l h (Text e) ≡ first_passed l (written_counted h (happens h (Text e)))
-text_counted l h e few = passes-first l.line (pending_length (e ∷ text_of h)) Line (first_passed l (written_counted h (happens h (Text e)))) few
+text_counted l h e few = passes-first l.line (length_reached e (text_of h)) Line (first_passed l (written_counted h (happens h (Text e)))) few
 
-pub text_refused : (l : Limits) (h : PageHistory) (e : Event) → l.line < pending_length (e ∷ text_of h) → refusal l h (Text e) ≡ Some Line
-text_refused l h e longer = stops-first l.line (pending_length (e ∷ text_of h)) Line (first_passed l (written_counted h (happens h (Text e)))) longer
+pub text_refused : (l : Limits) (h : PageHistory) (e : Event) → l.line < length_reached e (text_of h) → refusal l h (Text e) ≡ Some Line
+text_refused l h e longer = stops-first l.line (length_reached e (text_of h)) Line (first_passed l (written_counted h (happens h (Text e)))) longer
 
 -- one that finishes no line
-pub text_allowed : (l : Limits) (h : PageHistory) (e : Event) → pending_length (e ∷ text_of h) ≤ l.line → happens h (Text e) ≡ None
+pub text_allowed : (l : Limits) (h : PageHistory) (e : Event) → length_reached e (text_of h) ≤ l.line → happens h (Text e) ≡ None
     → refusal l h (Text e) ≡ None
 text_allowed l h e few none = text_counted l h e few ∙ ap (λ (o : Option Happening). first_passed l (written_counted h o)) none
 

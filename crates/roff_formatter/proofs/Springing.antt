@@ -1,7 +1,7 @@
 -- Events before which something may come, and that may spring a macro.
-use Rattle.std.proofs.Common.{◌∙◌, ◌≡◌, ◌≤◌, Bool, true, false, List, [], ◌∷◌, Option, Some, None, Result, Ok, Err, ap, arith, refl, subst, sym}
+use Rattle.std.proofs.Common.{◌∙◌, ◌≡◌, ◌≤◌, ℕ, Bool, true, false, List, [], ◌∷◌, Option, Some, None, Result, Ok, Err, ap, arith, refl, subst, sym}
 use Rattle.roff_num.specs.declared.limits.Limits.{Limits}
-use Rattle.roff_layout.specs.Words.{has_open_word}
+use Rattle.roff_layout.specs.Behind.{has_open_word}
 use Rattle.roff_layout.specs.declared.event.Event.TheVariants.{Count, WordEnd}
 use Rattle.roff_composer.specs.Composer.Standing.{StandFor}
 use Rattle.roff_composer.specs.Environments.Standing.{StandBy}
@@ -9,9 +9,9 @@ use Rattle.roff_composer.specs.declared.composer.Composer.{Composer as ComposerO
 use Rattle.roff_formatter.specs.declared.formatter.Formatter.{Formatter}
 use Rattle.roff_formatter.specs.declared.halt.Halt.{Halt}
 use Rattle.roff_formatter.specs.declared.sprung.Sprung.{Sprung}
-use Rattle.roff_formatter.specs.Reaching.{Beginning}
+use Rattle.roff_formatter.specs.Reaching.{Beginning, Reaches}
 use Rattle.roff_sinks.specs.Devices.{Seen, seen}
-use Rattle.roff_formatter.specs.Formatter.Performing.{AllPerformed, EndsBefore, EndsOpenWord, EndsWordFirst, Performs, PerformsOne, PerformsEvents, behind_event, behind_word}
+use Rattle.roff_formatter.specs.Formatter.Performing.{AllPerformed, EndsBefore, EndsOpenWord, EndsWordFirst, Performs, PerformsOne, PerformsEvents, PerformsUnfielded, acting, behind_event, behind_word}
 use Rattle.roff_formatter.specs.Formatter.Sprung.{MovesOn, first_left, noted, open_weight, sprung_by}
 use Rattle.roff_run.specs.Environments.{environments, interrupted_line}
 use Rattle.roff_run.specs.Output.{PageHistory, text_of}
@@ -21,13 +21,15 @@ use Rattle.roff_layout.specs.declared.layout_event.LayoutEvent.TheVariants.{Begi
 use Rattle.roff_run.specs.Registers.{AllRegisters}
 use Rattle.roff_num.specs.declared.short_name.ShortName.{ShortName}
 use Rattle.roff_run.specs.Run.{State, only_sprung}
-use Rattle.roff_run.specs.Springs.{begins, own_word_end, springs, word_end_of}
+use Rattle.roff_run.specs.Springs.{begins, ends_field, own_word_end, springs, word_end_of}
 use Rattle.roff_run.specs.Titles.{told}
 use Rattle.roff_run.specs.TurnsToCome.{lines_left, most_left}
 use Rattle.roff_run.proofs.LinesLeft.{lines_left-event, most_left-fewer}
 use Rattle.roff_sinks.specs.Sinks.{Sunk}
 use Rattle.roff_formatter.proofs.DoneFirst.{only_first, ready_then, springs_here}
-use Rattle.roff_formatter.proofs.FirstPages.{begun_by, begun_for, behind-own, ready_always}
+use Rattle.roff_formatter.proofs.FirstPages.{begun_by, begun_for, ready_always}
+use Rattle.roff_formatter.proofs.ComingBefore.{behind-own, free-word, word_ended}
+use Rattle.roff_formatter.proofs.DoneEvents.{reached_within}
 use Rattle.roff_formatter.proofs.LinesLeft.{lines_left-behind}
 use Rattle.roff_formatter.proofs.Placed.{stands_quietly, text_allowed}
 
@@ -46,10 +48,10 @@ pub counts_only : (old new : Formatter) (out : Sunk) (name : Option ShortName)
     → ((l : Limits) (h : PageHistory) → StandFor l h old.composer → name ≡ springs h (Text Count))
     → PerformsEvents (Text Count ∷ []) old new out out (Ok (sprung_by name))
 counts_only old new out name stands same due is =
-    only_first (Text Count) (Text Count) old new out out (Ok (sprung_by name)) (λ rs. refl) (λ g. refl) (λ sprung is. refl)
+    only_first (Text Count) (Text Count) old new out out (Ok (sprung_by name)) (λ rs. refl) (λ g. refl) (λ sprung is. refl) (λ g. refl)
     (ready_then (Text Count) (Text Count) old old new out out (Ok (sprung_by name)) (ready_always (Text Count) old (λ h. refl))
     (springs_here (Text Count) (Text Count) old new out name
-    (λ l h stood. text_allowed l h Count (stands l h stood).in_force.lines.within refl)
+    (λ l h stood. text_allowed l h Count (reached_within Count old new (λ h. refl) stands l h stood) refl)
     (λ l h stood. stands_quietly l h (Text Count) old.composer new.composer stood refl (stands l h stood) same)
     (λ l h stood. refl) (λ l h stood. ap only_sprung (sym (is l h stood))) due))
 
@@ -80,7 +82,7 @@ one_open old new out out_new r result answers found ends = record {
       subst (λ (result : Result (Option Sprung) Halt). EndsBefore l t before (seen failures out_new err) s e h (behind_word s.registers (has_open_word (text_of h)) h) rest result new.composer) answers
       (subst (λ (b : Bool). EndsBefore l t before (seen failures out_new err) s e h (behind_word s.registers b h) rest (first_left r) new.composer) (sym is)
       (ends.first l t before failures err s h e rest stood (own ∙ ap own_word_end is) reached));
-  closes = λ none l h stood. omega (arith, ends.closes (quiet_before r (answers ∙ none)) l h stood);
+  closes = λ none l h stood. omega (arith, ends.closes (quiet_before r (answers ∙ none)) l h stood (found l h stood));
   moves = λ l h stood. subst (λ (result : Result (Option Sprung) Halt). MovesOn old new result) answers (ends.moves l h stood (found l h stood));
 }
 
@@ -118,51 +120,70 @@ lines-word rs false h = omega arith
 lines-word rs true h = omega (arith, lines_left-behind rs (Text WordEnd) h)
 
 -- what moved on behind an end of a word did so in all
-moves_from : (old mid new : Formatter) (r : Result (Option Sprung) Halt) → open_weight mid.composer ≤ open_weight old.composer → MovesOn mid new r → MovesOn old new r
+pub moves_from : (old mid new : Formatter) (r : Result (Option Sprung) Halt) → open_weight mid.composer ≤ open_weight old.composer → MovesOn mid new r → MovesOn old new r
 moves_from old mid new (Ok None) fewer moves = tt
 moves_from old mid new (Ok (Some sprung)) fewer moves = omega (arith, fewer, moves)
 moves_from old mid new (Err halt) fewer moves = tt
 
+-- An event was performed where no field's end comes before it, whether the end of a word does or not.
+pub record OneUnfielded (e : PageEvent) (old new : Formatter) (out out_new : Sunk) (r : Result (Option Sprung) Halt) : Type 0 where
+  pub one : (l : Limits) (t : Beginning) (before : Seen) (failures : ℕ) (err : Sunk) (s : State) (h : PageHistory) (rest : List PageEvent)
+      → StandFor l h old.composer → ends_field h e ≡ false → Reaches l t before (seen failures out err) (acting s (e ∷ rest) h)
+      → Performs l t before (seen failures out_new err) s (e ∷ []) h (behind_event s.registers e h) rest r new.composer
+  pub moves : (l : Limits) (h : PageHistory) → StandFor l h old.composer → MovesOn old new r
+
+-- it was performed where none ever does
+pub one_free : (e : PageEvent) (old new : Formatter) (out out_new : Sunk) (r : Result (Option Sprung) Halt) → ((h : PageHistory) → ends_field h e ≡ false)
+    → OneUnfielded e old new out out_new r → PerformsOne e old new out out_new r
+one_free e old new out out_new r free only = record {
+  one = λ l t before failures err s h rest stood reached. only.one l t before failures err s h rest stood (free h) reached;
+  moves = only.moves;
+}
+
+-- one that was performed as any list, where no word end comes before it either
+pub unfielded : (e : PageEvent) (old new : Formatter) (out out_new : Sunk) (r : Result (Option Sprung) Halt)
+    → PerformsEvents (e ∷ []) old new out out_new r → PerformsUnfielded e old new out out_new r
+unfielded e old new out out_new r only = record {
+  performs = λ l t before failures err s h rest stood none free reached. only.performs l t before failures err s h rest stood (none, tt) reached;
+  moves = only.moves;
+}
+
 -- an event before which the end of the open word comes, if one is open
 module _ (e : PageEvent) (own : (h : PageHistory) → word_end_of h e ≡ own_word_end (has_open_word (text_of h))) where
-  -- behind that none is open
-  word_ended : (rs : AllRegisters) (h : PageHistory) (b : Bool) → has_open_word (text_of h) ≡ b → word_end_of (behind_word rs b h) e ≡ None
-  word_ended rs h false is = own h ∙ ap own_word_end is
-  word_ended rs h true is = own (behind_word rs true h)
-
   -- what became of the event, as it stands behind that
-  behind_own : (l : Limits) (t : Beginning) (before now : Seen) (s : State) (h : PageHistory) (rest : List PageEvent) (r : Result (Option Sprung) Halt) (es : ComposerOf)
+  behind_own : (l : Limits) (t : Beginning) (before now : Seen) (s : State) (h : PageHistory) → ends_field h e ≡ false → (rest : List PageEvent) (r : Result (Option Sprung) Halt) (es : ComposerOf)
       → let there : PageHistory = behind_word s.registers (has_open_word (text_of h)) h in
       Performs l t before now s (e ∷ []) there (behind_event s.registers e there) rest r es → Performs l t before now s (e ∷ []) h (behind_event s.registers e h) rest r es
-  behind_own l t before now s h rest r es p =
+  behind_own l t before now s h free rest r es p =
       let there : PageHistory = behind_word s.registers (has_open_word (text_of h)) h in
       performs_from l t before now s (e ∷ []) h there (behind_event s.registers e there) (behind_event s.registers e h) rest r es
-      (lines-word s.registers (has_open_word (text_of h)) h) (ap (λ (g : PageHistory). told s.registers e ∷ g) (behind-own s.registers e h own)) p
+      (lines-word s.registers (has_open_word (text_of h)) h) (ap (λ (g : PageHistory). told s.registers e ∷ g) (behind-own s.registers e own h free 1)) p
 
   -- the event behind it
   pub own_then : (old mid new : Formatter) (out out_mid out_new : Sunk) (done r : Result (Option Sprung) Halt)
-      → done ≡ Ok None → EndsOpenWord old mid out out_mid done → PerformsEvents (e ∷ []) mid new out_mid out_new r → PerformsOne e old new out out_new r
+      → done ≡ Ok None → EndsOpenWord old mid out out_mid done → PerformsUnfielded e mid new out_mid out_new r → OneUnfielded e old new out out_new r
   own_then old mid new out out_mid out_new done r quiet ended only =
       let ends : EndsOpenWord old mid out out_mid (Ok None) = subst (λ (r : Result (Option Sprung) Halt). EndsOpenWord old mid out out_mid r) quiet ended in record {
-        one = λ l t before failures err s h rest stood reached.
+        one = λ l t before failures err s h rest stood free reached.
             let b : Bool = has_open_word (text_of h) in
             let now = ends.ends l t before failures err s h e rest stood (own h) reached in
-            behind_own l t before (seen failures out_new err) s h rest r new.composer
-            (only.performs l t before failures err s (behind_word s.registers b h) rest now.stands (word_ended s.registers h b refl, tt) now.reaches);
+            behind_own l t before (seen failures out_new err) s h free rest r new.composer
+            (only.performs l t before failures err s (behind_word s.registers b h) rest now.stands
+            (word_ended s.registers e own h free b refl) (free-word s.registers e own h free b) now.reaches);
         moves = λ l h stood. moves_from old mid new r (ends.closes refl l h stood) only.moves;
       }
 
   -- or where the end of that sprang something, and the event is left
-  pub own_sprung : (old new : Formatter) (out out_new : Sunk) (sprung : Sprung) (done : Result (Option Sprung) Halt) → done ≡ Ok (Some sprung) → EndsOpenWord old new out out_new done → PerformsOne e old new out out_new (Ok (Some sprung))
+  pub own_sprung : (old new : Formatter) (out out_new : Sunk) (sprung : Sprung) (done : Result (Option Sprung) Halt) → done ≡ Ok (Some sprung) → EndsOpenWord old new out out_new done → OneUnfielded e old new out out_new (Ok (Some sprung))
   own_sprung old new out out_new sprung done found ended =
       let ends : EndsOpenWord old new out out_new (Ok (Some sprung)) = subst (λ (r : Result (Option Sprung) Halt). EndsOpenWord old new out out_new r) found ended in record {
-        one = λ l t before failures err s h rest stood reached. ends.ends l t before failures err s h e rest stood (own h) reached;
+        one = λ l t before failures err s h rest stood free reached. ends.ends l t before failures err s h e rest stood (own h) reached;
         moves = ends.moves;
       }
 
   -- or halted
-  pub own_halted : (old new : Formatter) (out out_new : Sunk) (halt : Halt) → EndsOpenWord old new out out_new (Err halt) → PerformsOne e old new out out_new (Err halt)
+  pub own_halted : (old new : Formatter) (out out_new : Sunk) (halt : Halt) → EndsOpenWord old new out out_new (Err halt) → OneUnfielded e old new out out_new (Err halt)
   own_halted old new out out_new halt ends = record {
-    one = λ l t before failures err s h rest stood reached. ends.ends l t before failures err s h e rest stood (own h) reached;
+    one = λ l t before failures err s h rest stood free reached. ends.ends l t before failures err s h e rest stood (own h) reached;
     moves = λ l h stood. tt;
   }

@@ -1,13 +1,14 @@
 -- Bytes of a text line that stand in front are told to the environment in force.
 use Rattle.std.proofs.Common.{◌≡◌, ◌↔◌, Bool, Result, Ok, Err, IsErr, refl, ℕ, zero, suc, ◌+◌, ◌<◌, ◌≤◌, true, false, List, [], ◌∷◌, length, length-take, take, take-take, sym, ap, subst, ◌∙◌, arith}
-use Rattle.std.specs.Prelude.{cond, min, nat_lt, take_while}
+use Rattle.std.specs.Prelude.{cond, min, nat_lt, slice_index_or, take_while}
 use Rattle.std.proofs.lemmas.Bool.{ltb-false, ltb-true}
 use Rattle.std.proofs.lemmas.Bool.Decides.{nat_tests}
-use Rattle.std.proofs.lemmas.List.{append-nil}
+use Rattle.std.proofs.lemmas.List.{append-nil, get_or-take}
 use Rattle.std.proofs.lemmas.List.Folds.{length-prefix_len}
 use Rattle.std.proofs.lemmas.List.Sums.{prefix_len-le-length, take_while-cons}
 use Rattle.std.specs.List.{AllByRecursion, prefix_len}
 use Rattle.roff_layout.specs.Events.{History}
+use Rattle.roff_layout.specs.Fields.{is_in_field}
 use Rattle.roff_lines.specs.Env.Stands.{Stands}
 use Rattle.roff_layout.specs.Telling.{QuietlyTold, bytes_told}
 use Rattle.roff_lines.specs.declared.env.Env.{Env}
@@ -138,7 +139,8 @@ pub tells_front : (front text : List ℕ) (count : ℕ) (f : Formatter) (lines :
     → ((L : Layout) → StandsAs L f.composer.pages → takes_text L ≡ true)
     → ((cap : ℕ) (h : History) → Stands cap h f.composer.environments.in_force.lines → QuietlyTold cap (take count text) h)
     → ((cap : ℕ) (h : History) → Stands cap h f.composer.environments.in_force.lines → Stands cap (bytes_told (take count text) h) lines)
-    → ((cap : ℕ) (h : History) → Stands cap h f.composer.environments.in_force.lines → count < length text → QuietlyTold cap (take (count + 1) text) h → ⊥)
+    → ((cap : ℕ) (h : History) → Stands cap h f.composer.environments.in_force.lines → count < length text → QuietlyTold cap (take (count + 1) text) h
+    → (is_in_field h ≡ true) × (slice_index_or front count 0 ≡ 32))
     → TellsFront front count f (record f { composer = record f.composer { environments = with_lines f.composer.environments lines } })
 tells_front front text count f lines is few takes quiet stands most_told =
     let most : ℕ = length (take_while is_text_byte front) in
@@ -172,7 +174,8 @@ pub tells_counted : (near : List ℕ) (n count : ℕ) (f : Formatter) (lines : E
     → ((L : Layout) → StandsAs L f.composer.pages → takes_text L ≡ true)
     → ((cap : ℕ) (h : History) → Stands cap h f.composer.environments.in_force.lines → QuietlyTold cap (take count near) h)
     → ((cap : ℕ) (h : History) → Stands cap h f.composer.environments.in_force.lines → Stands cap (bytes_told (take count near) h) lines)
-    → ((cap : ℕ) (h : History) → Stands cap h f.composer.environments.in_force.lines → count < n → QuietlyTold cap (take (count + 1) near) h → ⊥)
+    → ((cap : ℕ) (h : History) → Stands cap h f.composer.environments.in_force.lines → count < n → QuietlyTold cap (take (count + 1) near) h
+    → (is_in_field h ≡ true) × (slice_index_or near count 0 ≡ 32))
     → TellsFront near count f (record f { composer = record f.composer { environments = with_lines f.composer.environments lines } })
 tells_counted near n count f lines is few takes quiet stands most =
     let within : n ≤ length near = omega (arith, is, plain_le near) in
@@ -196,8 +199,9 @@ tells_of_all front near count old new is told =
       stands = λ l h stood. subst (λ (bytes : List ℕ). StandFor l (page_told bytes h) new.composer) same (told.stands l h stood);
       most = λ l h stood taken few some can.
           let one_more : take (count + 1) near ≡ take (count + 1) front = ap (take (count + 1)) is ∙ take-take (count + 1) most_at_once front (omega (arith, few)) in
-          told.most l h stood taken few (omega (arith, counted, few, some)) (record {
+          let found = told.most l h stood taken few (omega (arith, counted, few, some)) (record {
             text = subst (λ (bytes : List ℕ). AllByRecursion (λ b. is_text_byte b ≡ true) bytes) (sym one_more) can.text;
             quiet = subst (λ (bytes : List ℕ). QuietlyTold l.line bytes (text_of h)) (sym one_more) can.quiet;
-          });
+          }) in
+          (found.0, sym (ap (λ (bytes : List ℕ). slice_index_or bytes count 0) is ∙ get_or-take most_at_once front count 0 few) ∙ found.1);
     }

@@ -6,6 +6,7 @@ use Rattle.roff_num.specs.declared.format.Format.{Format}
 use Rattle.roff_num.specs.declared.limits.Limits.{Limits}
 use Rattle.roff_layout.specs.Glyphs.{text_width}
 use Rattle.roff_layout.specs.declared.settings.Settings.{Settings}
+use Rattle.roff_lines.proofs.Standing.{settings-stands}
 use Rattle.roff_layout.specs.Happenings.{Happening, Titles}
 use Rattle.roff_layout.specs.Layout.{Layout}
 use Rattle.roff_pages.specs.Pages.Stands.{StandsAs}
@@ -14,7 +15,7 @@ use Rattle.roff_layout.specs.Titles.{part_text}
 use Rattle.roff_composer.specs.Composer.Standing.{StandFor}
 use Rattle.roff_composer.specs.Environments.Standing.{StandBy}
 use Rattle.roff_composer.specs.declared.environments.Environments.{Environments as EnvironmentsOf}
-use Rattle.roff_run.specs.Environments.{PageHistory, environments}
+use Rattle.roff_run.specs.Environments.{PageHistory, environments, text_of}
 use Rattle.roff_run.specs.Layouts.{happens, layout_of}
 use Rattle.roff_run.specs.PageEvents.{PageEvent, PastEvent}
 use Rattle.roff_run.specs.Run.Counts.{first_passed, refusal, written_counted}
@@ -36,7 +37,8 @@ use Rattle.roff_num.specs.declared.short_name.ShortName.{ShortName}
 use Rattle.roff_formatter.proofs.DoneFirst.{PerformsHere, only_page, one_here}
 use Rattle.roff_formatter.proofs.DonePut.{put_here}
 use Rattle.roff_formatter.proofs.DueTexts.{same_behind, title_tells}
-use Rattle.roff_formatter.proofs.FirstPages.{begun, begun_for, behind-alone, next-alone}
+use Rattle.roff_formatter.proofs.ComingBefore.{behind-alone}
+use Rattle.roff_formatter.proofs.FirstPages.{begun, begun_for, next-alone}
 use Rattle.roff_formatter.proofs.Performed.{moves-behind}
 use Rattle.roff_formatter.proofs.Springing.{lines-begun, performs_from}
 use Rattle.roff_formatter.proofs.TitleNumbers.{part-width}
@@ -63,7 +65,7 @@ title-happens : (f : Formatter) (text : TitleText) (format : Format) (number : L
 title-happens f text format number is l h stood =
     let made : ℕ → List ℕ → Option Happening = λ columns shown.
     Some (Titles (record { left = text.left; centre = text.centre; right = text.right; length = columns; number = shown })) in
-    ap (λ (s : Settings). made s.title_length (register_text format (layout_of h).number.0)) (sym stood.environments.in_force.lines.settings)
+    ap (λ (s : Settings). made s.title_length (register_text format (layout_of h).number.0)) (sym (settings-stands l.line (text_of h) f.composer.environments.in_force.lines stood.environments.in_force.lines))
     ∙ ap (made f.composer.environments.in_force.lines.settings.title_length) (sym (is (layout_of h) stood.pages))
 
 -- it is placed where no page begins in front of it
@@ -98,11 +100,11 @@ title_placed which text format old mid new out out_new r ready placed = record {
   title = λ l t before failures err s h rest stood told_so reached.
       let x : PageEvent = Title which in
       let g : PageHistory = begun_for x h in
-      let now = begun l t before failures err s h x x rest out (λ is. next-alone h x true refl is) old mid None ready stood reached refl in
+      let now = begun l t before failures err s h x x rest out (λ is. next-alone h x true refl refl is) old mid None ready stood reached refl in
       performs_from l t before (seen failures out_new err) s (x ∷ []) h g (told s.registers x ∷ g) (behind_event s.registers x h) rest r new.composer
-      (lines-begun s.registers x h) (ap (λ (g : PageHistory). told s.registers x ∷ g) (sym (behind-alone s.registers x h refl)))
+      (lines-begun s.registers x h) (ap (λ (g : PageHistory). told s.registers x ∷ g) (sym (behind-alone s.registers x 2 h refl refl)))
       (placed.places l t before failures err s g rest now.stands told_so
-      (next-alone g x false refl now.none) now.reaches);
+      (next-alone g x false refl refl now.none) now.reaches);
   moves = moves-behind old new r placed.stops;
 }
 
@@ -111,7 +113,7 @@ pub title_page : (which : WhichTitle) (text : TitleText) (format : Format) (old 
     → ReadyFor (Title which) old mid (Some name) → new ≡ with_sprung name mid → r ≡ Ok (Some sprung_before)
     → PerformsTitle which text format old new out out r
 title_page which text format old mid new out name r ready there is =
-    let only : PerformsEvents (Title which ∷ []) old new out out r = only_page (Title which) old mid new out name r refl ready there is in record {
+    let only : PerformsEvents (Title which ∷ []) old new out out r = only_page (Title which) old mid new out name r refl (λ g. refl) ready there is in record {
       title = λ l t before failures err s h rest stood told_so reached. only.performs l t before failures err s h rest stood (refl, tt) reached;
       moves = only.moves;
     }

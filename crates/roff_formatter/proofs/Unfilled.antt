@@ -1,14 +1,20 @@
 -- Text lines that stand in front up to their newlines, and are told and ended at once.
-use Rattle.std.proofs.Common.{◌≡◌, ℕ, List, [], ◌∷◌, take, Option, Some, None, Result, Ok, refl, sym, subst, arith}
+use Rattle.std.proofs.Common.{◌≡◌, ◌∙◌, ap, false, ℕ, List, [], ◌∷◌, take, Option, Some, None, Result, Ok, refl, sym, subst, arith}
+use Rattle.std.specs.Prelude.{is_some}
 use Rattle.roff_layout.specs.Happenings.{Places}
 use Rattle.roff_layout.specs.Lines.{Finished}
 use Rattle.roff_layout.specs.declared.event.Event.TheVariants.{LineEnd, WordEnd}
 use Rattle.roff_lines.specs.Env.Unfilled.{EndsAtOnce, line_of, with_line_put}
 use Rattle.roff_lines.proofs.Unfilled.{ends_at_once}
+use Rattle.roff_formatter.proofs.OpenFields.{is_in_field-stands}
+use Rattle.roff_lines.specs.Env.Kept.{KeptField}
+use Rattle.roff_num.specs.declared.limits.Limits.{Limits}
+use Rattle.roff_composer.specs.Composer.Standing.{StandFor}
+use Rattle.roff_layout.specs.Fields.{is_in_field}
 use Rattle.roff_lines.specs.declared.env.Env.{Env}
 use Rattle.roff_composer.specs.Environments.Standing.{StandBy}
 use Rattle.roff_composer.specs.declared.environments.Environments.{Environments as EnvironmentsOf}
-use Rattle.roff_run.specs.Environments.{environments, text_of}
+use Rattle.roff_run.specs.Environments.{PageHistory, environments, text_of}
 use Rattle.roff_run.specs.Output.{layout_of}
 use Rattle.roff_run.specs.declared.event.PageEvent.TheVariants.{Text}
 use Rattle.roff_sinks.specs.Sinks.{Sunk}
@@ -19,8 +25,8 @@ use Rattle.roff_formatter.specs.Formatter.Paging.{PutsOnPage, line_due}
 use Rattle.roff_formatter.specs.Formatter.Performing.{PerformsEvents}
 use Rattle.roff_formatter.specs.Formatter.Telling.{TellsFront}
 use Rattle.roff_formatter.specs.Formatter.Unfilled.{PutsBehind, StandsNear}
-use Rattle.roff_formatter.proofs.DoneEvents.{lines_behind, text_put_here, with_lines}
-use Rattle.roff_formatter.proofs.DoneFirst.{only_first, ready_then}
+use Rattle.roff_formatter.proofs.DoneEvents.{lines_behind, reached_within, text_put_here, with_lines}
+use Rattle.roff_formatter.proofs.DoneFirst.{only_first, performs_unfielded, ready_then, unfielded_first}
 use Rattle.roff_formatter.proofs.FirstPages.{ready_taking}
 use Rattle.roff_formatter.proofs.Telling.{tells_counted}
 
@@ -43,14 +49,28 @@ module _ (near : List ℕ) (count gaps : ℕ) (old : Formatter) (stands : Stands
       tells_counted near count count old at_once.told stands.counted (omega arith) stands.takes at_once.tells.quiet at_once.tells.stands
       (λ cap h stood more. absurd (omega (arith, more)))
 
+  word_stands : (l : Limits) (h : PageHistory) → StandFor l h (with at_once.told).composer → StandBy l (environments (Text WordEnd ∷ h)) (with at_once.ended).composer.environments
+  word_stands = lines_behind WordEnd (with at_once.told).composer at_once.ended (λ trap. refl) at_once.word_end
+
+  -- no field is open
+  none_open : (l : Limits) (h : PageHistory) → StandFor l h (with at_once.ended).composer → is_in_field (text_of h) ≡ false
+  none_open l h stood =
+      sym (is_in_field-stands l.line (text_of h) at_once.ended stood.environments.in_force.lines) ∙ ap (λ (f : Option KeptField). is_some f) at_once.no_field
+
+  line_stands : (new : Formatter) → new.composer.environments ≡ (with (with_line_put text kept)).composer.environments
+      → (l : Limits) (h : PageHistory) → StandFor l h (with at_once.ended).composer → StandBy l (environments (Text LineEnd ∷ h)) new.composer.environments
+  line_stands new stay l h stood =
+      subst (λ (es : EnvironmentsOf). StandBy l (environments (Text LineEnd ∷ h)) es) (sym stay)
+      (lines_behind LineEnd (with at_once.ended).composer (with_line_put text kept) (λ trap. refl) at_once.line_end l h stood)
+
   ended : (out : Sunk) → PerformsEvents (Text WordEnd ∷ []) (with at_once.told) (with at_once.ended) out out (Ok None)
   ended out =
-      only_first (Text WordEnd) (Text WordEnd) (with at_once.told) (with at_once.ended) out out (Ok None) (λ rs. refl) (λ g. refl) (λ sprung is. refl)
+      only_first (Text WordEnd) (Text WordEnd) (with at_once.told) (with at_once.ended) out out (Ok None) (λ rs. refl) (λ g. refl) (λ sprung is. refl) (λ g. refl)
       (ready_then (Text WordEnd) (Text WordEnd) (with at_once.told) (with at_once.told) (with at_once.ended) out out (Ok None)
       (ready_taking (Text WordEnd) (with at_once.told) (λ l h stood. stands.takes (layout_of h) stood.pages))
       (text_put_here WordEnd None (with at_once.told) (with at_once.ended) out out (Ok None) (λ h. refl)
       (λ l h stood. at_once.quiet l.line (text_of h) stood.environments.in_force.lines)
-      (lines_behind WordEnd (with at_once.told).composer at_once.ended (λ trap. refl) at_once.word_end) (refl, refl, refl, refl)))
+      (reached_within WordEnd (with at_once.told) (with at_once.ended) (λ h. refl) word_stands) word_stands (refl, refl, refl, refl)))
 
   -- the bytes were told, and the line that ended was placed
   pub puts_near : (new : Formatter) (out out_new : Sunk) (r : Result (Option Sprung) Halt) (line : Finished) → line ≡ line_of text kept
@@ -63,12 +83,12 @@ module _ (near : List ℕ) (count gaps : ℕ) (old : Formatter) (stands : Stands
     ended = with at_once.ended;
     word = ended;
     performs =
-        only_first (Text LineEnd) (Text LineEnd) (with at_once.ended) new out out_new r (λ rs. refl) (λ g. refl) (λ sprung is. refl)
+        performs_unfielded (Text LineEnd) (with at_once.ended) new out out_new r none_open
+        (unfielded_first (Text LineEnd) (Text LineEnd) (with at_once.ended) new out out_new r (λ rs. refl) (λ g. refl) (λ sprung is. refl)
         (ready_then (Text LineEnd) (Text LineEnd) (with at_once.ended) (with at_once.ended) new out out_new r
         (ready_taking (Text LineEnd) (with at_once.ended) (λ l h stood. stands.takes (layout_of h) stood.pages))
         (text_put_here LineEnd (Some (line_of text kept)) (with at_once.ended) new out out_new r (λ h. refl)
         (λ l h stood. at_once.finishes l.line (text_of h) stood.environments.in_force.lines)
-        (λ l h stood. subst (λ (es : EnvironmentsOf). StandBy l (environments (Text LineEnd ∷ h)) es) (sym stay)
-        (lines_behind LineEnd (with at_once.ended).composer (with_line_put text kept) (λ trap. refl) at_once.line_end l h stood))
-        (subst (λ (line : Finished). PutsOnPage (Places line) (line_due line) old.composer.pages new.composer.pages old.composer.due new.composer.due out out_new r) is put)));
+        (reached_within LineEnd (with at_once.ended) new (λ h. refl) (line_stands new stay)) (line_stands new stay)
+        (subst (λ (line : Finished). PutsOnPage (Places line) (line_due line) old.composer.pages new.composer.pages old.composer.due new.composer.due out out_new r) is put))));
   }

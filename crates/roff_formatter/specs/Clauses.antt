@@ -1,5 +1,5 @@
 -- The words of the clauses in `src/`, each with the file that it stands in.
-pub use Rattle.roff_formatter.specs.Formatter.Performing.{EndsOpenWord, EndsWordFirst, PerformsEvents, PerformsOne, PerformsTitle, PlacesTitle}
+pub use Rattle.roff_formatter.specs.Formatter.Performing.{EndsOpenWord, EndsWordFirst, PerformsEvents, PerformsOne, PerformsStanding, PerformsTitle, PerformsUnfielded, PlacesTitle}
 pub use Rattle.roff_formatter.specs.Formatter.Paging.{BeginsFor, BeginsPage, ReadyFor, halted_by, PutsBy, PutsFinished, PutsIn, PutsOnPage, blank_due, line_due, noted_by}
 pub use Rattle.roff_formatter.specs.Formatter.Setting.{DoesOnPage, IsOfTraps, PutsByEvent, PutsNothing, SetsOnPage}
 pub use Rattle.roff_formatter.specs.Formatter.Sprung.{StopsSprung, sprung_before, with_sprung}

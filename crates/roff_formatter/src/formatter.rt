@@ -19,9 +19,9 @@ use std::alloc::{AllocError, Global};
 
 /// The environments and pages, to which events happen.
 ///
-/// An event is performed with what comes before it: the end of a word, and the first page's
-/// beginning. What is performed answers where it stopped, if it sprang a macro or the text of a
-/// diversion is to be changed first; or what halts.
+/// An event is performed with what comes before it: the ends of a field and of a word, and the
+/// first page's beginning. What is performed answers where it stopped, if it sprang a macro or the
+/// text of a diversion is to be changed first; or what halts.
 #[derive(Drop)]
 pub struct Formatter {
     /// The environments and the pages.

@@ -7,7 +7,7 @@ use Rattle.roff_num.specs.declared.limit.Limit.{Limit}
 use Rattle.roff_num.specs.declared.limit.Limit.TheVariants.{Line}
 use Rattle.roff_num.specs.declared.limits.Limits.{Limits}
 use Rattle.roff_layout.specs.declared.event.Event.TheVariants.{Print}
-use Rattle.roff_layout.specs.Lines.{pending_length}
+use Rattle.roff_layout.specs.Behind.{pending_length}
 use Rattle.roff_layout.specs.declared.glyph.Glyph.{Glyph}
 use Rattle.roff_layout.specs.declared.glyph.Glyph.TheVariants.{Blanks, Printed}
 use Rattle.roff_escape.specs.OpenEscape.{OpenEscape, Backslash}

@@ -9,7 +9,8 @@ use Rattle.roff_num.specs.declared.limit.Limit.TheVariants.{Line}
 use Rattle.roff_num.specs.declared.limits.Limits.{Limits}
 use Rattle.roff_layout.specs.declared.event.Event.{Event}
 use Rattle.roff_layout.specs.declared.event.Event.TheVariants.{Print, WordEnd, Gap}
-use Rattle.roff_layout.specs.Lines.{Finished, finished, pending_length}
+use Rattle.roff_layout.specs.Behind.{finished, length_reached, pending_length}
+use Rattle.roff_layout.specs.Lines.{Finished}
 use Rattle.roff_layout.specs.Telling.{QuietlyTold, bytes_told, finished_by_byte}
 use Rattle.roff_layout.specs.declared.glyph.Glyph.TheVariants.{Printed}
 use Rattle.roff_layout.specs.Happenings.{Happening, Places}
@@ -23,6 +24,7 @@ use Rattle.roff_run.proofs.InputCounts.{NoMore-item_taken, first_passed-no_more}
 use Rattle.roff_run.proofs.ItemsTaken.{FromAhead, FromSource, IsOpenFor, Origin, ahead_at, byte_ahead_is_taken, bytes_of_the_source_are_taken, tape_at}
 use Rattle.roff_run.proofs.Leads.{Leads-refl, Leads-trans}
 use Rattle.roff_run.proofs.PlainRuns.{behind_byte, behind_bytes, behind_bytes-counts, counted}
+use Rattle.roff_composer.proofs.BlanksTold.{closed-word_end, pending_length-blank}
 use Rattle.roff_composer.proofs.ToldBytes.{layout-byte, quiet-byte}
 use Rattle.roff_fronts.proofs.TurnedRuns.{free_ahead-behind}
 use Rattle.roff_run.specs.Layouts.{happens, layout_of}
@@ -34,7 +36,7 @@ use Rattle.roff_run.specs.PageEvents.{PageEvent}
 use Rattle.roff_run.specs.declared.event.PageEvent.TheVariants.{Text}
 use Rattle.roff_run.specs.Run.{Following, State, nothing_follows, Leads, byte_taken, known_at, done_if, followed_by, made, performed, performing, step, taken_as, unless_refused}
 use Rattle.roff_run.specs.Following.{following, text_behind}
-use Rattle.roff_run.specs.Springs.{begins, needs_page, next, page_begin_or, sprung_on}
+use Rattle.roff_run.specs.Springs.{begins, needs_page, next, own_word_end, page_begin_or, sprung_on}
 use Rattle.roff_run.specs.Run.Counts.{counts_in, first_passed, refusal, written_counted}
 use Rattle.roff_run.specs.TurnsToCome.{turns_within}
 use Rattle.roff_run.specs.Telling.{Prints, byte_events, byte_told, page_told}
@@ -57,12 +59,21 @@ TakesText-same h now same takes = record {
 unbegun : (h : PageHistory) (e : PageEvent) → TakesText h → page_begin_or (begins h e) None ≡ None
 unbegun h e takes = ap (λ (does : Bool). page_begin_or (not does && needs_page h e) None) takes.takes
 
+-- and behind a word end nothing comes before a gap, as no word is open
+unended : (h : PageHistory) (n : ℕ) → TakesText (Text WordEnd ∷ h) → next (Text WordEnd ∷ h) (Text (Gap n)) ≡ None
+unended h n takes =
+    let ended : PageHistory = Text WordEnd ∷ h in
+    let e : PageEvent = Text (Gap n) in
+    ap (λ (is_open : Bool). elim (own_word_end is_open) [ None ↦ page_begin_or (begins ended e) None | Some own ↦ page_begin_or (begins ended own) (Some own) ])
+    (closed-word_end (text_of h))
+    ∙ unbegun ended e takes
+
 -- an event of the text that finishes no line is refused by no limit where the pending line stays within its own
-allowed : (l : Limits) (h : PageHistory) (e : Event) → finished (text_of h) e ≡ None → pending_length (e ∷ text_of h) ≤ l.line
+allowed : (l : Limits) (h : PageHistory) (e : Event) → finished (text_of h) e ≡ None → length_reached e (text_of h) ≤ l.line
     → refusal l h (Text e) ≡ None
 allowed l h e quiet within =
     ap (λ (passed : Bool). if passed then Some Line else first_passed l (written_counted h (happens h (Text e))))
-    (le-ltb l.line (pending_length (e ∷ text_of h)) within)
+    (le-ltb l.line (length_reached e (text_of h)) within)
     ∙ ap (λ (line : Option Finished). first_passed l (written_counted h (option_map Places line))) quiet
 
 -- nothing follows a word end that finishes no line
@@ -110,11 +121,12 @@ module _ (l : Limits) (reading : LineState) (rs : AllRegisters) (messages : List
   leads-events true b tape input h within quiet takes =
       let ended : PageHistory = Text WordEnd ∷ h in
       let behind : TakesText ended = TakesText-same h ended (layout-byte true b h quiet) takes in
+      let short : pending_length (WordEnd ∷ text_of h) ≤ l.line = subst (λ (n : ℕ). n ≤ l.line) (pending_length-blank 1 (text_of h)) within in
       record {
         steps = 2;
         there = ap (step l)
-            (step-event tape input h WordEnd (Text (Gap 1) ∷ []) (unbegun h (Text WordEnd) takes) (unfollowed_end h quiet) (allowed l h WordEnd quiet within) behind.goes_on)
-            ∙ step-event tape input ended (Gap 1) [] (unbegun ended (Text (Gap 1)) behind) refl (allowed l ended (Gap 1) refl within) behind.goes_on;
+            (step-event tape input h WordEnd (Text (Gap 1) ∷ []) (unbegun h (Text WordEnd) takes) (unfollowed_end h quiet) (allowed l h WordEnd quiet short) behind.goes_on)
+            ∙ step-event tape input ended (Gap 1) [] (unended h 1 behind) refl (allowed l ended (Gap 1) refl within) behind.goes_on;
       }
   leads-events false b tape input h within quiet takes =
       let e : Event = Print (Printed b) in

@@ -1,13 +1,16 @@
 -- Steps that have names of their own: what they mean doesn't depend on what is kept.
-use Rattle.std.proofs.Common.{◌≡◌, ℕ, Bool, true, false, List, [], ◌∷◌, ◌++◌, Option, refl}
+use Rattle.std.proofs.Common.{◌≡◌, ℕ, Bool, true, false, List, [], ◌∷◌, ◌++◌, Option, None, ap, refl}
 use Rattle.std.specs.Prelude.{◌==◌, if◌then◌else◌}
-use Rattle.roff_layout.specs.declared.event.Event.TheVariants.{Print, Tab as PageTab}
+use Rattle.roff_composer.proofs.BlanksTold.{closed-word_end}
+use Rattle.roff_layout.specs.declared.event.Event.TheVariants.{Break as Breaks, Print, Tab as PageTab, WordEnd}
+use Rattle.roff_layout.specs.Behind.{has_open_word}
 use Rattle.roff_layout.specs.declared.glyph.Glyph.TheVariants.{Blanks}
-use Rattle.roff_run.specs.Environments.{PageHistory}
+use Rattle.roff_run.specs.Environments.{PageHistory, text_of}
 use Rattle.roff_run.specs.Events.Lines.{print_event}
 use Rattle.roff_run.specs.Reading.TextLines.{leading_glyph}
 use Rattle.roff_run.specs.declared.event.PageEvent.TheVariants.{Text}
-use Rattle.roff_formatter.specs.Formatter.Performing.{Flows, behind_event}
+use Rattle.roff_formatter.specs.Formatter.Performing.{Flows, behind_event, behind_next}
+use Rattle.roff_run.specs.Springs.{own_word_end}
 use Rattle.roff_run.specs.Events.Steps.{events_of, messages_of}
 use Rattle.roff_run.specs.PageEvents.{PageEvent}
 use Rattle.roff_run.specs.Registers.{AllRegisters}
@@ -46,12 +49,19 @@ flows-leading rs leading e h flows = by_test (leading == 0)
     by_test true = flows h
     by_test false = (refl, flows (behind_event rs (Text (Print (Blanks leading))) h))
 
+-- nor does it behind a word end: no word is open there
+closed : (rs : AllRegisters) (h : PageHistory) → own_word_end (has_open_word (text_of (behind_event rs (Text WordEnd) h))) ≡ None
+closed rs h = ap own_word_end (closed-word_end (text_of (behind_next rs 3 (Text WordEnd) h)))
+
+pub flows-break : (rs : AllRegisters) (h : PageHistory) → Flows rs (Text WordEnd ∷ Text Breaks ∷ []) h
+flows-break rs h = (refl, (closed rs h, tt))
+
 pub named-flows : (rs : AllRegisters) (step : Step) (h : PageHistory) → Flows rs (events_of [] step) h
 named-flows rs Nothing h = tt
 named-flows rs (Glyph b leading) h = flows-leading rs leading (print_event b) h (λ g. (refl, tt))
 named-flows rs (Tab leading) h = flows-leading rs leading (Text PageTab) h (λ g. (refl, tt))
-named-flows rs Gap h = (refl, (refl, tt))
-named-flows rs Break h = (refl, (refl, tt))
-named-flows rs LineEnd h = (refl, (refl, (refl, tt)))
-named-flows rs BlankLine h = (refl, (refl, (refl, tt)))
+named-flows rs Gap h = (refl, (closed rs h, tt))
+named-flows rs Break h = flows-break rs h
+named-flows rs LineEnd h = (refl, (closed rs h, (refl, tt)))
+named-flows rs BlankLine h = (refl, (closed rs h, (refl, tt)))
 named-flows rs Meaning h = tt

@@ -1,6 +1,6 @@
 -- Events that are performed one after another, up to one that sprang something.
 use Rattle.std.proofs.Common.{◌∙◌, ◌≡◌, ◌<◌, ◌≤◌, ◌+◌, ℕ, Bool, true, false, List, [], ◌∷◌, ◌++◌, length, Some, Ok, ap, append-nil, arith, refl, subst, sym}
-use Rattle.std.specs.Prelude.{drop, nat_lt}
+use Rattle.std.specs.Prelude.{◌||◌, drop, is_some, nat_lt}
 use Rattle.std.proofs.lemmas.Bool.{ltb-false, ltb-true}
 use Rattle.roff_num.specs.declared.limits.Limits.{Limits}
 use Rattle.roff_composer.specs.declared.composer.Composer.{Composer as ComposerOf}
@@ -74,7 +74,8 @@ left_on first n old mid new sprung told from short within most same moves = by (
   where
     least : weight new.formatter.composer ≤ 3
     least =
-        omega (arith, word-least new.formatter.composer.environments.in_force.lines.is_open, sprung-least new.formatter.composer.due.sprung)
+        let es : ComposerOf = new.formatter.composer in
+        omega (arith, word-least (es.environments.in_force.lines.is_open || is_some es.environments.in_force.lines.field), sprung-least es.due.sprung)
 
     by : (later : Bool) → nat_lt first n ≡ later → (beyond : Bool) → nat_lt 255 (sprung.left + n) ≡ beyond → LeftOn first old new (Ok (Some told))
     by later after true beyond =

@@ -81,7 +81,7 @@ pub record CameSoFar (l : Limits) (t : Beginning) (before now : Seen) (s : State
   pub stands : StandFor l history es
   pub few : most_left left (lines_left (interrupted_line history)) ≤ most_left events (lines_left (interrupted_line h))
 
--- where the events from this index on stopped they moved on: fewer are left, or a macro is due, or the open word has ended
+-- where the events from this index on stopped they moved on: fewer are left, or a macro is due, or the open word or field has ended
 abbrev pub LeftOn : ℕ → Interpreter → Interpreter → Result (Option Sprung) Halt → Type 0
 LeftOn n old new (Ok None) = Unit {0}
 LeftOn n old new (Ok (Some sprung)) =

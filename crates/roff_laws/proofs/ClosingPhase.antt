@@ -1,7 +1,8 @@
 -- Once the closing phase has begun nothing ends it.
 use Rattle.std.proofs.Common.{◌≡◌, Bool, true, false, List, ◌∷◌, Option, Some, None, refl, ◌∙◌}
 use Rattle.std.specs.Prelude.{nat_le, option_map, if◌then◌else◌}
-use Rattle.roff_layout.specs.Lines.{Finished, finished}
+use Rattle.roff_layout.specs.Behind.{finished}
+use Rattle.roff_layout.specs.Lines.{Finished}
 use Rattle.roff_layout.specs.Happenings.{Happening, Does, Places, Titles}
 use Rattle.roff_layout.specs.Layout.{Box, Layout, page_place}
 use Rattle.roff_layout.specs.Puts.{Put, appended, puts}

@@ -2,7 +2,7 @@
 use Rattle.std.proofs.Common.{◌≡◌, ◌⊎◌, inl, inr, ◌<◌, ◌≤◌, ℕ, zero, suc, Bool, true, false, not, ◌&&◌, List, [], ◌∷◌, Option, Some, None, refl, sym, ◌∙◌, ap, subst, arith}
 use Rattle.std.specs.Prelude.{is_some, nat_le, if◌then◌else◌, ◌==◌}
 use Rattle.std.proofs.lemmas.Bool.{cases_lt, eq-eqb, eqb-true}
-use Rattle.roff_layout.specs.declared.event.Event.TheVariants.{WordEnd}
+use Rattle.roff_layout.specs.declared.event.Event.TheVariants.{FieldEnd, WordEnd}
 use Rattle.roff_num.specs.declared.limits.Limits.{Limits}
 use Rattle.roff_layout.specs.Happenings.{Happening, Does, is_eject, is_eject_event}
 use Rattle.roff_layout.specs.Layout.{Box, Layout, page_place}
@@ -21,7 +21,7 @@ use Rattle.roff_run.specs.declared.event.PageEvent.TheVariants.{Text, Page}
 use Rattle.roff_run.proofs.Leads.{Leads-refl, Leads-step, Leads-to, Leads-trans}
 use Rattle.roff_run.proofs.Readings.{ReadsOn-with_sprung, ReadsOn-text}
 use Rattle.roff_laws.specs.TrapLaws.{EjectsEndTheirPage, GoesOn, HasCome, InputLeft, IsAmong, IsPutBack, PageEnded, RunEnded, Waits}
-use Rattle.roff_laws.proofs.ComesBefore.{ComesBefore, NothingComes, PageComes, WordEndComes, comes_before}
+use Rattle.roff_laws.proofs.ComesBefore.{ComesBefore, NothingComes, FieldEndComes, PageComes, WordEndComes, comes_before}
 use Rattle.roff_laws.proofs.Endings.{ended_or_not, not-ended, step-ended, step-going}
 use Rattle.roff_laws.proofs.PagesBegun.{begun-event}
 use Rattle.roff_laws.proofs.PerformedOrStopped.{PerformedOrStopped, Performed, Sprang, EndsOver, StoppedAt, first_of, left_behind, performed_or_stopped}
@@ -182,6 +182,8 @@ waiting-performed l from e count own x es s t asks begun (NothingComes none_begi
         ]) on
     by_place (inl (inr among)) on = inr (inl (among-behind (Page (going_on e)) (left_of s.history (told s.registers x)) es among))
     by_place (inr back) on = inr (inr back)
+waiting-performed l from e count own x es s t asks begun (FieldEndComes ends none_begins fewer) waits done =
+    come-performed l from e count (Text FieldEnd) (x ∷ es) s t done (omega (arith, begun)) (λ on. inr waits)
 waiting-performed l from e count own x es s t asks begun (WordEndComes none_begins fewer) waits done =
     come-performed l from e count (Text WordEnd) (x ∷ es) s t done (omega (arith, begun)) (λ on. inr waits)
 waiting-performed l from e count own x es s t asks begun (PageComes none_begun fewer) waits done =
@@ -331,6 +333,7 @@ begins-performed l e own rest s t eject some is (NothingComes none_begins) done 
       | inl ended ↦ inl ended
       | inr among ↦ inr (inl (among-front (Page (going_on e)) (left_of s.history (Page e)) rest among))
     ])
+begins-performed l e own rest s t eject some is (FieldEndComes ends none_begins fewer) done = absurd (cc)
 begins-performed l e own rest s t eject some is (WordEndComes none_begins fewer) done = absurd (no_word _ is)
 begins-performed l e own rest s t eject some is (PageComes none_begun fewer) done =
     come-performed l s e (layout_of s.history).begun (Page Begin) (Page e ∷ rest) s t done (omega arith) (λ on. inl (omega arith))

@@ -8,8 +8,8 @@ use Rattle.roff_run.specs.Results.{turn, turns, last_state}
 use Rattle.roff_laws.specs.ResultLaws.{EveryRunEnds, StepsLeadToTheLastState, NoOtherStateIsLast}
 use Rattle.roff_run.specs.Run.{Following, State, ToldLeads, grown, initial, paged_state, performing, sprung_read, text_done, unless_refused, with_registers, with_sprung, step_behind, step_with, step, after, told_after}
 use Rattle.roff_source.specs.Tape.{Tape}
-use Rattle.roff_run.specs.TurnsToCome.{left_by, lines_left, most_left, phases_left, unended}
-use Rattle.roff_layout.specs.declared.event.Event.TheVariants.{Print, Tab, WordEnd, Gap, LineEnd, Count, Break as PageBreak, Interrupt as Interrupted, Resume, Set}
+use Rattle.roff_run.specs.TurnsToCome.{left_by, lines_left, most_left, phases_left}
+use Rattle.roff_layout.specs.declared.event.Event.TheVariants.{Print, Tab, FieldEnd, WordEnd, Gap, LineEnd, Count, Break as PageBreak, Interrupt as Interrupted, Resume, Set}
 use Rattle.roff_layout.specs.declared.layout_event.LayoutEvent.TheVariants.{Begin}
 use Rattle.roff_num.specs.declared.limit.Limit.{Limit}
 use Rattle.roff_num.specs.declared.num.Num.{Num}
@@ -17,7 +17,7 @@ use Rattle.roff_run.specs.Environments.{Environments, PageHistory, interrupted_l
 use Rattle.roff_run.specs.declared.event.PageEvent.TheVariants.{Text, Page, Interrupt, Environment, Back, InputTrap as SetsTrap, Title}
 use Rattle.roff_run.specs.Requests.Effects.{page_numbered}
 use Rattle.roff_run.specs.Requests.Numbering.{number_of_page}
-use Rattle.roff_run.specs.Reading.Returns.{back_of, in_sprung}
+use Rattle.roff_run.specs.Reading.Returns.{back_of}
 use Rattle.roff_run.specs.Requests.{called_by}
 use Rattle.roff_run.specs.Springs.{left_of, next, page_begin_or, springs}
 use Rattle.roff_run.specs.Layouts.{layout_of}
@@ -31,8 +31,6 @@ use Rattle.roff_num.specs.ShortNames.{name_bytes}
 use Rattle.roff_num.specs.declared.short_name.ShortName.{ShortName}
 use Rattle.roff_run.specs.Run.Counts.{first_passed, names_counted}
 use Rattle.roff_run.specs.Starts.{history_given, pages_given, with_given}
-use Rattle.roff_run.specs.declared.line_state.LineState.{LineState}
-use Rattle.roff_run.specs.declared.line_state.LineState.TheVariants.{LineStart, Branch, Braced, Text as InText, Control, Name, Deciding, Skipping, Dropped, Told, Exiting, TitleFront, Title as InTitle, Collecting}
 use Rattle.roff_run.specs.declared.phase.Phase.{Phase}
 use Rattle.roff_run.specs.declared.phase.Phase.TheVariants.{Reading, LastMacro, Closing}
 use Rattle.roff_run.specs.declared.start.Start.{Start}
@@ -43,7 +41,7 @@ use Rattle.roff_run.proofs.LinesLeft.{lines_left-event, lines_left-few, most_lef
 use Rattle.roff_run.proofs.PutBack.{free_ahead-back}
 use Rattle.roff_laws.proofs.PerformedOrStopped.{left_of-none, PerformedOrStopped, Performed, Sprang, EndsOver, StoppedAt, performed_or_stopped}
 use Rattle.roff_run.proofs.Readings.{ReadsOn-reading_on}
-use Rattle.roff_laws.proofs.ComesBefore.{ComesBefore, NothingComes, PageComes, WordEndComes, comes_before, steps_in_front}
+use Rattle.roff_laws.proofs.ComesBefore.{ComesBefore, NothingComes, FieldEndComes, PageComes, WordEndComes, comes_before, steps_in_front}
 use Rattle.roff_laws.proofs.Told.{ToldOrStopped, AllTold, StopsBefore, nothing_told, told_or_stopped, within-told}
 use Rattle.roff_run.proofs.Leads.{ToldLeads-refl, ToldLeads-trans, told_after-add}
 use Rattle.roff_laws.proofs.TurnsNeeded.{EndsWithin, EndsWithin-read, turns_needed, unended-in_sprung}
@@ -98,6 +96,7 @@ lines-stay : (h : PageHistory) (e own : PageEvent) (lines : ℕ) → next h e �
 lines-stay h (Text Resume) own lines is few = absurd (none-resumes (takes_text (layout_of h)) own is)
 lines-stay h (Text (Print glyph)) own lines is few = omega arith
 lines-stay h (Text Tab) own lines is few = omega arith
+lines-stay h (Text FieldEnd) own lines is few = omega arith
 lines-stay h (Text WordEnd) own lines is few = omega arith
 lines-stay h (Text (Gap columns)) own lines is few = omega arith
 lines-stay h (Text LineEnd) own lines is few = omega arith
@@ -141,6 +140,12 @@ performing-nearer : (l : Limits) (n : ℕ) (e : PageEvent) (es : List PageEvent)
 performing-nearer l n e es s own to_do is (NothingComes none_begins) =
     event-nearer l n e es (left_of s.history (told s.registers e) ++ es) s _ to_do
     (λ none. ap (λ (front : List PageEvent). front ++ es) (left_of-none s.registers e s.history none)) (performed_or_stopped l None e es s)
+performing-nearer l n e es s own to_do is (FieldEndComes ends none_begins near) =
+    let none : text_steps (following s.history (told s.registers (Text FieldEnd))).text ≡ 0 = refl in
+    own-nearer l n (Text FieldEnd) e es s _ to_do (lines_left-event s.registers (Text FieldEnd) s.history)
+    (lines-stay s.history e (Text FieldEnd) (lines_left (interrupted_line s.history)) is (lines_left-few (interrupted_line s.history)))
+    (omega (arith, near, none))
+    (performed_or_stopped l (Some (Text FieldEnd)) e es s)
 performing-nearer l n e es s own to_do is (WordEndComes none_begins near) =
     own-nearer l n (Text WordEnd) e es s _ to_do (lines_left-event s.registers (Text WordEnd) s.history)
     (lines-stay s.history e (Text WordEnd) (lines_left (interrupted_line s.history)) is (lines_left-few (interrupted_line s.history)))
@@ -256,9 +261,9 @@ EndsWithin-steps l (suc k) n s few enough =
     steps_on l k n s (step l s) few enough (Stepped-step l n s enough) (EndsWithin-steps l k n (step l s))
 
 -- a turn is so many steps whose messages are bounded
-turn-told_after : (l : Limits) (s : State) → turn l s ≡ told_after l (suc (5 * length s.to_do + 2)) s
+turn-told_after : (l : Limits) (s : State) → turn l s ≡ told_after l (suc (6 * length s.to_do + 2)) s
 turn-told_after l s =
-    let k : ℕ = 5 * length s.to_do + 2 in
+    let k : ℕ = 6 * length s.to_do + 2 in
     let more : k + 1 ≡ suc k = omega arith in
     sym (told_after-add l k 1 s) ∙ ap (λ (n : ℕ). told_after l n s) more
 
@@ -270,10 +275,10 @@ EndsWithin-told l n k s t (StopsBefore m few going within beyond) ends = inl ref
 -- a turn leaves one fewer
 EndsWithin-turn : (l : Limits) (n : ℕ) (s : State) → length s.messages ≤ l.messages → EndsWithin l (suc n) s → EndsWithin l n (turn l s)
 EndsWithin-turn l n s within (inl ended) =
-    let stays : turn l s ≡ s = turn-told_after l s ∙ told_after-ended l (suc (5 * length s.to_do + 2)) s ended in
+    let stays : turn l s ≡ s = turn-told_after l s ∙ told_after-ended l (suc (6 * length s.to_do + 2)) s ended in
     inl (subst (λ (t : State). IsSome t.ended) (sym stays) ended)
 EndsWithin-turn l n s within (inr enough) =
-    let k : ℕ = 5 * length s.to_do + 2 in
+    let k : ℕ = 6 * length s.to_do + 2 in
     let few : steps_of s ≤ k = steps_of-few s in
     subst (λ (t : State). EndsWithin l n t) (sym (turn-told_after l s))
     (EndsWithin-told l n (suc k) s _ (told_or_stopped l (suc k) s within) (EndsWithin-steps l k n s few enough))
@@ -281,7 +286,7 @@ EndsWithin-turn l n s within (inr enough) =
 -- and its messages stay within the limit
 messages-turn : (l : Limits) (s : State) → length s.messages ≤ l.messages → length (turn l s).messages ≤ l.messages
 messages-turn l s within =
-    let k : ℕ = suc (5 * length s.to_do + 2) in
+    let k : ℕ = suc (6 * length s.to_do + 2) in
     subst (λ (t : State). length t.messages ≤ l.messages) (sym (turn-told_after l s)) (within-told l k s _ (told_or_stopped l k s within))
 
 -- turns of a run that has ended
@@ -344,7 +349,7 @@ ToldLeads-turns : (l : Limits) (n : ℕ) (s : State) → ToldLeads l s (turns l 
 ToldLeads-turns l zero s = ToldLeads-refl l s
 ToldLeads-turns l (suc n) s =
     let Goal : State → Type 0 = λ t. ToldLeads l s t in
-    let to_turn : ToldLeads l s (turn l s) = record { steps = suc (5 * length s.to_do + 2); there = sym (turn-told_after l s) } in
+    let to_turn : ToldLeads l s (turn l s) = record { steps = suc (6 * length s.to_do + 2); there = sym (turn-told_after l s) } in
     elim (ended_or_not s.ended) [
       | inl ended ↦ subst Goal (sym (turns-ended l (suc n) s ended)) (ToldLeads-refl l s)
       | inr going ↦

@@ -1,6 +1,7 @@
 pub mod Beginnings
 pub mod PerformedOrStopped
 pub mod InputLeaving
+pub mod InterruptedLengths
 pub mod PutHolds
 pub mod TrapsPlanted
 pub mod StepsAppend

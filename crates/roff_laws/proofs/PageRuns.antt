@@ -5,7 +5,7 @@ use Rattle.std.proofs.Common.{◌≡◌, ◌⊎◌, inl, inr, ℕ, zero, suc, Bo
 use Rattle.roff_run.specs.Results.{last_state}
 use Rattle.std.specs.Prelude.{is_some, ◌==◌}
 use Rattle.std.proofs.lemmas.Bool.{eqb-true}
-use Rattle.roff_layout.specs.declared.event.Event.TheVariants.{WordEnd, Break}
+use Rattle.roff_layout.specs.declared.event.Event.TheVariants.{FieldEnd, WordEnd, Break}
 use Rattle.roff_num.specs.declared.limit.Limit.{Limit}
 use Rattle.roff_num.specs.declared.limit.Limit.TheVariants.{Messages}
 use Rattle.roff_num.specs.declared.limits.Limits.{Limits}
@@ -44,7 +44,7 @@ use Rattle.roff_run.proofs.Behind.{Behind-ahead_taken, Behind-sprung_read}
 use Rattle.roff_laws.specs.PageLaws.{WritesWholePages}
 use Rattle.roff_laws.specs.TrapLaws.{IsAmong, IsPutBack, Waits}
 use Rattle.roff_laws.proofs.ClosingPhase.{closing-event}
-use Rattle.roff_laws.proofs.ComesBefore.{ComesBefore, NothingComes, PageComes, WordEndComes, comes_before}
+use Rattle.roff_laws.proofs.ComesBefore.{ComesBefore, NothingComes, FieldEndComes, PageComes, WordEndComes, comes_before}
 use Rattle.roff_laws.proofs.Told.{told_step-holds}
 use Rattle.roff_laws.proofs.Endings.{at_last_state, not-ended, step-ended, step-going}
 use Rattle.roff_laws.proofs.InputLeaving.{IsLeft-left_in}
@@ -74,6 +74,7 @@ so_far-first : (rs : AllRegisters) (h : PageHistory) (e : PageEvent) (own : Opti
     → (begins h e ≡ false → IsSoFar (told rs e ∷ h)) → (layout_of h).is_over ≡ false → IsSoFar h
     → IsSoFar (told rs (first_of own e) ∷ h)
 so_far-first rs h e own (NothingComes none_begins) itself goes so_far = itself none_begins
+so_far-first rs h e own (FieldEndComes ends none_begins fewer) itself goes so_far = so_far-text h FieldEnd none_begins goes so_far
 so_far-first rs h e own (WordEndComes none_begins fewer) itself goes so_far = so_far-text h WordEnd none_begins goes so_far
 so_far-first rs h e own (PageComes none_begun fewer) itself goes so_far = so_far-begin h (unbegun (layout_of h).begun _ none_begun) goes so_far
 
@@ -182,6 +183,9 @@ closes-by l own e es s t to_do (NothingComes none_begins) done is so_far =
     (λ on. eject_left s.registers s.history e es s.input.ahead is.closing on (still_to_do s e es to_do is.waits))
     (closing-event s.registers s.history e is.closing)
     (so_far-event true s.registers s.history e meant.0 none_begins is.over so_far)
+closes-by l own e es s t to_do (FieldEndComes ends none_begins fewer) done is so_far =
+    let h : PageHistory = s.history in
+    own-closes l (Text FieldEnd) e es s t to_do done is (so_far-text h FieldEnd none_begins is.over so_far)
 closes-by l own e es s t to_do (WordEndComes none_begins fewer) done is so_far =
     let h : PageHistory = s.history in
     own-closes l (Text WordEnd) e es s t to_do done is (so_far-text h WordEnd none_begins is.over so_far)

@@ -3,10 +3,11 @@ use Rattle.std.proofs.Common.{◌≡◌, ◌⊎◌, inl, inr, ◌<◌, ◌+◌, 
 use Rattle.std.specs.Prelude.{nat_le, is_some, option_map, if◌then◌else◌, ◌==◌}
 use Rattle.std.specs.List.{AllByRecursion}
 use Rattle.std.proofs.lemmas.Bool.{leb-false}
-use Rattle.roff_layout.specs.Lines.{Finished, finished}
+use Rattle.roff_layout.specs.Behind.{finished}
+use Rattle.roff_layout.specs.Lines.{Finished}
 use Rattle.roff_layout.specs.Words.{is_empty}
 use Rattle.roff_layout.specs.declared.event.Event.{Event}
-use Rattle.roff_layout.specs.declared.event.Event.TheVariants.{Print, Tab, WordEnd, Gap, LineEnd, Count, Break, Interrupt as Interrupted, Resume, Set}
+use Rattle.roff_layout.specs.declared.event.Event.TheVariants.{Print, Tab, FieldEnd, WordEnd, Gap, LineEnd, Count, Break, Interrupt as Interrupted, Resume, Set}
 use Rattle.roff_num.specs.declared.num.Num.{Num}
 use Rattle.roff_layout.specs.DeviceText.{box_line, device_lines, device_text}
 use Rattle.roff_layout.specs.Happenings.{Happening, Does, Places, Titles, is_eject}
@@ -258,6 +259,7 @@ needs-finished : (h : PageHistory) (e : Event) → is_some (finished (text_of h)
 needs-finished h (Print glyph) is = refl
 needs-finished h Tab is = refl
 needs-finished h Break is = finished_or (not (layout_of h).is_closing) (is_some (finished (text_of h) Break)) is
+needs-finished h FieldEnd is = is
 needs-finished h WordEnd is = is
 needs-finished h (Gap columns) is = is
 needs-finished h LineEnd is = is

@@ -20,6 +20,7 @@ use Rattle.roff_run.specs.Run.Counts.{counts, first_passed, names_counted, place
 use Rattle.roff_laws.proofs.TrapsPlanted.{length-with_first, length-without_first, traps-placed, traps-put}
 use Rattle.roff_laws.proofs.CountsWithin.{AllWithin, counts_within, last_within}
 use Rattle.roff_laws.proofs.InputLeaving.{IsLeft-left_in}
+use Rattle.roff_laws.proofs.InterruptedLengths.{pending_length-interrupted}
 use Rattle.roff_laws.proofs.Told.{told_step-holds}
 use Rattle.roff_laws.proofs.PerformedOrStopped.{PerformedOrStopped, Performed, Sprang, EndsOver, StoppedAt, first_of, left_behind, performed_or_stopped}
 use Rattle.roff_run.proofs.Readings.{IsMade, ReadsOn, LimitStops, AheadTaken, ByteTaken, NoteTaken, HalfEnds, InputLeft, LineEnds, PhaseEnds, MessageTold, RunAborts, SourceFails, SourceStops, SprungRead, ReadsOn-with_sprung, TextChanged, ReadsOn-text}
@@ -28,7 +29,7 @@ use Rattle.roff_input.specs.Input.{counting, item_taken}
 use Rattle.roff_num.specs.declared.num.Num.{Num}
 use Rattle.roff_layout.specs.DeviceText.{device_lines}
 use Rattle.roff_layout.specs.Happenings.{Happening, Does, Titles}
-use Rattle.roff_layout.specs.Lines.{finished}
+use Rattle.roff_layout.specs.Behind.{finished, length_reached, pending_length}
 use Rattle.roff_layout.specs.Puts.{appended, puts}
 use Rattle.roff_layout.specs.Turning.{is_given, is_named, moved_to, unput}
 use Rattle.roff_layout.specs.declared.layout_event.LayoutEvent.{LayoutEvent}
@@ -43,6 +44,7 @@ use Rattle.roff_run.specs.Requests.Numbering.{number_of_page}
 use Rattle.roff_run.specs.Starts.{history_given, pages_given, with_given}
 use Rattle.roff_run.specs.declared.start.Start.{Start}
 use Rattle.roff_run.proofs.GivenPages.{environments-given_pages, keeps-given, written-given_pages}
+use Rattle.roff_run.proofs.LengthsReached.{pending_length-reached}
 use Rattle.roff_run.proofs.PutBack.{bytes_ahead-back, ends_ahead-back}
 use Rattle.roff_source.specs.Tape.{Tape}
 use Rattle.roff_layout.specs.DueTexts.{TextDue}
@@ -94,10 +96,14 @@ within-gone_back l (number ∷ left) es is few = within-turned_to l number _ (wi
 environments_within : (l : Limits) (h : PageHistory) (e : PastEvent) → EnvironmentsWithin l (environments h) → refusal l h e ≡ None
     → EnvironmentsWithin l (environments (e ∷ h))
 environments_within l h (Text e) is allowed =
-    record { in_force = (counts_within l (counts h (Text e)) allowed).0; next = is.next; last = is.last; left = is.left }
+    let few : length_reached e (text_of h) ≤ l.line = (counts_within l (counts h (Text e)) allowed).0 in
+    let in_force : pending_length (e ∷ text_of h) ≤ l.line = omega (arith, few, pending_length-reached e (text_of h)) in
+    record { in_force = in_force; next = is.next; last = is.last; left = is.left }
 environments_within l h (Page e) is allowed = is
 environments_within l h (Title t) is allowed = is
-environments_within l h (Interrupt untold) is allowed = record { in_force = is.in_force; next = is.next; last = is.last; left = is.left }
+environments_within l h (Interrupt untold) is allowed =
+    let same = pending_length-interrupted (environments h).in_force.text in
+    record { in_force = omega (arith, same, is.in_force); next = is.next; last = is.last; left = is.left }
 environments_within l h (Environment number) is allowed =
     let es : Environments = environments h in
     let few : length es.left + 1 ≤ l.environments = (counts_within l (counts h (Environment number)) allowed).0 in

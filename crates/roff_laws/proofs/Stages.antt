@@ -3,8 +3,9 @@
 -- Each function f of the run has its lemma Stage-f here, with a line for each of its cases.
 use Rattle.std.proofs.Common.{◌≡◌, ℕ, Bool, true, false, List, [], ◌∷◌, ◌++◌, map, Option, Some, None, ◌⊎◌, inl, inr, refl, sym, ◌∙◌, ap, subst}
 use Rattle.std.specs.Prelude.{nat_le, option_map, if◌then◌else◌}
-use Rattle.roff_layout.specs.Lines.{Finished, finished}
-use Rattle.roff_layout.specs.declared.event.Event.TheVariants.{WordEnd}
+use Rattle.roff_layout.specs.Behind.{finished}
+use Rattle.roff_layout.specs.Lines.{Finished}
+use Rattle.roff_layout.specs.declared.event.Event.TheVariants.{FieldEnd, WordEnd}
 use Rattle.roff_num.specs.ShortNames.{name_bytes}
 use Rattle.roff_num.specs.declared.limits.Limits.{Limits}
 use Rattle.roff_num.specs.declared.num.Num.{Num}
@@ -45,7 +46,7 @@ use Rattle.roff_run.proofs.GivenPages.{keeps-given}
 use Rattle.roff_run.specs.declared.request.Called.TheVariants.{Request as ARequest, Body as ABody, Nothing as Unknown}
 use Rattle.roff_run.proofs.Readings.{ReadsOn, LimitStops, AheadTaken, ByteTaken, HasEnded, NoteTaken, HalfEnds, InputLeft, LineEnds, PhaseEnds, MessageTold, RunAborts, SourceFails, SourceStops, SprungRead, TextChanged}
 use Rattle.roff_run.proofs.Behind.{Behind-ahead_taken, Behind-sprung_read, Passed-phase_ended}
-use Rattle.roff_laws.proofs.ComesBefore.{ComesBefore, NothingComes, PageComes, WordEndComes, comes_before}
+use Rattle.roff_laws.proofs.ComesBefore.{ComesBefore, NothingComes, FieldEndComes, PageComes, WordEndComes, comes_before}
 use Rattle.roff_laws.proofs.InputLeaving.{IsLeft-left_in}
 use Rattle.roff_run.proofs.GrowingAhead.{ahead-called, ahead-interrupted, ahead-same}
 use Rattle.roff_run.proofs.MeantEvents.{AllMeant, AreMeant, MayBe, meant-append, meant-events}
@@ -125,6 +126,7 @@ open-event rs h (Page EndDivert) meant is = record { closing = is.closing; over 
 pub open-first : (rs : AllRegisters) (h : PageHistory) (e : PageEvent) (own : Option PageEvent) → ComesBefore h e own
     → MayBe false e → LaidOpen (layout_of h) → LaidOpen (layout_of (told rs (first_of own e) ∷ h))
 open-first rs h e own (NothingComes none_begins) meant is = open-event rs h e meant is
+open-first rs h e own (FieldEndComes ends none_begins fewer) meant is = open-event rs h (Text FieldEnd) tt is
 open-first rs h e own (WordEndComes none_begins fewer) meant is = open-event rs h (Text WordEnd) tt is
 open-first rs h e own (PageComes none_begun fewer) meant is = record { closing = is.closing; over = is.over }
 

@@ -19,7 +19,7 @@ text_steps (Some due) = 1
 -- how many steps there are at the most before something is read, where no text changes first
 abbrev pub steps_before : List PageEvent → Option ShortName → PageHistory → ℕ
 steps_before [] sprung h = sprung_steps sprung
-steps_before (e ∷ es) sprung h = 5 * length es + steps_in_front h e + 3
+steps_before (e ∷ es) sprung h = 6 * length es + steps_in_front h e + 3
 
 abbrev pub steps_of : State → ℕ
 steps_of s = text_steps s.follows.text + steps_before s.to_do s.follows.sprung s.history
@@ -32,9 +32,9 @@ pub text_steps-few : (text : Option TextDue) → text_steps text ≤ 1
 text_steps-few None = omega arith
 text_steps-few (Some due) = omega arith
 
-pub steps_before-few : (es : List PageEvent) (sprung : Option ShortName) (h : PageHistory) → steps_before es sprung h ≤ 5 * length es + 1
+pub steps_before-few : (es : List PageEvent) (sprung : Option ShortName) (h : PageHistory) → steps_before es sprung h ≤ 6 * length es + 1
 steps_before-few [] sprung h = omega (arith, sprung_steps-few sprung)
 steps_before-few (e ∷ es) sprung h = omega (arith, steps_in_front-few h e)
 
-pub steps_of-few : (s : State) → steps_of s ≤ 5 * length s.to_do + 2
+pub steps_of-few : (s : State) → steps_of s ≤ 6 * length s.to_do + 2
 steps_of-few s = omega (arith, text_steps-few s.follows.text, steps_before-few s.to_do s.follows.sprung s.history)

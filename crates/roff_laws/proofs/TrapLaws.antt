@@ -4,7 +4,7 @@ use Rattle.std.specs.Prelude.{nat_le, nat_lt, if◌then◌else◌, ◌==◌}
 use Rattle.std.specs.List.{AllByRecursion}
 use Rattle.std.proofs.lemmas.Bool.{eq-eqb, eqb-true, leb-true, ltb-true, ne_eqb}
 use Rattle.roff_layout.specs.Words.{is_empty}
-use Rattle.roff_layout.specs.declared.event.Event.TheVariants.{Print, Tab, WordEnd, Gap, LineEnd, Count, Break, Interrupt as Interrupted, Resume, Set}
+use Rattle.roff_layout.specs.declared.event.Event.TheVariants.{Print, Tab, FieldEnd, WordEnd, Gap, LineEnd, Count, Break, Interrupt as Interrupted, Resume, Set}
 use Rattle.roff_num.specs.declared.short_name.ShortName.{ShortName}
 use Rattle.roff_layout.specs.Happenings.{Happening, Does, Places, Titles, is_eject}
 use Rattle.roff_layout.specs.Layout.{Box, Diversion, Layout, page_place}
@@ -231,7 +231,8 @@ springs-happens : (h : PageHistory) (e : PastEvent) (x : Happening) → happens 
     → springs h e ≡ springs_on_page x (layout_of h)
 springs-happens h (Text Count) x is = let wrong : None ≡ Some x = is in absurd (cc)
 springs-happens h (Text (Print glyph)) x is = let wrong : None ≡ Some x = is in absurd (cc)
-springs-happens h (Text Tab) x is = let wrong : None ≡ Some x = is in absurd (cc)
+springs-happens h (Text Tab) x is = ap (λ (o : Option Happening). sprung_on o (layout_of h)) is
+springs-happens h (Text FieldEnd) x is = let wrong : None ≡ Some x = is in absurd (cc)
 springs-happens h (Text WordEnd) x is = ap (λ (o : Option Happening). sprung_on o (layout_of h)) is
 springs-happens h (Text (Gap columns)) x is = let wrong : None ≡ Some x = is in absurd (cc)
 springs-happens h (Text LineEnd) x is = ap (λ (o : Option Happening). sprung_on o (layout_of h)) is

@@ -1,7 +1,7 @@
 -- What happens to one environment, and its history.
 use Rattle.std.specs.Prelude.{Bool, true, false, List, [], ◌∷◌, None}
 pub use Rattle.roff_layout.specs.declared.event.Event.{Event}
-pub use Rattle.roff_layout.specs.declared.event.Event.TheVariants.{Print, Tab, WordEnd, Gap, LineEnd, Count, Break, Interrupt, Resume, Set}
+pub use Rattle.roff_layout.specs.declared.event.Event.TheVariants.{Print, Tab, FieldEnd, WordEnd, Gap, LineEnd, Count, Break, Interrupt, Resume, Set}
 use Rattle.roff_layout.specs.declared.settings.Settings.{Settings}
 use Rattle.roff_layout.specs.Settings.{initial_settings, settings_with, counted}
 use Rattle.roff_layout.specs.TabStops.{TabStops, stops_with}

@@ -6,12 +6,14 @@ pub mod Places
 pub mod Fitting
 pub mod Words
 pub mod Lines
-pub mod Telling
 pub mod Columns
 pub mod Diverted
 pub mod TitleColumns
 pub mod Paragraphs
 pub mod LastLine
+pub mod Fields
+pub mod Behind
+pub mod Telling
 pub mod Titles
 pub mod Layout
 pub mod Happenings

@@ -6,7 +6,8 @@ use Rattle.roff_layout.specs.declared.settings.Settings.{Settings}
 use Rattle.roff_layout.specs.Events.{Event, Print, WordEnd, Gap, LineEnd, Count, Break, Set, History}
 use Rattle.roff_layout.specs.Fitting.{Word}
 use Rattle.roff_layout.specs.Words.{is_empty, has_open_word, blanks, words}
-use Rattle.roff_layout.specs.Lines.{Finished, pending_length, finished}
+use Rattle.roff_layout.specs.Lines.{Finished}
+use Rattle.roff_layout.specs.Behind.{finished, pending_length}
 
 -- a history, and these glyphs behind it
 abbrev pub glyphs_told : List Glyph → History → History

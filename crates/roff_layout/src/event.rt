@@ -5,14 +5,19 @@ use crate::settings::Param;
 
 /// What happens to one environment: a text is told to it as a list of these.
 ///
-/// A word end stands before each gap, line end and break; where a word is open all the same, it
-/// stays open.
+/// A field's end stands before each line end and break, and a word end before these and each gap.
+/// Where a word is open all the same, it stays open, and a field that is open all the same ends
+/// with its text at the tab. In an open field a word end ends nothing.
 #[derive(Clone, Copy)]
 pub enum Event {
     /// A glyph joins the word that is open, or opens one.
     Print(Glyph),
     /// A tab joins the word as a glyph does. It moves to the next tab stop, or nowhere without one.
+    /// At a stop at which text ends, or has its middle, it opens a field instead: the text up to
+    /// the field's end or the next tab, which is moved as a whole once the field ends.
     Tab,
+    /// The open field ends, if one is open.
+    FieldEnd,
     /// The open word ends.
     WordEnd,
     /// So many blanks stand between words.

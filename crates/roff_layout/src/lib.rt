@@ -8,6 +8,7 @@ mod glyph;
 mod layout_event;
 mod line;
 mod settings;
+mod stop;
 mod trap;
 
 pub use event::Event;
@@ -15,4 +16,5 @@ pub use glyph::Glyph;
 pub use layout_event::LayoutEvent;
 pub use line::{FURTHER_BLANK, GAP, Line, UNPADDABLE};
 pub use settings::{AdjustMode, Param, Settings};
+pub use stop::{StopKind, TabStop};
 pub use trap::Trap;

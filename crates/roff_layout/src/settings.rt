@@ -41,6 +41,10 @@ pub enum Param {
     NoStops,
     /// One more tab stop, at this column. Of more than 32 the first ones are kept.
     Stop(u32),
+    /// The same: text ends at it.
+    RightStop(u32),
+    /// The same: text has its middle at it.
+    CentredStop(u32),
 }
 
 /// What is in force in an environment. Lengths are in columns.
@@ -120,7 +124,11 @@ impl Settings {
                 changed.previous_title_length = self.title_length;
                 changed.title_length = columns;
             }
-            Param::TemporaryIndent(_) | Param::NoStops | Param::Stop(_) => {}
+            Param::TemporaryIndent(_)
+            | Param::NoStops
+            | Param::Stop(_)
+            | Param::RightStop(_)
+            | Param::CentredStop(_) => {}
         }
         changed
     }

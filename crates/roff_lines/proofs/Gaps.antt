@@ -4,12 +4,12 @@ use Rattle.std.specs.Prelude.{if◌then◌else◌, ◌==◌}
 use Rattle.std.proofs.lemmas.Bool.{cond_both, true≢false}
 use Rattle.std.proofs.lemmas.Bool.Decides.{nat_tests}
 use Rattle.roff_layout.specs.declared.glyph.Glyph.{Glyph}
-use Rattle.roff_layout.specs.declared.event.Event.TheVariants.{Print, Tab, WordEnd, Gap, LineEnd, Count, Break, Interrupt, Resume, Set}
+use Rattle.roff_layout.specs.declared.event.Event.TheVariants.{Print, Tab, FieldEnd, WordEnd, Gap, LineEnd, Count, Break, Interrupt, Resume, Set}
 use Rattle.roff_layout.specs.Events.{History}
 use Rattle.roff_layout.specs.Places.{has_line_glyph}
 use Rattle.roff_layout.specs.Words.{has_open_word, last_word_glyphs, begun_gap, blanks}
 use Rattle.roff_lines.specs.Env.Kept.{Kept, begun_blanks}
-use Rattle.roff_lines.specs.Env.Stands.{Stands, StandsBehind}
+use Rattle.roff_lines.specs.Env.Stands.{StandsPlain, StandsPlainBehind}
 use Rattle.roff_lines.proofs.LastLine.{last_text-none, last_width-none}
 
 -- the blanks of a line's end, where there are none
@@ -52,7 +52,7 @@ either-some true m n one other = one refl
 either-some false m n one other = other
 
 -- so an open word has one
-blanks-open : (h : History) → has_open_word h ≡ true → 0 < blanks h
+pub blanks-open : (h : History) → has_open_word h ≡ true → 0 < blanks h
 blanks-open [] is_open = absurd (true≢false (sym is_open))
 blanks-open (Print g ∷ h) is_open =
     either-some (has_open_word h) (blanks h) (begun_gap (blanks h) (last_word_glyphs h)) (blanks-open h) (begun_gap-some (blanks h) (last_word_glyphs h))
@@ -65,6 +65,7 @@ blanks-open (Count ∷ h) is_open = blanks-open h is_open
 blanks-open (Break ∷ h) is_open = rw is_open (blanks-open h is_open)
 blanks-open (Interrupt ∷ h) is_open = blanks-open h is_open
 blanks-open (Resume ∷ h) is_open = blanks-open h is_open
+blanks-open (FieldEnd ∷ h) is_open = blanks-open h is_open
 blanks-open (Set p ∷ h) is_open = blanks-open h is_open
 
 -- whether a word is open or begins, its blanks are counted up to the limit
@@ -74,7 +75,7 @@ begun-either true n ends some = begun-counted n ends ∙ ap (λ m. min m (2 ^ 33
 begun-either false n ends some = begun-counted n ends
 
 -- the gap of the next glyph's word is the definition's
-pub begun_blanks-stands : (line_cap : ℕ) (h : History) (k : Kept) → Stands line_cap h k → (g : Glyph)
+pub begun_blanks-stands : (line_cap : ℕ) (h : History) (k : Kept) → StandsPlain line_cap h k → (g : Glyph)
     → begun_blanks k ≡ min (blanks (Print g ∷ h)) (2 ^ 33)
 begun_blanks-stands line_cap h k s g =
     ap (λ n. begun n k.ends_sentence) s.blanks ∙ ap (begun (min (blanks h) (2 ^ 33))) s.ends_sentence
@@ -91,7 +92,7 @@ closed-none false n some none = refl
 
 -- a gap where no glyph stands on the line, and no blanks are counted
 pub StandsBehind-first_gap : (n : ℕ) (k : Kept) → n ≤ 2 ^ 33 → k.has_glyph ≡ false → k.is_open ≡ false → k.blanks ≡ 0
-    → StandsBehind k (Gap n) (record k { blanks = n })
+    → StandsPlainBehind k (Gap n) (record k { blanks = n })
 StandsBehind-first_gap n k few bare o none line_cap h s =
     let closed : has_open_word h ≡ false = sym s.is_open ∙ o in
     let no_glyph : has_line_glyph h ≡ false = sym s.has_glyph ∙ bare in
@@ -100,6 +101,7 @@ StandsBehind-first_gap n k few bare o none line_cap h s =
       small = s.small;
       within = rw closed (rw closed at s.within);
       cap = s.cap;
+      no_field = s.no_field;
       settings = s.settings;
       temporary_indent = s.temporary_indent;
       stops = s.stops;

@@ -8,13 +8,17 @@ use Rattle.std.specs.Prelude.{◌==◌, nat_lt}
 use Rattle.std.proofs.lemmas.Bool.{cases_Bool}
 use Rattle.std.proofs.lemmas.List.{drop-drop, take_more}
 use Rattle.std.proofs.lemmas.List.Sums.{take_while-cons}
-use Rattle.roff_layout.specs.Glyphs.{gap_blank, further_blank, glyph_blank}
+use Rattle.roff_layout.specs.Glyphs.{gap_blank, further_blank, glyph_blank, text_byte}
 use Rattle.roff_layout.specs.Columns.{spread}
 use Rattle.roff_lines.specs.GlyphsInFront.{glyphs_in_front}
 
 -- a byte above the blank stands for none
 pub eqb-above : (b c : ℕ) → c ≤ 32 → 32 < b → (b == c) ≡ false
 eqb-above b c mark above = ne_eqb b c (λ e. absurd (omega arith))
+
+-- a byte above the blank is its own text
+pub text_byte-above : (b : ℕ) → 32 < b → text_byte b ≡ b
+text_byte-above b above = grind (arith, nat_tests)
 
 -- so it is written as itself
 pub spread-glyph : (spare gaps i b : ℕ) (text : List ℕ) → 32 < b →

@@ -10,12 +10,12 @@ use Rattle.roff_layout.specs.Words.{is_empty, blanks, words}
 use Rattle.roff_layout.specs.Lines.{Finished, empty_line, finished, laid_out, line_laid_out, pending_line}
 use Rattle.roff_layout.specs.LastLine.{line_width, last_text, last_width}
 use Rattle.roff_lines.specs.Env.Kept.{Kept, pending_width, with_input_line_ended, finished_by_line_end}
-use Rattle.roff_lines.specs.Env.Stands.{Stands}
+use Rattle.roff_lines.specs.Env.Stands.{StandsPlain}
 use Rattle.roff_lines.proofs.PendingLine.{pending_length-line_end}
 use Rattle.roff_lines.proofs.LastLine.{last_text-none, last_text-some, last_width-none, last_width-some}
 use Rattle.roff_lines.proofs.Stands.{laid_out-stands}
 
-module _ (line_cap : ℕ) (h : History) (k : Kept) (s : Stands line_cap h k) where
+module _ (line_cap : ℕ) (h : History) (k : Kept) (s : StandsPlain line_cap h k) where
   -- where words are measured, the end of a line with a glyph has a gap of its own
   blanks-filled : fills k.settings ≡ true →
       (if not k.is_open && k.has_glyph then (if k.ends_sentence then 2 else 1) else k.blanks)
@@ -94,7 +94,7 @@ module _ (line_cap : ℕ) (h : History) (k : Kept) (s : Stands line_cap h k) whe
   -- where words aren't measured, nothing is pending behind it
   Stands-unfilled : fills k.settings ≡ false → (text : List ℕ) (width : ℕ) → text ≡ last_text (LineEnd ∷ h)
       → width ≡ last_width (LineEnd ∷ h)
-      → Stands line_cap (LineEnd ∷ h) (record k {
+      → StandsPlain line_cap (LineEnd ∷ h) (record k {
         settings = counted k.settings;
         line = [];
         has_line = false;
@@ -109,6 +109,7 @@ module _ (line_cap : ℕ) (h : History) (k : Kept) (s : Stands line_cap h k) whe
     small = s.small;
     within = omega (arith, pending_length-line_end h, s.within);
     cap = s.cap;
+    no_field = s.no_field;
     settings = ap counted s.settings;
     temporary_indent = s.temporary_indent;
     stops = s.stops;
@@ -127,7 +128,7 @@ module _ (line_cap : ℕ) (h : History) (k : Kept) (s : Stands line_cap h k) whe
   }
 
   -- where they are measured, the pending line stays
-  Stands-filled : fills k.settings ≡ true → Stands line_cap (LineEnd ∷ h) (record k {
+  Stands-filled : fills k.settings ≡ true → StandsPlain line_cap (LineEnd ∷ h) (record k {
     settings = counted k.settings;
     blanks = if not k.is_open && k.has_glyph then (if k.ends_sentence then 2 else 1) else k.blanks;
     has_glyph = false;
@@ -138,6 +139,7 @@ module _ (line_cap : ℕ) (h : History) (k : Kept) (s : Stands line_cap h k) whe
     small = s.small;
     within = omega (arith, pending_length-line_end h, s.within);
     cap = s.cap;
+    no_field = s.no_field;
     settings = ap counted s.settings;
     temporary_indent = s.temporary_indent;
     stops = s.stops;
@@ -165,9 +167,9 @@ module _ (line_cap : ℕ) (h : History) (k : Kept) (s : Stands line_cap h k) whe
       ]
 
   -- what is kept behind a line's end stands for the history with it
-  pub Stands-line_end : Stands line_cap (LineEnd ∷ h) (with_input_line_ended k)
+  pub Stands-line_end : StandsPlain line_cap (LineEnd ∷ h) (with_input_line_ended k)
   Stands-line_end =
-      let Goal : Kept → Type 0 = λ n. Stands line_cap (LineEnd ∷ h) (record n { settings = counted k.settings }) in
+      let Goal : Kept → Type 0 = λ n. StandsPlain line_cap (LineEnd ∷ h) (record n { settings = counted k.settings }) in
       cond_both (fills k.settings) _ _ Goal Stands-filled
       (λ f. cond_both (k.has_line || k.settings.filling) _ _ Goal
       (λ some. Stands-unfilled f (if k.has_line then k.line else k.finished)

@@ -13,7 +13,7 @@ use Rattle.roff_layout.specs.Fitting.{word_text, line_text}
 use Rattle.roff_layout.specs.Words.{is_empty, is_closer, is_sentence_mark, ends_sentence, blanks, has_open_word, last_word_glyphs, open_glyphs, open_word, words}
 use Rattle.roff_layout.specs.Lines.{pending_line, pending_length}
 use Rattle.roff_lines.specs.Env.Kept.{Kept, begun_blanks, ends_in_word, length_with, with_glyph}
-use Rattle.roff_lines.specs.Env.Stands.{Stands}
+use Rattle.roff_lines.specs.Env.Stands.{StandsPlain}
 use Rattle.roff_lines.proofs.Gaps.{begun_blanks-stands}
 
 -- blanks that are counted up to more than the limit are all counted, where they are within it
@@ -33,7 +33,7 @@ ends-open : (is_open : Bool) (glyphs : List Glyph) → (is_open && ends_sentence
 ends-open true glyphs = refl
 ends-open false glyphs = refl
 
-module _ (line_cap : ℕ) (h : History) (k : Kept) (s : Stands line_cap h k) (g : Glyph) where
+module _ (line_cap : ℕ) (h : History) (k : Kept) (s : StandsPlain line_cap h k) (g : Glyph) where
   -- the open word has the glyph at its end
   word-print : k.word ++ glyph_text g ≡ word_text (open_word (Print g ∷ h))
   word-print =
@@ -80,11 +80,12 @@ module _ (line_cap : ℕ) (h : History) (k : Kept) (s : Stands line_cap h k) (g 
       ∙ ends-open (has_open_word h) (last_word_glyphs h)
 
   -- what is kept behind it stands for the history with it
-  pub Stands-print : length_with g k ≤ k.cap → Stands line_cap (Print g ∷ h) (with_glyph g k)
+  pub Stands-print : length_with g k ≤ k.cap → StandsPlain line_cap (Print g ∷ h) (with_glyph g k)
   Stands-print room = record {
     small = s.small;
     within = within-print room;
     cap = s.cap;
+    no_field = s.no_field;
     settings = s.settings;
     temporary_indent = s.temporary_indent;
     stops = s.stops;

@@ -6,10 +6,10 @@ use Rattle.roff_layout.specs.Words.{is_empty, blanks, open_word, words}
 use Rattle.roff_layout.specs.Fitting.{line_indent, fits}
 use Rattle.roff_layout.specs.Lines.{laid_out, line_laid_out, pending_line}
 use Rattle.roff_lines.specs.Env.Kept.{Kept, word_fits}
-use Rattle.roff_lines.specs.Env.Stands.{Stands}
+use Rattle.roff_lines.specs.Env.Stands.{StandsPlain}
 use Rattle.roff_lines.proofs.PendingLine.{is_empty-true, is_empty-last_line}
 
-module _ (line_cap : ℕ) (h : History) (k : Kept) (s : Stands line_cap h k) where
+module _ (line_cap : ℕ) (h : History) (k : Kept) (s : StandsPlain line_cap h k) where
   -- where a line is kept, a word is pending
   pub is_empty-pending_line : k.has_line ≡ true → is_empty (pending_line h) ≡ false
   is_empty-pending_line l = is_empty-last_line (words h) ∙ not-true (is_empty (words h)) (sym s.has_line ∙ l)

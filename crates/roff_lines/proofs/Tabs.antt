@@ -1,21 +1,21 @@
 -- Tabs, where an environment stands for its history.
-use Rattle.std.proofs.Common.{◌≡◌, ℕ, ◌∷◌, ap, subst, ◌∙◌, arith}
-use Rattle.std.proofs.lemmas.Bool.Decides.{nat_tests}
+use Rattle.std.proofs.Common.{◌≡◌, ℕ, ◌∷◌, ap, subst, ◌∙◌}
 use Rattle.roff_layout.specs.declared.glyph.Glyph.TheVariants.{Blanks}
-use Rattle.roff_layout.specs.TabStops.{shorter_way, way_to_stop}
+use Rattle.roff_layout.specs.TabStops.{way_to_stop}
 use Rattle.roff_layout.specs.declared.event.Event.TheVariants.{Print, Tab}
 use Rattle.roff_layout.specs.Events.{History}
 use Rattle.roff_layout.specs.Places.{tab_width}
 use Rattle.roff_lines.specs.Env.Kept.{Kept}
-use Rattle.roff_lines.specs.Env.Stands.{Stands, StandsBehind}
+use Rattle.roff_lines.specs.Env.Stands.{StandsPlain, StandsPlainBehind}
 
 -- a tab does what a glyph of as many blanks does
-pub Stands-tab : (line_cap : ℕ) (h : History) (k : Kept) → Stands line_cap (Print (Blanks (tab_width h)) ∷ h) k
-    → Stands line_cap (Tab ∷ h) k
+pub Stands-tab : (line_cap : ℕ) (h : History) (k : Kept) → StandsPlain line_cap (Print (Blanks (tab_width h)) ∷ h) k
+    → StandsPlain line_cap (Tab ∷ h) k
 Stands-tab line_cap h k s = record {
   small = s.small;
   within = s.within;
   cap = s.cap;
+  no_field = s.no_field;
   settings = s.settings;
   temporary_indent = s.temporary_indent;
   stops = s.stops;
@@ -34,20 +34,12 @@ Stands-tab line_cap h k s = record {
 }
 
 -- the way to the next stop is the definition's
-pub way_to_stop-stands : (line_cap : ℕ) (h : History) (k : Kept) → Stands line_cap h k → way_to_stop k.stops k.place ≡ tab_width h
+pub way_to_stop-stands : (line_cap : ℕ) (h : History) (k : Kept) → StandsPlain line_cap h k → way_to_stop k.stops k.place ≡ tab_width h
 way_to_stop-stands line_cap h k s = ap (λ t. way_to_stop t k.place) s.stops ∙ ap (way_to_stop _) s.place
 
 -- so a tab of that width stands
 pub StandsBehind-tab : (old new : Kept) (columns : ℕ) → columns ≡ way_to_stop old.stops old.place
-    → StandsBehind old (Print (Blanks columns)) new → StandsBehind old Tab new
+    → StandsPlainBehind old (Print (Blanks columns)) new → StandsPlainBehind old Tab new
 StandsBehind-tab old new columns way stands line_cap h s =
     let width : columns ≡ tab_width h = way ∙ way_to_stop-stands line_cap h old s in
-    Stands-tab line_cap h new (subst (λ n. Stands line_cap (Print (Blanks n) ∷ h) new) width (stands line_cap h s))
-
--- the shortest of three ways is the same, whichever two are taken first
-pub shorter_way_assoc : (m n o : ℕ) → shorter_way (shorter_way m n) o ≡ shorter_way m (shorter_way n o)
-shorter_way_assoc m n o = grind (arith, nat_tests)
-
--- no way leaves another as it is
-pub shorter_way_none : (m : ℕ) → shorter_way m 0 ≡ m
-shorter_way_none m = grind (arith, nat_tests)
+    Stands-tab line_cap h new (subst (λ n. StandsPlain line_cap (Print (Blanks n) ∷ h) new) width (stands line_cap h s))

@@ -6,10 +6,11 @@ use Rattle.std.proofs.Math.Seq.{drop-cons, take-nil}
 use Rattle.std.proofs.lemmas.Bool.{cases_Bool, cases_lt}
 use Rattle.std.proofs.lemmas.List.{drop-drop, drop_all, get_or-take, length-drop, length-take, take-take, take_all}
 use Rattle.roff_layout.specs.Events.{History}
-use Rattle.roff_layout.specs.Telling.{bytes_told, QuietlyTold}
+use Rattle.roff_layout.specs.Telling.{bytes_told}
+use Rattle.roff_lines.specs.Env.Tells.{PlainlyTold}
 use Rattle.roff_lines.specs.GlyphsInFront.{glyphs_in_front}
 use Rattle.roff_lines.specs.Env.Kept.{Kept, word_finishes}
-use Rattle.roff_lines.specs.Env.Stands.{Stands}
+use Rattle.roff_lines.specs.Env.Stands.{StandsPlain}
 use Rattle.roff_lines.specs.Env.Tells.{TellsFront, TellsOf, EndsGlyphs, EndsBlanks}
 use Rattle.roff_lines.proofs.GlyphsInFront.{front-glyph, front-blank}
 use Rattle.roff_lines.proofs.Tells.{TellsFront-append}
@@ -85,23 +86,23 @@ module _ (count told : ℕ) (bytes : List ℕ) (old new : Kept) (text : count �
   told-long : length front - length rest ≡ told
   told-long = omega (arith, length-drop told front, long, few)
 
-  pub quiet-front : (line_cap : ℕ) (h : History) → Stands line_cap h old → QuietlyTold line_cap (take told bytes) h
+  pub quiet-front : (line_cap : ℕ) (h : History) → StandsPlain line_cap h old → PlainlyTold line_cap (take told bytes) h
   quiet-front line_cap h s =
-      subst (λ xs. QuietlyTold line_cap xs h) (ap (λ n. take n front) told-long ∙ take-take told count bytes few)
+      subst (λ xs. PlainlyTold line_cap xs h) (ap (λ n. take n front) told-long ∙ take-take told count bytes few)
       (QuietlyTold-told front rest old new t line_cap h s)
 
-  pub stands-front : (line_cap : ℕ) (h : History) → Stands line_cap h old → Stands line_cap (bytes_told (take told bytes) h) new
+  pub stands-front : (line_cap : ℕ) (h : History) → StandsPlain line_cap h old → StandsPlain line_cap (bytes_told (take told bytes) h) new
   stands-front line_cap h s =
-      subst (λ xs. Stands line_cap (bytes_told xs h) new) (ap (λ n. take n front) told-long ∙ take-take told count bytes few)
+      subst (λ xs. StandsPlain line_cap (bytes_told xs h) new) (ap (λ n. take n front) told-long ∙ take-take told count bytes few)
       (Stands-told front rest old new t line_cap h s)
 
   pub most-front : AllByRecursion (λ b. 31 < b) front → EndsGlyphs rest new → EndsBlanks rest new → (line_cap : ℕ) (h : History)
-      → Stands line_cap h old → told < count → QuietlyTold line_cap (take (told + 1) bytes) h → ⊥
+      → StandsPlain line_cap h old → told < count → PlainlyTold line_cap (take (told + 1) bytes) h → ⊥
   most-front printed glyphs blanks line_cap h s less quiet =
       let same : take (told + 1) bytes ≡ take (length front - length rest + 1) front =
       sym (take-take (told + 1) count bytes (omega (arith, less))) ∙ ap (λ n. take (n + 1) front) (sym told-long) in
       most_told front rest old new t printed glyphs blanks line_cap h s (omega (arith, told-long, long, less))
-      (subst (λ xs. QuietlyTold line_cap xs h) same quiet)
+      (subst (λ xs. PlainlyTold line_cap xs h) same quiet)
 
 -- a place among so many bytes in front
 module _ (bytes : List ℕ) (place count : ℕ) (text : count ≤ length bytes) where

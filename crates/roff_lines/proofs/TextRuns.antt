@@ -7,12 +7,13 @@ use Rattle.std.proofs.lemmas.Bool.{cases_Bool, ltb-true, ltb-false}
 use Rattle.std.proofs.lemmas.List.{length-append, length-take, take-append-drop}
 use Rattle.roff_layout.specs.declared.event.Event.TheVariants.{WordEnd, Gap}
 use Rattle.roff_layout.specs.Events.{History}
-use Rattle.roff_layout.specs.Telling.{bytes_told, QuietlyTold}
+use Rattle.roff_layout.specs.Telling.{bytes_told}
+use Rattle.roff_lines.specs.Env.Tells.{PlainlyTold}
 use Rattle.roff_layout.specs.Lines.{pending_length}
 use Rattle.roff_lines.specs.GlyphsInFront.{glyphs_in_front}
 use Rattle.roff_lines.specs.Env.Kept.{Kept, glyph_room, with_glyphs, with_word_ended, word_finishes}
-use Rattle.roff_lines.specs.Env.Stands.{Stands, StandsBehind}
-use Rattle.roff_lines.specs.Env.Tells.{Tells, TellsFront, EndsGlyphs, EndsBlanks}
+use Rattle.roff_lines.specs.Env.Stands.{StandsPlain, StandsPlainBehind}
+use Rattle.roff_lines.specs.Env.Tells.{TellsPlain, TellsFront, EndsGlyphs, EndsBlanks}
 use Rattle.roff_lines.proofs.GlyphsInFront.{front-glyph, front-blank}
 use Rattle.roff_lines.proofs.WordEnd.{Stands-word_end, finished_by_word-stands}
 use Rattle.roff_lines.proofs.Tells.{QuietlyTold-behind, AllByRecursion-behind}
@@ -90,7 +91,7 @@ module _ (bytes front rest : List ℕ) (k : Kept) (count room : ℕ) (some : 0 <
     TellsFront-glyphs = record {
       front = front;
       joined = rw (is_front, is_rest) (take-append-drop count bytes);
-      told = subst (Tells front k) (sym told) (Tells-glyphs front (omega (arith, length-front)) above-counted k room-front);
+      told = subst (TellsPlain front k) (sym told) (Tells-glyphs front (omega (arith, length-front)) above-counted k room-front);
     }
 
     -- behind them none is let through
@@ -104,17 +105,18 @@ module _ (bytes front rest : List ℕ) (k : Kept) (count room : ℕ) (some : 0 <
         ]))
 
 -- a blank is told where it finishes no line
-pub Tells-blank : (old mid new : Kept) → word_finishes old ≡ false → mid ≡ with_word_ended old → StandsBehind mid (Gap 1) new
-    → Tells (32 ∷ []) old new
-Tells-blank old mid new none ended gap = record {
+pub Tells-blank : (old mid new : Kept) → word_finishes old ≡ false → mid ≡ with_word_ended old → StandsPlainBehind mid (Gap 1) new
+    → new.field ≡ old.field → TellsPlain (32 ∷ []) old new
+Tells-blank old mid new none ended gap same = record {
   quiet = λ line_cap h s.
-      let told = gap line_cap (WordEnd ∷ h) (subst (Stands line_cap (WordEnd ∷ h)) (sym ended) (Stands-word_end line_cap h old s)) in
+      let told = gap line_cap (WordEnd ∷ h) (subst (StandsPlain line_cap (WordEnd ∷ h)) (sym ended) (Stands-word_end line_cap h old s)) in
       (sym (finished_by_word-stands line_cap h old s) ∙ rw none refl, told.within, tt);
-  stands = λ line_cap h s. gap line_cap (WordEnd ∷ h) (subst (Stands line_cap (WordEnd ∷ h)) (sym ended) (Stands-word_end line_cap h old s));
+  stands = λ line_cap h s. gap line_cap (WordEnd ∷ h) (subst (StandsPlain line_cap (WordEnd ∷ h)) (sym ended) (Stands-word_end line_cap h old s));
+  field = same;
 }
 
 -- a blank in front is told
-pub TellsFront-blank : (bytes behind : List ℕ) (old new : Kept) → 32 ∷ behind ≡ bytes → Tells (32 ∷ []) old new → TellsFront bytes behind old new
+pub TellsFront-blank : (bytes behind : List ℕ) (old new : Kept) → 32 ∷ behind ≡ bytes → TellsPlain (32 ∷ []) old new → TellsFront bytes behind old new
 TellsFront-blank bytes behind old new joined told = record { front = 32 ∷ []; joined = joined; told = told }
 
 -- what is told to an environment stays told where that stays
@@ -122,28 +124,28 @@ pub TellsFront-same : (bytes rest : List ℕ) (old new same : Kept) → TellsFro
 TellsFront-same bytes rest old new same told unchanged = subst (TellsFront bytes rest old) (sym unchanged) told
 
 -- a byte that ends what can be told can't be told
-module _ (line_cap : ℕ) (h : History) (k : Kept) (s : Stands line_cap h k) where
+module _ (line_cap : ℕ) (h : History) (k : Kept) (s : StandsPlain line_cap h k) where
   -- a glyph is beyond the limit
-  glyph_stops : (b : ℕ) → 32 < b → glyph_room k ≡ 0 → QuietlyTold line_cap (b ∷ []) h → ⊥
+  glyph_stops : (b : ℕ) → 32 < b → glyph_room k ≡ 0 → PlainlyTold line_cap (b ∷ []) h → ⊥
   glyph_stops b above full quiet =
       within-full line_cap h k s b above full
       (subst (λ told. pending_length told ≤ line_cap) (bytes_told-glyph b h above) quiet.1)
 
   -- a blank finishes a line
-  blank_stops : word_finishes k ≡ true → QuietlyTold line_cap (32 ∷ []) h → ⊥
+  blank_stops : word_finishes k ≡ true → PlainlyTold line_cap (32 ∷ []) h → ⊥
   blank_stops finishes quiet =
       let some = finished_by_word-stands line_cap h k s ∙ quiet.0 in
       let none = rw finishes at some in cc
 
   -- the byte in front is one of the two
-  byte_stops : (b : ℕ) (rest : List ℕ) → 31 < b → EndsGlyphs (b ∷ rest) k → EndsBlanks (b ∷ rest) k → QuietlyTold line_cap (b ∷ []) h → ⊥
+  byte_stops : (b : ℕ) (rest : List ℕ) → 31 < b → EndsGlyphs (b ∷ rest) k → EndsBlanks (b ∷ rest) k → PlainlyTold line_cap (b ∷ []) h → ⊥
   byte_stops b rest printed glyphs blanks quiet =
       elim (cases_Bool (nat_lt 32 b)) [
         | inl e ↦ let above = ltb-true 32 b e in glyph_stops b above (glyphs above) quiet
         | inr e ↦
             let below = ltb-false 32 b e in
             let blank : b ≡ 32 = omega arith in
-            blank_stops (blanks blank) (subst (λ c. QuietlyTold line_cap (c ∷ []) h) blank quiet)
+            blank_stops (blanks blank) (subst (λ c. PlainlyTold line_cap (c ∷ []) h) blank quiet)
       ]
 
 module _ (bytes rest : List ℕ) (old new : Kept) (t : TellsFront bytes rest old new) where
@@ -156,32 +158,32 @@ module _ (bytes rest : List ℕ) (old new : Kept) (t : TellsFront bytes rest old
   take-told = rw count-told (ap (take (length t.front)) (sym t.joined) ∙ take-append_seam t.front rest)
 
   -- so they can be told
-  pub QuietlyTold-told : (line_cap : ℕ) (h : History) → Stands line_cap h old → QuietlyTold line_cap (take (length bytes - length rest) bytes) h
-  QuietlyTold-told line_cap h s = subst (λ xs. QuietlyTold line_cap xs h) (sym take-told) (t.told.quiet line_cap h s)
+  pub QuietlyTold-told : (line_cap : ℕ) (h : History) → StandsPlain line_cap h old → PlainlyTold line_cap (take (length bytes - length rest) bytes) h
+  QuietlyTold-told line_cap h s = subst (λ xs. PlainlyTold line_cap xs h) (sym take-told) (t.told.quiet line_cap h s)
 
   -- and the environment stands for the history with them
-  pub Stands-told : (line_cap : ℕ) (h : History) → Stands line_cap h old
-      → Stands line_cap (bytes_told (take (length bytes - length rest) bytes) h) new
-  Stands-told line_cap h s = subst (λ xs. Stands line_cap (bytes_told xs h) new) (sym take-told) (t.told.stands line_cap h s)
+  pub Stands-told : (line_cap : ℕ) (h : History) → StandsPlain line_cap h old
+      → StandsPlain line_cap (bytes_told (take (length bytes - length rest) bytes) h) new
+  Stands-told line_cap h s = subst (λ xs. StandsPlain line_cap (bytes_told xs h) new) (sym take-told) (t.told.stands line_cap h s)
 
 -- one byte more can't be told, whatever is left
-most_by : (line_cap : ℕ) (h : History) (front rest : List ℕ) (k : Kept) → Stands line_cap (bytes_told front h) k
+most_by : (line_cap : ℕ) (h : History) (front rest : List ℕ) (k : Kept) → StandsPlain line_cap (bytes_told front h) k
     → AllByRecursion (λ b. 31 < b) rest → EndsGlyphs rest k → EndsBlanks rest k → 0 < length rest
-    → QuietlyTold line_cap (take (length front + 1) (front ++ rest)) h → ⊥
+    → PlainlyTold line_cap (take (length front + 1) (front ++ rest)) h → ⊥
 most_by line_cap h front [] k s printed glyphs blanks some quiet = absurd (omega arith)
 most_by line_cap h front (b ∷ rest) k s printed glyphs blanks some quiet =
     let one : take (length front + 1) (front ++ b ∷ rest) ≡ front ++ b ∷ [] = take-append-add front (b ∷ rest) 1 in
     byte_stops line_cap (bytes_told front h) k s b rest printed.0 glyphs blanks
-    (QuietlyTold-behind line_cap front (b ∷ []) h (subst (λ xs. QuietlyTold line_cap xs h) one quiet))
+    (QuietlyTold-behind line_cap front (b ∷ []) h (subst (λ xs. PlainlyTold line_cap xs h) one quiet))
 
 -- so no more than were told can be
 pub most_told : (bytes rest : List ℕ) (old new : Kept) (t : TellsFront bytes rest old new) → AllByRecursion (λ b. 31 < b) bytes
-    → EndsGlyphs rest new → EndsBlanks rest new → (line_cap : ℕ) (h : History) → Stands line_cap h old
-    → length bytes - length rest < length bytes → QuietlyTold line_cap (take (length bytes - length rest + 1) bytes) h → ⊥
+    → EndsGlyphs rest new → EndsBlanks rest new → (line_cap : ℕ) (h : History) → StandsPlain line_cap h old
+    → length bytes - length rest < length bytes → PlainlyTold line_cap (take (length bytes - length rest + 1) bytes) h → ⊥
 most_told bytes rest old new t printed glyphs blanks line_cap h s more quiet =
     let left : AllByRecursion (λ b. 31 < b) (t.front ++ rest) = subst (AllByRecursion (λ b. 31 < b)) (sym t.joined) printed in
-    let here : QuietlyTold line_cap (take (length t.front + 1) bytes) h =
-    subst (λ n. QuietlyTold line_cap (take (n + 1) bytes) h) (count-told bytes rest old new t) quiet in
+    let here : PlainlyTold line_cap (take (length t.front + 1) bytes) h =
+    subst (λ n. PlainlyTold line_cap (take (n + 1) bytes) h) (count-told bytes rest old new t) quiet in
     most_by line_cap h t.front rest new (t.told.stands line_cap h s)
     (AllByRecursion-behind (λ b. 31 < b) t.front rest left) glyphs blanks (omega arith)
-    (subst (λ xs. QuietlyTold line_cap (take (length t.front + 1) xs) h) (sym t.joined) here)
+    (subst (λ xs. PlainlyTold line_cap (take (length t.front + 1) xs) h) (sym t.joined) here)

@@ -13,12 +13,11 @@ use Rattle.roff_layout.specs.Places.{moved}
 use Rattle.roff_layout.specs.Lines.{pending_length}
 use Rattle.roff_layout.specs.Telling.{bytes_told}
 use Rattle.roff_lines.specs.Env.Kept.{Kept, begun_blanks, glyph_room, with_glyph, with_glyphs}
-use Rattle.roff_lines.specs.Env.Stands.{Stands}
-use Rattle.roff_lines.specs.Env.Tells.{Tells}
+use Rattle.roff_lines.specs.Env.Stands.{StandsPlain}
+use Rattle.roff_lines.specs.Env.Tells.{TellsPlain}
 use Rattle.roff_lines.proofs.Gaps.{begun_blanks-twice}
-use Rattle.roff_lines.proofs.GlyphsInFront.{eqb-above}
+use Rattle.roff_lines.proofs.GlyphsInFront.{eqb-above, text_byte-above}
 use Rattle.roff_lines.proofs.Printed.{Stands-print, room-print, within-print}
-use Rattle.roff_lines.proofs.Printing.{text_byte-above}
 use Rattle.roff_lines.proofs.Tells.{Tells-append}
 
 -- places move by some columns, and then by others
@@ -33,7 +32,7 @@ text_width-one b = omega (arith, sum_by-cons byte_width b [])
 with_glyphs-one : (b : ℕ) (k : Kept) → 32 < b → with_glyph (Printed b) k ≡ with_glyphs (b ∷ []) k
 with_glyphs-one b k above = rw (text_byte-above b above, text_width-one b) refl
 
-module _ (line_cap : ℕ) (h : History) (k : Kept) (s : Stands line_cap h k) (b : ℕ) (above : 32 < b) where
+module _ (line_cap : ℕ) (h : History) (k : Kept) (s : StandsPlain line_cap h k) (b : ℕ) (above : 32 < b) where
   -- it is within the limit where there is room
   within-glyph : 0 < glyph_room k → pending_length (Print (Printed b) ∷ h) ≤ line_cap
   within-glyph room = within-print line_cap h k s (Printed b) (omega (arith, room))
@@ -43,9 +42,9 @@ module _ (line_cap : ℕ) (h : History) (k : Kept) (s : Stands line_cap h k) (b 
   within-full full within = omega (arith, full, room-print line_cap h k s (Printed b) within)
 
   -- what is kept behind it stands for the history with it
-  Stands-glyph : 0 < glyph_room k → Stands line_cap (Print (Printed b) ∷ h) (with_glyphs (b ∷ []) k)
+  Stands-glyph : 0 < glyph_room k → StandsPlain line_cap (Print (Printed b) ∷ h) (with_glyphs (b ∷ []) k)
   Stands-glyph room =
-      subst (Stands line_cap (Print (Printed b) ∷ h)) (with_glyphs-one b k above)
+      subst (StandsPlain line_cap (Print (Printed b) ∷ h)) (with_glyphs-one b k above)
       (Stands-print line_cap h k s (Printed b) (omega (arith, room)))
 
 -- a byte above the blank is told as a glyph
@@ -53,14 +52,15 @@ pub bytes_told-glyph : (b : ℕ) (h : History) → 32 < b → bytes_told (b ∷ 
 bytes_told-glyph b h above = rw (eqb-above b 32 (omega arith) above) refl
 
 -- it can be told where there is room
-pub Tells-glyph : (b : ℕ) → 32 < b → (k : Kept) → 0 < glyph_room k → Tells (b ∷ []) k (with_glyphs (b ∷ []) k)
+pub Tells-glyph : (b : ℕ) → 32 < b → (k : Kept) → 0 < glyph_room k → TellsPlain (b ∷ []) k (with_glyphs (b ∷ []) k)
 Tells-glyph b above k room = record {
   quiet = λ line_cap h s.
       let no_blank : (b == 32) ≡ false = eqb-above b 32 (omega arith) above in
       let within = subst (λ told. pending_length told ≤ line_cap) (sym (bytes_told-glyph b h above)) (within-glyph line_cap h k s b above room) in
       (rw no_blank refl, within, tt);
   stands = λ line_cap h s.
-      subst (λ told. Stands line_cap told (with_glyphs (b ∷ []) k)) (sym (bytes_told-glyph b h above)) (Stands-glyph line_cap h k s b above room);
+      subst (λ told. StandsPlain line_cap told (with_glyphs (b ∷ []) k)) (sym (bytes_told-glyph b h above)) (Stands-glyph line_cap h k s b above room);
+  field = refl;
 }
 
 -- glyphs leave less room
@@ -84,15 +84,15 @@ with_glyphs-cons b bytes k =
 
 -- glyphs can be told where there is room for them
 Tells-some : (b : ℕ) (bytes : List ℕ) → AllByRecursion (λ c. 32 < c) (b ∷ bytes) → (k : Kept)
-    → length (b ∷ bytes) ≤ glyph_room k → Tells (b ∷ bytes) k (with_glyphs (b ∷ bytes) k)
+    → length (b ∷ bytes) ≤ glyph_room k → TellsPlain (b ∷ bytes) k (with_glyphs (b ∷ bytes) k)
 Tells-some b [] above k room = Tells-glyph b above.0 k (omega arith)
 Tells-some b (c ∷ bytes) above k room =
     let first = with_glyphs (b ∷ []) k in
     let others = Tells-some c bytes above.1 first (omega (arith, glyph_room-glyphs (b ∷ []) k, room)) in
-    subst (Tells (b ∷ c ∷ bytes) k) (with_glyphs-cons b (c ∷ bytes) k)
+    subst (TellsPlain (b ∷ c ∷ bytes) k) (with_glyphs-cons b (c ∷ bytes) k)
     (Tells-append (b ∷ []) (c ∷ bytes) k first (with_glyphs (c ∷ bytes) first) (Tells-glyph b above.0 k (omega arith)) others)
 
 pub Tells-glyphs : (bytes : List ℕ) → 0 < length bytes → AllByRecursion (λ c. 32 < c) bytes → (k : Kept)
-    → length bytes ≤ glyph_room k → Tells bytes k (with_glyphs bytes k)
+    → length bytes ≤ glyph_room k → TellsPlain bytes k (with_glyphs bytes k)
 Tells-glyphs [] some above k room = absurd (omega arith)
 Tells-glyphs (b ∷ bytes) some above k room = Tells-some b bytes above k room

@@ -11,16 +11,17 @@ use Rattle.roff_layout.specs.LastLine.{line_width}
 use Rattle.roff_layout.specs.Lines.{laid_out}
 use Rattle.roff_layout.specs.Words.{indent_by}
 use Rattle.roff_layout.specs.Places.{moved}
-use Rattle.roff_lines.specs.Env.Kept.{Kept, begun_blanks, finished_by_line_end, with_glyphs, with_input_line_ended, with_word_ended, word_finishes, word_fits}
-use Rattle.roff_lines.specs.Env.Stands.{Stands}
-use Rattle.roff_lines.specs.Env.Tells.{GoesOn, IsRun, Nothing, Begins, Further, Tells}
+use Rattle.roff_lines.specs.Env.Kept.{Kept, begun_blanks, finished_by_line_end, finished_by_word, with_field_left, with_glyphs, with_input_line_ended, with_word_ended, word_finishes, word_fits}
+use Rattle.roff_lines.specs.Env.Stands.{Finishes, StandsBehind}
+use Rattle.roff_lines.specs.Env.Tells.{GoesOn, IsRun, Nothing, Begins, Further, TellsPlain}
 use Rattle.roff_lines.specs.Env.Unfilled.{AreWords, EndsAtOnce, EndsLine, PutsLines, line_of, with_line_put}
 use Rattle.roff_lines.proofs.Tells.{Tells-append}
 use Rattle.roff_lines.proofs.TextRuns.{Tells-blank}
 use Rattle.roff_lines.proofs.ToldGlyphs.{Tells-glyph}
-use Rattle.roff_lines.proofs.WholeWords.{Stands-gap, with_gap}
-use Rattle.roff_lines.proofs.LineEnd.{Stands-line_end, finished_by_line_end-stands}
-use Rattle.roff_lines.proofs.WordEnd.{Stands-word_end, finished_by_word-stands}
+use Rattle.roff_lines.proofs.WholeWords.{Stands-gap, behind_gap}
+use Rattle.roff_lines.proofs.LinesTold.{Finishes-line_end, Finishes-word_end, StandsBehind-line_end, StandsBehind-word_end, field-word_ended}
+use Rattle.roff_lines.proofs.PlainStanding.{Tells-plain}
+use Rattle.roff_lines.proofs.Standing.{with_field_left-none}
 use Rattle.roff_lines.proofs.WordRuns.{blank_or_above}
 
 module _ (k : Kept) (puts : PutsLines k) where
@@ -61,7 +62,7 @@ module _ (k : Kept) (puts : PutsLines k) where
   -- some bytes were told, behind which this text stands, and its last word is open or not
   record Told (bytes text : List ℕ) (is_open : Bool) (old : Kept) : Type 0 where
     pub behind : Kept
-    pub tells : Tells bytes old behind
+    pub tells : TellsPlain bytes old behind
     pub pending : Pending text behind
     pub open_is : behind.is_open ≡ is_open
 
@@ -101,8 +102,8 @@ module _ (k : Kept) (puts : PutsLines k) where
       let here : Kept = one_word word blanks ends place in
       let mid : Kept = with_word_ended here in
       subst (Told (32 ∷ []) (text ++ 32 ∷ []) false) (sym is) (record {
-        behind = with_gap 1 mid;
-        tells = Tells-blank here mid (with_gap 1 mid) refl refl (Stands-gap 1 mid refl refl);
+        behind = behind_gap 1 mid;
+        tells = Tells-blank here mid (behind_gap 1 mid) refl refl (Stands-gap 1 mid refl refl) refl;
         pending = MoreWords word [] false ends (moved 1 place) (sym (append_assoc k.word text (32 ∷ []))) (λ closed. refl) refl;
         open_is = refl;
       })
@@ -115,8 +116,8 @@ module _ (k : Kept) (puts : PutsLines k) where
       let ended : mid ≡ with_word_ended here = rw fits refl in
       let stays : word_finishes here ≡ false = rw fits refl in
       subst (Told (32 ∷ []) (text ++ 32 ∷ []) false) (sym is) (record {
-        behind = with_gap 1 mid;
-        tells = Tells-blank here mid (with_gap 1 mid) stays ended (Stands-gap 1 mid refl refl);
+        behind = behind_gap 1 mid;
+        tells = Tells-blank here mid (behind_gap 1 mid) stays ended (Stands-gap 1 mid refl refl) refl;
         pending = MoreWords (line ++ 32 ∷ word) [] false ends (moved 1 place)
             (sym (append_assoc k.word text (32 ∷ [])) ∙ ap (λ (xs : List ℕ). xs ++ 32 ∷ []) split) (λ closed. refl) refl;
         open_is = refl;
@@ -138,7 +139,7 @@ module _ (k : Kept) (puts : PutsLines k) where
         let same : take count bytes ++ b ∷ [] ≡ take (count + 1) bytes = sym (take_more bytes count 0 within) in
         record {
           behind = one.behind;
-          tells = subst (λ (xs : List ℕ). Tells xs k one.behind) same (Tells-append (take count bytes) (b ∷ []) k t.behind one.behind t.tells one.tells);
+          tells = subst (λ (xs : List ℕ). TellsPlain xs k one.behind) same (Tells-append (take count bytes) (b ∷ []) k t.behind one.behind t.tells one.tells);
           pending = subst (λ (xs : List ℕ). Pending xs one.behind) same one.pending;
           open_is = one.open_is;
         }
@@ -160,7 +161,7 @@ module _ (k : Kept) (puts : PutsLines k) where
                 is_open = true;
                 told = record {
                   behind = there;
-                  tells = subst (λ (xs : List ℕ). Tells xs k there) same (Tells-glyph b above k (omega (arith, room, ap length puts.no_text, free)));
+                  tells = subst (λ (xs : List ℕ). TellsPlain xs k there) same (Tells-glyph b above k (omega (arith, room, ap length puts.no_text, free)));
                   pending = subst (λ (xs : List ℕ). Pending xs there) same (OneWord there.blanks there.ends_sentence there.place is);
                   open_is = refl;
                 };
@@ -241,14 +242,20 @@ ends_at_once bytes count gaps k e =
     let run = told_run k e.puts bytes count w.run w.some w.within e.room in
     let t = run.told in
     let ends = ends_pending k e.puts (take count bytes) t.behind (t.open_is ∙ run.opened w.last) t.pending in
+    let ended : Kept = with_word_ended t.behind in
+    let closed : ended.field ≡ None = field-word_ended t.behind ∙ (t.tells.field ∙ e.puts.no_field) in
+    let none : finished_by_word t.behind ≡ None =
+    ap (λ (c : Bool). if c then Some (laid_out t.behind.settings true t.behind.indent t.behind.line) else None) ends.stays in
+    let left : with_field_left ended ≡ ended = with_field_left-none ended closed in
     record {
       told = t.behind;
-      tells = t.tells;
-      ended = with_word_ended t.behind;
-      word_end = λ line_cap h s. Stands-word_end line_cap h t.behind s;
-      quiet = λ line_cap h s. sym (ap (λ (c : Bool). if c then Some (laid_out t.behind.settings true t.behind.indent t.behind.line) else None) ends.stays) ∙ finished_by_word-stands line_cap h t.behind s;
-      line_end = λ line_cap h s. subst (Stands line_cap (LineEnd ∷ h)) (sym ends.kept) (Stands-line_end line_cap h (with_word_ended t.behind) s);
-      finishes = λ line_cap h s. sym ends.line ∙ finished_by_line_end-stands line_cap h (with_word_ended t.behind) s;
+      tells = Tells-plain (take count bytes) k t.behind e.puts.no_field t.tells;
+      ended = ended;
+      no_field = closed;
+      word_end = StandsBehind-word_end t.behind;
+      quiet = λ line_cap h s. sym none ∙ Finishes-word_end t.behind line_cap h s;
+      line_end = subst (StandsBehind ended LineEnd) (ap with_input_line_ended left ∙ sym ends.kept) (StandsBehind-line_end ended);
+      finishes = subst (Finishes ended LineEnd) (ap finished_by_line_end left ∙ ends.line) (Finishes-line_end ended);
     }
 
 -- what is a character by itself is one column wide, and so is a blank

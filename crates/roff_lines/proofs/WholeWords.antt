@@ -14,16 +14,15 @@ use Rattle.roff_layout.specs.Places.{has_line_glyph, moved}
 use Rattle.roff_layout.specs.Fitting.{gap_text, may_be_wide}
 use Rattle.roff_layout.specs.Words.{has_open_word, is_closer, is_sentence_mark, ends_sentence_behind}
 use Rattle.roff_lines.specs.Env.Kept.{Kept, begun_blanks, glyph_room, with_glyphs, with_words, with_word_ended, word_fits, word_finishes}
-use Rattle.roff_lines.specs.Env.Stands.{StandsBehind}
-use Rattle.roff_lines.specs.Env.Tells.{HasRoom, IsOneCharacter, NoWord, OneMore, Tells, TellsFront, WholeWords}
-use Rattle.roff_lines.proofs.FirstLineOf.{text_width-gap_text}
+use Rattle.roff_lines.specs.Env.Stands.{StandsPlainBehind}
+use Rattle.roff_lines.specs.Env.Tells.{HasRoom, IsOneCharacter, NoWord, OneMore, TellsPlain, TellsFront, WholeWords}
 use Rattle.roff_lines.proofs.Gaps.{begun-same}
 use Rattle.roff_lines.proofs.LastLine.{last_text-none, last_width-none}
 use Rattle.roff_lines.proofs.PendingLine.{length-gap_text}
 use Rattle.roff_lines.proofs.Tells.{Tells-append}
 use Rattle.roff_lines.proofs.TextRuns.{Tells-blank}
 use Rattle.roff_lines.proofs.ToldGlyphs.{Tells-glyphs, moved-moved}
-use Rattle.roff_lines.proofs.Widths.{gaps_in-above, gaps_in-cons}
+use Rattle.roff_lines.proofs.Widths.{gaps_in-above, gaps_in-cons, text_width-gap_text}
 
 -- of the bytes so far these are whole words, and those behind them belong to one more
 pub record Counts (bytes : List ℕ) (told words count : ℕ) : Type 0 where
@@ -112,15 +111,15 @@ gaps_in-append : (text others : List ℕ) → gaps_in (text ++ others) ≡ gaps_
 gaps_in-append text others = sum_by-append (λ x. if x == gap_blank then 1 else 0) text others
 
 -- behind a gap where no word is open
-abbrev pub with_gap : ℕ → Kept → Kept
-with_gap n k = record k { blanks = min (k.blanks + n) (2 ^ 33); place = moved n k.place }
+abbrev pub behind_gap : ℕ → Kept → Kept
+behind_gap n k = record k { blanks = min (k.blanks + n) (2 ^ 33); place = moved n k.place }
 
 -- blanks that are counted up to a limit
 counted-more : (blanks n : ℕ) → min (min blanks (2 ^ 33) + n) (2 ^ 33) ≡ min (blanks + n) (2 ^ 33)
 counted-more blanks n = omega arith
 
 -- what is kept behind the gap stands for the history with it, where a glyph stands on the line
-pub Stands-gap : (n : ℕ) (k : Kept) → k.is_open ≡ false → k.has_glyph ≡ true → StandsBehind k (Gap n) (with_gap n k)
+pub Stands-gap : (n : ℕ) (k : Kept) → k.is_open ≡ false → k.has_glyph ≡ true → StandsPlainBehind k (Gap n) (behind_gap n k)
 Stands-gap n k o some line_cap h s =
     let closed : has_open_word h ≡ false = sym s.is_open ∙ o in
     let glyph : has_line_glyph h ≡ true = sym s.has_glyph ∙ some in
@@ -128,6 +127,7 @@ Stands-gap n k o some line_cap h s =
       small = s.small;
       within = rw closed (rw closed at s.within);
       cap = s.cap;
+      no_field = s.no_field;
       settings = s.settings;
       temporary_indent = s.temporary_indent;
       stops = s.stops;
@@ -163,21 +163,21 @@ module _ (k : Kept) (word : List ℕ) (line : k.has_line ≡ true) (closed : k.i
       ap (λ m. may_be_wide k.settings k.indent (text_width k.line + m + text_width (k.word ++ word))) gap-word
       ∙ ap (λ n. may_be_wide k.settings k.indent (text_width k.line + k.blanks + n)) wide ∙ has.fits
 
-  ended-word : with_gap 1 (with_word_ended (with_glyphs word k)) ≡ with_words word k
+  ended-word : behind_gap 1 (with_word_ended (with_glyphs word k)) ≡ with_words word k
   ended-word =
       let place : moved 1 (moved (text_width word) k.place) ≡ moved (text_width word + 1) k.place = moved-moved (text_width word) 1 k.place in
       rw (line, fits-word, gap-word, none, place, closed) refl
 
-  Tells-word : Tells (word ++ 32 ∷ []) k (with_words word k)
+  Tells-word : TellsPlain (word ++ 32 ∷ []) k (with_words word k)
   Tells-word =
       let first = with_glyphs word k in
       let mid = with_word_ended first in
       let stays : word_finishes first ≡ false = rw (line, fits-word) refl in
       let shut : mid.is_open ≡ false = rw (line, fits-word) refl in
       let glyph : mid.has_glyph ≡ true = rw (line, fits-word) refl in
-      let gap : StandsBehind mid (Gap 1) (with_words word k) = subst (StandsBehind mid (Gap 1)) ended-word (Stands-gap 1 mid shut glyph) in
+      let gap : StandsPlainBehind mid (Gap 1) (with_words word k) = subst (StandsPlainBehind mid (Gap 1)) ended-word (Stands-gap 1 mid shut glyph) in
       Tells-append word (32 ∷ []) k first (with_words word k) (Tells-glyphs word some (above-word word all) k room-word)
-      (Tells-blank first mid (with_words word k) stays refl gap)
+      (Tells-blank first mid (with_words word k) stays refl gap refl)
 
 -- some words and then one more are all of them
 with_words-more : (text word : List ℕ) (k : Kept) → with_words word (with_words text k) ≡ with_words (text ++ 32 ∷ word) k
@@ -200,7 +200,7 @@ pub record TellsWords (n : ℕ) (front : List ℕ) (k : Kept) : Type 0 where
   pub split : front ≡ text ++ 32 ∷ []
   pub gaps : gaps_in text + 1 ≡ n
   pub width : text_width text ≡ length text
-  pub tells : Tells front k (with_words text k)
+  pub tells : TellsPlain front k (with_words text k)
 
 module _ (k : Kept) (room : ℕ) (line : k.has_line ≡ true) (closed : k.is_open ≡ false) (none : k.word ≡ []) (has : HasRoom room k) where
   -- the first word
@@ -214,7 +214,7 @@ module _ (k : Kept) (room : ℕ) (line : k.has_line ≡ true) (closed : k.is_ope
         split = ap (λ (xs : List ℕ). xs ++ (word ++ 32 ∷ [])) nothing;
         gaps = omega (arith, gaps_in-above word (above-word word all), zeroth);
         width = text_width-word word all;
-        tells = subst (λ (xs : List ℕ). Tells (xs ++ (word ++ 32 ∷ [])) k (with_words word k)) (sym nothing) (Tells-word k word line closed none fits some all);
+        tells = subst (λ (xs : List ℕ). TellsPlain (xs ++ (word ++ 32 ∷ [])) k (with_words word k)) (sym nothing) (Tells-word k word line closed none fits some all);
       }
 
   -- one more behind some
@@ -238,8 +238,8 @@ module _ (k : Kept) (room : ℕ) (line : k.has_line ≡ true) (closed : k.is_ope
         limit = omega (arith, line_long, sum, whole.limit);
         fits = ap (may_be_wide k.settings k.indent) (sym width) ∙ whole.fits;
       } in
-      let one : Tells (word ++ 32 ∷ []) mid (with_words text k) =
-      subst (Tells (word ++ 32 ∷ []) mid) (with_words-more t.text word k) (Tells-word mid word line refl refl fits some all) in
+      let one : TellsPlain (word ++ 32 ∷ []) mid (with_words text k) =
+      subst (TellsPlain (word ++ 32 ∷ []) mid) (with_words-more t.text word k) (Tells-word mid word line refl refl fits some all) in
       record {
         text = text;
         split = ap (λ (xs : List ℕ). xs ++ (word ++ 32 ∷ [])) t.split ∙ append_assoc t.text (32 ∷ []) (word ++ 32 ∷ []) ∙ sym (append_assoc t.text (32 ∷ word) (32 ∷ []));
@@ -301,5 +301,5 @@ module _ (k : Kept) (room : ℕ) (line : k.has_line ≡ true) (closed : k.is_ope
     TellsFront-words rest new is_rest told_new = record {
       front = take told bytes;
       joined = ap (λ (xs : List ℕ). take told bytes ++ xs) is_rest ∙ take-append-drop told bytes;
-      told = subst (Tells (take told bytes) k) (ap (λ (text : List ℕ). with_words text k) take-text ∙ sym told_new) TellsWords-told.tells;
+      told = subst (TellsPlain (take told bytes) k) (ap (λ (text : List ℕ). with_words text k) take-text ∙ sym told_new) TellsWords-told.tells;
     }

@@ -8,12 +8,12 @@ use Rattle.roff_layout.specs.Fitting.{gap_text, begins_line}
 use Rattle.roff_layout.specs.Lines.{laid_out, finished, pending_line}
 use Rattle.roff_layout.specs.LastLine.{last_text, last_width}
 use Rattle.roff_lines.specs.Env.Kept.{Kept, without_word, word_as_line, word_fits, pending_width, with_word_ended, finished_by_word}
-use Rattle.roff_lines.specs.Env.Stands.{Stands}
+use Rattle.roff_lines.specs.Env.Stands.{StandsPlain}
 use Rattle.roff_lines.proofs.PendingLine.{placed-full, begins_line-full, line_text-full, line_indent-full, word_text-closed, pending_length-word_end}
 use Rattle.roff_lines.proofs.LastLine.{last_text-none, last_text-some, last_width-none, last_width-some}
 use Rattle.roff_lines.proofs.Stands.{is_empty-pending_line, words-no_line, blanks-counted, word_fits-stands, laid_out-stands}
 
-module _ (line_cap : ℕ) (h : History) (k : Kept) (s : Stands line_cap h k) where
+module _ (line_cap : ℕ) (h : History) (k : Kept) (s : StandsPlain line_cap h k) where
   -- the line that a word end finishes is the definition's
   pub finished_by_word-stands : finished_by_word k ≡ finished h WordEnd
   finished_by_word-stands =
@@ -33,13 +33,14 @@ module _ (line_cap : ℕ) (h : History) (k : Kept) (s : Stands line_cap h k) whe
   last_width-kept none = s.last_width ∙ sym (last_width-none h WordEnd (sym finished_by_word-stands ∙ none))
 
   -- no word is open
-  Stands-closed : k.is_open ≡ false → Stands line_cap (WordEnd ∷ h) k
+  Stands-closed : k.is_open ≡ false → StandsPlain line_cap (WordEnd ∷ h) k
   Stands-closed o =
       let closed : has_open_word h ≡ false = sym s.is_open ∙ o in
       record {
         small = s.small;
         within = omega (arith, pending_length-word_end h, s.within);
         cap = s.cap;
+        no_field = s.no_field;
         settings = s.settings;
         temporary_indent = rw closed s.temporary_indent;
         stops = s.stops;
@@ -108,12 +109,13 @@ module _ (line_cap : ℕ) (h : History) (k : Kept) (s : Stands line_cap h k) whe
     Stands-beginning : (text : List ℕ) (width : ℕ)
         → begins_line (pending_line h) (open_word h) ≡ true
         → pending_line (WordEnd ∷ h) ≡ open_word h ∷ [] → text ≡ last_text (WordEnd ∷ h) → width ≡ last_width (WordEnd ∷ h)
-        → Stands line_cap (WordEnd ∷ h) (without_word (word_as_line (record k { finished = text; last_width = width })))
+        → StandsPlain line_cap (WordEnd ∷ h) (without_word (word_as_line (record k { finished = text; last_width = width })))
     Stands-beginning text width begins line last_one last =
         let begun = ap (λ t. indent_by t k.settings) s.temporary_indent ∙ ap (indent_by (temporary_indent h)) s.settings in record {
           small = s.small;
           within = omega (arith, pending_length-word_end h, s.within);
           cap = s.cap;
+          no_field = s.no_field;
           settings = s.settings;
           temporary_indent = rw (open_before, begins) refl;
           stops = s.stops;
@@ -133,7 +135,7 @@ module _ (line_cap : ℕ) (h : History) (k : Kept) (s : Stands line_cap h k) whe
 
     -- the word stands behind the pending line
     Stands-within : k.has_line ≡ true → word_fits k ≡ true →
-        Stands line_cap (WordEnd ∷ h) (without_word (record k { line = k.line ++ (gap_text k.blanks ++ k.word) }))
+        StandsPlain line_cap (WordEnd ∷ h) (without_word (record k { line = k.line ++ (gap_text k.blanks ++ k.word) }))
     Stands-within l f =
         let line = pending_line-within l f in
         let full = is_empty-pending_line line_cap h k s l in
@@ -142,6 +144,7 @@ module _ (line_cap : ℕ) (h : History) (k : Kept) (s : Stands line_cap h k) whe
           small = s.small;
           within = omega (arith, pending_length-word_end h, s.within);
           cap = s.cap;
+          no_field = s.no_field;
           settings = s.settings;
           temporary_indent = rw (open_before, begins_line-within l f) s.temporary_indent;
           stops = s.stops;
@@ -160,9 +163,9 @@ module _ (line_cap : ℕ) (h : History) (k : Kept) (s : Stands line_cap h k) whe
         }
 
   -- what is kept behind a word end stands for the history with it
-  pub Stands-word_end : Stands line_cap (WordEnd ∷ h) (with_word_ended k)
+  pub Stands-word_end : StandsPlain line_cap (WordEnd ∷ h) (with_word_ended k)
   Stands-word_end =
-      let Goal : Kept → Type 0 = Stands line_cap (WordEnd ∷ h) in
+      let Goal : Kept → Type 0 = StandsPlain line_cap (WordEnd ∷ h) in
       cond_both (not k.is_open) _ _ Goal
       (λ e. Stands-closed (not-true k.is_open e))
       (λ e. let o = not-false k.is_open e in

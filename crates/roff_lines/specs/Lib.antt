@@ -1,11 +1,8 @@
-pub mod NearestStop
 pub mod Stretch
 pub mod StopTable
 pub mod Env
 pub mod Shape
 pub mod GlyphsInFront
-pub mod Filling
 pub mod FirstLine
-pub mod Interruptions
 pub mod Clauses
 pub mod Buffers

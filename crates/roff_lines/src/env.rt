@@ -5,6 +5,7 @@ ghost use Rattle.roff_lines.specs.Clauses.{Count, Interrupt, Resume, Set, Histor
 ghost use Rattle.roff_lines.specs.Clauses.{counted, last_text, last_width, input_place};
 ghost use Rattle.roff_lines.specs.Clauses.{has_line_glyph, has_open_word, is_interrupted};
 
+mod fields;
 mod finishing;
 mod text;
 mod unfilled;
@@ -22,6 +23,9 @@ use std::marker::Model;
 #[derive(Drop)]
 pub struct Env {
     cap: usize,
+    /// One byte more than the pending line may have. While a field is open 0: so glyphs find no
+    /// room for them there, and only what finds none asks whether a field is open.
+    room: u64,
     settings: Settings,
     /// The indent of the next line that a word begins, if that is one of its own.
     temporary_indent: Option<u32>,
@@ -30,8 +34,20 @@ pub struct Env {
     line: Stretch,
     indent: u32,
     has_line: bool,
+    /// The open word; while a field is open, its text up to the field's tab.
     word: Stretch,
+    /// The text of the open field.
+    field: Stretch,
+    /// The columns from the open field's tab to its stop.
+    field_way: u32,
+    /// Whether the open field's text has its middle at its stop; else it ends there.
+    is_field_centred: bool,
+    /// The blanks before the open field's word.
+    word_blanks: u64,
+    /// Whether a word is open. While a field is open none is, so that a word end ends nothing.
     is_open: bool,
+    /// The blanks before the open word, or before the next one; while a field is open, those of a
+    /// gap at its end.
     blanks: u64,
     /// The text of the line that was finished last.
     finished: Stretch,
@@ -65,6 +81,7 @@ impl Env {
         let cap = line_cap as usize;
         Ok(Env {
             cap,
+            room: cap as u64 + 1,
             settings: Settings::initial(),
             temporary_indent: None,
             stops: StopTable::new(alloc)?,
@@ -72,6 +89,10 @@ impl Env {
             indent: 0,
             has_line: false,
             word: Stretch::new(alloc, cap)?,
+            field: Stretch::new(alloc, cap)?,
+            field_way: 0,
+            is_field_centred: false,
+            word_blanks: 0,
             is_open: false,
             blanks: 0,
             finished: Stretch::new(alloc, cap)?,
@@ -132,7 +153,7 @@ impl Env {
         self.has_glyph
     }
 
-    /// Whether a word is open.
+    /// Whether a word is open that a word end would end: in an open field none is.
     pub fn has_open_word(&self) -> bool
         ensures kept { result ≡ self.now.is_open }
         ensures open { (line_cap : ℕ) (h : History)

@@ -10,7 +10,6 @@ mod env;
 mod fill;
 mod glyph;
 mod lanes;
-pub mod laws;
 mod shape;
 mod stops;
 mod stretch;

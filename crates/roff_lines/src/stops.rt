@@ -1,9 +1,12 @@
 //! Tab stops (manual, section 9.1), in columns.
 
 ghost use Rattle.std.specs.Prelude.{◌≡◌, None, IfOk};
-ghost use Rattle.roff_lines.specs.Clauses.{stops_with, way_to_stop, way_to_nearest, shorter_way};
+ghost use Rattle.roff_lines.specs.Clauses.{TabStops, stops_with, way_beyond, way_to_next};
+ghost use Rattle.roff_lines.specs.Clauses.{way_to_nearest, shorter_way};
+ghost use Rattle.roff_layout.specs.TabStops.{with_stop_set};
+ghost use Rattle.roff_lines.specs.StopTable.Ways.{way_told};
 
-use roff_layout::Param;
+use roff_layout::{Param, StopKind, TabStop};
 use std::alloc::{AllocError, Global};
 use std::marker::Model;
 
@@ -13,12 +16,21 @@ const MOST_STOPS: usize = 32;
 /// The columns between stops where none were set.
 const COLUMNS_BETWEEN: u32 = 8;
 
+/// A way to a tab stop.
+#[derive(Clone, Copy)]
+pub(crate) struct Way {
+    /// Its columns.
+    pub(crate) columns: u32,
+    /// Where text stands at the stop.
+    pub(crate) kind: StopKind,
+}
+
 /// The tab stops in force, in the order in which they were set.
 #[derive(Drop)]
 pub(crate) struct StopTable {
     /// Whether they were set. They stand every eight columns where they weren't.
     are_set: bool,
-    stops: Vec<u32>,
+    stops: Vec<TabStop>,
 }
 
 impl Model for StopTable {
@@ -52,54 +64,93 @@ impl StopTable {
                 self.are_set = true;
                 self.stops.clear();
             }
-            Param::Stop(column) => {
-                if !self.are_set {
-                    self.are_set = true;
-                    self.stops.clear();
-                }
-                if self.stops.len() < MOST_STOPS {
-                    self.stops.push(column).unwrap();
-                }
-            }
+            Param::Stop(column) => self.add(TabStop {
+                column,
+                kind: StopKind::Left,
+            }),
+            Param::RightStop(column) => self.add(TabStop {
+                column,
+                kind: StopKind::Right,
+            }),
+            Param::CentredStop(column) => self.add(TabStop {
+                column,
+                kind: StopKind::Centred,
+            }),
             _ => {}
         }
     }
 
-    /// How far the next stop is from a place.
-    pub(crate) fn way_from(&self, place: u32) -> u32
-        ensures { result ≡ way_to_stop self.now place }
+    /// Adds one, if there is room for it.
+    fn add(&mut self, stop: TabStop)
+        ensures { self.new ≡ with_stop_set stop self.old }
+    {
+        if !self.are_set {
+            self.are_set = true;
+            self.stops.clear();
+        }
+        if self.stops.len() < MOST_STOPS {
+            self.stops.push(stop).unwrap();
+        }
+    }
+
+    /// The way from a place to the next stop, if there is one.
+    pub(crate) fn next_from(&self, place: u32) -> Option<Way>
+        ensures { way_told result ≡ way_to_next self.now place }
     {
         if self.are_set {
             way_to_nearest_of(self.stops.as_slice(), place)
         } else {
-            COLUMNS_BETWEEN - place % COLUMNS_BETWEEN
+            Some(Way {
+                columns: COLUMNS_BETWEEN - place % COLUMNS_BETWEEN,
+                kind: StopKind::Left,
+            })
         }
     }
 }
 
-/// How far the nearest of some stops beyond a place is from it; 0 if none is beyond.
-#[tactic(auto, using(crate::proofs::Tabs::shorter_way_assoc, crate::proofs::Tabs::shorter_way_none))]
-fn way_to_nearest_of(stops: &[u32], place: u32) -> u32
-    ensures { result ≡ way_to_nearest stops.now place }
+/// The way to the nearest of some stops beyond a place, if one is.
+#[tactic(auto, using(crate::proofs::Ways::shorter_way_assoc, crate::proofs::Ways::shorter_way_none))]
+fn way_to_nearest_of(stops: &[TabStop], place: u32) -> Option<Way>
+    ensures { way_told result ≡ way_to_nearest stops.now place }
 {
-    let mut way = 0;
+    let mut way = None;
     let mut rest = stops;
     while let Some((stop, others)) = rest.split_first() {
-        way = shorter(way, stop.saturating_sub(place));
+        way = shorter(way, beyond(place, *stop));
         rest = others;
     }
     way
 }
 
-/// The shorter of two ways; 0 is no way.
-fn shorter(one: u32, other: u32) -> u32
-    ensures { result ≡ shorter_way one other }
+/// The way from a place to a stop, if that is beyond it.
+fn beyond(place: u32, stop: TabStop) -> Option<Way>
+    ensures { way_told result ≡ way_beyond place stop }
 {
-    if one == 0 {
-        other
-    } else if other == 0 {
-        one
+    if place < stop.column {
+        Some(Way {
+            columns: stop.column - place,
+            kind: stop.kind,
+        })
     } else {
-        one.min(other)
+        None
+    }
+}
+
+/// The shorter of two ways, and of two that are as long the first.
+fn shorter(one: Option<Way>, other: Option<Way>) -> Option<Way>
+    ensures { way_told result ≡ shorter_way (way_told one) (way_told other) }
+{
+    match one {
+        None => other,
+        Some(first) => match other {
+            None => one,
+            Some(second) => {
+                if first.columns <= second.columns {
+                    one
+                } else {
+                    other
+                }
+            }
+        },
     }
 }

@@ -2,7 +2,9 @@
 use Rattle.std.specs.Prelude.{◌≡◌, ℕ, Bool, false, ◌&&◌, List, [], ◌∷◌, ◌++◌, map, is_none, Option, if◌then◌else◌}
 use Rattle.std.specs.Option.{option_to_list}
 use Rattle.roff_layout.specs.declared.event.Event.TheVariants.{Set}
-use Rattle.roff_layout.specs.declared.settings.Param.TheVariants.{NoStops, Stop}
+use Rattle.roff_layout.specs.declared.settings.Param.TheVariants.{NoStops}
+use Rattle.roff_layout.specs.declared.stop.TabStop.{TabStop}
+use Rattle.roff_layout.specs.TabStops.{stop_param}
 use Rattle.roff_run.specs.PageEvents.{PageEvent}
 use Rattle.roff_run.specs.declared.event.PageEvent.TheVariants.{Text}
 use Rattle.roff_meaning.specs.declared.events.RequestEvents.{RequestEvents}
@@ -10,13 +12,13 @@ use Rattle.roff_meaning.specs.declared.events.RequestEvents.TheVariants.{Nothing
 use Rattle.roff_run.specs.Requests.Effects.{behind_break}
 pub mod Kept
 
--- the event of a stop, by its column
-abbrev pub stop_at : ℕ → PageEvent
-stop_at column = Text (Set (Stop column))
+-- the event of a stop
+abbrev pub stop_at : TabStop → PageEvent
+stop_at stop = Text (Set (stop_param stop))
 
 -- these stops are set in place of those in force
-abbrev pub stops_set : List ℕ → List PageEvent
-stops_set columns = Text (Set NoStops) ∷ map stop_at columns
+abbrev pub stops_set : List TabStop → List PageEvent
+stops_set stops = Text (Set NoStops) ∷ map stop_at stops
 
 -- the events of a request behind its break, in order
 abbrev pub request_events : RequestEvents → List PageEvent
@@ -25,8 +27,8 @@ request_events (One event) = event ∷ []
 request_events (Two first second) = first ∷ second ∷ []
 
 -- those of tab stops, if they are set, or a few
-abbrev pub stops_or_few : Bool → List ℕ → RequestEvents → List PageEvent
-stops_or_few sets_stops columns few = if sets_stops then stops_set columns else request_events few
+abbrev pub stops_or_few : Bool → List TabStop → RequestEvents → List PageEvent
+stops_or_few sets_stops stops few = if sets_stops then stops_set stops else request_events few
 
 -- one in front of a break, if there is one, those of the break, if there is one, and others behind it
 abbrev pub around_break : Option PageEvent → Bool → List PageEvent → List PageEvent
@@ -37,7 +39,7 @@ pub record BreakNotFirst (events : List PageEvent) : Type 0 where
   pub before : Option PageEvent
   pub breaks : Bool
   pub sets_stops : Bool
-  pub columns : List ℕ
+  pub stops : List TabStop
   pub few : RequestEvents
   pub not_first : (is_none before && breaks) ≡ false
-  pub are : events ≡ around_break before breaks (stops_or_few sets_stops columns few)
+  pub are : events ≡ around_break before breaks (stops_or_few sets_stops stops few)

@@ -9,7 +9,7 @@ ghost use Rattle.roff_run.specs.declared.event.PageEvent.TheVariants.{Text};
 ghost use Rattle.roff_run.specs.Requests.Effects.{behind_break};
 
 use arrayvec::ArrayVec;
-use roff_layout::{Event, Param};
+use roff_layout::{Event, Param, TabStop};
 use roff_run::PageEvent;
 use std::marker::Model;
 
@@ -24,8 +24,8 @@ pub enum RequestEvents {
     Two(PageEvent, PageEvent),
 }
 
-/// Tab stops, in columns.
-pub type Stops = ArrayVec<u32, 32>;
+/// Tab stops.
+pub type Stops = ArrayVec<TabStop, 32>;
 
 /// The events of a request: one in front of its break, if there is one, those of its break, if it
 /// breaks, and behind them a few, or those of tab stops. The stops are large and seldom set: they
@@ -220,7 +220,7 @@ fn stop_at(stops: &Stops, index: usize) -> Option<PageEvent>
     ensures few { IfSome result (λ event. index ≤ 31) }
 {
     match stops.get(index) {
-        Some(column) => Some(PageEvent::Text(Event::Set(Param::Stop(*column)))),
+        Some(stop) => Some(PageEvent::Text(Event::Set(stop.param()))),
         None => None,
     }
 }

@@ -8,8 +8,7 @@ ghost use Rattle.roff_run.specs.Requests.Effects.{behind_break};
 ghost use Rattle.roff_meaning.specs.Events.{around_break, request_events, stops_set};
 ghost use Rattle.roff_meaning.specs.Meaning.{IsWithoutBreak, nothing_kept, resumed_if};
 
-use crate::events::{RequestEvents, RequestedEvents};
-use arrayvec::ArrayVec;
+use crate::events::{RequestEvents, RequestedEvents, Stops};
 use roff_layout::{Event, Param};
 use roff_run::{LineEvents, Message, PageEvent};
 use std::marker::Model;
@@ -83,7 +82,7 @@ impl Meaning {
 
     /// Keeps the events of a break, if there is one, and behind it those that set these stops in
     /// place of those in force.
-    pub fn keep_stops(&mut self, breaks: bool, stops: ArrayVec<u32, 32>)
+    pub fn keep_stops(&mut self, breaks: bool, stops: Stops)
         ensures { self.new
             ≡ record { message = None; events = behind_break breaks (stops_set stops.items) } }
     {

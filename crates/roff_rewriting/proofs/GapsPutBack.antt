@@ -4,7 +4,7 @@ use Rattle.roff_num.specs.declared.limit.Limit.{Limit}
 use Rattle.roff_num.specs.declared.limits.Limits.{Limits}
 use Rattle.roff_layout.specs.DueTexts.{TextDue}
 use Rattle.roff_input.specs.Input.{Ahead, DoAhead}
-use Rattle.roff_layout.specs.declared.event.Event.TheVariants.{Print, Tab, WordEnd, Gap, LineEnd, Count, Break, Interrupt as Interrupted, Resume, Set}
+use Rattle.roff_layout.specs.declared.event.Event.TheVariants.{Print, Tab, FieldEnd, WordEnd, Gap, LineEnd, Count, Break, Interrupt as Interrupted, Resume, Set}
 use Rattle.roff_layout.specs.Happenings.{Does}
 use Rattle.roff_layout.specs.Springs.{goes_on}
 use Rattle.roff_layout.specs.declared.layout_event.LayoutEvent.{LayoutEvent}
@@ -16,7 +16,7 @@ use Rattle.roff_run.specs.Springs.{begins, left_if, left_of, next, page_begin_or
 use Rattle.roff_run.specs.Titles.{put_back, told}
 use Rattle.roff_run.specs.declared.event.PageEvent.TheVariants.{Text, Page, Interrupt, Environment, Back, InputTrap as SetsTrap, Title}
 use Rattle.roff_laws.specs.SpringLaws.{first_of, left_behind, with_rest_back}
-use Rattle.roff_laws.proofs.ComesBefore.{ComesBefore, NothingComes, PageComes, WordEndComes, comes_before}
+use Rattle.roff_laws.proofs.ComesBefore.{ComesBefore, NothingComes, FieldEndComes, PageComes, WordEndComes, comes_before}
 use Rattle.roff_laws.proofs.Endings.{ended_or_not, step-ended, step-going}
 use Rattle.roff_laws.proofs.PerformedOrStopped.{EndsOver, Performed, PerformedOrStopped, Sprang, StoppedAt, performed_or_stopped}
 use Rattle.roff_rewriting.specs.WordEnds.{AreFollowed, BeginsWithGap, PutsBackGap, WordEndsPutBackAGap, WordEndsStayFollowed}
@@ -55,6 +55,7 @@ has_own h (Text LineEnd) is = tt
 has_own h (Text Break) is = tt
 has_own h (Text (Print g)) is = absurd (no_own (begins h (Text (Print g))) is)
 has_own h (Text Tab) is = absurd (no_own (begins h (Text Tab)) is)
+has_own h (Text FieldEnd) is = absurd (no_own (begins h (Text FieldEnd)) is)
 has_own h (Text WordEnd) is = absurd (no_own (begins h (Text WordEnd)) is)
 has_own h (Text Count) is = absurd (no_own (begins h (Text Count)) is)
 has_own h (Text Interrupted) is = absurd (no_own (begins h (Text Interrupted)) is)
@@ -75,6 +76,7 @@ itself (Text (Gap n)) rest s none is followed = absurd (cc)
 itself (Text LineEnd) rest s none is followed = absurd (cc)
 itself (Text Break) rest s none is followed = absurd (cc)
 itself (Text (Print g)) rest s none is followed = absurd (cc)
+itself (Text FieldEnd) rest s none is followed = absurd (cc)
 itself (Text Tab) rest s none is followed = absurd (cc)
 itself (Text Count) rest s none is followed = absurd (cc)
 itself (Text Interrupted) rest s none is followed = absurd (cc)
@@ -90,6 +92,7 @@ itself (SetsTrap trap) rest s none is followed = absurd (cc)
 by_first : (e : PageEvent) (rest : List PageEvent) (s : State) (own : Option PageEvent) → next s.history e ≡ own → ComesBefore s.history e own
     → told s.registers (first_of own e) ≡ Text WordEnd → AreFollowed (e ∷ rest) → PutsBackGap e rest s
 by_first e rest s own is (NothingComes none_begins) word_end followed = itself e rest s is word_end followed
+by_first e rest s own is (FieldEndComes ends none_begins fewer) word_end followed = absurd (cc)
 by_first e rest s own is (WordEndComes none_begins fewer) word_end followed =
     in-front e e rest rest s (has_own s.history e is)
     (ap (λ (own : Option PageEvent). put_back_ahead (left_behind own e rest s) s.input.ahead) is)
@@ -106,6 +109,7 @@ rest_followed (Text LineEnd) rest followed = followed
 rest_followed (Text Break) rest followed = followed
 rest_followed (Text (Print g)) rest followed = followed
 rest_followed (Text Tab) rest followed = followed
+rest_followed (Text FieldEnd) rest followed = followed
 rest_followed (Text Count) rest followed = followed
 rest_followed (Text Interrupted) rest followed = followed
 rest_followed (Text Resume) rest followed = followed

@@ -17,6 +17,7 @@ pub mod PrintedNumbers
 pub mod TitleReading
 pub mod TitleRuns
 pub mod TitleLaws
+pub mod OwnWords
 pub mod WordsApart
 pub mod WordEnds
 pub mod StandsAhead

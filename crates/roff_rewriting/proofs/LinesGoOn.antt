@@ -3,9 +3,12 @@ use Rattle.std.proofs.Common.{◌≡◌, inl, inr, ℕ, zero, suc, false, List, 
 use Rattle.roff_num.specs.declared.limit.Limit.{Limit}
 use Rattle.roff_num.specs.declared.limits.Limits.{Limits}
 use Rattle.roff_input.specs.Input.{Ahead, DoAhead, item_taken}
+use Rattle.roff_layout.specs.Behind.{has_open_word as has_word_to_end}
 use Rattle.roff_layout.specs.DueTexts.{TextDue}
+use Rattle.roff_layout.specs.Events.{History}
+use Rattle.roff_layout.specs.Fields.{is_in_field, plain}
 use Rattle.roff_layout.specs.Words.{has_open_word}
-use Rattle.roff_layout.specs.declared.event.Event.TheVariants.{Print, Tab, WordEnd, Gap, LineEnd, Count, Break, Interrupt as Interrupted, Resume, Set}
+use Rattle.roff_layout.specs.declared.event.Event.TheVariants.{Print, Tab, FieldEnd, WordEnd, Gap, LineEnd, Count, Break, Interrupt as Interrupted, Resume, Set}
 use Rattle.roff_layout.specs.declared.layout_event.LayoutEvent.TheVariants.{Begin}
 use Rattle.roff_run.specs.Environments.{environments, text_of}
 use Rattle.roff_run.specs.PageEvents.{PageEvent, PageHistory}
@@ -19,7 +22,7 @@ use Rattle.roff_run.proofs.Leads.{Leads-refl, Leads-step, Leads-to}
 use Rattle.roff_run.proofs.Readings.{ReadsOn-text, ReadsOn-with_sprung}
 use Rattle.roff_laws.specs.EnvironmentLaws.{text_in}
 use Rattle.roff_laws.specs.SpringLaws.{text_with, with_rest_back}
-use Rattle.roff_laws.proofs.ComesBefore.{ComesBefore, NothingComes, PageComes, WordEndComes, comes_before}
+use Rattle.roff_laws.proofs.ComesBefore.{ComesBefore, NothingComes, FieldEndComes, PageComes, WordEndComes, comes_before}
 use Rattle.roff_laws.proofs.Endings.{ended_or_not, step-ended, step-going}
 use Rattle.roff_run.proofs.GrowingAhead.{ahead-interrupted}
 use Rattle.roff_laws.proofs.PerformedOrStopped.{PerformedOrStopped, Performed, Sprang, EndsOver, StoppedAt, first_of, left_behind, performed_or_stopped}
@@ -27,7 +30,8 @@ use Rattle.roff_laws.proofs.SpringLaws.{springing, springing-step}
 use Rattle.roff_laws.proofs.TextsChanged.{text-holds}
 use Rattle.roff_rewriting.specs.WordsApart.{EndsOpenWord, HasGoneOn, InputLeft, IsNext, LinesGoOnWithAnotherWord, RunEnded, StandsThere, Waits, WaitsInFront, WentOn}
 use Rattle.roff_rewriting.proofs.StandsAhead.{EndWith, Ends, IsLost, IsTaken, Stands, StandsOrTaken, stands-performed, stands-read}
-use Rattle.roff_rewriting.proofs.WordsApart.{no_word_in_front, own-same, own-step, text_in-force}
+use Rattle.roff_rewriting.proofs.OwnWords.{own-same}
+use Rattle.roff_rewriting.proofs.WordsApart.{no_field_in_front, no_word_in_front, none_at_all, own-step, text_in-force}
 
 -- such an event is put back as it is, and has a word's end of its own
 pub back_same : (e : PageEvent) → EndsOpenWord e → put_back e ≡ e
@@ -36,6 +40,7 @@ back_same (Text LineEnd) ends = refl
 back_same (Text Break) ends = refl
 back_same (Text (Print g)) ends = absurd ends
 back_same (Text Tab) ends = absurd ends
+back_same (Text FieldEnd) ends = absurd ends
 back_same (Text WordEnd) ends = absurd ends
 back_same (Text Count) ends = absurd ends
 back_same (Text Interrupted) ends = absurd ends
@@ -48,12 +53,13 @@ back_same (Environment number) ends = absurd ends
 back_same Back ends = absurd ends
 back_same (SetsTrap trap) ends = absurd ends
 
-own_end : (h : PageHistory) (e : PageEvent) → EndsOpenWord e → word_end_of h e ≡ own_word_end (has_open_word (text_of h))
+own_end : (h : PageHistory) (e : PageEvent) → EndsOpenWord e → word_end_of h e ≡ own_word_end (has_word_to_end (text_of h))
 own_end h (Text (Gap n)) ends = refl
 own_end h (Text LineEnd) ends = refl
 own_end h (Text Break) ends = refl
 own_end h (Text (Print g)) ends = absurd ends
 own_end h (Text Tab) ends = absurd ends
+own_end h (Text FieldEnd) ends = absurd ends
 own_end h (Text WordEnd) ends = absurd ends
 own_end h (Text Count) ends = absurd ends
 own_end h (Text Interrupted) ends = absurd ends
@@ -86,11 +92,16 @@ next-step : (l : Limits) (from : State) (e : PageEvent) (behind : List (Ahead Pa
     → ComesBefore s.history e own
     → step l s ≡ performing l own e [] s → HasGoneOn l from e behind (step l s)
 next-step l from e behind s own ends leads no_text first others is (NothingComes none_begins) there =
-    let none : has_open_word (text_of s.history) ≡ false = no_word_in_front s.history e (own_end s.history e ends) is in
+    let none : has_word_to_end (text_of s.history) ≡ false = no_word_in_front s.history e (own_end s.history e ends) is in
     let number : EnvironmentNumber = (environments s.history).number in
-    WentOn s leads (record { first = first; no_text = no_text; others = others; none_before = is; no_word = none })
+    WentOn s leads (record { first = first; no_text = no_text; others = others; none_before = is; no_word = none; no_field = no_field_in_front s.history e is })
     (Leads-step l s s (Leads-refl l s))
-    (own-step number (text_in number s.history) l s (own-same (text_in number s.history) (ap has_open_word (text_in-force s.history) ∙ none)))
+    (λ (no_field : is_in_field (text_of s.history) ≡ false). own-step number (plain (text_in number s.history)) l s
+    (own-same (text_in number s.history)
+    (ap (λ (T : History). has_open_word (plain T)) (text_in-force s.history) ∙ none_at_all (text_of s.history) no_field none)))
+next-step l from e behind s own ends leads no_text first others is (FieldEndComes closes none_begins fewer) there =
+    subst (HasGoneOn l from e behind) (sym there)
+    (next-performed l from (Text FieldEnd) e behind s _ ends others (performed_or_stopped l (Some (Text FieldEnd)) e [] s))
 next-step l from e behind s own ends leads no_text first others is (WordEndComes none_begins fewer) there =
     subst (HasGoneOn l from e behind) (sym there)
     (next-performed l from (Text WordEnd) e behind s _ ends others (performed_or_stopped l (Some (Text WordEnd)) e [] s))
@@ -162,7 +173,7 @@ gone-step l from e behind s ends leads (Waits waits) = elim (ended_or_not s.ende
 ]
 gone-step l from e behind s ends leads (WentOn at to_it goes_on behind_it own) =
     let number : EnvironmentNumber = (environments at.history).number in
-    WentOn at to_it goes_on (Leads-step l at s behind_it) (own-step number (text_in number at.history) l s own)
+    WentOn at to_it goes_on (Leads-step l at s behind_it) (λ no_field. own-step number (plain (text_in number at.history)) l s (own no_field))
 gone-step l from e behind s ends leads (RunEnded ended) = subst (HasGoneOn l from e behind) (sym (step-ended l s ended)) (RunEnded ended)
 gone-step l from e behind s ends leads (InputLeft at to_it leaves behind_it) = InputLeft at to_it leaves (Leads-step l at s behind_it)
 

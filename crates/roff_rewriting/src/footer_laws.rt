@@ -6,7 +6,9 @@ ghost use Rattle.roff_laws.specs.Rows.{formatted, gives};
 ghost use Rattle.roff_rewriting.specs.MacroEnds.{MacrosAreReadToTheirEnd, MacrosBeginALine};
 ghost use Rattle.roff_rewriting.specs.WordEnds.{TextLinesEndWordsSo, WordEndsPutBackAGap};
 ghost use Rattle.roff_rewriting.specs.WordEnds.{WordEndsStayFollowed};
-ghost use Rattle.roff_rewriting.specs.WordsApart.{EndsLeaveNoWordOpen, FootersBeginWords};
+ghost use Rattle.roff_rewriting.specs.WordsApart.{EndsLeaveNoWordOpen, FieldsLeaveAWordOpen};
+ghost use Rattle.roff_rewriting.specs.WordsApart.{FootersBeginWords, FootersBehindTabs};
+ghost use Rattle.roff_rewriting.specs.WordsApart.{LineEndsLeaveNoWordOpen};
 ghost use Rattle.roff_rewriting.specs.WordsApart.{LinesGoOnWithAnotherWord};
 ghost use Rattle.roff_rewriting.specs.WordsApart.{LinesAreOfEndedWords, OnlyGlyphsOpenWords};
 ghost use Rattle.roff_rewriting.specs.WordsApart.{OpenWordsGoOn};
@@ -21,8 +23,13 @@ ghost use Rattle.roff_run.specs.declared.status.Status.TheVariants.{Done};
 /// macro is: also where its text leaves a word open, by `\c` or by a backslash at its last line's
 /// end, as the gap, the line's end or the break that was put back ends that word first. Behind each
 /// word's end a text line tells one of these, and so one is left to do where that end is performed.
+///
+/// A tab that ends a field behind a gap finishes a line too, and begins a word: the macro's text
+/// goes on with that word, and shares none with the word in front of the gap. Where the macro
+/// leaves a field open, a gap that was put back stands in that field.
 pub fn footers()
     ensures front { FootersBeginWords }
+    ensures tabs { FootersBehindTabs }
     ensures behind { LinesGoOnWithAnotherWord }
     ensures ends { TextLinesEndWordsSo }
     ensures stay { WordEndsStayFollowed }
@@ -31,13 +38,16 @@ pub fn footers()
 
 /// Where no word is open in an environment, all that is told there later stands in words of its
 /// own. Behind the end of a word or of a line, and behind a break, none is open until a glyph is
-/// told: so it is behind a macro whose last line is whole. In front of each word stands a blank at
+/// told: so it is behind a macro whose last line is whole. In a field a word is open, which no
+/// word's end ends; the field's end leaves it so. In front of each word stands a blank at
 /// least. Where a word is open, a glyph is one of that word: so it is where a macro that leaves one
 /// open sprang at a line's end, and the next line begins behind it. The words that lines are made
 /// of, those since the last break, are the newest of all that have ended.
 pub fn words()
     ensures begun { WordsBeginWhereNoneIsOpen }
     ensures ended { EndsLeaveNoWordOpen }
+    ensures line_ended { LineEndsLeaveNoWordOpen }
+    ensures field_ended { FieldsLeaveAWordOpen }
     ensures only_glyphs { OnlyGlyphsOpenWords }
     ensures apart { WordsStandApart }
     ensures left_open { OpenWordsGoOn }

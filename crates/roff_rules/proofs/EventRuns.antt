@@ -1,5 +1,5 @@
 -- Runs over bytes that mean events.
-use Rattle.std.proofs.Common.{◌≡◌, ℕ, zero, suc, ◌+◌, ◌≤◌, Bool, false, List, ◌∷◌, ◌++◌, length, Option, Some, None, refl, ap, sym, subst, ◌∙◌, arith, append_assoc, []}
+use Rattle.std.proofs.Common.{◌≡◌, ℕ, zero, suc, ◌+◌, ◌≤◌, Bool, true, false, List, ◌∷◌, ◌++◌, length, Option, Some, None, refl, ap, sym, subst, ◌∙◌, arith, append_assoc, []}
 use Rattle.std.specs.Prelude.{⊤, map}
 use Rattle.std.proofs.lemmas.List.{append-nil, length-append}
 use Rattle.roff_num.specs.declared.limits.Limits.{Limits}
@@ -16,10 +16,10 @@ use Rattle.roff_run.specs.Reading.Items.{PageInput, Taking, meaning_events}
 use Rattle.roff_run.specs.Registers.{AllRegisters, Known}
 use Rattle.roff_run.specs.PageEvents.{PageEvent, PastEvent}
 use Rattle.roff_run.specs.Titles.{told}
-use Rattle.roff_layout.specs.declared.event.Event.TheVariants.{WordEnd}
+use Rattle.roff_layout.specs.declared.event.Event.TheVariants.{FieldEnd, WordEnd}
 use Rattle.roff_layout.specs.declared.layout_event.LayoutEvent.TheVariants.{Begin}
 use Rattle.roff_run.specs.declared.event.PageEvent.TheVariants.{Page, Text}
-use Rattle.roff_laws.proofs.ComesBefore.{ComesBefore, NothingComes, PageComes, WordEndComes, comes_before, own_steps, page_steps, steps_in_front, steps_in_front-few}
+use Rattle.roff_laws.proofs.ComesBefore.{ComesBefore, NothingComes, FieldEndComes, PageComes, WordEndComes, comes_before, end_steps, page_steps, steps_in_front, steps_in_front-few}
 use Rattle.roff_laws.proofs.PerformedOrStopped.{left_of-none}
 use Rattle.roff_rules.specs.TextLaws.{AllQuiet, IsQuiet, all_performed, performed_with}
 use Rattle.roff_run.specs.Run.{Following, State, after, done_if, followed_by, known, made, nothing_follows, performed, performing, step, step_behind, taken_as, unless_refused}
@@ -31,7 +31,7 @@ use Rattle.roff_rules.proofs.LineRooms.{Room, reads_at, room-behind, within-room
 use Rattle.roff_run.specs.Following.{following}
 use Rattle.roff_run.specs.Layouts.{layout_of}
 use Rattle.roff_layout.specs.Queries.{takes_text}
-use Rattle.roff_run.specs.Springs.{left_of, next, word_end_of}
+use Rattle.roff_run.specs.Springs.{ends_field, left_of, next, word_end_of}
 use Rattle.roff_run.specs.Run.Counts.{refusal}
 
 -- events are quiet as they are performed, each with what comes before it
@@ -108,15 +108,21 @@ perform-own : (l : Limits) (s : State) (own e : PageEvent) (es performed : List 
 perform-own l s own e es performed going unfollowed is others quiet =
     ap (after l (length performed)) (quiet-own l s own e es going unfollowed is quiet.0) ∙ others quiet.1
 
--- how many steps may be in front of an event where so many events come before it at the most: a word's end counts twice
+-- how many steps may be in front of an event where so many events come before it at the most: one of the ends counts twice
 abbrev most_steps : ℕ → ℕ
 most_steps zero = 0
 most_steps (suc zero) = 2
 most_steps (suc (suc n)) = n + 3
 
-own_steps-none : (own : Option PageEvent) → own_steps own ≤ 1 → own_steps own ≤ 0
-own_steps-none None few = omega arith
-own_steps-none (Some own) few = absurd (omega (arith, few))
+end_steps-none : (in_field : Bool) (own : Option PageEvent) → end_steps in_field own ≤ 1 → end_steps in_field own ≤ 0
+end_steps-none true own few = absurd (omega (arith, few))
+end_steps-none false None few = omega arith
+end_steps-none false (Some own) few = absurd (omega (arith, few))
+
+fewer-field : (n before behind : ℕ) → 3 ≤ before → behind + 1 ≤ before → before ≤ most_steps (suc n) → behind ≤ most_steps n
+fewer-field zero before behind some fewer few = absurd (omega (arith, some, few))
+fewer-field (suc zero) before behind some fewer few = omega (arith, fewer, few)
+fewer-field (suc (suc n)) before behind some fewer few = omega (arith, fewer, few)
 
 fewer-word : (n before behind : ℕ) → behind + 2 ≤ before → before ≤ most_steps (suc n) → behind ≤ most_steps n
 fewer-word zero before behind fewer few = omega (arith, fewer, few)
@@ -127,7 +133,7 @@ fewer-page : (n : ℕ) (h g : PageHistory) (e : PageEvent) → takes_text (layou
     → steps_in_front h e ≤ most_steps (suc n) → steps_in_front g e ≤ most_steps n
 fewer-page zero h g e none fewer few =
     let begun : page_steps (takes_text (layout_of h)) ≡ 1 = ap page_steps none in
-    omega (arith, fewer, begun, own_steps-none (word_end_of h e) (omega (arith, few, begun)))
+    omega (arith, fewer, begun, end_steps-none (ends_field h e) (word_end_of h e) (omega (arith, few, begun)))
 fewer-page (suc zero) h g e none fewer few = omega (arith, fewer, few)
 fewer-page (suc (suc n)) h g e none fewer few = omega (arith, fewer, few)
 
@@ -144,6 +150,12 @@ perform-by : (l : Limits) (n : ℕ) (s : State) (e : PageEvent) (es : List PageE
     ])
 perform-by l n s e es own going unfollowed is (NothingComes none_begins) few others first =
     perform-alone l s e es going unfollowed is others
+perform-by l n s e es own going unfollowed is (FieldEndComes ends none_begins fewer) few others first =
+    let h : PageHistory = Text FieldEnd ∷ s.history in
+    let some : end_steps (ends_field s.history e) (word_end_of s.history e) ≡ 3 =
+    ap (λ (c : Bool). end_steps c (word_end_of s.history e)) ends in
+    perform-own l s (Text FieldEnd) e es _ going unfollowed is
+    (first h (fewer-field n (steps_in_front s.history e) (steps_in_front h e) (omega (arith, some)) fewer few))
 perform-by l n s e es own going unfollowed is (WordEndComes none_begins fewer) few others first =
     let h : PageHistory = Text WordEnd ∷ s.history in
     perform-own l s (Text WordEnd) e es _ going unfollowed is
@@ -155,6 +167,7 @@ perform-by l n s e es own going unfollowed is (PageComes none_begun fewer) few o
 -- nothing comes before an event where no step does
 none_in_front : (h : PageHistory) (e : PageEvent) (own : Option PageEvent) → ComesBefore h e own → steps_in_front h e ≤ 0 → own ≡ None
 none_in_front h e own (NothingComes none_begins) none = refl
+none_in_front h e own (FieldEndComes ends none_begins fewer) none = absurd (omega (arith, fewer, none))
 none_in_front h e own (WordEndComes none_begins fewer) none = absurd (omega (arith, fewer, none))
 none_in_front h e own (PageComes none_begun fewer) none = absurd (omega (arith, fewer, none))
 
@@ -174,7 +187,7 @@ pub perform-all : (l : Limits) (s : State) (events : List PageEvent) → s.ended
     ≡ record s { to_do = []; history = behind_performed s.registers events s.history }
 perform-all l s [] going unfollowed quiet = refl
 perform-all l s (e ∷ es) going unfollowed quiet =
-    perform-first l 2 s e es going unfollowed (steps_in_front-few s.history e)
+    perform-first l 3 s e es going unfollowed (steps_in_front-few s.history e)
     (λ u going unfollowed quiet. perform-all l u es going unfollowed quiet) quiet
 
 -- events one behind another, by what comes before the first
@@ -199,7 +212,7 @@ pub performed-append : (rs : AllRegisters) (events more : List PageEvent) (h : P
     → all_performed rs (events ++ more) h ≡ all_performed rs events h ++ all_performed rs more (behind_performed rs events h)
 performed-append rs [] more h = refl
 performed-append rs (e ∷ events) more h =
-    with-append rs 2 h e (all_performed rs events) (all_performed rs (events ++ more)) (all_performed rs more)
+    with-append rs 3 h e (all_performed rs events) (all_performed rs (events ++ more)) (all_performed rs more)
     (λ g. performed-append rs events more g)
 
 behind_all-append : (rs : AllRegisters) (events more : List PageEvent) (h : PageHistory)

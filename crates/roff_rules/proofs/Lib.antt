@@ -2,6 +2,7 @@ pub mod Interpolation
 pub mod NamesAsked
 pub mod InterpolatedNames
 pub mod WidthLaws
+pub mod MotionLaws
 pub mod CutNames
 pub mod QuotedArguments
 pub mod MessageLaws

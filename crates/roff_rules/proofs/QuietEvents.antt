@@ -1,13 +1,14 @@
 -- Events behind which nothing follows.
 use Rattle.std.proofs.Common.{◌≡◌, Bool, true, false, not, ◌||◌, List, [], Option, Some, None, refl, ap, ◌∙◌}
 use Rattle.std.specs.Prelude.{option_map, if◌then◌else◌}
+use Rattle.roff_layout.specs.Behind.{finished}
 use Rattle.roff_layout.specs.DivertedText.{diverted_lines, diverted_text}
 use Rattle.roff_layout.specs.DueTexts.{bytes_due, drop_due, due_by, end_due}
 use Rattle.roff_layout.specs.Happenings.{Happening, Does, Places, Titles, is_eject}
 use Rattle.roff_layout.specs.declared.layout_event.LayoutEvent.{LayoutEvent}
 use Rattle.roff_layout.specs.declared.layout_event.LayoutEvent.TheVariants.{ListPages, Begin, Close, Space, Need, Eject, EjectTo, EjectOn, EjectLast, Length, Offset, Next, Number, NoSpace, Plant, Uproot, MoveTrap, RemoveTrap, DiversionTrap, NoDiversionTrap, Divert, EndDivert}
 use Rattle.roff_layout.specs.Layout.{Diversion, Layout}
-use Rattle.roff_layout.specs.Lines.{Finished, finished}
+use Rattle.roff_layout.specs.Lines.{Finished}
 use Rattle.roff_layout.specs.Puts.{appended}
 use Rattle.roff_layout.specs.Words.{is_empty}
 use Rattle.roff_run.specs.Environments.{PageHistory, text_of}

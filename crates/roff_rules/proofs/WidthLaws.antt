@@ -1,18 +1,9 @@
 -- Texts that are measured, and motions.
 use Rattle.std.proofs.Common.{◌≡◌, ℕ, ◌+◌, ◌*◌, ◌≤◌, Bool, true, false, List, [], ◌∷◌, ◌++◌, length, Some, None, refl, ap, sym, subst, ◌∙◌, arith, Option}
-use Rattle.std.specs.Prelude.{decimal, fold, min, not, ◌&&◌, ◌||◌, replicate, reverse, sum_by, if◌then◌else◌, ◌==◌}
-use Rattle.std.specs.List.{flat_map}
+use Rattle.std.specs.Prelude.{decimal, fold, min, ◌||◌, sum_by, if◌then◌else◌, ◌==◌}
 use Rattle.std.proofs.lemmas.Bool.Decides.{nat_tests}
-use Rattle.std.proofs.lemmas.Grind.{flat_map-append}
-use Rattle.std.proofs.lemmas.List.{append-nil, length-append, length-replicate, reverse-append}
 use Rattle.std.proofs.lemmas.List.Elements.{All-head, All-tail}
 use Rattle.std.proofs.lemmas.List.Sums.{sum_by-cons}
-use Rattle.roff_layout.specs.Glyphs.{glyph_text, glyph_blank}
-use Rattle.roff_layout.specs.Places.{tab_width}
-use Rattle.roff_layout.specs.Words.{begun_gap, blanks, has_open_word, is_empty, last_word_glyphs, open_glyphs, words}
-use Rattle.roff_layout.specs.declared.glyph.Glyph.{Glyph}
-use Rattle.roff_layout.specs.declared.glyph.Glyph.TheVariants.{Blanks}
-use Rattle.roff_num.specs.declared.limit.Limit.TheVariants.{Line}
 use Rattle.roff_num.specs.declared.limits.Limits.{Limits}
 use Rattle.roff_input.specs.Arguments.{Arguments}
 use Rattle.roff_source.specs.Bytes.{newline, backslash, is_dropped}
@@ -32,7 +23,6 @@ use Rattle.roff_run.proofs.ItemsTaken.{Fits-IsWithin, FromAhead, FromSource, Ori
 use Rattle.roff_rules.specs.InterpolationLaws.{StandsForItself, reads_escapes}
 use Rattle.roff_run.specs.ItemsTaken.{TakesItems}
 use Rattle.roff_run.specs.Within.{IsWithin}
-use Rattle.roff_run.specs.Output.{text_of}
 use Rattle.roff_run.specs.Reading.{taking, escape_ended}
 use Rattle.roff_run.specs.Reading.Escapes.{measuring}
 use Rattle.roff_run.specs.Reading.Found.{place_in, read_in}
@@ -41,8 +31,7 @@ use Rattle.roff_run.specs.Registers.{Known}
 use Rattle.roff_run.specs.PageEvents.{PageEvent}
 use Rattle.roff_run.specs.Run.{State, after, known, step, taken_as, answered, awaited, awaited_of_source, ending_input, escape_ends, in_front_taken, made, read_waiting, item_read}
 use Rattle.roff_run.specs.Reading.Waiting.{waiting_above}
-use Rattle.roff_run.specs.Run.Counts.{first_passed}
-use Rattle.roff_rules.specs.WidthLaws.{MayDelimit, IsPlain, text_units, width_escape, measures_texts, with_width_ahead, WidthsReadAsDigits, WidthsOfTheSourceReadAsDigits, MeasuredTextsReadAsDigits, MeasuredTextsOfTheSourceReadAsDigits, MotionsAreAsLongAsTheirColumns, MotionsCountInTheLine, TabsAreAsLongAsTheirColumns, TabsCountInTheLine, EndsText, NewlineAhead, NewlineOfTheSource, EndOfTheSource, WidthsEndWithTheirLine}
+use Rattle.roff_rules.specs.WidthLaws.{MayDelimit, IsPlain, text_units, width_escape, measures_texts, with_width_ahead, WidthsReadAsDigits, WidthsOfTheSourceReadAsDigits, MeasuredTextsReadAsDigits, MeasuredTextsOfTheSourceReadAsDigits, EndsText, NewlineAhead, NewlineOfTheSource, EndOfTheSource, WidthsEndWithTheirLine}
 use Rattle.roff_run.specs.declared.line_state.LineState.{LineState}
 use Rattle.roff_run.specs.declared.line_state.LineState.TheVariants.{LineStart, Branch, Braced, Text as InText, Control, Name as NameOf, Deciding, Skipping, Dropped, Told, Exiting, TitleFront, Title as InTitle, Collecting}
 use Rattle.roff_run.specs.declared.purpose.Purpose.TheVariants.{Arguments as InArguments, StringName, StringText, Telling, Calling, Defining}
@@ -327,36 +316,3 @@ measured_texts_read_as_digits l s d text rest may plain takes reads none ahead =
 pub measured_texts_of_the_source_read_as_digits : MeasuredTextsOfTheSourceReadAsDigits
 measured_texts_of_the_source_read_as_digits l s d text tape may plain takes reads none nothing stands =
     width-reads l s (FromSource tape) d text may plain takes reads none nothing stands
-
--- a gap counts once a word is open behind it
-gap-counts : (is_open is_first : Bool) (gap begun : ℕ)
-    → (if not is_first then (if is_open then gap else begun) else 0)
-    ≡ (if is_open && not is_first then gap else 0) + (if is_open || is_first then 0 else begun)
-gap-counts true true gap begun = refl
-gap-counts true false gap begun = omega arith
-gap-counts false true gap begun = refl
-gap-counts false false gap begun = omega arith
-
--- blanks behind other glyphs
-length-Blanks : (n : ℕ) (glyphs : List Glyph)
-    → length (flat_map glyph_text (reverse (Blanks n ∷ glyphs))) ≡ length (flat_map glyph_text (reverse glyphs)) + n
-length-Blanks n glyphs =
-    let one : flat_map glyph_text (Blanks n ∷ []) ≡ replicate n glyph_blank = append-nil (replicate n glyph_blank) in
-    ap (λ (all : List Glyph). length (flat_map glyph_text all)) (reverse-append (Blanks n ∷ []) glyphs)
-    ∙ ap length (flat_map-append glyph_text (reverse glyphs) (Blanks n ∷ []))
-    ∙ length-append (flat_map glyph_text (reverse glyphs)) (flat_map glyph_text (Blanks n ∷ []))
-    ∙ ap (λ (k : ℕ). length (flat_map glyph_text (reverse glyphs)) + k) (ap length one ∙ length-replicate n glyph_blank)
-
-pub motions_are_as_long_as_their_columns : MotionsAreAsLongAsTheirColumns
-motions_are_as_long_as_their_columns h n =
-    omega (arith, gap-counts (has_open_word h) (is_empty (words h)) (blanks h) (begun_gap (blanks h) (last_word_glyphs h)), length-Blanks n (open_glyphs h))
-
-pub motions_count_in_the_line : MotionsCountInTheLine
-motions_count_in_the_line l h n =
-    ap (λ (count : ℕ). first_passed l ((Line, count) ∷ [])) (motions_are_as_long_as_their_columns (text_of h) n)
-
-pub tabs_are_as_long_as_their_columns : TabsAreAsLongAsTheirColumns
-tabs_are_as_long_as_their_columns h = motions_are_as_long_as_their_columns h (tab_width h)
-
-pub tabs_count_in_the_line : TabsCountInTheLine
-tabs_count_in_the_line l h = refl

@@ -1,12 +1,13 @@
 -- Laws of lines: gaps behind sentences, lines that are centred, an indent for one line, and blank lines behind lines (manual,
--- sections 4.1, 4.3 and 6).
+-- sections 4.1, 4.3 and 6). Of any history the words and glyphs are meant that are told without fields: in a field a word is open.
 use Rattle.std.specs.Prelude.{◌≡◌, ℕ, ◌+◌, ◌-◌, ◌/◌, true, false, List, [], ◌∷◌, length, All, Some, None, IfSome, if◌then◌else◌, ◌==◌}
+use Rattle.roff_layout.specs.Behind.{finished, has_line_glyph}
 use Rattle.roff_layout.specs.Events.{History, settings_after}
+use Rattle.roff_layout.specs.Fields.{plain}
 use Rattle.roff_layout.specs.declared.event.Event.TheVariants.{LineEnd, Count, Print, Set, WordEnd}
 use Rattle.roff_layout.specs.Fitting.{Word, line_indent, line_text}
 use Rattle.roff_layout.specs.Glyphs.{gaps_in}
-use Rattle.roff_layout.specs.Lines.{Finished, finished, free_columns, pending_line}
-use Rattle.roff_layout.specs.Places.{has_line_glyph}
+use Rattle.roff_layout.specs.Lines.{Finished, free_columns, pending_line}
 use Rattle.roff_layout.specs.Settings.{fills}
 use Rattle.roff_layout.specs.Telling.{bytes_told, glyphs_told, text_line}
 use Rattle.roff_layout.specs.Words.{ends_sentence, has_open_word, is_closer, is_empty, is_sentence_mark, last_word_glyphs, open_word, temporary_indent, words}
@@ -20,34 +21,34 @@ use Rattle.roff_layout.specs.declared.settings.Settings.{Settings}
 -- in front where a sentence ends with that line, and of one where none does.
 abbrev pub SentencesAreTwoBlanksApart : Type 0
 SentencesAreTwoBlanksApart =
-    (h : History) (glyphs : List Glyph) → fills (settings_after h) ≡ true → has_line_glyph h ≡ true → has_open_word h ≡ false →
+    (h : History) (glyphs : List Glyph) → fills (settings_after h) ≡ true → has_line_glyph h ≡ true → has_open_word (plain h) ≡ false →
     is_empty glyphs ≡ false →
-    (open_word (glyphs_told glyphs (Count ∷ LineEnd ∷ h))).gap ≡ (if ends_sentence (last_word_glyphs h) then 2 else 1)
+    (open_word (plain (glyphs_told glyphs (Count ∷ LineEnd ∷ h)))).gap ≡ (if ends_sentence (last_word_glyphs (plain h)) then 2 else 1)
 
 -- a sentence ends behind a mark and any closers behind it
 abbrev pub SentencesEndAtTheirMarks : Type 0
 SentencesEndAtTheirMarks =
     (h : History) (mark : ℕ) (closers : List ℕ) → is_sentence_mark (Printed mark) ≡ true →
-    All (λ b. is_closer (Printed b) ≡ true) closers → ends_sentence (last_word_glyphs (bytes_told (mark ∷ closers) h)) ≡ true
+    All (λ b. is_closer (Printed b) ≡ true) closers → ends_sentence (last_word_glyphs (plain (bytes_told (mark ∷ closers) h))) ≡ true
 
 -- none ends behind closers alone, which a gap or a break parts from the word before them
 abbrev pub ClosersApartEndNoSentence : Type 0
 ClosersApartEndNoSentence =
-    (h : History) (closer : ℕ) (closers : List ℕ) → has_open_word h ≡ false → is_closer (Printed closer) ≡ true →
-    All (λ b. is_closer (Printed b) ≡ true) closers → ends_sentence (last_word_glyphs (bytes_told (closer ∷ closers) h)) ≡ false
+    (h : History) (closer : ℕ) (closers : List ℕ) → has_open_word (plain h) ≡ false → is_closer (Printed closer) ≡ true →
+    All (λ b. is_closer (Printed b) ≡ true) closers → ends_sentence (last_word_glyphs (plain (bytes_told (closer ∷ closers) h))) ≡ false
 
 -- and none behind another glyph
 abbrev pub NoOtherGlyphEndsASentence : Type 0
 NoOtherGlyphEndsASentence =
     (h : History) (glyph : Glyph) → is_sentence_mark glyph ≡ false → is_closer glyph ≡ false →
-    ends_sentence (last_word_glyphs (Print glyph ∷ h)) ≡ false
+    ends_sentence (last_word_glyphs (plain (Print glyph ∷ h))) ≡ false
 
 -- a line of the input that is centred is a line by itself, with half of the columns that it leaves free in front, behind its indent
 abbrev pub CentredLinesStandInTheMiddle : Type 0
 CentredLinesStandInTheMiddle =
-    (h : History) → ((settings_after h).centring == 0) ≡ false → is_empty (words h) ≡ false →
+    (h : History) → ((settings_after h).centring == 0) ≡ false → is_empty (words (plain h)) ≡ false →
     let s : Settings = settings_after h in
-    let line : List Word = pending_line h in
+    let line : List Word = pending_line (plain h) in
     let text : List ℕ = line_text line in
     finished h LineEnd
     ≡ Some (record {
@@ -72,14 +73,14 @@ SoManyLinesAreCentred =
 -- an indent for one line is that of the line that the next word begins, and of no other
 abbrev pub TemporaryIndentsAreForOneLine : Type 0
 TemporaryIndentsAreForOneLine =
-    (h : History) (n : ℕ) (glyphs : List Glyph) → words h ≡ [] → has_open_word h ≡ false → is_empty glyphs ≡ false →
-    let told : History = WordEnd ∷ glyphs_told glyphs (Set (TemporaryIndent n) ∷ h) in
+    (h : History) (n : ℕ) (glyphs : List Glyph) → words (plain h) ≡ [] → has_open_word (plain h) ≡ false → is_empty glyphs ≡ false →
+    let told : History = plain (WordEnd ∷ glyphs_told glyphs (Set (TemporaryIndent n) ∷ h)) in
     (line_indent (pending_line told) ≡ n) × (temporary_indent told ≡ None)
 
 -- where none is pending, a line that a word begins has the indent in force
 abbrev pub OtherLinesHaveTheIndentInForce : Type 0
 OtherLinesHaveTheIndentInForce =
-    (h : History) → temporary_indent h ≡ None → (open_word h).indent ≡ (settings_after h).indent
+    (h : History) → temporary_indent (plain h) ≡ None → (open_word (plain h)).indent ≡ (settings_after h).indent
 
 -- behind each line stands a blank line fewer than its spacing says
 abbrev pub LinesAreSpaced : Type 0

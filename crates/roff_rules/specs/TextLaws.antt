@@ -84,11 +84,11 @@ performed_with rs zero h e behind = e ∷ behind (told rs e ∷ h)
 performed_with rs (suc n) h e behind =
     elim (next h e) [ None ↦ e ∷ behind (told rs e ∷ h) | Some first ↦ first ∷ performed_with rs n (told rs first ∷ h) e behind ]
 
--- events as they are performed: in front of each stand the end of an open word and the first page's beginning, where these come
--- before it
+-- events as they are performed: in front of each stand the end of an open field, that of an open word and the first page's
+-- beginning, where these come before it
 abbrev pub all_performed : AllRegisters → List PageEvent → PageHistory → List PageEvent
 all_performed rs [] h = []
-all_performed rs (e ∷ es) h = performed_with rs 2 h e (all_performed rs es)
+all_performed rs (e ∷ es) h = performed_with rs 3 h e (all_performed rs es)
 
 -- an event is quiet: no limit refuses it, the last page doesn't end with it, and nothing follows it, as it springs no macro and changes
 -- no text of a diversion

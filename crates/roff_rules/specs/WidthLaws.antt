@@ -1,8 +1,9 @@
 -- Laws of texts that are measured, and of motions: a width is read in its digits, and a motion's columns count (manual,
 -- sections 2.3 and 11).
 use Rattle.std.specs.Prelude.{◌≡◌, ℕ, ◌+◌, ◌*◌, Bool, true, false, not, ◌||◌, List, [], ◌∷◌, ◌++◌, decimal, length, map, min, nat_lt, sum_by, All, IsTrue, Option, Some, None, ◌==◌, if◌then◌else◌}
+use Rattle.roff_layout.specs.Behind.{pending_length}
 use Rattle.roff_layout.specs.Events.{History}
-use Rattle.roff_layout.specs.Lines.{pending_length}
+use Rattle.roff_layout.specs.Fields.{is_in_field, plain, told}
 use Rattle.roff_layout.specs.Places.{tab_width}
 use Rattle.roff_layout.specs.Words.{begun_gap, blanks, has_open_word, is_empty, last_word_glyphs, words}
 use Rattle.roff_layout.specs.declared.event.Event.TheVariants.{Print, Tab}
@@ -111,12 +112,16 @@ MeasuredTextsOfTheSourceReadAsDigits =
     let read : State = with_width_ahead (text_units text) [] (length (width_escape d text)) [] (with_source_behind tape s) in
     IsWithin l s → IsWithin l read → after l (length (width_escape d text)) s ≡ read
 
--- the gap before a word that begins here: none within a word, nor where the line begins
+-- the gap before a word that begins here, told without fields: none within a word, nor where the line begins
+abbrev pub word_gap : History → ℕ
+word_gap h = if has_open_word h || is_empty (words h) then 0 else begun_gap (blanks h) (last_word_glyphs h)
+
+-- the gap before a glyph that is told here: in a field the gap at its end
 abbrev pub gap_begun : History → ℕ
-gap_begun h = if has_open_word h || is_empty (words h) then 0 else begun_gap (blanks h) (last_word_glyphs h)
+gap_begun h = elim (told h).field [ None ↦ word_gap (plain h) | Some f ↦ f.gap ]
 
 -- a motion is a glyph of so many blanks: the pending line is so much longer behind it, and longer by the gap before it
--- where it begins a word
+-- where it begins a word, or stands behind a gap in a field
 abbrev pub MotionsAreAsLongAsTheirColumns : Type 0
 MotionsAreAsLongAsTheirColumns =
     (h : History) (n : ℕ) → pending_length (Print (Blanks n) ∷ h) ≡ pending_length h + gap_begun h + n
@@ -128,11 +133,25 @@ MotionsCountInTheLine =
     refusal l h (Text (Print (Blanks n)))
     ≡ (if nat_lt l.line (pending_length (text_of h) + gap_begun (text_of h) + n) then Some Line else None)
 
--- so is a tab of the blanks that lead to its stop (manual, section 9.1)
+-- so is a tab of the blanks that lead to its stop, where that opens no field and none is open (manual, section 9.1)
 abbrev pub TabsAreAsLongAsTheirColumns : Type 0
-TabsAreAsLongAsTheirColumns = (h : History) → pending_length (Tab ∷ h) ≡ pending_length h + gap_begun h + tab_width h
+TabsAreAsLongAsTheirColumns =
+    (h : History) → is_in_field h ≡ false → is_in_field (Tab ∷ h) ≡ false →
+    pending_length (Tab ∷ h) ≡ pending_length h + gap_begun h + tab_width (plain h)
 
 -- and it is refused where a motion of as many columns would be
 abbrev pub TabsCountInTheLine : Type 0
 TabsCountInTheLine =
-    (l : Limits) (h : PageHistory) → refusal l h (Text Tab) ≡ refusal l h (Text (Print (Blanks (tab_width (text_of h)))))
+    (l : Limits) (h : PageHistory) → is_in_field (text_of h) ≡ false → is_in_field (Tab ∷ text_of h) ≡ false →
+    refusal l h (Text Tab) ≡ refusal l h (Text (Print (Blanks (tab_width (plain (text_of h))))))
+
+-- a tab that opens a field has no columns yet: only the gap before the field counts
+abbrev pub FieldsBeginWithoutColumns : Type 0
+FieldsBeginWithoutColumns =
+    (h : History) → is_in_field h ≡ false → is_in_field (Tab ∷ h) ≡ true → pending_length (Tab ∷ h) ≡ pending_length h + gap_begun h
+
+-- and it is refused where a motion of none would be
+abbrev pub FieldsBeginInTheLine : Type 0
+FieldsBeginInTheLine =
+    (l : Limits) (h : PageHistory) → is_in_field (text_of h) ≡ false → is_in_field (Tab ∷ text_of h) ≡ true →
+    refusal l h (Text Tab) ≡ refusal l h (Text (Print (Blanks 0)))

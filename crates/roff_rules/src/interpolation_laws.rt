@@ -22,6 +22,7 @@ ghost use Rattle.roff_rules.specs.WidthLaws.{MeasuredTextsOfTheSourceReadAsDigit
 ghost use Rattle.roff_rules.specs.WidthLaws.{WidthsEndWithTheirLine};
 ghost use Rattle.roff_rules.specs.WidthLaws.{MotionsAreAsLongAsTheirColumns, MotionsCountInTheLine};
 ghost use Rattle.roff_rules.specs.WidthLaws.{TabsAreAsLongAsTheirColumns, TabsCountInTheLine};
+ghost use Rattle.roff_rules.specs.WidthLaws.{FieldsBeginInTheLine, FieldsBeginWithoutColumns};
 
 /// Where nothing stands ahead of the source and nothing is half read, the unread input is the
 /// source's tape: a step does what the front of the tape says.
@@ -100,10 +101,13 @@ pub fn widths()
 {}
 
 /// A motion makes the pending line as much longer as it has columns, and counts so in the limit on
-/// a line; so does a tab, whose columns lead to the next tab stop.
+/// a line; so does a tab where no field is open and it opens none: its columns lead to the next tab
+/// stop. A tab that opens a field has no columns yet.
 pub fn motions()
     ensures length { MotionsAreAsLongAsTheirColumns }
     ensures limit { MotionsCountInTheLine }
     ensures length_of_a_tab { TabsAreAsLongAsTheirColumns }
     ensures limit_of_a_tab { TabsCountInTheLine }
+    ensures length_of_an_opening_tab { FieldsBeginWithoutColumns }
+    ensures limit_of_an_opening_tab { FieldsBeginInTheLine }
 {}

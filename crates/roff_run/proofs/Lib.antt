@@ -32,6 +32,7 @@ pub mod PlainRuns
 pub mod ItemsTaken
 pub mod NameBytes
 pub mod GivenPages
+pub mod LengthsReached
 pub mod HeldBytes
 pub mod OneMessage
 pub mod OneMessageOfRequests

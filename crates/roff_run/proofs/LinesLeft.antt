@@ -4,7 +4,7 @@ use Rattle.std.proofs.lemmas.List.{append-nil}
 use Rattle.std.specs.Prelude.{◌||◌, if◌then◌else◌}
 use Rattle.roff_layout.specs.Events.{is_interrupted}
 use Rattle.roff_layout.specs.declared.event.Event.{Event}
-use Rattle.roff_layout.specs.declared.event.Event.TheVariants.{Print, Tab, WordEnd, Gap, LineEnd, Count, Break, Interrupt as Interrupted, Resume, Set}
+use Rattle.roff_layout.specs.declared.event.Event.TheVariants.{Print, Tab, FieldEnd, WordEnd, Gap, LineEnd, Count, Break, Interrupt as Interrupted, Resume, Set}
 use Rattle.roff_run.specs.Environments.{environments, interrupted_line, text_of}
 use Rattle.roff_run.specs.Reading.Ends.{interrupted_end, is_left}
 use Rattle.roff_run.specs.Reading.TextLines.{blank_line, text_line_end}
@@ -26,6 +26,7 @@ lines_left-few (Some line) = omega arith
 pub left_by-few : (e : PageEvent) (lines : ℕ) → lines ≤ 1 → left_by e lines ≤ 1
 left_by-few (Text (Print glyph)) lines few = few
 left_by-few (Text Tab) lines few = few
+left_by-few (Text FieldEnd) lines few = few
 left_by-few (Text WordEnd) lines few = few
 left_by-few (Text (Gap columns)) lines few = few
 left_by-few (Text LineEnd) lines few = few
@@ -53,6 +54,7 @@ left-few es h = most_left-few es (lines_left (interrupted_line h)) (lines_left-f
 pub left_by-fewer : (e : PageEvent) (few many : ℕ) → few ≤ many → left_by e few ≤ left_by e many
 left_by-fewer (Text (Print glyph)) few many fewer = fewer
 left_by-fewer (Text Tab) few many fewer = fewer
+left_by-fewer (Text FieldEnd) few many fewer = fewer
 left_by-fewer (Text WordEnd) few many fewer = fewer
 left_by-fewer (Text (Gap columns)) few many fewer = fewer
 left_by-fewer (Text LineEnd) few many fewer = fewer
@@ -89,6 +91,7 @@ same_lines h e same = by_test (is_interrupted (e ∷ text_of h)) (is_interrupted
 pub lines_left-event : (rs : AllRegisters) (e : PageEvent) (h : PageHistory) → lines_left (interrupted_line (told rs e ∷ h)) ≤ left_by e (lines_left (interrupted_line h))
 lines_left-event rs (Text (Print glyph)) h = same_lines h (Print glyph) refl
 lines_left-event rs (Text Tab) h = same_lines h Tab refl
+lines_left-event rs (Text FieldEnd) h = same_lines h FieldEnd refl
 lines_left-event rs (Text WordEnd) h = same_lines h WordEnd refl
 lines_left-event rs (Text (Gap columns)) h = same_lines h (Gap columns) refl
 lines_left-event rs (Text LineEnd) h = same_lines h LineEnd refl

@@ -7,6 +7,7 @@ use Rattle.std.proofs.Common.{◌≡◌, refl, ℕ, zero, suc, ℤ, Bool, true, 
 use Rattle.std.specs.Prelude.{negsuc, pos, take, ◌&&◌, Result, Ok, Err, if◌then◌else◌, ◌==◌, length, slice_get}
 use Rattle.roff_layout.specs.declared.settings.AdjustMode.{AdjustMode}
 use Rattle.roff_layout.specs.declared.settings.Param.{Param}
+use Rattle.roff_layout.specs.declared.stop.StopKind.{StopKind}
 use Rattle.roff_num.specs.declared.format.Format.{Format}
 use Rattle.roff_num.specs.declared.num.Num.{Num}
 use Rattle.roff_num.specs.declared.num.NumFault.{NumFault}
@@ -201,7 +202,7 @@ Says-line_spacing k [] = tt
 Says-line_spacing k (text ∷ others) = Says-spacing _
 
 -- stops
-Says-setting_stops : (stops : Result (List ℤ) NumFault) → Says (setting_stops stops)
+Says-setting_stops : (stops : Result (List (ℤ × StopKind)) NumFault) → Says (setting_stops stops)
 Says-setting_stops (Ok stops) = tt
 Says-setting_stops (Err fault) = tt
 

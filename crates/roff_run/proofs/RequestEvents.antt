@@ -7,6 +7,7 @@ use Rattle.std.proofs.Common.{◌<◌, ℕ, zero, suc, arith, ℤ, Bool, true, f
 use Rattle.std.specs.Prelude.{negsuc, pos, take, ◌&&◌, Result, Ok, Err, if◌then◌else◌, ◌==◌, length}
 use Rattle.roff_layout.specs.declared.settings.AdjustMode.{AdjustMode}
 use Rattle.roff_layout.specs.declared.settings.Param.{Param}
+use Rattle.roff_layout.specs.declared.stop.StopKind.{StopKind}
 use Rattle.roff_num.specs.declared.format.Format.{Format}
 use Rattle.roff_num.specs.declared.num.Num.{Num}
 use Rattle.roff_num.specs.declared.num.NumFault.{NumFault}
@@ -203,11 +204,11 @@ means_few-line_spacing k [] = ((tt, tt), tt)
 means_few-line_spacing k (text ∷ others) = means_few-spacing _
 
 -- stops, which are many, but spring nothing, and don't break
-meant-stops : (stops : List ℤ) → AreMeant (map stop_set stops)
+meant-stops : (stops : List (ℤ × StopKind)) → AreMeant (map stop_set stops)
 meant-stops [] = tt
 meant-stops (stop ∷ stops) = (tt, meant-stops stops)
 
-waits-stops : (stops : List ℤ) → FewWait (map stop_set stops)
+waits-stops : (stops : List (ℤ × StopKind)) → FewWait (map stop_set stops)
 waits-stops [] = tt
 waits-stops (stop ∷ stops) = waits-stops stops
 
@@ -291,7 +292,7 @@ few-meant_by breaks (Obeyed messages changes calls events) few = (meant-behind_b
 few-meant_by breaks (Around before behind) few =
     (meant-append false (before ∷ []) (behind_break breaks (behind ∷ [])) few.0 (meant-behind_break breaks (behind ∷ []) few.1), waits-around breaks before behind)
 
-few-stopped : (breaks : Bool) (stops : Result (List ℤ) NumFault) → FewMeant (meant_by (breaks && false) (setting_stops stops)).events
+few-stopped : (breaks : Bool) (stops : Result (List (ℤ × StopKind)) NumFault) → FewMeant (meant_by (breaks && false) (setting_stops stops)).events
 few-stopped true (Ok stops) = ((tt, meant-stops stops), waits-stops stops)
 few-stopped false (Ok stops) = ((tt, meant-stops stops), waits-stops stops)
 few-stopped true (Err fault) = (tt, tt)

@@ -1,7 +1,7 @@
 -- The layout of pages behind a history (manual, sections 3, 5.3 and 14).
 use Rattle.std.specs.Prelude.{[], ◌∷◌, Option, Some, None, option_map}
 use Rattle.roff_layout.specs.Events.{History, settings_after}
-use Rattle.roff_layout.specs.Lines.{finished}
+use Rattle.roff_layout.specs.Behind.{finished}
 use Rattle.roff_num.specs.RegisterText.{register_text}
 use Rattle.roff_layout.specs.Layout.{Layout, first_layout}
 use Rattle.roff_layout.specs.Happenings.{Happening, Does, Places, Titles}

@@ -9,7 +9,7 @@ use Rattle.roff_source.specs.Tape.{Tape}
 -- one turn: all events to do are performed, each with what comes before it, texts of diversions change, and what sprang is put in
 -- front; then an item is taken, the end is met, or the run ends
 abbrev pub turn : Limits → State → State
-turn l s = told_step l (told_after l (5 * length s.to_do + 2) s)
+turn l s = told_step l (told_after l (6 * length s.to_do + 2) s)
 
 -- so many turns, or fewer where the run has ended before
 abbrev pub turns : Limits → ℕ → State → State

@@ -3,9 +3,9 @@
 -- A macro that springs is read before anything else is done: what was still to do of the same list is put back, and stands behind it.
 -- So do an event before which the first page began, and an eject whose page hasn't ended.
 use Rattle.std.specs.Prelude.{◌≡◌, ◌≤◌, Bool, true, false, not, ◌&&◌, ◌||◌, List, [], ◌∷◌, length, Option, Some, None, is_some, if◌then◌else◌}
-use Rattle.roff_layout.specs.Lines.{finished}
-use Rattle.roff_layout.specs.Words.{has_open_word}
-use Rattle.roff_layout.specs.declared.event.Event.TheVariants.{Break, Count, Gap, Interrupt as Interrupted, LineEnd, Print, Resume, Set, Tab, WordEnd}
+use Rattle.roff_layout.specs.Behind.{finished, has_open_word}
+use Rattle.roff_layout.specs.Fields.{is_in_field}
+use Rattle.roff_layout.specs.declared.event.Event.TheVariants.{Break, Count, FieldEnd, Gap, Interrupt as Interrupted, LineEnd, Print, Resume, Set, Tab, WordEnd}
 use Rattle.roff_num.specs.declared.short_name.ShortName.{ShortName}
 use Rattle.roff_run.specs.Environments.{environments, text_of, trap_reached}
 use Rattle.roff_layout.specs.declared.layout_event.LayoutEvent.{LayoutEvent}
@@ -58,10 +58,26 @@ abbrev pub page_begin_or : Bool → Option PageEvent → Option PageEvent
 page_begin_or true other = Some (Page Begin)
 page_begin_or false other = other
 
--- What comes before an event, if anything does: first the end of an open word, and then the first page's beginning; in front of
--- a word end that begins it that comes first.
+-- whether a field's end comes before an event: before a line end or break that finds a field open
+abbrev pub ends_field : PageHistory → PageEvent → Bool
+ends_field h (Text LineEnd) = is_in_field (text_of h)
+ends_field h (Text Break) = is_in_field (text_of h)
+ends_field h (_) = false
+
+-- a field's end, if it comes first, or something else
+abbrev pub field_end_or : Bool → Option PageEvent → Option PageEvent
+field_end_or true other = Some (Text FieldEnd)
+field_end_or false other = other
+
+-- what comes before an event that finds no field to end: the end of an open word, and then the first page's beginning; in front of
+-- a word end that begins it that comes first
+abbrev pub next_unfielded : PageHistory → PageEvent → Option PageEvent
+next_unfielded h e =
+    elim (word_end_of h e) [ None ↦ page_begin_or (begins h e) None | Some own ↦ page_begin_or (begins h own) (Some own) ]
+
+-- What comes before an event, if anything does: first the end of an open field, which no page needs, and then the others.
 abbrev pub next : PageHistory → PageEvent → Option PageEvent
-next h e = elim (word_end_of h e) [ None ↦ page_begin_or (begins h e) None | Some own ↦ page_begin_or (begins h own) (Some own) ]
+next h e = field_end_or (ends_field h e) (next_unfielded h e)
 
 -- the macro of the trap that a happening meets, if something happens
 abbrev pub sprung_on : Option Happening → Layout → Option ShortName
@@ -93,6 +109,7 @@ left_of h (_) = []
 -- by a text line that counts.
 abbrev pub may_spring : PageEvent → Bool
 may_spring (Text (Set param)) = false
+may_spring (Text FieldEnd) = false
 may_spring (Text Interrupted) = false
 may_spring (Text Resume) = false
 may_spring (Text e) = true

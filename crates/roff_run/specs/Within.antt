@@ -1,6 +1,6 @@
 -- What a run within its limits has: no count is above its limit.
 use Rattle.std.specs.Prelude.{◌+◌, ◌≤◌, length}
-use Rattle.roff_layout.specs.Lines.{pending_length}
+use Rattle.roff_layout.specs.Behind.{pending_length}
 use Rattle.roff_num.specs.declared.limits.Limits.{Limits}
 use Rattle.roff_run.specs.Environments.{Environments, environments}
 use Rattle.roff_run.specs.Layouts.{layout_of}

@@ -1,5 +1,6 @@
 -- Events that stop their list one after another, up to where the run goes on: each time less is left to be done.
 use Rattle.std.proofs.Common.{◌∙◌, ◌≡◌, ◌≤◌, ◌<◌, ◌+◌, ◌*◌, ◌-◌, ℕ, Bool, true, false, Option, Some, None, Result, Ok, Err, ap, arith, refl, subst}
+use Rattle.std.specs.Prelude.{◌||◌, is_some}
 use Rattle.roff_num.specs.declared.short_name.ShortName.{ShortName}
 use Rattle.roff_source.specs.Tape.{Tape}
 use Rattle.roff_composer.specs.declared.composer.Composer.{Composer as ComposerOf}
@@ -12,7 +13,7 @@ use Rattle.roff_running.specs.Running.Springing.{GoesOn, GoesOnSettled, IsBehind
 use Rattle.roff_running.specs.Running.Turning.{line_turns, turns_left}
 use Rattle.roff_running.specs.declared.running.Running.{Running as Coded}
 
--- what is still to be done of an open word and a macro counts little
+-- what is still to be done of an open word or field and a macro counts little
 word-most : (is_open : Bool) → word_weight is_open ≤ 2
 word-most true = omega arith
 word-most false = omega arith
@@ -22,7 +23,8 @@ unsprung-most None = omega arith
 unsprung-most (Some name) = omega arith
 
 stops-most : (sprung : Sprung) (es : ComposerOf) → stops_left sprung es ≤ 1023
-stops-most sprung es = omega (arith, word-most es.environments.in_force.lines.is_open, unsprung-most es.due.sprung)
+stops-most sprung es =
+    omega (arith, word-most (es.environments.in_force.lines.is_open || is_some es.environments.in_force.lines.field), unsprung-most es.due.sprung)
 
 -- Since one event stopped others did, of which this is the last: so many more may.
 pub record StoodSo (first sprung : Sprung) (old run : Coded) (before now : Seen) (left : ℕ) : Type 0 where

@@ -9,6 +9,7 @@ use Rattle.roff_interpreter.specs.Ending.{input_ends}
 use Rattle.roff_running.specs.Running.Turning.{line_turns, lines_left_in, state_at, turns_at, turns_left, turns_of_run}
 use Rattle.roff_run.specs.TurnsToCome.{most_left}
 use Rattle.roff_run.proofs.LinesLeft.{left_behind, left-few}
+use Rattle.roff_composer.proofs.InForce.{is_interrupted-in_force}
 use Rattle.roff_composer.specs.Composer.Standing.{StandFor}
 use Rattle.roff_composer.specs.declared.composer.Composer.{Composer as ComposerOf}
 use Rattle.roff_run.specs.Environments.{PageHistory, interrupted_line, environments, text_of}
@@ -35,7 +36,7 @@ left-by false line = refl
 pub lines_left-stands : (l : Limits) (h : PageHistory) (es : ComposerOf) → StandFor l h es → lines_left_in es ≡ lines_left (interrupted_line h)
 lines_left-stands l h es stood =
     let as_one : Bool → ℕ = λ b. if b then 1 else 0 in
-    ap as_one stood.environments.in_force.lines.is_interrupted
+    ap as_one (is_interrupted-in_force l h es stood)
     ∙ left-by (is_interrupted (text_of h)) (environments h).in_force.interrupted
 
 -- where a line begins nothing is due, and its end takes as many turns as lines are left; within one it takes two

@@ -1,7 +1,7 @@
 //! The machine over bytes: what is given for each.
 
-ghost use Rattle.std.specs.Prelude.{◌≡◌, ◌+◌, ◌<◌, ◌≤◌, ◌++◌, [], true, Some, IfOk, IfSome, option_to_list};
-ghost use Rattle.std.specs.Prelude.{length, map};
+ghost use Rattle.std.specs.Prelude.{◌≡◌, ◌+◌, ◌<◌, ◌≤◌, ◌++◌, [], true, Some, IfOk, IfSome};
+ghost use Rattle.std.specs.Prelude.{option_to_list, length, map};
 ghost use Rattle.std.specs.Option.{MatchOption};
 ghost use Rattle.roff_source.specs.Tape.{Ended, Failed, OneByte, answer_of};
 ghost use Rattle.tbl_core.specs.Machine.{limit_inside, not_ended, own_told, reading_on};

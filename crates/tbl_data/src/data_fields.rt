@@ -1,7 +1,8 @@
 //! The fields of a line of a table's data, as they are taken one after another (Lesk, "Tbl": Data,
 //! Text Blocks).
 
-ghost use Rattle.std.specs.Prelude.{◌≡◌, ℕ, ◌+◌, ◌-◌, ◌<◌, ◌≤◌, ◌^◌, false, List, if◌then◌else◌, length};
+ghost use Rattle.std.specs.Prelude.{◌≡◌, ℕ, ◌+◌, ◌-◌, ◌<◌, ◌≤◌, ◌^◌, false, List, if◌then◌else◌};
+ghost use Rattle.std.specs.Prelude.{length};
 ghost use Rattle.tbl_data.specs.LineTaken.{EndsRow, Grows, HasRoom, IsOnLine, LineLies, Makes};
 ghost use Rattle.tbl_data.specs.LineTaken.{OpensBlock, RowFits, TakesField, fields_made, last_made};
 ghost use Rattle.tbl_data.specs.TableData.{EndsBy, OpenEndsAt};

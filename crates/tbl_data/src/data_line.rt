@@ -1,6 +1,7 @@
 //! A line of a table's data while it is taken, and what is told of it.
 
-ghost use Rattle.std.specs.Prelude.{◌≡◌, false, ◌+◌, ◌-◌, ◌<◌, ◌≤◌, [], ◌∷◌, length, not, slice_range};
+ghost use Rattle.std.specs.Prelude.{◌≡◌, false, ◌+◌, ◌-◌, ◌<◌, ◌≤◌, [], ◌∷◌, length, not};
+ghost use Rattle.std.specs.Prelude.{slice_range};
 ghost use Rattle.tbl_data.specs.LineTaken.{more_notes, notes_kept, surplus_kept};
 ghost use Rattle.tbl_kept.specs.Joined.{ends_joined, line_at};
 ghost use Rattle.tbl_kept.specs.TableText.{block_of};

@@ -1,13 +1,14 @@
 //! The lines of a table's data, as they are done (Lesk, "Tbl": Data, Text Blocks, Additional
 //! Command Lines).
 
-ghost use Rattle.std.specs.Prelude.{◌≡◌, ◌≢◌, ◌==◌, ℕ, ◌+◌, ◌-◌, ◌<◌, ◌≤◌, ◌^◌, All, List, [], false, length, map};
-ghost use Rattle.std.specs.Prelude.{slice_range};
+ghost use Rattle.std.specs.Prelude.{◌≡◌, ◌≢◌, ◌==◌, ℕ, ◌+◌, ◌-◌, ◌<◌, ◌≤◌, ◌^◌, All, List, []};
+ghost use Rattle.std.specs.Prelude.{false, length, map, slice_range};
 ghost use Rattle.roff_source.specs.Bytes.{newline};
 ghost use Rattle.tbl_data.specs.DataRead.{closed_block, with_whole};
-ghost use Rattle.tbl_data.specs.LineTaken.{HasRoom, LineLies, Makes, block_line_made, left_from, made_by, text_made};
-ghost use Rattle.tbl_data.specs.TableData.{DataFits, EndsBy, FitsBehind, OpenBehind, OpenEndsAt, SameRooms};
-ghost use Rattle.tbl_data.specs.TableData.{begun_by, table_by};
+ghost use Rattle.tbl_data.specs.LineTaken.{HasRoom, LineLies, Makes, block_line_made, left_from};
+ghost use Rattle.tbl_data.specs.LineTaken.{made_by, text_made};
+ghost use Rattle.tbl_data.specs.TableData.{DataFits, EndsBy, FitsBehind, OpenBehind, OpenEndsAt};
+ghost use Rattle.tbl_data.specs.TableData.{SameRooms, begun_by, table_by};
 ghost use Rattle.tbl_data.specs.declared.phase.Phase.TheVariants.{InData};
 ghost use Rattle.tbl_data.specs.declared.table_data.OpenBlock.TheVariants.{Nothing};
 ghost use Rattle.tbl_format.specs.RowsServed.{all_rows};
@@ -17,7 +18,8 @@ ghost use Rattle.tbl_kept.specs.Rows.{entries_of};
 ghost use Rattle.tbl_kept.specs.RowsLaying.{AreOpened};
 ghost use Rattle.tbl_kept.specs.TableText.{KeptText, block_of};
 ghost use Rattle.tbl_layout.specs.DataLines.{block_line_kind, line_kind};
-ghost use Rattle.tbl_layout.specs.declared.data_lines.BlockLineKind.TheVariants.{End, Request, Text};
+ghost use Rattle.tbl_layout.specs.declared.data_lines.BlockLineKind.TheVariants.{End, Request};
+ghost use Rattle.tbl_layout.specs.declared.data_lines.BlockLineKind.TheVariants.{Text};
 ghost use Rattle.tbl_layout.specs.declared.data_lines.LineKind.TheVariants.{Command, Formats};
 ghost use Rattle.tbl_data.specs.declared.data_line.DataLine.{DataLine};
 ghost use Rattle.tbl_layout.specs.KeptEntries.{content_of};
@@ -45,7 +47,8 @@ impl TableData {
         requires start { length text.old.settled ≡ from }
         requires within { to ≤ length (block_of text.old) }
         requires small { to < 2 ^ 32 }
-        requires one_line { All (λ b. (b == newline) ≡ false) (slice_range (block_of text.old) from to) }
+        requires one_line { All (λ b. (b == newline) ≡ false)
+            (slice_range (block_of text.old) from to) }
         requires fits { DataFits (block_of text.old) self.old }
         requires behind { OpenBehind (block_of text.old) from self.old.open self.old.rows.row }
         requires settled { EndsBy from self.old }
@@ -57,7 +60,8 @@ impl TableData {
         ensures text { text.new ≡ text.old }
         ensures table { (options : Options) → options.separator ≡ separator
             → table_by result options (block_of text.old) self.new
-            ≡ with_whole (begun_by self.old.open (map (content_of (block_of text.old)) self.old.rows.row))
+            ≡ with_whole
+            (begun_by self.old.open (map (content_of (block_of text.old)) self.old.rows.row))
             (ends_joined text.old.pending) number (slice_range (block_of text.old) from to)
             (table_by InData options (block_of text.old) self.old) }
         ensures fits { FitsBehind result (block_of text.old) self.new }
@@ -65,7 +69,8 @@ impl TableData {
         ensures settled { EndsBy to self.new }
         ensures entries { entries_of self.new.rows ≤ entries_of self.old.rows + (to - from) + 1 }
         ensures elements { length self.new.rows.elements ≤ length self.old.rows.elements + 1 }
-        ensures notes { length self.new.notes.notes ≤ length self.old.notes.notes + (to - from) + 1 }
+        ensures notes { length self.new.notes.notes
+            ≤ length self.old.notes.notes + (to - from) + 1 }
         ensures to_tell { self.new.notes.to_tell ≡ self.old.notes.to_tell }
         ensures rooms { SameRooms self.old self.new }
     {
@@ -91,7 +96,8 @@ impl TableData {
         requires small { length (all_rows self.old.format.format) < 2 ^ 32 }
         ensures table { (options : Options) (bytes : List ℕ) → DataFits bytes self.old
             → table_by InData options bytes self.new
-            ≡ closed_block (begun_by self.old.open (map (content_of bytes) self.old.rows.row)) (table_by InData options bytes self.old) }
+            ≡ closed_block (begun_by self.old.open (map (content_of bytes) self.old.rows.row))
+            (table_by InData options bytes self.old) }
         ensures fits { (bytes : List ℕ) → DataFits bytes self.old → DataFits bytes self.new }
         ensures entries { entries_of self.new.rows ≤ entries_of self.old.rows }
         ensures elements { length self.new.rows.elements ≤ length self.old.rows.elements + 1 }
@@ -161,7 +167,8 @@ impl TableData {
         requires room { HasRoom (line.to - line.from + 1) self.old }
         ensures text { text.new ≡ text.old }
         ensures made { Makes text.old line (line.to - line.from + 1)
-            (block_line_made (block_line_kind (left_from text.old line line.from)) text.old line self.old)
+            (block_line_made (block_line_kind (left_from text.old line line.from))
+            text.old line self.old)
             result self.old self.new }
     {
         match block_line_kind(&text.block()[line.from..line.to]) {
@@ -193,7 +200,8 @@ impl TableData {
         self.take_fields(text, line, end + 1, was_dropped)
     }
 
-    /// A request in a text block. It is kept as a line of it, and passed over as the block is filled.
+    /// A request in a text block. It is kept as a line of it, and passed over as the block is
+    /// filled.
     fn take_request(&mut self, text: &mut TableText, line: DataLine) -> Phase
         requires lies { LineLies (block_of text.old) line }
         requires one_line { All (λ b. (b == newline) ≡ false) (left_from text.old line line.from) }

@@ -1,4 +1,5 @@
-//! Facts about what the lines of the data add to a table, as contracts of functions that do nothing.
+//! Facts about what the lines of the data add to a table, as contracts of functions that do
+//! nothing.
 
 ghost use Rattle.tbl_data.specs.FieldsTaken.{TakesFields};
 

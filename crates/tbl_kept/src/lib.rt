@@ -1,5 +1,5 @@
-//! What is kept of a table as it is read: its bytes, its messages and its rows (Lesk, "Tbl - A Program
-//! to Format Tables").
+//! What is kept of a table as it is read: its bytes, its messages and its rows (Lesk, "Tbl - A
+//! Program to Format Tables").
 #![tactic(auto)]
 
 pub mod held_columns;

@@ -80,7 +80,8 @@ impl Model for TableRows {
 }
 
 impl TableRows {
-    ghost use Rattle.tbl_kept.specs.Rows.{cleared, elements_of, entries_of, no_rows, with_block_end};
+    ghost use Rattle.tbl_kept.specs.Rows.{cleared, elements_of, entries_of, no_rows};
+    ghost use Rattle.tbl_kept.specs.Rows.{with_block_end};
     ghost use Rattle.tbl_kept.specs.Rows.{with_columns, with_command, with_entry, with_row};
     ghost use Rattle.tbl_kept.specs.Rows.{RowsKept, RowsLaid, SameRoom, lent};
 

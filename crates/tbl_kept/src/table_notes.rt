@@ -88,8 +88,8 @@ impl TableNotes {
         push_ignored(&mut self.notes, block, from, to, line);
     }
 
-    /// A message for each letter that is left out of a line of the format, behind what is counted of
-    /// the lines before it.
+    /// A message for each letter that is left out of a line of the format, behind what is counted
+    /// of the lines before it.
     pub fn push_left_out(&mut self, count: KeyCount, bytes: &[u8], line: u32)
         requires is { IsCount 0 count }
         requires few { count.columns + length bytes.now < 2 ^ 63 }

@@ -1,7 +1,7 @@
 //! The bytes of a table, as they are kept while they are read.
 
-ghost use Rattle.std.specs.Prelude.{◌≡◌, ℕ, ◌+◌, ◌<◌, ◌≤◌, ◌++◌, [], ◌∷◌, length, drop, true, is_some};
-ghost use Rattle.std.specs.Prelude.{IfOk, vec_capacity, vec_len};
+ghost use Rattle.std.specs.Prelude.{◌≡◌, ℕ, ◌+◌, ◌<◌, ◌≤◌, ◌++◌, [], ◌∷◌, length, drop, true};
+ghost use Rattle.std.specs.Prelude.{is_some, IfOk, vec_capacity, vec_len};
 ghost use Rattle.tbl_kept.specs.Joined.{RiseWithin, behind_joined, ends_joined, goes_on, line_at};
 ghost use Rattle.tbl_kept.specs.Joined.{unjoined};
 ghost use Rattle.tbl_kept.specs.TableText.{block_of, no_text, text_closed, text_ended};
@@ -31,8 +31,8 @@ pub struct TableText {
     /// Where the first of the lines starts that are joined to it, and how many joints were before.
     open_start: usize,
     open_joints: usize,
-    /// The place that was asked last in the line that goes on, and the first joint behind it: places
-    /// that are asked in order take one pass over the joints.
+    /// The place that was asked last in the line that goes on, and the first joint behind it:
+    /// places that are asked in order take one pass over the joints.
     asked_place: usize,
     asked_joint: usize,
     text_room: usize,

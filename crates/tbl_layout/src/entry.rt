@@ -14,8 +14,8 @@ use tbl_text::measure::{Measured, Split};
 /// A field of a row, as it is kept. Places are places in the table's bytes.
 #[derive(Clone, Copy)]
 pub struct Entry {
-    /// Where its text begins. Of a block: where the line ends that opens it; its own lines lie behind
-    /// that, each with a newline in front of it.
+    /// Where its text begins. Of a block: where the line ends that opens it; its own lines lie
+    /// behind that, each with a newline in front of it.
     pub from: u32,
     /// Where its text ends, or the last line of its block.
     pub to: u32,

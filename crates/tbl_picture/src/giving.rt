@@ -1,7 +1,7 @@
 //! What is still to give of a table: its bytes as they were read, or its picture.
 
-ghost use Rattle.std.specs.Prelude.{◌≡◌, ◌+◌, ◌*◌, ◌^◌, ◌<◌, ◌≤◌, ◌++◌, [], ◌∷◌, true, length, drop};
-ghost use Rattle.std.specs.Prelude.{IfOk};
+ghost use Rattle.std.specs.Prelude.{◌≡◌, ◌+◌, ◌*◌, ◌^◌, ◌<◌, ◌≤◌, ◌++◌, [], ◌∷◌, true, length};
+ghost use Rattle.std.specs.Prelude.{drop, IfOk};
 ghost use Rattle.std.specs.Option.{MatchOption};
 ghost use Rattle.tbl_format.specs.FormatRows.{KeptFormat};
 ghost use Rattle.tbl_kept.specs.Joined.{RiseWithin, unjoined};
@@ -59,7 +59,8 @@ impl Model for Giving {
 
 impl Giving {
     ghost use Rattle.tbl_picture.specs.Giving.{CanFollow, CanGive, coming, following};
-    ghost use Rattle.tbl_picture.specs.Giving.{GivesNothing, IsLaidOut, last_piece, lines_laid, with_newline};
+    ghost use Rattle.tbl_picture.specs.Giving.{GivesNothing, IsLaidOut, last_piece, lines_laid};
+    ghost use Rattle.tbl_picture.specs.Giving.{with_newline};
 
     /// Nothing to give, with room for a table of so many columns.
     pub fn new(alloc: Global, columns: u32) -> Result<Self, AllocError>
@@ -99,8 +100,8 @@ impl Giving {
         self.refill_read(text, 0, 0);
     }
 
-    /// The picture is to give, indented by so many columns, and the line begun, and a newline behind
-    /// it or none.
+    /// The picture is to give, indented by so many columns, and the line begun, and a newline
+    /// behind it or none.
     pub fn give_picture(&mut self, indent: u32, has_newline: bool)
         ensures coming { (t : KeptText) (r : KeptRows) (k : KeptFormat)
             → IsLaidOut t r k self.old.columns → coming t r k self.new
@@ -274,8 +275,8 @@ impl Giving {
         }
     }
 
-    /// The next pieces of the picture, as many as there is room for, and behind its lines what stands
-    /// there.
+    /// The next pieces of the picture, as many as there is room for, and behind its lines what
+    /// stands there.
     fn refill_lines(
         &mut self,
         escapes: &mut OpenEscapes,

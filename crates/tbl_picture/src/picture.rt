@@ -1,4 +1,5 @@
-//! The pieces of which a table's picture is given, and the requests around it (Lesk, "Tbl": Formatting).
+//! The pieces of which a table's picture is given, and the requests around it (Lesk, "Tbl":
+//! Formatting).
 
 ghost use Rattle.std.specs.Prelude.{◌≡◌, ℕ, ◌+◌, ◌-◌, ◌*◌, ◌<◌, ◌≤◌, ◌^◌, List, ◌++◌, length, take};
 ghost use Rattle.std.specs.Prelude.{drop, min, replicate, slice_index, slice_range, vec_capacity};

@@ -1,12 +1,12 @@
 //! The columns of a row whose lines are given.
 
-ghost use Rattle.std.specs.Prelude.{◌≡◌, ℕ, suc, ◌+◌, ◌<◌, ◌≤◌, ◌^◌, List, [], ◌∷◌, length, drop, map};
-ghost use Rattle.std.specs.Prelude.{get_or, true, false};
+ghost use Rattle.std.specs.Prelude.{◌≡◌, ℕ, suc, ◌+◌, ◌<◌, ◌≤◌, ◌^◌, List, [], ◌∷◌, length, drop};
+ghost use Rattle.std.specs.Prelude.{map, get_or, true, false};
 ghost use Rattle.std.specs.List.{AllByRecursion};
-ghost use Rattle.tbl_picture.specs.RowsLeft.{begins_at, block_text, cell_left, first_of, row_columns};
-ghost use Rattle.tbl_picture.specs.RowsLeft.{split_run};
-ghost use Rattle.tbl_picture.specs.RowsWalked.{AreGlyphless, AreNarrow, EntryLies, HasGlyph, IsNarrow};
-ghost use Rattle.tbl_picture.specs.RowsWalked.{LastHasGlyph, PlacesLie};
+ghost use Rattle.tbl_picture.specs.RowsLeft.{begins_at, block_text, cell_left, first_of};
+ghost use Rattle.tbl_picture.specs.RowsLeft.{row_columns, split_run};
+ghost use Rattle.tbl_picture.specs.RowsWalked.{AreGlyphless, AreNarrow, EntryLies, HasGlyph};
+ghost use Rattle.tbl_picture.specs.RowsWalked.{IsNarrow, LastHasGlyph, PlacesLie};
 ghost use Rattle.tbl_layout.specs.Entries.{block_line, up_to_last_glyph};
 ghost use Rattle.tbl_text.specs.BlockLines.{lines_of};
 ghost use Rattle.tbl_text.specs.BlockPlaces.{IsWithin, parts_at};
@@ -51,7 +51,8 @@ pub fn column_at(row: &RowLent<'_>, places: &[BlockPlace], at: usize) -> RowColu
     requires entry { at < length row.now.entries.now }
     requires column { length row.now.entries.now ≤ length row.now.columns.now }
     requires place { at < length places.now }
-    ensures { let all = row_columns row.now.keys.now 0 row.now.columns.now row.now.entries.now places.now in
+    ensures { let all = row_columns row.now.keys.now 0 row.now.columns.now row.now.entries.now
+        places.now in
         drop at all ≡ result ∷ drop (suc at) all }
 {
     RowColumn {

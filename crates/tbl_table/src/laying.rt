@@ -58,7 +58,8 @@ pub fn set_places(kept: &mut TableData, more: usize)
     requires { width_of_all kept.old.rows.columns (gaps kept.old.format.format.asked) + more
         < 2 ^ 32 }
     ensures value { kept.new ≡ with_places more kept.old }
-    ensures laid { (bytes : List ℕ) (formats : List FormatRow) → RowsLaid bytes formats kept.old.rows
+    ensures laid { (bytes : List ℕ) (formats : List FormatRow)
+        → RowsLaid bytes formats kept.old.rows
         → RowsLaid bytes formats kept.new.rows }
 {
     kept.rows.set_starts(kept.format.asked(), more);

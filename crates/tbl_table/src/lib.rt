@@ -1,4 +1,5 @@
-//! A table, line by line: what it is behind each of them, and what is given in its place (Lesk, "Tbl").
+//! A table, line by line: what it is behind each of them, and what is given in its place (Lesk,
+//! "Tbl").
 #![tactic(auto)]
 
 pub mod begun;

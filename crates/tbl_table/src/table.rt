@@ -1,8 +1,8 @@
 //! The table that is being read.
 
 ghost use Rattle.roff_source.specs.Bytes.{newline};
-ghost use Rattle.std.specs.Prelude.{◌≡◌, ◌==◌, false, All, ℕ, ◌+◌, ◌-◌, ◌<◌, ◌≤◌, ◌++◌, [], ◌∷◌, true, drop, length};
-ghost use Rattle.std.specs.Prelude.{IfOk};
+ghost use Rattle.std.specs.Prelude.{◌≡◌, ◌==◌, false, All, ℕ, ◌+◌, ◌-◌, ◌<◌, ◌≤◌, ◌++◌, [], ◌∷◌};
+ghost use Rattle.std.specs.Prelude.{true, drop, length, IfOk};
 ghost use Rattle.std.specs.Option.{MatchOption};
 ghost use Rattle.tbl_format.specs.Parts.{IsFront};
 ghost use Rattle.tbl_table.specs.Reading.{all_read, byte_read, bytes_read, kept_nothing};

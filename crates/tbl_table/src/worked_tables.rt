@@ -57,7 +57,8 @@ pub fn reports()
         ≡ told_at 3 TooManyFields ∷ told_at 5 RequestInTextBlock ∷ [] }
     ensures unbuilt { notes_after (codes "l l." ∷ codes "\\c\t\\^" ∷ codes "x\ty\tz" ∷ [])
         ≡ told_at 2 (NotMeasured 99) ∷ told_at 2 BadFormat ∷ [] }
-    ensures rule { notes_after (codes "l." ∷ codes "a" ∷ codes "_" ∷ []) ≡ told_at 3 BadFormat ∷ [] }
+    ensures rule { notes_after (codes "l." ∷ codes "a" ∷ codes "_" ∷ [])
+        ≡ told_at 3 BadFormat ∷ [] }
     ensures surplus_rule { notes_after (codes "l." ∷ codes "a\t_" ∷ [])
         ≡ told_at 2 TooManyFields ∷ [] }
     ensures box_option { picture_after 65 (codes "box;" ∷ codes "l." ∷ []) ≡ None }

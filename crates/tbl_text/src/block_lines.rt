@@ -1,6 +1,7 @@
 //! The lines that the words of a text block fill (Lesk, "Tbl": Text Blocks).
 
-ghost use Rattle.std.specs.Prelude.{◌≡◌, ◌+◌, ◌*◌, ◌^◌, ◌<◌, ◌≤◌, ◌∷◌, length, max, IfSome, ◌-◌, ◌||◌};
+ghost use Rattle.std.specs.Prelude.{◌≡◌, ◌+◌, ◌*◌, ◌^◌, ◌<◌, ◌≤◌, ◌∷◌, length, max, IfSome, ◌-◌};
+ghost use Rattle.std.specs.Prelude.{◌||◌};
 ghost use Rattle.tbl_text.specs.BlockLines.{behind_first, behind_rest, first_line, has_word};
 ghost use Rattle.tbl_text.specs.BlockLines.{line_width, lines_of, rest_of_line, widest};
 ghost use Rattle.tbl_text.specs.BlockLines.{width_behind};

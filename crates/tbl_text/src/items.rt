@@ -2,8 +2,8 @@
 //! reads them.
 //!
 //! No call here or in what stands on it takes memory: what is half read of an escape stands in an
-//! [`OpenEscapes`] that is lent, of any room, as no text of an escape is held. It is the formatter's
-//! own, so escapes within escapes are read as deep as there, and beyond that as there.
+//! [`OpenEscapes`] that is lent, of any room, as no text of an escape is held. It is the
+//! formatter's own, so escapes within escapes are read as deep as there, and beyond that as there.
 
 ghost use Rattle.std.specs.Prelude.{◌≡◌, ◌+◌, ◌<◌, ◌≤◌, ◌^◌, ◌∷◌, [], false, drop, fold, length};
 ghost use Rattle.std.specs.Prelude.{slice_index, take, Some};

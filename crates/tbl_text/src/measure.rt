@@ -7,8 +7,8 @@ ghost use Rattle.tbl_text.specs.Items.{columns, items};
 ghost use Rattle.tbl_text.specs.Laws.{ArePlain, byte_item};
 ghost use Rattle.tbl_text.specs.MeasuredSoFar.{ampersand_split, behind_glyphs, byte_split};
 ghost use Rattle.tbl_text.specs.MeasuredSoFar.{item_split, measured_behind, shown, split_between};
-ghost use Rattle.tbl_text.specs.Measuring.{SplitLies, len_of, measured, notes_from, up_to_last_glyph};
-ghost use Rattle.tbl_text.specs.Measuring.{width_of};
+ghost use Rattle.tbl_text.specs.Measuring.{SplitLies, len_of, measured, notes_from};
+ghost use Rattle.tbl_text.specs.Measuring.{up_to_last_glyph, width_of};
 
 use crate::items::{Item, What, next_item};
 use crate::plain::{plain_glyphs, plain_in_front};

@@ -1,5 +1,5 @@
-//! The bytes of a text that print themselves: how many stand in front, how wide they are, and which is
-//! the last glyph.
+//! The bytes of a text that print themselves: how many stand in front, how wide they are, and which
+//! is the last glyph.
 
 ghost use Rattle.std.specs.Prelude.{◌≡◌, ◌≤◌, length, map, sum_by, take};
 ghost use Rattle.roff_num.specs.Widths.{byte_width};

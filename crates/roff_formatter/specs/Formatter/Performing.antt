@@ -13,8 +13,8 @@ use Rattle.roff_formatter.specs.Reaching.{Beginning, OutputStops, Reaches}
 use Rattle.roff_sinks.specs.Devices.{Seen, seen}
 use Rattle.roff_run.specs.Output.{text_of}
 use Rattle.roff_run.specs.Environments.{interrupted_line}
-use Rattle.roff_run.specs.Springs.{next, own_word_end, word_end_of}
-use Rattle.roff_layout.specs.Words.{has_open_word}
+use Rattle.roff_run.specs.Springs.{ends_field, next, own_word_end, word_end_of}
+use Rattle.roff_layout.specs.Behind.{has_open_word}
 use Rattle.roff_layout.specs.declared.event.Event.TheVariants.{WordEnd}
 use Rattle.roff_run.specs.declared.status.Status.TheVariants.{Done}
 use Rattle.roff_formatter.specs.Formatter.Sprung.{GoesOnNamed, IsAmong, MovesOn, StopsBehind, behind_sprung, first_left, left_behind, most_back, open_weight}
@@ -39,9 +39,9 @@ abbrev pub behind_next : AllRegisters → ℕ → PageEvent → PageHistory → 
 behind_next rs zero e h = h
 behind_next rs (suc n) e h = elim (next h e) [ None ↦ h | Some first ↦ behind_next rs n e (told rs first ∷ h) ]
 
--- and behind the event: the end of a word and the first page's beginning may come before it, and nothing else
+-- and behind the event: the ends of a field and of a word and the first page's beginning may come before it, and nothing else
 abbrev pub behind_event : AllRegisters → PageEvent → PageHistory → PageHistory
-behind_event rs e h = told rs e ∷ behind_next rs 2 e h
+behind_event rs e h = told rs e ∷ behind_next rs 3 e h
 
 -- and behind some events, each with what comes before it
 abbrev pub behind_events : AllRegisters → List PageEvent → PageHistory → PageHistory
@@ -126,6 +126,21 @@ pub record PerformsEvents (events : List PageEvent) (old new : Formatter) (out_o
       → Performs l t before (seen failures out_new err) s events h (behind_events s.registers events h) rest result new.composer
   pub moves : MovesOn old new result
 
+-- The same of one event before which the end of no field comes either.
+pub record PerformsUnfielded (e : PageEvent) (old new : Formatter) (out_old out_new : Sunk) (result : Result (Option Sprung) Halt) : Type 0 where
+  pub performs : (l : Limits) (t : Beginning) (before : Seen) (failures : ℕ) (err : Sunk) (s : State) (h : PageHistory) (rest : List PageEvent)
+      → StandFor l h old.composer → word_end_of h e ≡ None → ends_field h e ≡ false → Reaches l t before (seen failures out_old err) (acting s (e ∷ rest) h)
+      → Performs l t before (seen failures out_new err) s (e ∷ []) h (behind_event s.registers e h) rest result new.composer
+  pub moves : MovesOn old new result
+
+-- The same of some events as of any list, where the end of a field may stop the first one: that moved on where the formatter stands for
+-- a history.
+pub record PerformsStanding (events : List PageEvent) (old new : Formatter) (out_old out_new : Sunk) (result : Result (Option Sprung) Halt) : Type 0 where
+  pub performs : (l : Limits) (t : Beginning) (before : Seen) (failures : ℕ) (err : Sunk) (s : State) (h : PageHistory) (rest : List PageEvent)
+      → StandFor l h old.composer → Flows s.registers events h → Reaches l t before (seen failures out_old err) (acting s (events ++ rest) h)
+      → Performs l t before (seen failures out_new err) s events h (behind_events s.registers events h) rest result new.composer
+  pub moves : (l : Limits) (h : PageHistory) → StandFor l h old.composer → MovesOn old new result
+
 -- A formatter performed an event, with what comes before it, as far as the answer says: for each state of a run that has it in front
 -- of others to do.
 pub record PerformsOne (e : PageEvent) (old new : Formatter) (out_old out_new : Sunk) (result : Result (Option Sprung) Halt) : Type 0 where
@@ -157,7 +172,7 @@ pub record EndsWordFirst (old new : Formatter) (out_old out_new : Sunk) (result 
       → StandFor l h old.composer → word_end_of h e ≡ Some (Text WordEnd)
       → Reaches l t before (seen failures out_old err) (acting s (e ∷ rest) h)
       → EndsBefore l t before (seen failures out_new err) s e h (behind_event s.registers (Text WordEnd) h) rest (first_left result) new.composer
-  pub closes : result ≡ Ok None → (l : Limits) (h : PageHistory) → StandFor l h old.composer → open_weight new.composer ≡ 0
+  pub closes : result ≡ Ok None → (l : Limits) (h : PageHistory) → StandFor l h old.composer → has_open_word (text_of h) ≡ true → open_weight new.composer ≡ 0
   pub moves : (l : Limits) (h : PageHistory) → StandFor l h old.composer → has_open_word (text_of h) ≡ true → MovesOn old new (first_left result)
 
 -- The open word, if there was one, has ended where it comes before an event: for each state of a run that has that in front of

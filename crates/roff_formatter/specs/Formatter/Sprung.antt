@@ -1,5 +1,5 @@
 -- What stopped a list of events, and what is left of it: an event sprang a macro, or is done but for the text of a diversion.
-use Rattle.std.specs.Prelude.{◌≡◌, ◌≤◌, ℕ, ◌+◌, ◌*◌, Bool, true, false, List, [], ◌∷◌, ◌++◌, drop, length, Option, Some, None, Result, Ok, Err, if◌then◌else◌}
+use Rattle.std.specs.Prelude.{◌≡◌, ◌≤◌, ℕ, ◌+◌, ◌*◌, Bool, true, false, ◌||◌, List, [], ◌∷◌, ◌++◌, drop, length, Option, Some, None, is_some, Result, Ok, Err, if◌then◌else◌}
 use Rattle.roff_num.specs.declared.short_name.ShortName.{ShortName}
 use Rattle.roff_layout.specs.DueTexts.{TextDue}
 use Rattle.roff_layout.specs.declared.layout_event.LayoutEvent.TheVariants.{Number}
@@ -143,7 +143,7 @@ abbrev pub behind_sprung : ComposerOf → Option Sprung → List PageEvent → L
 behind_sprung es None events rest s = record s { to_do = rest }
 behind_sprung es (Some sprung) events rest s = followed_by (following_of es sprung s.registers) (left_behind sprung events ++ rest) s
 
--- how much an open word counts of what is still to come
+-- how much an open word or field counts of what is still to come
 abbrev pub word_weight : Bool → ℕ
 word_weight is_open = if is_open then 2 else 0
 
@@ -154,12 +154,12 @@ unsprung_weight (Some name) = 0
 
 -- the first of both, and both
 abbrev pub open_weight : ComposerOf → ℕ
-open_weight es = word_weight es.environments.in_force.lines.is_open
+open_weight es = word_weight (es.environments.in_force.lines.is_open || is_some es.environments.in_force.lines.field)
 
 abbrev pub weight : ComposerOf → ℕ
 weight es = open_weight es + unsprung_weight es.due.sprung
 
--- Events of which one stopped the list moved on: that one is done, or a macro is due, or the open word has ended. So no list stops
+-- Events of which one stopped the list moved on: that one is done, or a macro is due, or the open word or field has ended. So no list stops
 -- for ever.
 abbrev pub MovesOn : Formatter → Formatter → Result (Option Sprung) Halt → Type 0
 MovesOn old new (Ok None) = Unit {0}

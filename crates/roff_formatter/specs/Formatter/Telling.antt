@@ -1,8 +1,9 @@
 -- How the formatter tells bytes of a text line that stand in front.
-use Rattle.std.specs.Prelude.{◌≡◌, ℕ, ◌+◌, ◌<◌, ◌≤◌, true, List, ◌∷◌, length, take}
+use Rattle.std.specs.Prelude.{◌≡◌, ℕ, ◌+◌, ◌<◌, ◌≤◌, true, List, ◌∷◌, length, take, slice_index_or}
 use Rattle.std.specs.List.{AllByRecursion}
 use Rattle.roff_num.specs.declared.limits.Limits.{Limits}
-use Rattle.roff_layout.specs.Lines.{pending_length}
+use Rattle.roff_layout.specs.Behind.{pending_length}
+use Rattle.roff_layout.specs.Fields.{is_in_field}
 use Rattle.roff_layout.specs.Telling.{QuietlyTold}
 use Rattle.roff_layout.specs.Queries.{takes_text}
 use Rattle.roff_layout.specs.declared.event.Event.TheVariants.{Print}
@@ -26,7 +27,7 @@ pub record CanBeTold (l : Limits) (h : PageHistory) (bytes : List ℕ) : Type 0 
 
 -- So many of these bytes, from the first on, were told to the environment in force, and what is read stays: they are plain text,
 -- none finishes a line, and the pending line stays within its limit. Before the first page none is told; then no more of those that are
--- told at once could be.
+-- told at once could be, but where a field is open and a blank comes next.
 pub record TellsFront (front : List ℕ) (count : ℕ) (old new : Formatter) : Type 0 where
   pub few : count ≤ length front
   pub text : AllByRecursion (λ b. is_text_byte b ≡ true) (take count front)
@@ -34,7 +35,7 @@ pub record TellsFront (front : List ℕ) (count : ℕ) (old new : Formatter) : T
   pub quiet : (l : Limits) (h : PageHistory) → StandFor l h old.composer → QuietlyTold l.line (take count front) (text_of h)
   pub stands : (l : Limits) (h : PageHistory) → StandFor l h old.composer → StandFor l (page_told (take count front) h) new.composer
   pub most : (l : Limits) (h : PageHistory) → StandFor l h old.composer → takes_text (layout_of h) ≡ true → count < most_at_once → count < length front
-      → CanBeTold l h (take (count + 1) front) → ⊥
+      → CanBeTold l h (take (count + 1) front) → (is_in_field (text_of h) ≡ true) × (slice_index_or front count 0 ≡ 32)
 
 -- This glyph was printed in the environment in force, and nothing else changed: no page begins with it, and the pending line stays within
 -- its limit.

@@ -31,7 +31,7 @@ impl Formatter {
         match step {
             Step::Nothing => Ok(None),
             Step::Glyph(byte, leading) => self.glyph_behind(leading, Glyph::Printed(byte)),
-            Step::Tab(leading) => self.tab_behind(leading),
+            Step::Tab(leading) => self.tab_behind(leading, out),
             Step::Gap => self.gap_behind_word(out),
             Step::Break => self.break_behind_word(out),
             Step::LineEnd => self.end_text_line(out),
@@ -40,8 +40,8 @@ impl Formatter {
         }
     }
 
-    /// Performs an event of the text, and before it the end of an open word, where that comes
-    /// before it.
+    /// Performs an event of the text, and before it the ends of an open field and an open word,
+    /// where these come before it.
     ///
     /// # Errors
     ///
@@ -56,7 +56,8 @@ impl Formatter {
     {
         match event {
             Event::Print(glyph) => self.glyph(glyph),
-            Event::Tab => self.tab(),
+            Event::Tab => self.tab(out),
+            Event::FieldEnd => self.end_field(),
             Event::WordEnd => self.end_word(out),
             Event::Gap(blanks) => self.gap_behind_own(blanks, out),
             Event::LineEnd => self.line_end_behind_own(out),

@@ -3,11 +3,12 @@
 ghost use Rattle.std.specs.Prelude.{[], ◌∷◌, ◌++◌, option_map};
 ghost use Rattle.roff_run.specs.Reading.TextLines.{blank_line, leading_glyph};
 ghost use Rattle.roff_formatter.specs.Clauses.{finished_of, Gap, Print, WordEnd, LineEnd, Break};
-ghost use Rattle.roff_layout.specs.declared.event.Event.TheVariants.{Count};
+ghost use Rattle.roff_layout.specs.declared.event.Event.TheVariants.{Count, FieldEnd};
 ghost use Rattle.roff_layout.specs.Happenings.{Places};
 ghost use Rattle.roff_layout.specs.declared.layout_event.LayoutEvent.TheVariants.{Space};
 ghost use Rattle.roff_formatter.specs.Clauses.{EndsOpenWord, EndsWordFirst};
-ghost use Rattle.roff_formatter.specs.Clauses.{PerformsEvents, PerformsOne};
+ghost use Rattle.roff_formatter.specs.Clauses.{PerformsEvents, PerformsOne, PerformsStanding};
+ghost use Rattle.roff_formatter.specs.Clauses.{PerformsUnfielded};
 ghost use Rattle.roff_formatter.specs.Clauses.{PutsFinished, PutsOnPage, line_due};
 ghost use Rattle.roff_formatter.specs.Clauses.{Page, Text, Sunk, Tab};
 
@@ -44,15 +45,19 @@ impl Formatter {
     }
 
     /// Moves to the next tab stop behind so many leading blanks.
-    pub(super) fn tab_behind(&mut self, leading: u32) -> Result<Option<Sprung>, Halt>
-        ensures { (told : Sunk) → PerformsEvents (leading_glyph leading ++ Text Tab ∷ [])
-            self.old self.new told told result }
+    pub(super) fn tab_behind<O: ByteSink>(
+        &mut self,
+        leading: u32,
+        out: &mut O,
+    ) -> Result<Option<Sprung>, Halt>
+        ensures { PerformsEvents (leading_glyph leading ++ Text Tab ∷ []) self.old self.new
+            (O.sunk out.old) (O.sunk out.new) result }
     {
         if leading == 0 {
-            return self.tab();
+            return self.tab(out);
         }
         match self.glyph(Glyph::Blanks(leading)) {
-            Ok(None) => further(self.tab(), 1),
+            Ok(None) => further(self.tab(out), 1),
             Ok(Some(sprung)) => Ok(Some(sprung)),
             Err(halt) => Err(halt),
         }
@@ -67,7 +72,7 @@ impl Formatter {
             (O.sunk out.old) (O.sunk out.new) result }
     {
         match self.end_word(out) {
-            Ok(None) => further(self.brk(out), 1),
+            Ok(None) => further(self.break_behind_field(out), 1),
             Ok(Some(sprung)) => Ok(Some(sprung)),
             Err(halt) => Err(halt),
         }
@@ -89,10 +94,10 @@ impl Formatter {
     /// Ends a line of the input, which counts.
     #[inline(always)]
     fn end_and_count<O: ByteSink>(&mut self, out: &mut O) -> Result<Option<Sprung>, Halt>
-        ensures { PerformsEvents (Text LineEnd ∷ Text Count ∷ []) self.old self.new
+        ensures { PerformsStanding (Text LineEnd ∷ Text Count ∷ []) self.old self.new
             (O.sunk out.old) (O.sunk out.new) result }
     {
-        match self.end_line(out) {
+        match self.line_end_behind_field(out) {
             Ok(None) => further(self.count(), 1),
             Ok(Some(sprung)) => Ok(Some(sprung)),
             Err(halt) => Err(halt),
@@ -114,10 +119,10 @@ impl Formatter {
     /// Breaks, and writes a blank line.
     #[inline(always)]
     fn break_and_space<O: ByteSink>(&mut self, out: &mut O) -> Result<Option<Sprung>, Halt>
-        ensures { PerformsEvents (Text Break ∷ Page (Space 1) ∷ []) self.old self.new
+        ensures { PerformsStanding (Text Break ∷ Page (Space 1) ∷ []) self.old self.new
             (O.sunk out.old) (O.sunk out.new) result }
     {
-        match self.brk(out) {
+        match self.break_behind_field(out) {
             Ok(None) => further(self.space(1, out), 1),
             Ok(Some(sprung)) => Ok(Some(sprung)),
             Err(halt) => Err(halt),
@@ -139,17 +144,30 @@ impl Formatter {
         }
     }
 
-    /// Moves to the next tab stop.
-    pub(super) fn tab(&mut self) -> Result<Option<Sprung>, Halt>
-        ensures { (told : Sunk) →
-            PerformsEvents (Text Tab ∷ []) self.old self.new told told result }
+    /// Moves to the next tab stop, and places the line that this finishes.
+    pub(super) fn tab<O: ByteSink>(&mut self, out: &mut O) -> Result<Option<Sprung>, Halt>
+        ensures { PerformsEvents (Text Tab ∷ []) self.old self.new
+            (O.sunk out.old) (O.sunk out.new) result }
     {
         match self.begin_first() {
             Some(name) => self.stopped_by(name),
             None => match self.composer.environments.in_force.lines.tab() {
-                Ok(()) => Ok(None),
+                Ok(line) => {
+                    put_finished(&mut self.composer.pages, &mut self.composer.due, line, out)
+                }
                 Err(limit) => Err(Halt::Limit(limit)),
             },
+        }
+    }
+
+    /// Ends the open field, if one is open.
+    pub(super) fn end_field(&mut self) -> Result<Option<Sprung>, Halt>
+        ensures { (told : Sunk) →
+            PerformsEvents (Text FieldEnd ∷ []) self.old self.new told told result }
+    {
+        match self.composer.environments.in_force.lines.end_field() {
+            Ok(()) => Ok(None),
+            Err(limit) => Err(Halt::Limit(limit)),
         }
     }
 
@@ -216,7 +234,8 @@ impl Formatter {
         }
     }
 
-    /// Ends the word that is open, if one is, and then a line of the input.
+    /// Ends the open field, if one is open, the word that is open, if one is, and then a line of
+    /// the input.
     pub(super) fn line_end_behind_own<O: ByteSink>(
         &mut self,
         out: &mut O,
@@ -224,6 +243,9 @@ impl Formatter {
         ensures { PerformsOne (Text LineEnd) self.old self.new
             (O.sunk out.old) (O.sunk out.new) result }
     {
+        if let Err(limit) = self.composer.environments.in_force.lines.end_field() {
+            return Err(Halt::Limit(limit));
+        }
         match self.end_open_word(out) {
             Ok(None) => self.end_line(out),
             Ok(Some(sprung)) => Ok(Some(sprung)),
@@ -231,7 +253,7 @@ impl Formatter {
         }
     }
 
-    /// Ends the word that is open, if one is, and breaks.
+    /// Ends the open field, if one is open, the word that is open, if one is, and breaks.
     pub(super) fn break_behind_own<O: ByteSink>(
         &mut self,
         out: &mut O,
@@ -239,11 +261,58 @@ impl Formatter {
         ensures { PerformsOne (Text Break) self.old self.new
             (O.sunk out.old) (O.sunk out.new) result }
     {
+        if let Err(limit) = self.composer.environments.in_force.lines.end_field() {
+            return Err(Halt::Limit(limit));
+        }
         match self.end_open_word(out) {
             Ok(None) => self.brk(out),
             Ok(Some(sprung)) => Ok(Some(sprung)),
             Err(halt) => Err(halt),
         }
+    }
+
+    /// Ends a line of the input behind a word's end, and before it the open field, if one is open.
+    #[inline(always)]
+    fn line_end_behind_field<O: ByteSink>(&mut self, out: &mut O) -> Result<Option<Sprung>, Halt>
+        ensures { PerformsStanding (Text LineEnd ∷ []) self.old self.new
+            (O.sunk out.old) (O.sunk out.new) result }
+    {
+        if self.composer.environments.in_force.lines.is_in_field() {
+            return self.line_end_in_field(out);
+        }
+        self.end_line(out)
+    }
+
+    /// The same where one is.
+    #[cold]
+    #[inline(never)]
+    fn line_end_in_field<O: ByteSink>(&mut self, out: &mut O) -> Result<Option<Sprung>, Halt>
+        ensures { PerformsOne (Text LineEnd) self.old self.new
+            (O.sunk out.old) (O.sunk out.new) result }
+    {
+        self.line_end_behind_own(out)
+    }
+
+    /// Breaks behind a word's end, and before that ends the open field, if one is open.
+    #[inline(always)]
+    fn break_behind_field<O: ByteSink>(&mut self, out: &mut O) -> Result<Option<Sprung>, Halt>
+        ensures { PerformsStanding (Text Break ∷ []) self.old self.new
+            (O.sunk out.old) (O.sunk out.new) result }
+    {
+        if self.composer.environments.in_force.lines.is_in_field() {
+            return self.break_in_field(out);
+        }
+        self.brk(out)
+    }
+
+    /// The same where one is.
+    #[cold]
+    #[inline(never)]
+    fn break_in_field<O: ByteSink>(&mut self, out: &mut O) -> Result<Option<Sprung>, Halt>
+        ensures { PerformsOne (Text Break) self.old self.new
+            (O.sunk out.old) (O.sunk out.new) result }
+    {
+        self.break_behind_own(out)
     }
 
     /// Ends the open word, and places the line that it finishes. It may be the event to do, or come
@@ -262,9 +331,9 @@ impl Formatter {
         }
     }
 
-    /// Ends a line of the input, and places the line that it finishes.
+    /// Ends a line of the input, where no field is open, and places the line that it finishes.
     pub(super) fn end_line<O: ByteSink>(&mut self, out: &mut O) -> Result<Option<Sprung>, Halt>
-        ensures { PerformsEvents (Text LineEnd ∷ []) self.old self.new
+        ensures { PerformsUnfielded (Text LineEnd) self.old self.new
             (O.sunk out.old) (O.sunk out.new) result }
     {
         match self.begin_first_for(Event::LineEnd) {
@@ -276,9 +345,9 @@ impl Formatter {
         }
     }
 
-    /// Finishes the pending line, and places it.
+    /// Finishes the pending line, where no field is open, and places it.
     pub(super) fn brk<O: ByteSink>(&mut self, out: &mut O) -> Result<Option<Sprung>, Halt>
-        ensures { PerformsEvents (Text Break ∷ []) self.old self.new
+        ensures { PerformsUnfielded (Text Break) self.old self.new
             (O.sunk out.old) (O.sunk out.new) result }
     {
         match self.begin_first_for(Event::Break) {

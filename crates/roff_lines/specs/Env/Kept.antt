@@ -1,9 +1,9 @@
 -- What an environment keeps of its history.
-use Rattle.std.specs.Prelude.{◌≡◌, ℕ, ◌+◌, ◌-◌, ◌<◌, ◌≤◌, ◌^◌, Bool, true, false, ◌&&◌, ◌||◌, not, List, [], ◌++◌, length, Option, Some, None, if◌then◌else◌, ◌==◌}
+use Rattle.std.specs.Prelude.{◌≡◌, ℕ, ◌+◌, ◌-◌, ◌/◌, ◌<◌, ◌≤◌, ◌^◌, min, Bool, true, false, ◌&&◌, ◌||◌, not, List, [], ◌++◌, length, replicate, Option, Some, None, if◌then◌else◌, ◌==◌}
 use Rattle.roff_lines.specs.declared.env.Env.TheInside.{Inside}
 use Rattle.roff_layout.specs.declared.settings.Settings.{Settings}
 use Rattle.roff_layout.specs.declared.glyph.Glyph.{Glyph}
-use Rattle.roff_layout.specs.Glyphs.{glyph_text, glyph_width, text_width}
+use Rattle.roff_layout.specs.Glyphs.{glyph_blank, glyph_text, glyph_width, text_width}
 use Rattle.roff_layout.specs.Settings.{fills, counted}
 use Rattle.roff_layout.specs.TabStops.{TabStops}
 use Rattle.roff_layout.specs.Places.{most_place, moved}
@@ -12,10 +12,19 @@ use Rattle.roff_layout.specs.Words.{is_closer, is_sentence_mark, ends_sentence_b
 use Rattle.roff_layout.specs.Lines.{Finished, laid_out, empty_line}
 use Rattle.roff_layout.specs.LastLine.{line_width}
 
+-- an open field: the columns from its tab to its stop, and whether its text has its middle there; its text, and the blanks before
+-- the word that its tab stands in
+pub record KeptField : Type 0 where
+  pub way : ℕ
+  pub is_centred : Bool
+  pub text : List ℕ
+  pub word_blanks : ℕ
+
 -- what is in force, the indent that is pending for one line alone, and the tab stops; the pending line's text and its
 -- indent, and whether a word stands in it; the open word's text, and whether there is one; the blanks before it; what the
 -- line of the input has so far, the place on it, and whether it is interrupted; the text of the line that was finished last,
--- and its width
+-- and its width. While a field is open no word is, the word's text is that up to the field's tab, and the blanks are those of a gap
+-- at the field's end.
 pub record Kept : Type 0 where
   pub cap : ℕ
   pub settings : Settings
@@ -25,6 +34,7 @@ pub record Kept : Type 0 where
   pub indent : ℕ
   pub has_line : Bool
   pub word : List ℕ
+  pub field : Option KeptField
   pub is_open : Bool
   pub blanks : ℕ
   pub has_glyph : Bool
@@ -34,9 +44,28 @@ pub record Kept : Type 0 where
   pub finished : List ℕ
   pub last_width : ℕ
 
--- the pending line's length in bytes, the open word included
+-- what is kept where the text of the open field, if one is open, stands in the open word, at its tab
+abbrev pub with_field_left : Kept → Kept
+with_field_left k =
+    elim k.field [
+      | None ↦ k
+      | Some f ↦ record k { word = k.word ++ f.text; field = None; is_open = true; blanks = f.word_blanks }
+    ]
+
+-- the pending line's length in bytes, the open word included, where no field is open
+abbrev pub length_of_words : Kept → ℕ
+length_of_words k = length k.line + (if k.is_open && k.has_line then k.blanks else 0) + length k.word
+
+-- the same with the text of the open field
 abbrev pub kept_length : Kept → ℕ
-kept_length k = length k.line + (if k.is_open && k.has_line then k.blanks else 0) + length k.word
+kept_length k = length_of_words (with_field_left k)
+
+-- the field that the fields of an environment keep, if one is open
+abbrev pub field_kept : Inside → Option KeptField
+field_kept a =
+    if a.room == 0
+    then Some (record { way = a.field_way; is_centred = a.is_field_centred; text = a.field.text; word_blanks = a.word_blanks })
+    else None
 
 -- what the fields keep
 abbrev pub kept_by : Inside → Kept
@@ -49,6 +78,7 @@ kept_by a = record {
   indent = a.indent;
   has_line = a.has_line;
   word = a.word.text;
+  field = field_kept a;
   is_open = a.is_open;
   blanks = a.blanks;
   has_glyph = a.has_glyph;
@@ -59,17 +89,25 @@ kept_by a = record {
   last_width = a.last_width;
 }
 
--- each buffer has the limit's room, an open word has a gap, and the pending line is within the limit
+-- each buffer has the limit's room, an open word has a gap, and the pending line is within the limit; there is no room for glyphs
+-- where a field is open, and else one byte more than the limit
 pub record IsSound (a : Inside) : Type 0 where
   pub cap : a.cap < 2 ^ 32
+  pub room : (a.room == 0) ≡ false → a.room ≡ a.cap + 1
   pub line_room : a.line.room ≡ a.cap
   pub word_room : a.word.room ≡ a.cap
+  pub field_room : a.field.room ≡ a.cap
   pub finished_room : a.finished.room ≡ a.cap
   pub blanks : a.blanks ≤ 2 ^ 33
+  pub word_blanks : a.word_blanks ≤ 2 ^ 33
   pub gap : a.is_open ≡ true → 0 < a.blanks
+  pub word_gap : (a.room == 0) ≡ true → 0 < a.word_blanks
+  pub none_open : (a.room == 0) ≡ true → a.is_open ≡ false
+  pub glyph_in_field : (a.room == 0) ≡ true → a.has_glyph ≡ true
+  pub no_field : (a.room == 0) ≡ false → a.field.text ≡ []
   pub place : a.place ≤ most_place
   pub no_line : a.has_line ≡ false → a.line.text ≡ []
-  pub no_word : a.is_open ≡ false → a.word.text ≡ []
+  pub no_word : a.is_open ≡ false → (a.room == 0) ≡ false → a.word.text ≡ []
   pub within : kept_length (kept_by a) ≤ a.cap
 
 -- the blanks before the open word, or before one that begins now; an open word has some
@@ -99,6 +137,61 @@ with_glyph g k = record k {
   ends_sentence = if is_closer g then ends_in_word k else is_sentence_mark g;
   place = moved (glyph_width g) k.place;
 }
+
+-- behind a tab of no columns that opens a field
+abbrev pub with_field_opened : ℕ → Bool → Kept → Kept
+with_field_opened way is_centred k = record k {
+  field = Some (record { way = way; is_centred = is_centred; text = []; word_blanks = k.blanks });
+  is_open = false;
+  blanks = 0;
+}
+
+-- behind a glyph in a field: a gap in front of it is of the same word
+abbrev pub with_glyph_in : Glyph → KeptField → Kept → Kept
+with_glyph_in g f k = record k {
+  field = Some (record f { text = f.text ++ (replicate k.blanks glyph_blank ++ glyph_text g) });
+  blanks = 0;
+  has_glyph = true;
+  ends_sentence = if is_closer g then k.blanks == 0 && k.ends_sentence else is_sentence_mark g;
+  place = moved (glyph_width g) k.place;
+}
+
+-- the columns in front of a field's text
+abbrev pub kept_motion : KeptField → ℕ
+kept_motion f = f.way - (if f.is_centred then text_width f.text / 2 else text_width f.text)
+
+-- the length in bytes with a glyph more, in the open field, if one is open, or in the open word, or in one that begins with it
+abbrev pub length_told : Glyph → Kept → ℕ
+length_told g k = elim k.field [ None ↦ length_with g k | Some f ↦ kept_length k + k.blanks + length (glyph_text g) ]
+
+-- behind that glyph
+abbrev pub with_glyph_told : Glyph → Kept → Kept
+with_glyph_told g k = elim k.field [ None ↦ with_glyph g k | Some f ↦ with_glyph_in g f k ]
+
+-- the length in bytes behind the end of the open field, if one is open
+abbrev pub length_ended : Kept → ℕ
+length_ended k = elim k.field [ None ↦ kept_length k | Some f ↦ kept_length k + kept_motion f ]
+
+-- behind the end of the open field, if one is open
+abbrev pub with_field_ended : Kept → Kept
+with_field_ended k =
+    elim k.field [
+      | None ↦ k
+      | Some f ↦
+          record k {
+            word = k.word ++ (replicate (kept_motion f) glyph_blank ++ f.text);
+            field = None;
+            is_open = true;
+            blanks = f.word_blanks;
+            place = moved (kept_motion f) k.place;
+          }
+    ]
+
+-- behind a gap: no more blanks are counted than any line has room for
+abbrev pub with_gap : ℕ → Kept → Kept
+with_gap n k =
+    if not k.has_glyph then record k { blanks = if k.blanks == 0 then n else k.blanks }
+    else record k { blanks = if k.is_open then k.blanks else min (k.blanks + n) (2 ^ 33); place = moved n k.place }
 
 -- behind the glyphs of these bytes
 abbrev pub with_glyphs : List ℕ → Kept → Kept
@@ -159,6 +252,18 @@ word_finishes k = k.is_open && k.has_line && not (word_fits k)
 -- the line that it finishes
 abbrev pub finished_by_word : Kept → Option Finished
 finished_by_word k = if word_finishes k then Some (laid_out k.settings true k.indent k.line) else None
+
+-- in front of a tab: the open field has ended, if one was open, and the word before a gap at its end
+abbrev pub at_tab : Kept → Kept
+at_tab k =
+    elim k.field [
+      | None ↦ k
+      | Some f ↦ if k.blanks == 0 then with_field_ended k else record (with_word_ended (with_field_ended k)) { blanks = k.blanks }
+    ]
+
+-- the line that this finishes
+abbrev pub finished_at_tab : Kept → Option Finished
+finished_at_tab k = elim k.field [ None ↦ None | Some f ↦ if k.blanks == 0 then None else finished_by_word (with_field_ended k) ]
 
 -- behind a break
 abbrev pub with_line_finished : Kept → Kept

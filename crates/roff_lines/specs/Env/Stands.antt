@@ -1,20 +1,26 @@
 -- When an environment stands for its history.
-use Rattle.std.specs.Prelude.{◌≡◌, ℕ, ◌<◌, ◌≤◌, ◌^◌, min, true, not, ◌∷◌, Option}
+--
+-- Where no field is open, it stands for the plain history that tells its history without fields.
+use Rattle.std.specs.Prelude.{◌≡◌, ℕ, ◌<◌, ◌≤◌, ◌^◌, min, true, false, not, ◌∷◌, Option, Some, None}
 use Rattle.roff_layout.specs.declared.event.Event.{Event}
 use Rattle.roff_layout.specs.Events.{History, settings_after, stops_after, is_interrupted}
 use Rattle.roff_layout.specs.Places.{has_line_glyph, input_place}
+use Rattle.roff_layout.specs.TabStops.{way_to_next}
 use Rattle.roff_layout.specs.Fitting.{word_text, line_text, line_indent}
 use Rattle.roff_layout.specs.Words.{is_empty, has_open_word, last_word_glyphs, ends_sentence, blanks, open_word, words, temporary_indent}
-use Rattle.roff_layout.specs.Lines.{Finished, pending_line, pending_length, finished}
-use Rattle.roff_lines.specs.Env.Kept.{Kept}
+use Rattle.roff_layout.specs.Lines.{Finished, pending_line, pending_length, pending_length as length_plainly, finished as finished_plainly}
+use Rattle.roff_layout.specs.Fields.{Field, Told, field_text, field_told, so_far, tab_told, told}
+use Rattle.roff_layout.specs.Behind.{finished}
+use Rattle.roff_lines.specs.Env.Kept.{Kept, KeptField, with_field_left}
 use Rattle.roff_layout.specs.LastLine.{last_text, last_width}
 
--- an environment of this limit keeps k behind the history h
-pub record Stands (line_cap : ℕ) (h : History) (k : Kept) : Type 0 where
+-- an environment of this limit, in which no field is open, keeps k behind the plain history h
+pub record StandsPlain (line_cap : ℕ) (h : History) (k : Kept) : Type 0 where
   -- the limit, which the pending line has not passed
   pub small : line_cap < 2 ^ 32
   pub within : pending_length h ≤ line_cap
   pub cap : k.cap ≡ line_cap
+  pub no_field : k.field ≡ None
   -- what is in force
   pub settings : k.settings ≡ settings_after h
   pub temporary_indent : k.temporary_indent ≡ temporary_indent h
@@ -36,6 +42,51 @@ pub record Stands (line_cap : ℕ) (h : History) (k : Kept) : Type 0 where
   -- the last line that was finished: its text and its width
   pub finished : k.finished ≡ last_text h
   pub last_width : k.last_width ≡ last_width h
+
+-- an environment of this limit, in which a field is open behind the plain history h, keeps k: as if the field's text stood at its
+-- tab, where no word is open in a field, and the word's text is that up to the tab
+pub record StandsInField (line_cap : ℕ) (h : History) (f : Field) (k : Kept) : Type 0 where
+  pub field : KeptField
+  pub field_is : k.field ≡ Some field
+  pub way : field.way ≡ f.way
+  pub is_centred : field.is_centred ≡ f.is_centred
+  pub text : field.text ≡ field_text f
+  pub gap : k.blanks ≡ min f.gap (2 ^ 33)
+  pub none_open : k.is_open ≡ false
+  pub left : StandsPlain line_cap (field_told 0 f h) (with_field_left k)
+
+-- whatever the field that is open, if one is
+abbrev pub StandsTold : ℕ → History → Option Field → Kept → Type 0
+StandsTold line_cap h None k = StandsPlain line_cap h k
+StandsTold line_cap h (Some f) k = StandsInField line_cap h f k
+
+-- what is told without fields is kept
+abbrev pub StandsFor : ℕ → Told → Kept → Type 0
+StandsFor line_cap t k = StandsTold line_cap t.events t.field k
+
+-- an environment of this limit keeps k behind the history h
+abbrev pub Stands : ℕ → History → Kept → Type 0
+Stands line_cap h k = StandsFor line_cap (told h) k
+
+-- whatever plain history the old environment stands for, the new one stands for it with one event more
+abbrev pub StandsPlainBehind : Kept → Event → Kept → Type 0
+StandsPlainBehind old e new = (line_cap : ℕ) (h : History) → StandsPlain line_cap h old → StandsPlain line_cap (e ∷ h) new
+
+-- whatever plain history the old environment stands for, the event finishes this line behind it
+abbrev pub FinishesPlain : Kept → Event → Option Finished → Type 0
+FinishesPlain old e line = (line_cap : ℕ) (h : History) → StandsPlain line_cap h old → line ≡ finished_plainly h e
+
+-- what is told behind a tab, where no field was open in front of it
+abbrev pub behind_tab : History → Told
+behind_tab h = tab_told (way_to_next (stops_after h) (input_place h)) h
+
+-- the length of the pending line there
+abbrev pub length_at_tab : History → ℕ
+length_at_tab h = length_plainly (so_far (behind_tab h))
+
+-- whatever plain history the old environment stands for, the new one stands for it with a tab more, which may open a field
+abbrev pub StandsBehindTab : Kept → Kept → Type 0
+StandsBehindTab old new = (line_cap : ℕ) (h : History) → StandsPlain line_cap h old → StandsFor line_cap (behind_tab h) new
 
 -- whatever history the old environment stands for, the new one stands for it with one event more
 abbrev pub StandsBehind : Kept → Event → Kept → Type 0

@@ -1,12 +1,15 @@
 -- Bytes of a text line that an environment is told at once.
-use Rattle.std.specs.Prelude.{◌≡◌, ℕ, ◌+◌, ◌-◌, ◌<◌, ◌≤◌, true, List, [], ◌∷◌, ◌++◌, length, take, drop, slice_index_or}
+use Rattle.std.specs.Prelude.{◌≡◌, ℕ, ◌+◌, ◌-◌, ◌<◌, ◌≤◌, true, List, [], ◌∷◌, ◌++◌, length, take, drop, slice_index_or, Option, None, if◌then◌else◌, ◌==◌}
 use Rattle.std.specs.List.{AllByRecursion}
 use Rattle.roff_layout.specs.Glyphs.{gaps_in, text_width}
 use Rattle.roff_layout.specs.Events.{History}
 use Rattle.roff_layout.specs.Fitting.{may_be_wide}
+use Rattle.roff_layout.specs.declared.event.Event.TheVariants.{WordEnd}
+use Rattle.roff_layout.specs.declared.glyph.Glyph.TheVariants.{Printed}
+use Rattle.roff_layout.specs.Lines.{Finished, finished, pending_length}
 use Rattle.roff_layout.specs.Telling.{bytes_told, QuietlyTold}
-use Rattle.roff_lines.specs.Env.Kept.{Kept, glyph_room, word_finishes}
-use Rattle.roff_lines.specs.Env.Stands.{Stands}
+use Rattle.roff_lines.specs.Env.Kept.{Kept, glyph_room, length_told, word_finishes}
+use Rattle.roff_lines.specs.Env.Stands.{Stands, StandsPlain}
 
 -- these bytes are told: whatever history the old environment stands for, they can be told behind it, and the new one stands
 -- for it with them
@@ -14,11 +17,29 @@ pub record Tells (bytes : List ℕ) (old new : Kept) : Type 0 where
   pub quiet : (line_cap : ℕ) (h : History) → Stands line_cap h old → QuietlyTold line_cap bytes h
   pub stands : (line_cap : ℕ) (h : History) → Stands line_cap h old → Stands line_cap (bytes_told bytes h) new
 
+-- the line that this byte of a text line finishes behind a plain history: a blank ends a word
+abbrev pub finished_plainly_by : ℕ → History → Option Finished
+finished_plainly_by b h = if b == 32 then finished h WordEnd else None
+
+-- these bytes can be told behind a plain history, one after another
+abbrev pub PlainlyTold : ℕ → List ℕ → History → Type 0
+PlainlyTold line_cap [] h = Unit {0}
+PlainlyTold line_cap (b ∷ bytes) h =
+    (finished_plainly_by b h ≡ None)
+    × (pending_length (bytes_told (b ∷ []) h) ≤ line_cap)
+    × PlainlyTold line_cap bytes (bytes_told (b ∷ []) h)
+
+-- the same of plain histories: whichever the old environment stands for; and no field is opened or ended
+pub record TellsPlain (bytes : List ℕ) (old new : Kept) : Type 0 where
+  pub quiet : (line_cap : ℕ) (h : History) → StandsPlain line_cap h old → PlainlyTold line_cap bytes h
+  pub stands : (line_cap : ℕ) (h : History) → StandsPlain line_cap h old → StandsPlain line_cap (bytes_told bytes h) new
+  pub field : new.field ≡ old.field
+
 -- some of these bytes in front are told, and the rest is left
 pub record TellsFront (bytes rest : List ℕ) (old new : Kept) : Type 0 where
   pub front : List ℕ
   pub joined : front ++ rest ≡ bytes
-  pub told : Tells front old new
+  pub told : TellsPlain front old new
 
 -- of so many bytes in front these are told, and the rest is left
 abbrev pub TellsOf : ℕ → List ℕ → ℕ → Kept → Kept → Type 0
@@ -71,3 +92,8 @@ EndsGlyphs (b ∷ rest) k = 32 < b → glyph_room k ≡ 0
 abbrev pub EndsBlanks : List ℕ → Kept → Type 0
 EndsBlanks [] k = Unit {0}
 EndsBlanks (b ∷ rest) k = b ≡ 32 → word_finishes k ≡ true
+
+-- a blank is in front of these bytes, or the limit lets none of them through in a field
+abbrev pub EndsInField : List ℕ → Kept → Type 0
+EndsInField [] k = Unit {0}
+EndsInField (b ∷ rest) k = (b ≡ 32 → ⊥) → k.cap < length_told (Printed b) k

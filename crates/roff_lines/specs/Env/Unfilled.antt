@@ -18,8 +18,9 @@ pub record AreWords (bytes : List ℕ) (count gaps : ℕ) : Type 0 where
   pub last : slice_index_or bytes (count - 1) 0 ≡ 32 → ⊥
   pub gaps_are : gaps_in (take count bytes) ≡ gaps
 
--- words aren't measured, and none stands in the pending line
+-- no field is open, words aren't measured, and none stands in the pending line
 pub record PutsLines (k : Kept) : Type 0 where
+  pub no_field : k.field ≡ None
   pub unfilled : fills k.settings ≡ false
   pub no_line : k.has_line ≡ false
   pub no_text : k.line ≡ []
@@ -36,6 +37,7 @@ pub record EndsAtOnce (bytes : List ℕ) (line : Finished) (old new : Kept) : Ty
   pub told : Kept
   pub tells : Tells bytes old told
   pub ended : Kept
+  pub no_field : ended.field ≡ None
   pub word_end : StandsBehind told WordEnd ended
   pub quiet : Finishes told WordEnd None
   pub line_end : StandsBehind ended LineEnd new

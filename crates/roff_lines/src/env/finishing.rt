@@ -1,6 +1,6 @@
 //! Ends of words and of lines of the input, and breaks: the lines that they finish.
 
-ghost use Rattle.std.specs.Prelude.{◌≡◌, ℕ, is_some, option_map};
+ghost use Rattle.std.specs.Prelude.{◌≡◌, ℕ, None, is_some, option_map};
 ghost use Rattle.std.specs.Borrow.{sem};
 ghost use Rattle.roff_lines.specs.Clauses.{WordEnd, LineEnd, Break, History, finished, finished_of};
 ghost use Rattle.roff_lines.specs.Clauses.{shaped};
@@ -13,7 +13,7 @@ use std::mem;
 impl Env {
     ghost use Rattle.roff_lines.specs.Env.Kept.{with_line_finished, finished_by_break};
     ghost use Rattle.roff_lines.specs.Env.Kept.{with_input_line_ended, finished_by_line_end};
-    ghost use Rattle.roff_lines.specs.Env.Kept.{with_line_ended};
+    ghost use Rattle.roff_lines.specs.Env.Kept.{with_field_left, with_line_ended};
     ghost use Rattle.roff_lines.specs.Env.Stands.{Finishes, Stands};
     ghost use Rattle.roff_lines.specs.Env.Rests.{RestsBehind};
 
@@ -31,6 +31,7 @@ impl Env {
         ensures* stands { sem 𝓛 (RestsBehind self.entry LineEnd) }
         ensures line { Finishes self.old LineEnd (option_map finished_of result) }
     {
+        self.leave_open_field();
         let shape = self.finish_input_line();
         self.lent(shape)
     }
@@ -40,6 +41,7 @@ impl Env {
         ensures* stands { sem 𝓛 (RestsBehind self.entry Break) }
         ensures line { Finishes self.old Break (option_map finished_of result) }
     {
+        self.leave_open_field();
         let shape = self.finish_pending();
         self.lent(shape)
     }
@@ -55,12 +57,23 @@ impl Env {
                 !self.settings.fills() && (self.has_line || !self.settings.filling)
             }
             Event::Break => self.has_line,
+            Event::Tab => self.is_in_field() && self.tab_finishes(),
             _ => false,
         }
     }
 
+    /// Puts the text of a field that is open all the same into its word, as it stands.
+    #[inline(always)]
+    fn leave_open_field(&mut self)
+        ensures { self.new ≡ with_field_left self.old }
+    {
+        if self.is_in_field() {
+            self.leave_field();
+        }
+    }
+
     /// The finished line, in this shape.
-    fn lent(&self, shape: Option<Shape>) -> Option<Line<'_>>
+    pub(super) fn lent(&self, shape: Option<Shape>) -> Option<Line<'_>>
         ensures { option_map finished_of result
             ≡ option_map (λ s. shaped s self.now.finished) shape }
     {
@@ -73,6 +86,7 @@ impl Env {
     /// Finishes the pending line where words aren't measured, and else sets the gap of a line's
     /// end. Then one line less is to be centred.
     fn finish_input_line(&mut self) -> Option<Shape>
+        requires { self.old.field ≡ None }
         ensures kept { self.new ≡ with_input_line_ended self.old }
         ensures line { option_map (λ s. shaped s self.new.finished) result
             ≡ finished_by_line_end self.old }
@@ -86,6 +100,7 @@ impl Env {
     /// The same, but for the count.
     #[inline(always)]
     fn finish_uncounted_line(&mut self) -> Option<Shape>
+        requires { self.old.field ≡ None }
         ensures kept { self.new ≡ with_line_ended self.old }
         ensures line { option_map (λ s. shaped s self.new.finished) result
             ≡ finished_by_line_end self.old }
@@ -116,6 +131,7 @@ impl Env {
 
     /// Finishes the pending line, if there is one.
     fn finish_pending(&mut self) -> Option<Shape>
+        requires { self.old.field ≡ None }
         ensures kept { self.new ≡ with_line_finished self.old }
         ensures line { option_map (λ s. shaped s self.new.finished) result
             ≡ finished_by_break self.old }

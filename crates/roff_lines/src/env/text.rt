@@ -1,11 +1,11 @@
 //! Bytes of a text line that are told at once.
 
 ghost use Rattle.std.specs.Prelude.{◌≡◌, ℕ, ◌+◌, ◌<◌, ◌≤◌, ◌^◌, [], ◌∷◌, length, ◌-◌, take, true};
-ghost use Rattle.std.specs.Prelude.{drop, false};
+ghost use Rattle.std.specs.Prelude.{drop, false, None, slice_index_or};
 ghost use Rattle.std.specs.Bool.{MatchBool};
 ghost use Rattle.std.specs.List.{AllByRecursion};
 ghost use Rattle.roff_lines.specs.Clauses.{History, bytes_told, QuietlyTold, text_width, gaps_in};
-ghost use Rattle.roff_lines.specs.Clauses.{may_be_wide};
+ghost use Rattle.roff_lines.specs.Clauses.{is_in_field, may_be_wide};
 ghost use Rattle.roff_lines.specs.Env.Tells.{EndsGlyphs};
 
 use super::Env;
@@ -20,15 +20,15 @@ const MOST_COLUMNS: u64 = 1 << 35;
 
 impl Env {
     ghost use Rattle.roff_lines.specs.Env.Kept.{with_glyphs, with_words, glyph_room, word_finishes};
-    ghost use Rattle.roff_lines.specs.Env.Stands.{Stands};
-    ghost use Rattle.roff_lines.specs.Env.Tells.{Tells, TellsOf, HasRoom};
+    ghost use Rattle.roff_lines.specs.Env.Stands.{Stands, StandsPlain};
+    ghost use Rattle.roff_lines.specs.Env.Tells.{PlainlyTold, TellsPlain, TellsOf, HasRoom};
     ghost use Rattle.roff_lines.specs.Env.Tells.{EndsBlanks};
 
     /// Adds bytes of a text line, which are blanks and bytes above the blank: of so many in front
     /// as many as finish no line and keep the pending line within its limit. Says how many that
     /// are. A blank ends the open word, and a gap of one blank follows; each other byte is a glyph.
     /// What stands behind those in front is none of the text line; that it lies there lets steps of
-    /// sixteen be looked at.
+    /// sixteen be looked at. While a field is open no blank is taken.
     pub fn text_front(&mut self, bytes: &[u8], count: usize) -> usize
         requires text { count ≤ length bytes.now }
         requires above { AllByRecursion (λ b. 31 < b) (take count bytes.now) }
@@ -38,7 +38,28 @@ impl Env {
         ensures stands { (line_cap : ℕ) (h : History) → Stands line_cap h self.old
             → Stands line_cap (bytes_told (take result bytes.now) h) self.new }
         ensures most { (line_cap : ℕ) (h : History) → Stands line_cap h self.old → result < count
-            → QuietlyTold line_cap (take (result + 1) bytes.now) h → ⊥ }
+            → QuietlyTold line_cap (take (result + 1) bytes.now) h
+            → (is_in_field h ≡ true) × (slice_index_or bytes.now result 0 ≡ 32) }
+    {
+        if self.is_in_field() {
+            return self.field_front(bytes, count);
+        }
+        self.words_front(bytes, count)
+    }
+
+    /// The same where no field is open.
+    #[inline(always)]
+    fn words_front(&mut self, bytes: &[u8], count: usize) -> usize
+        requires text { count ≤ length bytes.now }
+        requires above { AllByRecursion (λ b. 31 < b) (take count bytes.now) }
+        requires no_field { self.old.field ≡ None }
+        ensures within { result ≤ count }
+        ensures quiet { (line_cap : ℕ) (h : History) → StandsPlain line_cap h self.old
+            → PlainlyTold line_cap (take result bytes.now) h }
+        ensures stands { (line_cap : ℕ) (h : History) → StandsPlain line_cap h self.old
+            → StandsPlain line_cap (bytes_told (take result bytes.now) h) self.new }
+        ensures most { (line_cap : ℕ) (h : History) → StandsPlain line_cap h self.old
+            → result < count → PlainlyTold line_cap (take (result + 1) bytes.now) h → ⊥ }
     {
         let mut told = self.text_in_front(bytes, count);
         while self.blank_in_front(bytes, told, count) {
@@ -53,7 +74,8 @@ impl Env {
     /// through. Tells how many bytes these are: none where a blank is in front.
     #[inline(always)]
     fn text_in_front(&mut self, bytes: &[u8], count: usize) -> usize
-        requires { count ≤ length bytes.now }
+        requires text { count ≤ length bytes.now }
+        requires no_field { self.old.field ≡ None }
         ensures few { result ≤ count }
         ensures told { TellsOf count bytes.now result self.old self.new }
         ensures ends { EndsGlyphs (drop result (take count bytes.now)) self.new }
@@ -67,7 +89,8 @@ impl Env {
     /// The same, whatever is in front.
     #[inline(never)]
     fn words_and_glyphs(&mut self, bytes: &[u8], count: usize) -> usize
-        requires { count ≤ length bytes.now }
+        requires text { count ≤ length bytes.now }
+        requires no_field { self.old.field ≡ None }
         ensures few { result ≤ count }
         ensures told { TellsOf count bytes.now result self.old self.new }
         ensures ends { EndsGlyphs (drop result (take count bytes.now)) self.new }
@@ -81,7 +104,8 @@ impl Env {
     /// more of them stand. Tells how many bytes these are.
     #[inline(always)]
     fn sentences_in_front(&mut self, bytes: &[u8], count: usize) -> usize
-        requires { count ≤ length bytes.now }
+        requires text { count ≤ length bytes.now }
+        requires no_field { self.old.field ≡ None }
         ensures few { result ≤ count }
         ensures told { TellsOf count bytes.now result self.old self.new }
     {
@@ -102,9 +126,10 @@ impl Env {
     fn blank_behind_words(&mut self, bytes: &[u8], place: usize, count: usize) -> bool
         requires within { place ≤ count }
         requires text { count ≤ length bytes.now }
+        requires no_field { self.old.field ≡ None }
         ensures { MatchBool result
             ((place < count) × ((32 ∷ drop (place + 1) (take count bytes.now)
-            ≡ drop place (take count bytes.now)) × Tells (32 ∷ []) self.old self.new))
+            ≡ drop place (take count bytes.now)) × TellsPlain (32 ∷ []) self.old self.new))
             (self.new ≡ self.old) }
     {
         if count - place < 2 || bytes[place] != b' ' || bytes[place + 1] == b' ' {
@@ -116,7 +141,8 @@ impl Env {
     /// What [`blank`](Env::blank) does, as a function of its own.
     #[inline(never)]
     fn blank_apart(&mut self) -> bool
-        ensures { MatchBool result (Tells (32 ∷ []) self.old self.new)
+        requires { self.old.field ≡ None }
+        ensures { MatchBool result (TellsPlain (32 ∷ []) self.old self.new)
             ((self.new ≡ self.old) × (word_finishes self.old ≡ true)) }
     {
         self.blank()
@@ -126,7 +152,8 @@ impl Env {
     /// bytes these are.
     #[inline(always)]
     fn words_in_front(&mut self, bytes: &[u8], count: usize) -> usize
-        requires { count ≤ length bytes.now }
+        requires text { count ≤ length bytes.now }
+        requires no_field { self.old.field ≡ None }
         ensures few { result ≤ count }
         ensures told { TellsOf count bytes.now result self.old self.new }
     {
@@ -166,6 +193,7 @@ impl Env {
         requires room { HasRoom count self.old }
         requires gaps { gaps_in (take count bytes.now) ≡ gaps }
         requires width { text_width (take count bytes.now) ≡ count }
+        requires no_field { self.old.field ≡ None }
         ensures { self.new ≡ with_words (take count bytes.now) self.old }
     {
         self.line
@@ -181,7 +209,8 @@ impl Env {
     /// many bytes these are.
     #[inline(always)]
     fn glyphs_in_front(&mut self, bytes: &[u8], count: usize) -> usize
-        requires { count ≤ length bytes.now }
+        requires text { count ≤ length bytes.now }
+        requires no_field { self.old.field ≡ None }
         ensures few { result ≤ count }
         ensures told { TellsOf count bytes.now result self.old self.new }
         ensures ends { EndsGlyphs (drop result (take count bytes.now)) self.new }
@@ -215,6 +244,7 @@ impl Env {
         requires room { count ≤ glyph_room self.old }
         requires above { AllByRecursion (λ b. 32 < b) (take count bytes.now) }
         requires width { text_width (take count bytes.now) ≡ width }
+        requires no_field { self.old.field ≡ None }
         ensures { self.new ≡ with_glyphs (take count bytes.now) self.old }
     {
         let before = self.ends_in_word();
@@ -233,9 +263,10 @@ impl Env {
     fn blank_in_front(&mut self, bytes: &[u8], place: usize, count: usize) -> bool
         requires within { place ≤ count }
         requires text { count ≤ length bytes.now }
+        requires no_field { self.old.field ≡ None }
         ensures { MatchBool result
             ((place < count) × ((32 ∷ drop (place + 1) (take count bytes.now)
-            ≡ drop place (take count bytes.now)) × Tells (32 ∷ []) self.old self.new))
+            ≡ drop place (take count bytes.now)) × TellsPlain (32 ∷ []) self.old self.new))
             ((self.new ≡ self.old) × EndsBlanks (drop place (take count bytes.now)) self.old) }
     {
         if place == count || bytes[place] != b' ' {
@@ -248,7 +279,8 @@ impl Env {
     /// whether it does; else the environment is as it was.
     #[inline(always)]
     fn blank(&mut self) -> bool
-        ensures { MatchBool result (Tells (32 ∷ []) self.old self.new)
+        requires { self.old.field ≡ None }
+        ensures { MatchBool result (TellsPlain (32 ∷ []) self.old self.new)
             ((self.new ≡ self.old) × (word_finishes self.old ≡ true)) }
     {
         if !self.join_word() {

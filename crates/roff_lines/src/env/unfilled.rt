@@ -22,7 +22,7 @@ impl Env {
     pub fn puts_lines(&self) -> bool
         ensures { result ≡ true → PutsLines self.now }
     {
-        !self.has_line && !self.settings.fills()
+        !self.has_line && !self.settings.fills() && !self.is_in_field()
     }
 
     /// How many gaps are among so many bytes in front, if a line of the input may end behind them

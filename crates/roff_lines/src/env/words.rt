@@ -1,8 +1,9 @@
 //! Glyphs, tabs and gaps, and the open word on its way into the pending line.
 
 ghost use Rattle.std.specs.Prelude.{◌≡◌, ℕ, ◌+◌, ◌<◌, ◌≤◌, ◌^◌, ◌↔◌, not, ◌∷◌, ◌++◌, length, false};
-ghost use Rattle.std.specs.Prelude.{if◌then◌else◌, OnOk, OnErr, IsErr, IsOkUnless, option_map};
-ghost use Rattle.roff_lines.specs.Clauses.{Print, Tab, Gap, History, indent_by, moved};
+ghost use Rattle.std.specs.Prelude.{if◌then◌else◌, OnOk, OnErr, IsErr, IsOkUnless, None};
+ghost use Rattle.std.specs.Prelude.{option_map};
+ghost use Rattle.roff_lines.specs.Clauses.{Print, Gap, History, indent_by, moved};
 ghost use Rattle.roff_lines.specs.Clauses.{pending_length, shaped, text_width, gap_text};
 ghost use Rattle.roff_lines.specs.Clauses.{may_be_wide};
 
@@ -24,7 +25,8 @@ impl Env {
     ghost use Rattle.roff_lines.specs.Env.Kept.{with_word_ended, finished_by_word, word_finishes};
     ghost use Rattle.roff_lines.specs.Env.Kept.{word_fits};
     ghost use Rattle.roff_lines.specs.Env.Kept.{begun_blanks, ends_in_word, length_with};
-    ghost use Rattle.roff_lines.specs.Env.Kept.{with_glyph};
+    ghost use Rattle.roff_lines.specs.Env.Kept.{length_told, with_gap, with_glyph};
+    ghost use Rattle.roff_lines.specs.Env.Kept.{with_glyph_told};
     ghost use Rattle.roff_lines.specs.Env.Stands.{Stands, StandsBehind};
 
     /// Adds a glyph to the open word, or opens one with it.
@@ -35,8 +37,10 @@ impl Env {
     #[inline(always)]
     pub fn glyph(&mut self, glyph: Glyph) -> Result<(), Limit>
         ensures stands { OnOk result (StandsBehind self.old (Print glyph) self.new) }
+        ensures kept { OnOk result (self.new ≡ with_glyph_told glyph self.old) }
         ensures limit { (line_cap : ℕ) (h : History) → Stands line_cap h self.old
             → (IsErr result ↔ (line_cap < pending_length (Print glyph ∷ h))) }
+        ensures room { IsErr result ↔ (self.old.cap < length_told glyph self.old) }
         ensures error { IsOkUnless result Limit.Line }
         ensures unchanged { OnErr result (self.new ≡ self.old) }
     {
@@ -46,8 +50,8 @@ impl Env {
             0
         };
         let bytes = self.line.len() + self.word.len() + glyph.length();
-        if bytes as u64 + gap > self.cap as u64 {
-            return Err(Limit::Line);
+        if bytes as u64 + gap >= self.room {
+            return self.glyph_in_field(glyph);
         }
         self.print(glyph);
         Ok(())
@@ -56,7 +60,8 @@ impl Env {
     /// Adds a glyph for which there is room.
     #[inline(always)]
     fn print(&mut self, glyph: Glyph)
-        requires { length_with glyph self.old ≤ self.old.cap }
+        requires room { length_with glyph self.old ≤ self.old.cap }
+        requires no_field { self.old.field ≡ None }
         ensures { self.new ≡ with_glyph glyph self.old }
     {
         let before = self.ends_in_word();
@@ -71,26 +76,12 @@ impl Env {
         self.place = moved(self.place, glyph.width());
     }
 
-    /// Adds a tab, a glyph of as many blanks as there are to the next tab stop.
-    ///
-    /// # Errors
-    ///
-    /// [`Limit::Line`] if the pending line would pass its limit; the environment is then as it was.
-    pub fn tab(&mut self) -> Result<(), Limit>
-        ensures stands { OnOk result (StandsBehind self.old Tab self.new) }
-        ensures limit { (line_cap : ℕ) (h : History) → Stands line_cap h self.old
-            → (IsErr result ↔ (line_cap < pending_length (Tab ∷ h))) }
-        ensures error { IsOkUnless result Limit.Line }
-        ensures unchanged { OnErr result (self.new ≡ self.old) }
-    {
-        let columns = self.stops.way_from(self.place);
-        self.glyph(Glyph::Blanks(columns))
-    }
-
-    /// Adds so many blanks to the gap between words. Where no glyph stands on the line of the
-    /// input, it adds none to a gap that is there, and leaves the place on the line.
+    /// Adds so many blanks to the gap between words, or to one in the open field. Where no glyph
+    /// stands on the line of the input, it adds none to a gap that is there, and leaves the place
+    /// on the line.
     pub fn gap(&mut self, blanks: u32)
-        ensures { StandsBehind self.old (Gap blanks) self.new }
+        ensures stands { StandsBehind self.old (Gap blanks) self.new }
+        ensures kept { self.new ≡ with_gap blanks self.old }
     {
         if !self.has_glyph {
             self.gap_before_glyphs(blanks);
@@ -106,7 +97,7 @@ impl Env {
     #[cold]
     fn gap_before_glyphs(&mut self, blanks: u32)
         requires { self.old.has_glyph ≡ false }
-        ensures { StandsBehind self.old (Gap blanks) self.new }
+        ensures { self.new ≡ with_gap blanks self.old }
     {
         if self.blanks == 0 {
             self.blanks = u64::from(blanks);
@@ -176,7 +167,7 @@ impl Env {
             self.indent,
             &self.line,
             self.blanks,
-            &self.word,
+            self.word.width(),
         )
     }
 
@@ -208,16 +199,15 @@ impl Env {
     }
 }
 
-/// Whether a word fits behind a line: with the indent within the line length, and always where
-/// words aren't measured.
-fn fits(settings: Settings, indent: u32, line: &Stretch, blanks: u64, word: &Stretch) -> bool
+/// Whether a word of so many columns fits behind a line: with the indent within the line length,
+/// and always where words aren't measured.
+pub(super) fn fits(settings: Settings, indent: u32, line: &Stretch, blanks: u64, word: u64) -> bool
     requires blanks { blanks ≤ 2 ^ 33 }
     requires line { line.now.room < 2 ^ 32 }
-    requires word { word.now.room < 2 ^ 32 }
-    ensures { let width = text_width line.now.text + blanks + text_width word.now.text in
-        result ≡ may_be_wide settings indent width }
+    requires word { word < 2 ^ 35 }
+    ensures { result ≡ may_be_wide settings indent (text_width line.now.text + blanks + word) }
 {
-    let width = line.width() + blanks + word.width();
+    let width = line.width() + blanks + word;
     !settings.fills() || u64::from(indent) + width <= u64::from(settings.line_length)
 }
 

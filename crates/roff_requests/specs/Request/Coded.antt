@@ -15,6 +15,7 @@ use Rattle.roff_requests.specs.declared.requests.numbering.Numbers.{Numbers}
 use Rattle.roff_requests.specs.declared.requests.effects.RequestFacts.{RequestFacts}
 use Rattle.roff_meaning.specs.Events.{stops_set}
 use Rattle.roff_composer.specs.Environments.Standing.{StandBy}
+use Rattle.roff_layout.specs.declared.stop.TabStop.{TabStop}
 use Rattle.roff_layout.specs.Words.{is_empty}
 use Rattle.roff_num.specs.declared.limits.Limits.{Limits}
 use Rattle.roff_run.specs.Environments.{PageHistory, environments}
@@ -97,6 +98,6 @@ set_by name None = bad_number
 set_by name (Some numbers) = set_to name (Ok numbers.value.0) (Ok numbers.increment.0)
 
 -- what a request for tab stops did where its arguments are these stops, or none that are good
-abbrev pub stops_response : Option (ArrayVec ℕ) → Response
+abbrev pub stops_response : Option (ArrayVec TabStop) → Response
 stops_response (Some stops) = happens [] (stops_set stops.items)
 stops_response None = bad_number

@@ -1,14 +1,16 @@
 //! Tab stops.
 
-ghost use Rattle.std.specs.Prelude.{◌≡◌, ◌/◌};
+ghost use Rattle.std.specs.Prelude.{◌≡◌, ◌/◌, drop};
 ghost use Rattle.roff_run.specs.Numbers.{at_least_zero};
 ghost use Rattle.roff_arguments.specs.ArgumentList.{listed};
 ghost use Rattle.roff_requests.specs.Request.Coded.{stops_response};
-ghost use Rattle.roff_run.specs.Requests.Tabs.{stop_place, tab_stops};
+ghost use Rattle.roff_run.specs.Requests.Tabs.{behind_expression, kind_by, stop_kind, stop_place};
+ghost use Rattle.roff_run.specs.Requests.Tabs.{tab_stops};
 
 use roff_arguments::ArgumentList;
+use roff_layout::{StopKind, TabStop};
 use roff_meaning::Stops;
-use roff_num::{NumFault, Scale};
+use roff_num::{NumFault, Scale, eval};
 use roff_registers::{COLUMN, rounded_to_columns, value_beside, value_in};
 
 /// Of more stops than this the others are ignored.
@@ -26,7 +28,10 @@ pub fn tab_stops(given: ArgumentList<'_>) -> Option<Stops>
             match stop_place(before, text) {
                 Ok(place) => {
                     before = rounded_to_columns(place);
-                    stops.push(column_of(before));
+                    stops.push(TabStop {
+                        column: column_of(before),
+                        kind: stop_kind(text),
+                    });
                 }
                 Err(_) => return None,
             }
@@ -52,4 +57,37 @@ fn column_of(place: i32) -> u32
     ensures { result ≡ at_least_zero place / 24 }
 {
     place.max(0) as u32 / COLUMN
+}
+
+/// The kind of a stop, by the byte directly behind its expression, which stands behind a `+`, if
+/// there is one.
+fn stop_kind(text: &[u8]) -> StopKind
+    ensures { result ≡ stop_kind text.now }
+{
+    match text {
+        [] => StopKind::Left,
+        [b'+', expression @ ..] => kind_behind(expression),
+        _ => kind_behind(text),
+    }
+}
+
+/// The kind of a stop that begins with this expression.
+fn kind_behind(text: &[u8]) -> StopKind
+    ensures { result ≡ kind_by (behind_expression text.now) }
+{
+    match eval(text, 0, Scale::Columns, Some(0)) {
+        Ok((_, behind)) => kind_at(text, behind),
+        Err(_) => StopKind::Left,
+    }
+}
+
+/// The kind that the byte at a place says: `R` and `C` are one, and another byte is nothing.
+fn kind_at(text: &[u8], place: usize) -> StopKind
+    ensures { result ≡ kind_by (drop place text.now) }
+{
+    match text.get(place) {
+        Some(b'R') => StopKind::Right,
+        Some(b'C') => StopKind::Centred,
+        _ => StopKind::Left,
+    }
 }

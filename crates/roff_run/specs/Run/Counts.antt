@@ -1,6 +1,6 @@
 -- What an event or a step makes grow, and the first limit that a count is above.
 use Rattle.std.specs.Prelude.{ℕ, ◌+◌, ◌-◌, Bool, List, [], ◌∷◌, ◌++◌, length, nat_lt, Option, Some, None, if◌then◌else◌}
-use Rattle.roff_layout.specs.Lines.{pending_length}
+use Rattle.roff_layout.specs.Behind.{length_reached}
 use Rattle.roff_num.specs.LimitValues.{value_of}
 use Rattle.roff_num.specs.declared.limit.Limit.{Limit}
 use Rattle.roff_num.specs.declared.limit.Limit.TheVariants.{Names, Stack, Depth, Line, Conditions, Store, Diversions, Environments as EnvironmentsLimit, Output, Traps}
@@ -38,7 +38,7 @@ placed_counted (_) L = []
 
 -- what an event makes grow, each count as it is behind the event, in the order in which they are looked at
 abbrev pub counts : PageHistory → PastEvent → List (Limit × ℕ)
-counts h (Text e) = (Line, pending_length (e ∷ text_of h)) ∷ written_counted h (happens h (Text e))
+counts h (Text e) = (Line, length_reached e (text_of h)) ∷ written_counted h (happens h (Text e))
 counts h (Page e) = placed_counted e (layout_of h) ++ written_counted h (Some (Does e))
 counts h (Interrupt line) = []
 counts h (Environment number) = (EnvironmentsLimit, length (environments h).left + 1) ∷ []

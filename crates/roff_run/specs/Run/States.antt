@@ -1,8 +1,7 @@
 -- The states of the run, and how it ends.
 use Rattle.std.specs.Prelude.{ℕ, Bool, false, not, List, [], ◌++◌, length, Option, Some, None}
 use Rattle.roff_layout.specs.Events.{settings_after}
-use Rattle.roff_layout.specs.LastLine.{last_width}
-use Rattle.roff_layout.specs.Places.{input_place}
+use Rattle.roff_layout.specs.Behind.{input_place, last_width}
 use Rattle.roff_layout.specs.Words.{is_empty}
 use Rattle.roff_num.specs.LimitValues.{value_of}
 use Rattle.roff_num.specs.declared.limit.Limit.{Limit}

@@ -41,7 +41,7 @@ impl Running {
     }
 
     /// The same where one did, and others that are performed then may once more: fewer of them are
-    /// left each time, or the open word ends.
+    /// left each time, or the open word or field ends.
     #[cold]
     #[inline(never)]
     fn go_on_behind_event<O: ByteSink, E: MessageSink>(

@@ -70,9 +70,10 @@ impl Table {
         end_block(&mut self.kept);
     }
 
-    /// The line `.TE` was met: it is the line that is begun, and the input ends behind it, or a byte
-    /// that is no newline. The table's messages are to tell, and its output and that line are to
-    /// give. Answers the limit on rows or on the picture's width that is met there: then it is cut.
+    /// The line `.TE` was met: it is the line that is begun, and the input ends behind it, or a
+    /// byte that is no newline. The table's messages are to tell, and its output and that line are
+    /// to give. Answers the limit on rows or on the picture's width that is met there: then it is
+    /// cut.
     pub fn finish(&mut self, number: u32, line_length: u32) -> Option<Limit>
         ensures answer { result
             ≡ limit_at_end self.old.limits line_length self.old.reading.table }

@@ -1,5 +1,5 @@
 use Rattle.roff_again.proofs.ShownBoxes.{diversions_print}
-use Rattle.roff_again.proofs.ShownLines.{lines_print}
+use Rattle.roff_again.proofs.ShownFields.{lines_print}
 use Rattle.roff_again.proofs.laws.printable_lines.Goals as goal
 
 pub returns-clause-lines : goal.returns-clause-lines

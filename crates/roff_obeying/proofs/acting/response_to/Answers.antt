@@ -1,6 +1,7 @@
 use Rattle.std.proofs.Common.{◌≡◌, ℕ, List, slice_get, ap, refl, ◌∙◌}
 use Rattle.std.specs.Option.{option_copied}
 use Rattle.roff_run.specs.Run.{known_at}
+use Rattle.roff_composer.proofs.InForce.{settings-in_force}
 use Rattle.roff_obeying.specs.Acting.{texts_read}
 use Rattle.roff_obeying.proofs.acting.response_to.Goals as goal
 
@@ -12,7 +13,7 @@ returns c = λ l h stands.
     let first : option_copied c.get.result ≡ slice_get as_given 0 = c.get.ensures ∙ argument 0 in
     c.response.ensures (known_at h c.args.registers.now.all u.input) as_given
     (record {
-      settings = stands.environments.in_force.lines.settings;
+      settings = settings-in_force l h c.args.composer.now stands;
       limits = l;
       history = h;
       stand = stands.environments;

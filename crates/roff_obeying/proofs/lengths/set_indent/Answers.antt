@@ -9,6 +9,7 @@ use Rattle.roff_run.specs.Requests.Lengths.{length_wanted, setting_length}
 use Rattle.roff_run.specs.Run.{known_at}
 use Rattle.roff_run.specs.declared.event.PageEvent.TheVariants.{Text}
 use Rattle.roff_run.specs.declared.message.Message.TheVariants.{BadNumber}
+use Rattle.roff_composer.proofs.InForce.{settings-in_force}
 use Rattle.roff_obeying.specs.Acting.{DoesEffect, Kept, kept, texts_read}
 use Rattle.roff_obeying.proofs.Effects.{and_true, quiet-effect}
 use Rattle.roff_obeying.proofs.lengths.set_indent.Goals as goal
@@ -25,7 +26,7 @@ returns-in-Ok c = λ rs. record {
       let as_given : List (List ℕ) = texts_read u in
       let events : List PageEvent = Text (Set (Indent c.in-Ok.columns)) ∷ [] in
       let first = c.get.ensures ∙ ap (λ (texts : List (List ℕ)). slice_get texts 0) c.arguments-arguments.ensures in
-      let in_force = c.settings-settings.ensures.kept ∙ stands.environments.in_force.lines.settings in
+      let in_force = c.settings-settings.ensures.kept ∙ settings-in_force l h c.args.composer.now stands in
       let wanted : Ok c.in-Ok.columns ≡ length_wanted k.settings.indent k.settings.previous_indent as_given =
       sym c.in-Ok.is ∙ c.length_wanted.ensures as_given first
       ∙ ap (λ s. length_wanted s.indent s.previous_indent as_given) in_force in
@@ -45,7 +46,7 @@ returns-in-Err c = λ rs. record {
       let k : Known = known_at h rs.all u.input in
       let as_given : List (List ℕ) = texts_read u in
       let first = c.get.ensures ∙ ap (λ (texts : List (List ℕ)). slice_get texts 0) c.arguments-arguments.ensures in
-      let in_force = c.settings-settings.ensures.kept ∙ stands.environments.in_force.lines.settings in
+      let in_force = c.settings-settings.ensures.kept ∙ settings-in_force l h c.args.composer.now stands in
       let wanted : Err c.in-Err.field-0 ≡ length_wanted k.settings.indent k.settings.previous_indent as_given =
       sym c.in-Err.is ∙ c.length_wanted.ensures as_given first
       ∙ ap (λ s. length_wanted s.indent s.previous_indent as_given) in_force in

@@ -1,7 +1,7 @@
 use Rattle.roff_rewriting.proofs.GapsPutBack.{word_ends_put_back_a_gap, word_ends_stay_followed}
 use Rattle.roff_rewriting.proofs.LinesGoOn.{lines_go_on_with_another_word}
 use Rattle.roff_rewriting.proofs.WordEnds.{text_lines_end_words_so}
-use Rattle.roff_rewriting.proofs.WordsApart.{footers_begin_words}
+use Rattle.roff_rewriting.proofs.WordsApart.{footers_begin_words, footers_behind_tabs}
 use Rattle.roff_rewriting.proofs.footer_laws.footers.Goals as goal
 
 pub returns-clause-front : goal.returns-clause-front
@@ -18,3 +18,6 @@ returns-clause-put_back c = word_ends_put_back_a_gap
 
 pub returns-clause-stay : goal.returns-clause-stay
 returns-clause-stay c = word_ends_stay_followed
+
+pub returns-clause-tabs : goal.returns-clause-tabs
+returns-clause-tabs c = footers_behind_tabs

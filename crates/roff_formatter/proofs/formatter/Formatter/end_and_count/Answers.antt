@@ -1,14 +1,14 @@
 use Rattle.std.proofs.Common.{[], ◌∷◌, arith, rules}
 use Rattle.roff_layout.specs.declared.event.Event.TheVariants.{Count, LineEnd}
 use Rattle.roff_run.specs.declared.event.PageEvent.TheVariants.{Text}
-use Rattle.roff_formatter.proofs.Performed.{performs_both, performs_first_halted, performs_first_sprung}
+use Rattle.roff_formatter.proofs.Performed.{standing, standing_both, standing_halted, standing_sprung}
 use Rattle.roff_formatter.proofs.formatter.Formatter.end_and_count.Goals as goal
 
 pub returns-in-Ok-None : goal.returns-in-Ok-None
-returns-in-Ok-None g c = performs_both (Text LineEnd) (Text Count ∷ []) _ c.end_line.new.self _ _ _ _ c.end_line.result c.count.result _ (search rules) c.end_line.ensures (c.count.ensures _) (omega arith) c.further.ensures.told (c.further.ensures.least (omega arith))
+returns-in-Ok-None g c = standing _ _ _ _ _ _ (standing_both (Text LineEnd) (Text Count ∷ []) _ c.line_end_behind_field.new.self _ _ _ _ c.line_end_behind_field.result c.count.result _ (search rules) c.line_end_behind_field.ensures (standing _ _ _ _ _ _ (c.count.ensures _)) (omega arith) c.further.ensures.told (c.further.ensures.least (omega arith)))
 
 pub returns-in-Ok-Some : goal.returns-in-Ok-Some
-returns-in-Ok-Some g c = performs_first_sprung (Text LineEnd) (Text Count ∷ []) _ _ _ _ c.in-Ok-Some.sprung c.end_line.result (search rules) c.end_line.ensures
+returns-in-Ok-Some g c = standing_sprung (Text LineEnd) (Text Count ∷ []) _ _ _ _ c.in-Ok-Some.sprung c.line_end_behind_field.result (search rules) c.line_end_behind_field.ensures
 
 pub returns-in-Err : goal.returns-in-Err
-returns-in-Err g c = performs_first_halted (Text LineEnd) (Text Count ∷ []) _ _ _ _ c.in-Err.halt c.in-Err.ensures
+returns-in-Err g c = standing_halted (Text LineEnd) (Text Count ∷ []) _ _ _ _ c.in-Err.halt c.in-Err.ensures

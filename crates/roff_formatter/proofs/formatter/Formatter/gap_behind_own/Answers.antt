@@ -2,16 +2,16 @@ use Rattle.std.proofs.Common.{refl, rules}
 use Rattle.roff_layout.specs.declared.event.Event.TheVariants.{Gap}
 use Rattle.roff_run.specs.declared.event.PageEvent.TheVariants.{Text}
 use Rattle.roff_formatter.proofs.DoneEvents.{lines_behind, text_changes_only}
-use Rattle.roff_formatter.proofs.Springing.{own_halted, own_sprung, own_then}
+use Rattle.roff_formatter.proofs.Springing.{one_free, own_halted, own_sprung, own_then, unfielded}
 use Rattle.roff_formatter.proofs.formatter.Formatter.gap_behind_own.Goals as goal
 
 pub returns-in-Ok-None : goal.returns-in-Ok-None
-returns-in-Ok-None g c = own_then (Text (Gap c.args.blanks)) (λ h. refl) _ c.end_open_word.new.self _ _ _ _ c.end_open_word.result _ (search rules) c.end_open_word.ensures
-    (text_changes_only (Gap c.args.blanks) _ _ _ (λ h. refl) (λ h. refl) (λ h. refl)
-    (lines_behind (Gap c.args.blanks) c.end_open_word.new.self.composer _ (λ trap. refl) c.gap.ensures) (search rules))
+returns-in-Ok-None g c = one_free (Text (Gap c.args.blanks)) _ _ _ _ _ (λ h. refl) (own_then (Text (Gap c.args.blanks)) (λ h. refl) _ c.end_open_word.new.self _ _ _ _ c.end_open_word.result _ (search rules) c.end_open_word.ensures
+    (unfielded _ _ _ _ _ _ (text_changes_only (Gap c.args.blanks) _ _ _ (λ g. refl) (λ h. refl) (λ h. refl) (λ h. refl) (λ h. refl)
+    (lines_behind (Gap c.args.blanks) c.end_open_word.new.self.composer _ (λ trap. refl) c.gap.ensures.stands) (search rules))))
 
 pub returns-in-Ok-Some : goal.returns-in-Ok-Some
-returns-in-Ok-Some g c = own_sprung (Text (Gap c.args.blanks)) (λ h. refl) _ _ _ _ c.in-Ok-Some.sprung c.end_open_word.result (search rules) c.end_open_word.ensures
+returns-in-Ok-Some g c = one_free (Text (Gap c.args.blanks)) _ _ _ _ _ (λ h. refl) (own_sprung (Text (Gap c.args.blanks)) (λ h. refl) _ _ _ _ c.in-Ok-Some.sprung c.end_open_word.result (search rules) c.end_open_word.ensures)
 
 pub returns-in-Err : goal.returns-in-Err
-returns-in-Err g c = own_halted (Text (Gap c.args.blanks)) (λ h. refl) _ _ _ _ c.in-Err.halt c.in-Err.ensures
+returns-in-Err g c = one_free (Text (Gap c.args.blanks)) _ _ _ _ _ (λ h. refl) (own_halted (Text (Gap c.args.blanks)) (λ h. refl) _ _ _ _ c.in-Err.halt c.in-Err.ensures)

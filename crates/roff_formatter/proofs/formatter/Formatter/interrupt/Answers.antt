@@ -5,5 +5,5 @@ use Rattle.roff_formatter.proofs.DoneEvents.{changes_only}
 use Rattle.roff_formatter.proofs.formatter.Formatter.interrupt.Goals as goal
 
 pub returns : goal.returns
-returns c = λ told. changes_only (Interrupt c.args.line) (Interrupt c.args.line) _ _ told (λ rs. refl) (λ g. refl) (λ h. refl) (λ h. refl) (λ h. refl) (λ l h stood. refl)
+returns c = λ told. changes_only (Interrupt c.args.line) (Interrupt c.args.line) _ _ told (λ rs. refl) (λ g. refl) (λ g. refl) (λ h. refl) (λ h. refl) (λ h. refl) (λ l h stood. refl)
     (λ l h stood. c.interrupt.ensures.becomes l (environments h) stood.environments) (search rules)

@@ -1,6 +1,6 @@
 use Rattle.std.proofs.Common.{◌∙◌, ◌≡◌, ap, rules, sym}
 use Rattle.std.specs.Prelude.{is_some}
-use Rattle.roff_layout.specs.Lines.{finished}
+use Rattle.roff_layout.specs.Behind.{finished}
 use Rattle.roff_layout.specs.declared.event.Event.TheVariants.{Break}
 use Rattle.roff_run.specs.Output.{layout_of, text_of}
 use Rattle.roff_formatter.proofs.FirstPages.{closes, needs-finishing}

@@ -5,7 +5,7 @@ pub returns-in-Glyph : goal.returns-in-Glyph
 returns-in-Glyph g c = rw c.in-Glyph.is (c.glyph_behind.ensures (g.O.ByteSink.sunk c.args.out.now))
 
 pub returns-in-Tab : goal.returns-in-Tab
-returns-in-Tab g c = rw c.in-Tab.is (c.tab_behind.ensures (g.O.ByteSink.sunk c.args.out.now))
+returns-in-Tab g c = rw c.in-Tab.is c.tab_behind.ensures
 
 pub returns-in-Gap : goal.returns-in-Gap
 returns-in-Gap g c = rw c.in-Gap.is c.gap_behind_word.ensures

@@ -7,7 +7,7 @@ use Rattle.roff_formatter.proofs.Ejects.{going-not}
 use Rattle.roff_formatter.proofs.formatter.Formatter.space.Goals as goal
 
 pub returns-in-Some : goal.returns-in-Some
-returns-in-Some g c = only_page (Page (Space c.args.lines)) _ _ _ _ c.in-Some.name _ refl (c.in-Some.ensures (Page (Space c.args.lines)) (λ h. refl)) c.stopped_by.ensures.due c.stopped_by.ensures.is
+returns-in-Some g c = only_page (Page (Space c.args.lines)) _ _ _ _ c.in-Some.name _ refl (λ g. refl) (c.in-Some.ensures (Page (Space c.args.lines)) (λ h. refl)) c.stopped_by.ensures.due c.stopped_by.ensures.is
 
 pub returns-in-None : goal.returns-in-None
 returns-in-None g c = page_only (Space c.args.lines) _ c.begin_first.new.self _ _ _ _ (c.in-None.ensures (Page (Space c.args.lines)) (λ h. refl)) (search rules)

@@ -5,5 +5,5 @@ use Rattle.roff_formatter.proofs.DoneEvents.{changes_only}
 use Rattle.roff_formatter.proofs.formatter.Formatter.switch_back.Goals as goal
 
 pub returns : goal.returns
-returns c = λ told. changes_only Back Back _ _ told (λ rs. refl) (λ g. refl) (λ h. refl) (λ h. refl) (λ h. refl) (λ l h stood. refl)
+returns c = λ told. changes_only Back Back _ _ told (λ rs. refl) (λ g. refl) (λ g. refl) (λ h. refl) (λ h. refl) (λ h. refl) (λ l h stood. refl)
     (λ l h stood. c.switch_back.ensures.becomes l (environments h) stood.environments) (search rules)

@@ -1,7 +1,9 @@
-use Rattle.std.proofs.Common.{refl, rules}
+use Rattle.std.proofs.Common.{rules}
 use Rattle.roff_run.specs.declared.line_state.LineState.TheVariants.{LineStart}
+use Rattle.roff_run.specs.declared.step.Step.TheVariants.{LineEnd}
 use Rattle.roff_interpreter.specs.Unfilled.{told_as}
 use Rattle.roff_interpreter.proofs.EventsKept.{all_halted, all_quietly, all_sprung}
+use Rattle.roff_interpreter.proofs.NamedSteps.{named-flows}
 use Rattle.roff_interpreter.proofs.Unfilled.{ending, ends_front}
 use Rattle.roff_interpreter.proofs.interpreter.Interpreter.end_front.Goals as goal
 
@@ -9,17 +11,17 @@ pub returns-in-Ok-None : goal.returns-in-Ok-None
 returns-in-Ok-None g c =
     let put = c.put_line.ensures in
     ends_front _ _ c.args.self.now _ _ _ _ _ _ put
-    (all_quietly ending (told_as c.args.self.now put.told LineStart) _ _ _ c.put_line.result (λ rs h. (refl, (refl, (refl, tt)))) (search rules) put.performs c.begin_next_line.ensures)
+    (all_quietly ending (told_as c.args.self.now put.told LineStart) _ _ _ c.put_line.result (λ rs h. named-flows rs LineEnd h) (search rules) put.performs c.begin_next_line.ensures)
 
 pub returns-in-Ok-Some : goal.returns-in-Ok-Some
 returns-in-Ok-Some g c =
     let put = c.put_line.ensures in
     ends_front _ _ c.args.self.now _ _ _ _ _ _ put
-    (all_sprung ending (told_as c.args.self.now put.told LineStart) (record c.args.self.now { formatter = c.put_line.new.self; reader = c.begin_next_line.new.self }) c.keep_step.new.self _ _ c.in-Ok-Some.sprung c.put_line.result (λ rs h. (refl, (refl, (refl, tt))))
+    (all_sprung ending (told_as c.args.self.now put.told LineStart) (record c.args.self.now { formatter = c.put_line.new.self; reader = c.begin_next_line.new.self }) c.keep_step.new.self _ _ c.in-Ok-Some.sprung c.put_line.result (λ rs h. named-flows rs LineEnd h)
     c.keep_step.ensures.kept c.keep_step.ensures.others (search rules) put.performs c.begin_next_line.ensures)
 
 pub returns-in-Err : goal.returns-in-Err
 returns-in-Err g c =
     let put = c.in-Err.ensures in
     ends_front _ _ c.args.self.now _ _ _ _ _ _ put
-    (all_halted ending (told_as c.args.self.now put.told LineStart) _ _ _ c.in-Err.halt (λ rs h. (refl, (refl, (refl, tt)))) put.performs c.begin_next_line.ensures)
+    (all_halted ending (told_as c.args.self.now put.told LineStart) _ _ _ c.in-Err.halt (λ rs h. named-flows rs LineEnd h) put.performs c.begin_next_line.ensures)

@@ -8,6 +8,7 @@ use Rattle.roff_run.specs.declared.event.PageEvent.TheVariants.{Text}
 use Rattle.roff_formatter.specs.Formatter.Performing.{behind_event}
 use Rattle.roff_formatter.proofs.LinesLeft.{more_left}
 use Rattle.roff_formatter.proofs.Performed.{performed_quietly, performed_sprung}
+use Rattle.roff_interpreter.proofs.NamedSteps.{flows-break}
 use Rattle.roff_interpreter.proofs.SoFar.{came_broken}
 use Rattle.roff_interpreter.proofs.interpreter.Interpreter.perform_each.Goals as goal
 
@@ -19,7 +20,7 @@ returns-in-Ok-None g c =
       all = λ l t before failures err s h rest stood same reached.
           let is : c.perform_step.result ≡ Ok None = search rules in
           let did = performed_quietly l t before _ s (Text WordEnd ∷ Text Break ∷ []) h _ (others ++ rest) c.perform_step.result _ is
-          (c.perform_step.ensures.performs l t before failures err s h (others ++ rest) stood (refl, (refl, tt)) (rw begins at reached)) in
+          (c.perform_step.ensures.performs l t before failures err s h (others ++ rest) stood (flows-break s.registers h) (rw begins at reached)) in
           let h1 = behind_event s.registers (Text WordEnd) h in
           c.perform_behind-in-Ok-None.ensures.all l t before failures err s h rest same (record {
             history = behind_event s.registers (Text Break) h1;
@@ -41,7 +42,7 @@ returns-in-Ok-Some g c =
       all = λ l t before failures err s h rest stood same reached.
           let is : c.perform_step.result ≡ Ok (Some c.in-Ok-Some.sprung) = search rules in
           let did = performed_sprung l t before _ s (Text WordEnd ∷ Text Break ∷ []) h _ (others ++ rest) c.perform_step.result c.in-Ok-Some.sprung _ is
-          (c.perform_step.ensures.performs l t before failures err s h (others ++ rest) stood (refl, (refl, tt)) (rw begins at reached)) in
+          (c.perform_step.ensures.performs l t before failures err s h (others ++ rest) stood (flows-break s.registers h) (rw begins at reached)) in
           came_broken l t before _ s events others h rest c.in-Ok-Some.sprung _ begins did;
       reader = record { reading = refl; registers = refl };
     }
@@ -52,7 +53,7 @@ returns-in-Err g c =
     let others : List PageEvent = drop 2 events in
     let begins : events ≡ Text WordEnd ∷ Text Break ∷ others = c.begins_with_break.ensures.begins (search rules) in record {
       all = λ l t before failures err s h rest stood same reached.
-          c.in-Err.ensures.performs l t before failures err s h (others ++ rest) stood (refl, (refl, tt)) (rw begins at reached);
+          c.in-Err.ensures.performs l t before failures err s h (others ++ rest) stood (flows-break s.registers h) (rw begins at reached);
       reader = record { reading = refl; registers = refl };
     }
 

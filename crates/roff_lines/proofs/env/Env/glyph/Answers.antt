@@ -1,23 +1,46 @@
+use Rattle.std.proofs.lemmas.Bool.{true≢false}
 use Rattle.std.proofs.lemmas.Grind.{common_steps}
 use Rattle.std.proofs.lemmas.Int.{ints}
-use Rattle.std.proofs.Common.{◌≤◌, rules, arith}
-use Rattle.roff_lines.specs.Env.Kept.{length_with}
-use Rattle.roff_lines.proofs.Printed.{Stands-print}
+use Rattle.std.proofs.Common.{◌≡◌, ◌≤◌, ◌∷◌, None, rules, sym, subst, arith, ◌∙◌}
+use Rattle.roff_layout.specs.declared.event.Event.TheVariants.{Print}
+use Rattle.roff_layout.specs.declared.glyph.Glyph.{Glyph}
+use Rattle.roff_lines.specs.Env.Kept.{Kept, length_with, with_glyph_told}
+use Rattle.roff_lines.specs.Env.Stands.{Stands}
+use Rattle.roff_lines.proofs.GlyphTold.{StandsBehind-glyph, Stands-glyph_told, length_told-none, limit-glyph_told, with_glyph_told-none}
 use Rattle.roff_lines.proofs.env.Env.glyph.Goals as goal
 
 pub returns-clause-stands : goal.returns-clause-stands
 returns-clause-stands c line_cap h s =
-    let room : length_with c.args.glyph c.args.self.now ≤ c.args.self.now.cap = search rules in
-    rw c.print.ensures (Stands-print line_cap h c.args.self.now s c.args.glyph room)
+    let k : Kept = c.args.self.now in
+    let g : Glyph = c.args.glyph in
+    let none : k.field ≡ None = search rules in
+    let room : length_with g k ≤ k.cap = search rules in
+    let is : c.print.new.self ≡ with_glyph_told g k = c.print.ensures ∙ sym (with_glyph_told-none g k none) in
+    subst (Stands line_cap (Print g ∷ h)) (sym is) (Stands-glyph_told g line_cap h k s (omega (arith, length_told-none g k none, room)))
+
+pub returns-clause-limit : goal.returns-clause-limit
+returns-clause-limit c line_cap h s =
+    let k : Kept = c.args.self.now in
+    let g : Glyph = c.args.glyph in
+    let none : k.field ≡ None = search rules in
+    let room : length_with g k ≤ k.cap = search rules in (
+      λ wrong. absurd (true≢false (sym wrong)),
+      λ over. absurd (omega (arith, (limit-glyph_told g line_cap h k s).1 over, length_told-none g k none, room)),
+    )
+
+pub returns-then-bytes-gap-clause-stands : goal.returns-then-bytes-gap-clause-stands
+returns-then-bytes-gap-clause-stands c =
+    let told = c.glyph_in_field.ensures in
+    StandsBehind-glyph c.glyph_in_field.result c.args.glyph c.args.self.now c.glyph_in_field.new.self told.kept told.limit
+
+pub returns-then-bytes-gap-clause-limit : goal.returns-then-bytes-gap-clause-limit
+returns-then-bytes-gap-clause-limit c line_cap h s =
+    let limit = limit-glyph_told c.args.glyph line_cap h c.args.self.now s in
+    let told = c.glyph_in_field.ensures.limit in
+    (λ refused. limit.0 (told.0 refused), λ over. told.1 (limit.1 over))
 
 pub overflow_add-bytes-2 : goal.overflow_add-bytes-2
 overflow_add-bytes-2 c = grind (ints, arith, common_steps)
 
 pub overflow_add-bytes-3 : goal.overflow_add-bytes-3
 overflow_add-bytes-3 c = grind (ints, arith, common_steps)
-
-pub returns-then-bytes-gap-clause-limit : goal.returns-then-bytes-gap-clause-limit
-returns-then-bytes-gap-clause-limit c = grind (ints, arith, common_steps)
-
-pub returns-clause-limit : goal.returns-clause-limit
-returns-clause-limit c = grind (ints, arith, common_steps)

@@ -5,8 +5,8 @@ use Rattle.std.proofs.lemmas.List.{length-take}
 use Rattle.std.proofs.lemmas.Option.{slice_get-get_or}
 use Rattle.roff_arguments.specs.ArgumentList.{listed}
 use Rattle.roff_run.specs.Numbers.{rounded_in_range}
-use Rattle.roff_run.specs.Requests.Tabs.{most_stops}
-use Rattle.roff_requests.proofs.TabStops.{ReadSoFar-next, all_read, column_at, nothing_read, slice_get-take}
+use Rattle.roff_run.specs.Requests.Tabs.{most_stops, stop_kind}
+use Rattle.roff_requests.proofs.TabStops.{ReadSoFar-next, all_read, column_at, nothing_read, slice_get-take, stop_of}
 use Rattle.roff_requests.proofs.requests.tabs.tab_stops.Goals.{in-Some+in-Ok, in_default}
 use Rattle.roff_requests.proofs.requests.tabs.tab_stops.Goals as goal
 
@@ -22,7 +22,8 @@ loop-index-preserved c =
           let less : n < most_stops = search rules in
           let fits : FitsSigned w32 stop = search rules in
           let column : w.column_of.result ≡ column_at stop = w.column_of.ensures ∙ ap column_at (to_z-of_z w32 stop fits) in
-          let grown : w.push.new.self.items ≡ c.loop-index.stops.items ++ column_at stop ∷ [] = rw column at w.push.ensures.items in
+          let grown : w.push.new.self.items ≡ c.loop-index.stops.items ++ stop_of (stop, stop_kind text) ∷ [] =
+          rw (column, w.stop_kind.ensures) at w.push.ensures.items in
           let place_fits : FitsSigned w32 w.in-Ok.place = search rules in
           let rounded : Ok stop ≡ rounded_in_range 24 w.in-Ok.place =
           w.rounded_to_columns-before.ensures ∙ ap (rounded_in_range 24) (to_z-of_z w32 w.in-Ok.place place_fits) in

@@ -1,0 +1,11 @@
+pub mod NearestStop
+pub mod Interruptions
+pub mod Uninterrupted
+pub mod Printing
+pub mod Filling
+pub mod FirstLineOf
+pub mod ToldWords
+pub mod Paragraphs
+pub mod TextParagraphs
+pub mod FieldStops
+pub mod FieldWidths

@@ -1,0 +1,175 @@
+-- Histories behind which no field is open: what happens then is told as it is.
+use Rattle.std.proofs.Common.{◌≡◌, ℕ, Bool, true, false, not, ◌&&◌, List, [], ◌∷◌, ◌++◌, map, reverse, Option, Some, None, refl, sym, ap, ◌∙◌}
+use Rattle.std.specs.Prelude.{if◌then◌else◌, ◌==◌, is_some}
+use Rattle.roff_layout.specs.declared.glyph.Glyph.{Glyph}
+use Rattle.roff_layout.specs.declared.glyph.Glyph.TheVariants.{Printed}
+use Rattle.roff_layout.specs.declared.event.Event.{Event}
+use Rattle.roff_layout.specs.declared.event.Event.TheVariants.{Print, Tab, FieldEnd, WordEnd, Gap, LineEnd, Count, Break, Interrupt, Resume, Set}
+use Rattle.roff_layout.specs.Events.{History, stops_after}
+use Rattle.roff_layout.specs.declared.stop.StopKind.TheVariants.{Left as AtLeft}
+use Rattle.roff_layout.specs.TabStops.{Way, way_to_next}
+use Rattle.roff_layout.specs.Places.{input_place}
+use Rattle.roff_layout.specs.Fitting.{Word}
+use Rattle.roff_layout.specs.Lines.{finished}
+use Rattle.roff_layout.specs.Words.{has_open_word}
+use Rattle.roff_layout.specs.Telling.{glyphs_told, words_told, bytes_told, text_line}
+use Rattle.roff_layout.specs.Fields.{Field, Told, is_in_field, plain, so_far, tab_told, told, told_behind, unfielded}
+use Rattle.roff_layout.specs.Behind as behind
+use Rattle.roff_lines.proofs.Fields.{has_open_word-field}
+use Rattle.roff_lines.proofs.Told.{finished_told, finished_told-is}
+
+-- what is told with no field open
+unfielded-so_far : (h : History) (field : Option Field) → is_some field ≡ false
+    → (let t : Told = record { events = h; field = field } in t) ≡ unfielded (so_far (record { events = h; field = field }))
+unfielded-so_far h None none = refl
+unfielded-so_far h (Some f) none = cc
+
+pub told-unfielded : (h : History) → is_in_field h ≡ false → told h ≡ unfielded (plain h)
+told-unfielded h none = unfielded-so_far (told h).events (told h).field none
+
+pub plain-unfielded : (h : History) → is_in_field h ≡ false → plain h ≡ (told h).events
+plain-unfielded h none = sym (ap (λ t. t.events) (told-unfielded h none))
+
+-- in a field a word is open, and a glyph stands on the line
+open-in-field : (h : History) (field : Option Field) → has_open_word (so_far (record { events = h; field = field })) ≡ false
+    → is_some field ≡ false
+open-in-field h None none = refl
+open-in-field h (Some f) none = let is = has_open_word-field 0 f h in cc
+
+-- so where no word is open, no field is
+pub is_in_field-closed : (h : History) → has_open_word (plain h) ≡ false → is_in_field h ≡ false
+is_in_field-closed h closed = open-in-field (told h).events (told h).field closed
+
+-- an event that is told as it is where no field is open: neither a tab nor a field's end
+abbrev pub IsPlain : Event → Type 0
+IsPlain Tab = ⊥
+IsPlain FieldEnd = ⊥
+IsPlain (_) = Unit {0}
+
+told_behind-plain : (e : Event) (h : History) → IsPlain e → told_behind e (unfielded h) ≡ unfielded (e ∷ h)
+told_behind-plain (Print g) h is = refl
+told_behind-plain Tab h is = absurd is
+told_behind-plain FieldEnd h is = absurd is
+told_behind-plain WordEnd h is = refl
+told_behind-plain (Gap n) h is = refl
+told_behind-plain LineEnd h is = refl
+told_behind-plain Count h is = refl
+told_behind-plain Break h is = refl
+told_behind-plain Interrupt h is = refl
+told_behind-plain Resume h is = refl
+told_behind-plain (Set p) h is = refl
+
+-- so is a tab to no stop, or to one at which text begins
+told-tab-way : (way : Option Way) (h : History) → ((w : Way) → way ≡ Some w → w.kind ≡ AtLeft) → tab_told way h ≡ unfielded (Tab ∷ h)
+told-tab-way None h left = refl
+told-tab-way (Some w) h left = rw (left w refl) refl
+
+-- the line that an event finishes is that of the definition over plain histories
+finished_told-unfielded : (e : Event) (p : History) → finished_told e (unfielded p) ≡ finished p e
+finished_told-unfielded (Print g) p = refl
+finished_told-unfielded Tab p = refl
+finished_told-unfielded FieldEnd p = refl
+finished_told-unfielded WordEnd p = refl
+finished_told-unfielded (Gap n) p = refl
+finished_told-unfielded LineEnd p = refl
+finished_told-unfielded Count p = refl
+finished_told-unfielded Break p = refl
+finished_told-unfielded Interrupt p = refl
+finished_told-unfielded Resume p = refl
+finished_told-unfielded (Set c) p = refl
+
+-- a history h that is told as the plain history p
+module _ (h p : History) (is : told h ≡ unfielded p) where
+  -- with one event more
+  pub told-event_as : (e : Event) → IsPlain e → told (e ∷ h) ≡ unfielded (e ∷ p)
+  told-event_as e plain_event = ap (told_behind e) is ∙ told_behind-plain e p plain_event
+
+  -- with a tab, unless it opens a field
+  pub told-tab_as : ((w : Way) → way_to_next (stops_after p) (input_place p) ≡ Some w → w.kind ≡ AtLeft)
+      → told (Tab ∷ h) ≡ unfielded (Tab ∷ p)
+  told-tab_as left = ap (told_behind Tab) is ∙ told-tab-way (way_to_next (stops_after p) (input_place p)) p left
+
+  -- a field's end is none
+  pub told-field_end_as : told (FieldEnd ∷ h) ≡ unfielded p
+  told-field_end_as = ap (told_behind FieldEnd) is
+
+  -- all that happened is that
+  pub plain_as : plain h ≡ p
+  plain_as = ap so_far is
+
+  -- no field is open
+  pub is_in_field_as : is_in_field h ≡ false
+  is_in_field_as = ap (λ t. is_some t.field) is
+
+  -- a line is finished, and a word is open, where the definitions over plain histories say so
+  pub finished_as : (e : Event) → behind.finished h e ≡ finished p e
+  finished_as e = finished_told-is e h ∙ ap (finished_told e) is ∙ finished_told-unfielded e p
+
+  pub has_open_word_as : behind.has_open_word h ≡ has_open_word p
+  has_open_word_as = ap (λ t. not (is_some t.field) && has_open_word (so_far t)) is
+
+-- these glyphs behind it
+pub told-glyphs_as : (gs : List Glyph) (h p : History) → told h ≡ unfielded p
+    → told (map Print gs ++ h) ≡ unfielded (map Print gs ++ p)
+told-glyphs_as [] h p is = is
+told-glyphs_as (g ∷ gs) h p is = told-event_as (map Print gs ++ h) (map Print gs ++ p) (told-glyphs_as gs h p is) (Print g) tt
+
+pub told-glyphs_told_as : (gs : List Glyph) (h p : History) → told h ≡ unfielded p
+    → told (glyphs_told gs h) ≡ unfielded (glyphs_told gs p)
+told-glyphs_told_as gs h p is = told-glyphs_as (reverse gs) h p is
+
+-- these words
+pub told-words_as : (ws : List Word) (h p : History) → told h ≡ unfielded p
+    → told (words_told ws h) ≡ unfielded (words_told ws p)
+told-words_as [] h p is = is
+told-words_as (w ∷ ws) h p is =
+    let before = told-event_as (words_told ws h) (words_told ws p) (told-words_as ws h p is) (Gap w.gap) tt in
+    told-event_as (glyphs_told w.glyphs (Gap w.gap ∷ words_told ws h)) (glyphs_told w.glyphs (Gap w.gap ∷ words_told ws p))
+    (told-glyphs_told_as w.glyphs (Gap w.gap ∷ words_told ws h) (Gap w.gap ∷ words_told ws p) before) WordEnd tt
+
+-- a byte
+told-byte_as : (blank : Bool) (b : ℕ) (h p : History) → told h ≡ unfielded p
+    → told (if blank then Gap 1 ∷ WordEnd ∷ h else Print (Printed b) ∷ h)
+    ≡ unfielded (if blank then Gap 1 ∷ WordEnd ∷ p else Print (Printed b) ∷ p)
+told-byte_as true b h p is = told-event_as (WordEnd ∷ h) (WordEnd ∷ p) (told-event_as h p is WordEnd tt) (Gap 1) tt
+told-byte_as false b h p is = told-event_as h p is (Print (Printed b)) tt
+
+-- these bytes
+pub told-bytes_as : (bytes : List ℕ) (h p : History) → told h ≡ unfielded p
+    → told (bytes_told bytes h) ≡ unfielded (bytes_told bytes p)
+told-bytes_as [] h p is = is
+told-bytes_as (b ∷ bytes) h p is =
+    told-bytes_as bytes (bytes_told (b ∷ []) h) (bytes_told (b ∷ []) p) (told-byte_as (b == 32) b h p is)
+
+-- a text line
+pub told-text_line_as : (bytes : List ℕ) (h p : History) → told h ≡ unfielded p
+    → told (text_line bytes h) ≡ unfielded (text_line bytes p)
+told-text_line_as bytes h p is =
+    let i = bytes_told bytes h in
+    let q = bytes_told bytes p in
+    told-event_as (LineEnd ∷ WordEnd ∷ i) (LineEnd ∷ WordEnd ∷ q)
+    (told-event_as (WordEnd ∷ i) (WordEnd ∷ q) (told-event_as i q (told-bytes_as bytes h p is) WordEnd tt) LineEnd tt) Count tt
+
+-- a history behind which no field is open
+module _ (h : History) (none : is_in_field h ≡ false) where
+  pub told-event : (e : Event) → IsPlain e → told (e ∷ h) ≡ unfielded (e ∷ plain h)
+  told-event = told-event_as h (plain h) (told-unfielded h none)
+
+  pub plain-event : (e : Event) → IsPlain e → plain (e ∷ h) ≡ e ∷ plain h
+  plain-event e is = ap so_far (told-event e is)
+
+  pub told-tab : ((w : Way) → way_to_next (stops_after (plain h)) (input_place (plain h)) ≡ Some w → w.kind ≡ AtLeft)
+      → told (Tab ∷ h) ≡ unfielded (Tab ∷ plain h)
+  told-tab = told-tab_as h (plain h) (told-unfielded h none)
+
+  pub told-field_end : told (FieldEnd ∷ h) ≡ unfielded (plain h)
+  told-field_end = told-field_end_as h (plain h) (told-unfielded h none)
+
+  pub finished-plain : (e : Event) → behind.finished h e ≡ finished (plain h) e
+  finished-plain = finished_as h (plain h) (told-unfielded h none)
+
+  pub has_open_word-plain : behind.has_open_word h ≡ has_open_word (plain h)
+  has_open_word-plain = has_open_word_as h (plain h) (told-unfielded h none)
+
+  pub told-bytes : (bytes : List ℕ) → told (bytes_told bytes h) ≡ unfielded (bytes_told bytes (plain h))
+  told-bytes bytes = told-bytes_as bytes h (plain h) (told-unfielded h none)

@@ -1,5 +1,0 @@
-use Rattle.roff_lines.proofs.Columns.{stands_in_columns}
-use Rattle.roff_lines.proofs.laws.columns.Goals as goal
-
-pub returns : goal.returns
-returns c = stands_in_columns

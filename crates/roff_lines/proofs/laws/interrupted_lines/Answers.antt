@@ -1,8 +1,0 @@
-use Rattle.roff_lines.proofs.Interruptions.{LeaveTheSame-interrupted, LeaveTheSame-uninterrupted}
-use Rattle.roff_lines.proofs.laws.interrupted_lines.Goals as goal
-
-pub returns-clause-same_word : goal.returns-clause-same_word
-returns-clause-same_word c = LeaveTheSame-interrupted
-
-pub returns-clause-anywhere : goal.returns-clause-anywhere
-returns-clause-anywhere c = LeaveTheSame-uninterrupted

@@ -1,5 +1,0 @@
-use Rattle.roff_lines.proofs.Filling.{fills_lines}
-use Rattle.roff_lines.proofs.laws.longest_fronts.Goals as goal
-
-pub returns : goal.returns
-returns c = fills_lines

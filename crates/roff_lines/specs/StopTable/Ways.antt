@@ -1,0 +1,9 @@
+-- Ways to tab stops, as they are told.
+use Rattle.std.specs.Prelude.{Option, Some, None}
+use Rattle.roff_layout.specs.TabStops as tab_stops
+use Rattle.roff_lines.specs.declared.stops.Way.{Way}
+
+-- the way that was told, if one was
+abbrev pub way_told : Option Way → Option tab_stops.Way
+way_told None = None
+way_told (Some way) = Some (record { columns = way.columns; kind = way.kind })
